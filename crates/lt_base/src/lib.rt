@@ -1,0 +1,12 @@
+//! What all crates share: values, lists and names, the core program and what it means.
+#![tactic(auto)]
+
+mod list;
+mod memory;
+mod name;
+mod value;
+
+pub use list::{Duplicate, List};
+pub use memory::{Memory, Or};
+pub use name::Name;
+pub use value::{Cell, Ty, Value};
