@@ -4,6 +4,7 @@
 mod clock;
 mod expression;
 mod function;
+mod inputs;
 mod list;
 mod memory;
 mod name;
@@ -16,6 +17,7 @@ mod value;
 pub use clock::Clock;
 pub use expression::Expr;
 pub use function::{Decl, Equation, Func};
+pub use inputs::Inputs;
 pub use list::{Duplicate, List};
 pub use memory::{Memory, Or};
 pub use name::Name;
