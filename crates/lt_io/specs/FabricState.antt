@@ -1,5 +1,5 @@
 -- What an object of `Fabric` stands for, and what its calls do to it.
-use Rattle.std.specs.Prelude.{◌≡◌, ◌≢◌, ℕ, zero, suc, Bool, IsTrue, List, [], ◌∷◌, ◌++◌, map, Result, OnOk, OnErr, IfOk, IsErrOf}
+use Rattle.std.specs.Prelude.{◌≡◌, ◌≢◌, ℕ, Bool, IsTrue, List, [], ◌∷◌, ◌++◌, map, slice_index_or, Result, OnOk, OnErr, IfOk, IsErrOf}
 use Rattle.lt_base.specs.declared.value.Ty.{Ty}
 use Rattle.lt_base.specs.declared.value.Value.{Value}
 use Rattle.lt_base.specs.Value.{ty_of}
@@ -28,13 +28,8 @@ pub record FabricState : Type 0 where
   pub faults : ℕ
 
 -- the types on the channel of this number
-abbrev pub kind_at : List (List Ty) → ℕ → List Ty
-kind_at [] ch = []
-kind_at (kind ∷ kinds) zero = kind
-kind_at (kind ∷ kinds) (suc ch) = kind_at kinds ch
-
 abbrev pub kind_of : FabricState → ℕ → List Ty
-kind_of s ch = kind_at s.kinds ch
+kind_of s ch = slice_index_or s.kinds ch []
 
 -- what no call changes; and none ends `prompt`
 pub record KeepsFabric (old new : FabricState) : Type 0 where
