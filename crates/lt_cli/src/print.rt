@@ -17,7 +17,12 @@ pub fn outputs_text(alloc: Global, names: &[Name], cells: &[List<Cell>]) -> Resu
     Ok(text)
 }
 
-fn append_line(alloc: Global, text: &mut List<u8>, name: &Name, cells: &List<Cell>) -> Result<(), Memory>
+fn append_line(
+    alloc: Global,
+    text: &mut List<u8>,
+    name: &Name,
+    cells: &List<Cell>,
+) -> Result<(), Memory>
     ensures { OnOk result (text.new ≡ text.old ++ output_line name.now cells.now) }
 {
     text.extend(name.as_str().as_bytes())?;

@@ -75,8 +75,8 @@ goes_on {blame} {V} {next} a b c x r first second =
       cause = cause_on blame a b c calm r second.cause;
       exact = λ t whole. settles_too (next x) (AndThen V next) (wider t) r (second.exact (told t) (record { files = whole.files ∙ sym calm.files; fabric = whole.fabric ∙ sym calm.fabric }));
       sound = λ t s rose.
-        let reading = second.sound (told t) (first.keeps.files.sound ∙ s) (subst (λ n. n < c.files.faults) (sym calm.files) rose) in
-        (reading.0, reading.1, wider t (Err reading.0) reading.2);
+          let reading = second.sound (told t) (first.keeps.files.sound ∙ s) (subst (λ n. n < c.files.faults) (sym calm.files) rose) in
+          (reading.0, reading.1, wider t (Err reading.0) reading.2);
     }
 
 -- a step that was refused

@@ -1,4 +1,4 @@
-use Rattle.std.proofs.Common.{◌≡◌, ◌++◌, ℕ, List, take, length, get_or, ap, sym, ◌∙◌, arith}
+use Rattle.std.proofs.Common.{◌++◌, ℕ, List, take, get_or, ap, sym, ◌∙◌, arith}
 use Rattle.std.proofs.lemmas.List.{take_all}
 use Rattle.lt_base.specs.declared.value.Cell.{Cell}
 use Rattle.lt_cli.specs.Texts.{output_line, outputs_text}
