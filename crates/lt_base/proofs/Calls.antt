@@ -1,11 +1,12 @@
 -- Nested calls: how many are left does not matter once there are enough.
-use Rattle.std.proofs.Common.{◌≡◌, ℕ, zero, suc, ◌<◌, true, false, List, [], ◌∷◌, length, Option, Some, None, refl, ap, ◌∙◌, arith}
+use Rattle.std.proofs.Common.{◌≡◌, ℕ, zero, suc, ◌<◌, true, false, List, [], ◌∷◌, length, Option, Some, None, refl, ap, ◌∙◌, arith, map, reverse}
 use Rattle.std.specs.Prelude.{if◌then◌else◌}
 use Rattle.std.specs.Option.{option_and_then}
+use Rattle.lt_base.specs.declared.value.Value.{Value}
 use Rattle.lt_base.specs.Expression.{Expression, literal, variable, unary, binary, imported, choose, sampled, merged, delayed, follow, arrow, call, Arguments, no_arguments, argument}
 use Rattle.lt_base.specs.Operators.{op1, op2, imp_value}
 use Rattle.lt_base.specs.Program.{Function}
-use Rattle.lt_base.specs.Meaning.{ClockPairs, Environment, Row, Callee, clock_of, right_of, entry, outer, both, pick, latest, was_present, rows_at, value_of, values_of, given, valuation, environments, answer, function_of, calls}
+use Rattle.lt_base.specs.Meaning.{ClockPairs, Environment, Row, Callee, clock_of, right_of, entry, outer, both, pick, latest, was_present, rows_at, value_of, values_of, given, valuation, environments, answer, function_of, calls, cell, stream_of}
 use Rattle.lt_base.specs.Calls.{EachCall, EachArgumentCall, Layered, Closed}
 
 mutual
@@ -84,3 +85,8 @@ module _ (fs : List Function) (height : ℕ → ℕ) (layered : Layered fs heigh
   -- so the calls of a program mean what their functions mean with the same calls
   pub calls_closed : (n : ℕ) → ((g : ℕ) (f : Function) → function_of fs g ≡ Some f → height g < n) → Closed fs (calls fs n)
   calls_closed n low = record { calls = λ g f e rows. same_calls n g (low g f e) (suc n) (omega (arith, low g f e)) rows ∙ ap (option_and_then (λ f. answer f.outs (environments (calls fs n) f rows))) e }
+
+-- a function whose calls mean the same in two programs has the same streams in both
+pub stream_callee : (fs fs' : List Function) (f : Function) → ((x : ℕ) (e : Expression) → right_of f.eqs x ≡ Some e → EachCall (Agree (calls fs (length fs)) (calls fs' (length fs'))) e) → (rows : List (List Value)) (x : ℕ) → stream_of fs f rows x ≡ stream_of fs' f rows x
+stream_callee fs fs' f agree rows x =
+    ap (λ es. reverse (map (λ env. cell env (clock_of f.decls x) x) es)) (environments_callee (calls fs (length fs)) (calls fs' (length fs')) f agree (reverse (map (map Some) rows)))

@@ -6,7 +6,8 @@ use Rattle.std.specs.Cmp.{nat_eq_equiv}
 use Rattle.std.proofs.lemmas.Map.Made.{length-le_from_is_member}
 use Rattle.lt_base.specs.Dependence.{has}
 use Rattle.lt_base.specs.Graph.{Walks, ClosedWalk, NoClosedWalk}
-use Rattle.lt_base.proofs.Reading.{or_left, or_right, has_self}
+use Rattle.lt_base.proofs.Lookups.{same_self}
+use Rattle.lt_base.proofs.Reading.{or_left, or_right}
 
 -- ---- ranks leave no closed walk
 
@@ -42,7 +43,7 @@ module _ (next : ℕ → List ℕ) (sink : ℕ → Bool) (ends : (x : ℕ) → s
   all_from : (t : ℕ → Bool) (xs : List ℕ) → ((y : ℕ) → has y xs ≡ true → t y ≡ true) → list_all t xs ≡ true
   all_from t [] m = refl
   all_from t (x ∷ xs) m =
-      let here = m x (or_left (nat_eq x x) (has x xs) (has_self x)) in
+      let here = m x (or_left (nat_eq x x) (has x xs) (same_self x)) in
       let later = all_from t xs (λ y h. m y (or_right (nat_eq y x) (has y xs) h)) in
       λ i. here i && later i
 
@@ -100,7 +101,7 @@ module _ (next : ℕ → List ℕ) (sink : ℕ → Bool) (ends : (x : ℕ) → s
       let go : (b : Bool) → t x ≡ b → (b && list_all t xs) ≡ false → (y : ℕ) × (has y (x ∷ xs) ≡ true) × (t y ≡ false) =
       elim [
         | true ↦ λ p q. let r = some_member t xs q in (r.0, or_right (nat_eq r.0 x) (has r.0 xs) r.1, r.2)
-        | false ↦ λ p q. (x, or_left (nat_eq x x) (has x xs) (has_self x), p)
+        | false ↦ λ p q. (x, or_left (nat_eq x x) (has x xs) (same_self x), p)
       ] in
       go (t x) refl h
 

@@ -1,11 +1,11 @@
 -- Facts of each variable that an expression reads.
 use Rattle.std.proofs.Common.{◌≡◌, ℕ, ◌⊎◌, inl, inr, Bool, true, false, List, [], ◌∷◌, ◌++◌, refl, sym, ap, subst, eqb-true, ⊎_elim}
 use Rattle.std.specs.Prelude.{◌||◌, nat_eq}
-use Rattle.std.specs.Cmp.{nat_eq_equiv}
 use Rattle.lt_base.specs.Expression.{Expression, literal, variable, unary, binary, imported, choose, sampled, merged, delayed, follow, arrow, call, Arguments, no_arguments, argument}
 use Rattle.lt_base.specs.Meaning.{ClockPairs}
 use Rattle.lt_base.specs.Dependence.{has, reads, arguments_reads, clock_vars}
 use Rattle.lt_base.specs.Order.{EachRead, EachArgumentRead, EachClockVar}
+use Rattle.lt_base.proofs.Lookups.{same_self}
 
 -- ---- membership
 
@@ -15,9 +15,6 @@ or_left a b h = ap (λ a. a || b) h
 pub or_right : (a b : Bool) → b ≡ true → (a || b) ≡ true
 or_right true b h = refl
 or_right false b h = h
-
-pub has_self : (y : ℕ) → nat_eq y y ≡ true
-has_self y = nat_eq_equiv.refl y
 
 pub has_front : (y : ℕ) (xs ys : List ℕ) → has y xs ≡ true → has y (xs ++ ys) ≡ true
 has_front y [] ys h = absurd (cc)
@@ -55,7 +52,7 @@ module _ (P : ℕ → Type 0) where
   members_back xs ys m y h = m y (has_back y xs ys h)
 
   pub members_first : (x : ℕ) (xs : List ℕ) → Members (x ∷ xs) → P x
-  members_first x xs m = m x (or_left (nat_eq x x) (has x xs) (has_self x))
+  members_first x xs m = m x (or_left (nat_eq x x) (has x xs) (same_self x))
 
   pub members_rest : (x : ℕ) (xs : List ℕ) → Members (x ∷ xs) → Members xs
   members_rest x xs m y h = m y (or_right (nat_eq y x) (has y xs) h)
