@@ -11,6 +11,8 @@ pub mod Placed
 pub mod Tells
 pub mod Kept
 pub mod First
+pub mod Weighing
 pub mod Defined
+mod Cuts
 mod Shape
 mod Wrapping
