@@ -1,4 +1,19 @@
 pub mod Examples
 mod Columns
+pub mod Lookups
+pub mod Reading
+pub mod Graph
+pub mod Order
+pub mod Solution
+pub mod Streams
+pub mod Calls
+pub mod Heights
+pub mod Placed
+pub mod Tells
+pub mod Kept
+pub mod First
+pub mod Weighing
+pub mod Defined
+mod Cuts
 mod Shape
 mod Wrapping

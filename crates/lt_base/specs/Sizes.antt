@@ -1,8 +1,8 @@
 -- How large a program is.
-use Rattle.std.specs.Prelude.{ℕ, zero, suc, ◌+◌, ◌*◌, ◌-◌, ◌^◌, min, Option, Some, None, List, length, slice_index_or}
+use Rattle.std.specs.Prelude.{◌≡◌, ℕ, zero, suc, ◌+◌, ◌*◌, ◌-◌, ◌^◌, min, Option, Some, None, List, length, slice_index_or}
 use Rattle.std.specs.List.{sum_by}
 use Rattle.lt_base.specs.Expression.{Expression, literal, variable, unary, binary, imported, choose, sampled, merged, delayed, follow, arrow, call, Arguments, no_arguments, argument, parts}
-use Rattle.lt_base.specs.Program.{Function}
+use Rattle.lt_base.specs.Program.{Function, WholeProgram}
 use Rattle.lt_base.specs.Meaning.{function_of}
 
 -- a cost of an expression: d for each delay in it, and w g for each call of g
@@ -38,10 +38,22 @@ abbrev pub size_of : (Function → ℕ) → Option Function → ℕ
 size_of s None = 0
 size_of s (Some f) = s f
 
--- the weight of a function, with that many nested calls
-abbrev pub weight : List Function → ℕ → ℕ → ℕ
-weight fs zero g = 0
-weight fs (suc n) g = size_of (weight_with (weight fs n)) (function_of fs g)
+-- a function's size with that many nested calls, where s gives it from the sizes of the called functions
+abbrev pub nested : ((ℕ → ℕ) → Function → ℕ) → List Function → ℕ → ℕ → ℕ
+nested s fs zero g = 0
+nested s fs (suc n) g = size_of (s (nested s fs n)) (function_of fs g)
+
+-- each function has its size by w, where w gives the sizes of the called functions
+abbrev pub AddsUp : ((ℕ → ℕ) → Function → ℕ) → List Function → (ℕ → ℕ) → Type 0
+AddsUp s fs w = (g : ℕ) (f : Function) → function_of fs g ≡ Some f → w g ≡ s w f
+
+-- the weight of a program's main function
+abbrev pub program_weight : WholeProgram → ℕ
+program_weight p = nested weight_with p.funcs (length p.funcs) p.main
+
+-- the expression parts of a program's main function
+abbrev pub program_parts : WholeProgram → ℕ
+program_parts p = nested parts_with p.funcs (length p.funcs) p.main
 
 -- cut at the greatest number of 64 bits
 abbrev pub cut : ℕ → ℕ

@@ -13,6 +13,7 @@ mod program;
 mod steps;
 pub mod tables;
 mod value;
+mod weights;
 
 pub use clock::Clock;
 pub use expression::Expr;
@@ -22,7 +23,8 @@ pub use list::{Duplicate, List};
 pub use memory::{Memory, Or};
 pub use name::Name;
 pub use operators::{Bin, Imp, Un};
-pub use program::{Program, Whole};
+pub use program::{Program, Sizes, Whole};
 pub use steps::Steps;
 pub use tables::{op1, op2};
 pub use value::{Cell, Ty, Value};
+pub use weights::sizes;

@@ -69,3 +69,11 @@ impl Whole {
         })
     }
 }
+
+/// How large a function is, with all functions that it calls: the number of its variables and delays, where a delay with an
+/// expression on its left counts twice, and the number of its expression parts. Each is cut at the greatest number.
+#[derive(Clone, Copy, Debug, PartialEq, Eq)]
+pub struct Sizes {
+    pub weight: u64,
+    pub parts: u64,
+}
