@@ -7,4 +7,6 @@ pub mod MemFiles
 pub mod MemSink
 pub mod ChannelState
 pub mod MemFabric
+pub mod FlipState
+pub mod FlipFabric
 pub mod Transfer
