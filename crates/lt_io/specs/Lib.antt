@@ -9,4 +9,5 @@ pub mod ChannelState
 pub mod MemFabric
 pub mod FlipState
 pub mod FlipFabric
+pub mod TightFabric
 pub mod Transfer

@@ -15,6 +15,7 @@ mod mem_sink;
 mod message;
 mod real;
 mod sink;
+mod tight_fabric;
 mod transfer;
 
 pub use fabric::Fabric;
@@ -27,4 +28,5 @@ pub use mem_sink::MemSink;
 pub use message::Message;
 pub use real::{RealFiles, RealSink};
 pub use sink::Sink;
+pub use tight_fabric::TightFabric;
 pub use transfer::{Whole, read_file, write_all};
