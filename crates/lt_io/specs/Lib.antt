@@ -5,6 +5,7 @@ pub mod FabricState
 pub mod Calls
 pub mod MemFiles
 pub mod MemSink
+pub mod RepeatFiles
 pub mod ChannelState
 pub mod MemFabric
 pub mod FlipState

@@ -4,6 +4,7 @@
 
 mod calls;
 mod channel;
+mod copy;
 mod fabric;
 mod fault;
 mod files;
@@ -14,6 +15,7 @@ mod mem_files;
 mod mem_sink;
 mod message;
 mod real;
+mod repeat_files;
 mod sink;
 mod tight_fabric;
 mod transfer;
@@ -27,6 +29,7 @@ pub use mem_files::{MemFile, MemFiles};
 pub use mem_sink::MemSink;
 pub use message::Message;
 pub use real::{RealFiles, RealSink};
+pub use repeat_files::RepeatFiles;
 pub use sink::Sink;
 pub use tight_fabric::TightFabric;
 pub use transfer::{Whole, read_file, write_all};
