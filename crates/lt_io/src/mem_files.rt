@@ -3,6 +3,7 @@ ghost use Rattle.std.specs.Prelude.{◌≡◌, ◌==◌, ◌<◌, ◌-◌, ◌^�
 ghost use Rattle.lt_io.specs.MemFiles.{lookup, bytes_at, place_of};
 
 use crate::calls::Calls;
+use crate::copy::copy_from;
 use crate::{Failed, Files};
 use lt_base::{List, Name};
 
@@ -106,18 +107,4 @@ fn read_part(files: &List<MemFile>, current: usize, place: usize, buf: &mut [u8]
         None => 0,
         Some(file) => copy_from(file.bytes.as_slice(), place, buf),
     }
-}
-
-fn copy_from(bytes: &[u8], place: usize, buf: &mut [u8]) -> usize
-    ensures front { take result buf.new ≡ take result (drop place bytes.now) }
-    ensures count { result ≡ min (length (drop place bytes.now)) (length buf.old) }
-    ensures fits { place + result < 2 ^ 64 }
-{
-    if place >= bytes.len() {
-        return 0;
-    }
-    let rest = &bytes[place..];
-    let count = rest.len().min(buf.len());
-    buf[..count].copy_from_slice(&rest[..count]);
-    count
 }

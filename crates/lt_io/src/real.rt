@@ -14,8 +14,9 @@ pub struct RealFiles<R: rt::Files> {
 }
 
 impl<R: rt::Files> RealFiles<R> {
+    /// The files of this runtime, of which none is open.
     pub fn new(runtime: R) -> Self
-        ensures { result.faults ≡ 0 }
+        ensures { (⟦<RealFiles<R> as Files>⟧.state result).faults ≡ 0 }
     {
         RealFiles {
             runtime,
@@ -67,16 +68,24 @@ pub struct RealSink<W: Write> {
 
 impl<W: Write> RealSink<W> {
     pub fn new(stream: W) -> Self
-        ensures { result.faults ≡ 0 }
+        ensures { (⟦<RealSink<W> as Sink>⟧.state result).faults ≡ 0 }
     {
         RealSink { stream, faults: 0 }
     }
 }
 
 impl<W: Write> Sink for RealSink<W> {
+    ghost use Rattle.std.specs.Prelude.{◌<◌, ◌-◌, ◌^◌, false, [], length, IsErrOf};
+    ghost use Rattle.lt_io.specs.SinkState.{SinkState, WritesFront};
+
     ghost state = { λ s. record { sound = false; told = false; taken = []; faults = s.faults } };
 
-    fn write(&mut self, bytes: &[u8]) -> Result<usize, SinkErr> {
+    fn write(&mut self, bytes: &[u8]) -> Result<usize, SinkErr>
+        requires count { self.old.faults < 2 ^ 64 - 1 }
+        requires some { 0 < length bytes.now }
+        ensures writes { WritesFront (⟦<RealSink<W> as Sink>⟧.state self.old) (⟦<RealSink<W> as Sink>⟧.state self.new) bytes.now result }
+        ensures never { ¬ IsErrOf result SinkErr.Memory }
+    {
         match self.stream.write(bytes) {
             Ok(count) if count > 0 => Ok(count),
             _ => {
