@@ -1,2 +1,5 @@
 pub mod Ordered
+pub mod Facts
+pub mod Changes
+pub mod Fresh
 pub mod Examples
