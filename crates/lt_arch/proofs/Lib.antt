@@ -2,4 +2,5 @@ pub mod Ordered
 pub mod Facts
 pub mod Changes
 pub mod Fresh
+pub mod Ranges
 pub mod Examples
