@@ -3,4 +3,5 @@ pub mod Facts
 pub mod Changes
 pub mod Fresh
 pub mod Ranges
+pub mod Schedules
 pub mod Examples

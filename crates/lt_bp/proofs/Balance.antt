@@ -13,6 +13,7 @@ use Rattle.lt_arch.specs.Readers.{chan_count, from_of, to_of, carries_data, is_b
 use Rattle.lt_arch.specs.Deeds.{all_in, all_ack, any_in, more, deed_of, phase_after, deed_at, phase_at, data_to, ack_to}
 use Rattle.lt_arch.specs.Step.{offence_of, own_offence, after, sends_on, is_send, is_execute}
 use Rattle.lt_arch.specs.Schedule.{after_all, HasNoOffence, IsOnePlace, OnePlace}
+use Rattle.lt_bp.specs.Laws.{KeepsOnePlace}
 use Rattle.lt_arch.specs.Shapes.{IsBackPressureShape, Answers}
 use Rattle.lt_arch.proofs.Facts.{clear}
 use Rattle.lt_arch.proofs.Fresh.{all_in-at, all_ack-at}
@@ -210,6 +211,6 @@ one_place-balanced s st partners inv = record {
   ack_high = λ c lt k. (pair_of_ack s st partners inv c lt k).1;
 }
 
-pub law : (s : Shape) (t : Timing) (rows : ℕ) → t.protocol ≡ BackPressure → IsBackPressureShape s → OnePlace s t rows
+pub law : KeepsOnePlace
 law s t rows bp partners es h =
     one_place-balanced s _ partners (kept_all s t rows bp (start t.protocol) es (rw bp (balanced-start s)) h)
