@@ -4,4 +4,6 @@ pub mod Changes
 pub mod Fresh
 pub mod Ranges
 pub mod Schedules
+pub mod Raising
+pub mod Winners
 pub mod Examples
