@@ -1,14 +1,28 @@
 //! What all crates share: values, lists and names, the core program and what it means.
 #![tactic(auto)]
 
+mod clock;
+mod expression;
+mod function;
+mod inputs;
 mod list;
 mod memory;
 mod name;
+mod operators;
+mod program;
 mod steps;
+pub mod tables;
 mod value;
 
+pub use clock::Clock;
+pub use expression::Expr;
+pub use function::{Decl, Equation, Func};
+pub use inputs::Inputs;
 pub use list::{Duplicate, List};
 pub use memory::{Memory, Or};
 pub use name::Name;
+pub use operators::{Bin, Imp, Un};
+pub use program::{Program, Whole};
 pub use steps::Steps;
+pub use tables::{op1, op2};
 pub use value::{Cell, Ty, Value};

@@ -1,0 +1,4 @@
+pub mod Examples
+mod Columns
+mod Shape
+mod Wrapping

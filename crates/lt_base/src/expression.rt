@@ -1,0 +1,114 @@
+// Expressions.
+
+ghost use Rattle.std.specs.Prelude.{◌≡◌, ◌^◌, ◌-◌, IfOk, min};
+ghost use Rattle.lt_base.specs.Expression.{shape, parts};
+
+use crate::{Bin, Imp, Memory, Un, Value};
+
+/// An expression, in which variables and functions have numbers.
+#[derive(Drop)]
+pub enum Expr {
+    Lit(Value),
+    Var(u32),
+    Un(Un, Box<Expr>),
+    Bin(Bin, Box<Expr>, Box<Expr>),
+    Imported(Imp, Box<Expr>, Box<Expr>),
+    If(Box<Expr>, Box<Expr>, Box<Expr>),
+    /// The values at the instants at which the variable has that truth value.
+    When(Box<Expr>, u32, bool),
+    /// The first where the variable is true, the second where it is false.
+    Merge(u32, Box<Expr>, Box<Expr>),
+    /// A delay that begins with a literal.
+    Fby(Value, Box<Expr>),
+    /// A delay that begins with what the left side has at the first instant.
+    Follow(Box<Expr>, Box<Expr>),
+    /// The left side at the first instant, and afterwards the right one.
+    Arrow(Box<Expr>, Box<Expr>),
+    Call(u32, Vec<Expr>),
+}
+
+impl Expr {
+    /// The number of expression parts, cut at the greatest number.
+    pub fn parts(&self) -> u64
+        ensures { result ≡ min (parts (shape self.now)) (2 ^ 64 - 1) }
+    {
+        match self {
+            Expr::Lit(_) => 1,
+            Expr::Var(_) => 1,
+            Expr::Un(_, a) => a.parts().saturating_add(1),
+            Expr::Bin(_, a, b) => a.parts().saturating_add(b.parts()).saturating_add(1),
+            Expr::Imported(_, a, b) => a.parts().saturating_add(b.parts()).saturating_add(1),
+            Expr::If(c, a, b) => c
+                .parts()
+                .saturating_add(a.parts())
+                .saturating_add(b.parts())
+                .saturating_add(1),
+            Expr::When(e, _, _) => e.parts().saturating_add(1),
+            Expr::Merge(_, a, b) => a.parts().saturating_add(b.parts()).saturating_add(1),
+            Expr::Fby(_, e) => e.parts().saturating_add(1),
+            Expr::Follow(a, b) => a.parts().saturating_add(b.parts()).saturating_add(1),
+            Expr::Arrow(a, b) => a.parts().saturating_add(b.parts()).saturating_add(1),
+            Expr::Call(_, args) => {
+                let mut sum = 1u64;
+                for a in args {
+                    sum = sum.saturating_add(a.parts());
+                }
+                sum
+            }
+        }
+    }
+
+    /// An equal expression.
+    pub fn copy(&self) -> Result<Expr, Memory>
+        ensures { IfOk result (λ r. shape r ≡ shape self.now) }
+    {
+        match self {
+            Expr::Lit(v) => Ok(Expr::Lit(*v)),
+            Expr::Var(x) => Ok(Expr::Var(*x)),
+            Expr::Un(o, a) => Ok(Expr::Un(*o, Box::new(*Box::allocator(a), a.copy()?)?)),
+            Expr::Bin(o, a, b) => {
+                let a = Box::new(*Box::allocator(a), a.copy()?)?;
+                let b = Box::new(*Box::allocator(b), b.copy()?)?;
+                Ok(Expr::Bin(*o, a, b))
+            }
+            Expr::Imported(o, a, b) => {
+                let a = Box::new(*Box::allocator(a), a.copy()?)?;
+                let b = Box::new(*Box::allocator(b), b.copy()?)?;
+                Ok(Expr::Imported(*o, a, b))
+            }
+            Expr::If(c, a, b) => {
+                let c = Box::new(*Box::allocator(c), c.copy()?)?;
+                let a = Box::new(*Box::allocator(a), a.copy()?)?;
+                let b = Box::new(*Box::allocator(b), b.copy()?)?;
+                Ok(Expr::If(c, a, b))
+            }
+            Expr::When(e, c, b) => {
+                let e = Box::new(*Box::allocator(e), e.copy()?)?;
+                Ok(Expr::When(e, *c, *b))
+            }
+            Expr::Merge(c, a, b) => {
+                let a = Box::new(*Box::allocator(a), a.copy()?)?;
+                let b = Box::new(*Box::allocator(b), b.copy()?)?;
+                Ok(Expr::Merge(*c, a, b))
+            }
+            Expr::Fby(v, e) => Ok(Expr::Fby(*v, Box::new(*Box::allocator(e), e.copy()?)?)),
+            Expr::Follow(a, b) => {
+                let a = Box::new(*Box::allocator(a), a.copy()?)?;
+                let b = Box::new(*Box::allocator(b), b.copy()?)?;
+                Ok(Expr::Follow(a, b))
+            }
+            Expr::Arrow(a, b) => {
+                let a = Box::new(*Box::allocator(a), a.copy()?)?;
+                let b = Box::new(*Box::allocator(b), b.copy()?)?;
+                Ok(Expr::Arrow(a, b))
+            }
+            Expr::Call(g, args) => {
+                let mut copies = Vec::with_capacity(*args.allocator(), args.len())?;
+                for a in args {
+                    copies.push(a.copy()?)?;
+                }
+                Ok(Expr::Call(*g, copies))
+            }
+        }
+    }
+}

@@ -1,0 +1,10 @@
+pub mod Counts
+pub mod FilesState
+pub mod SinkState
+pub mod FabricState
+pub mod Calls
+pub mod MemFiles
+pub mod MemSink
+pub mod ChannelState
+pub mod MemFabric
+pub mod Transfer
