@@ -6,6 +6,7 @@ pub mod Readers
 pub mod State
 pub mod Deeds
 pub mod Deadline
+pub mod Queue
 pub mod Step
 pub mod Schedule
 pub mod Shapes

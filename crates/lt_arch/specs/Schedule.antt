@@ -45,6 +45,10 @@ IsAdmissible s t rows es = first_offence s t rows es ≡ None
 abbrev pub reached : Shape → Timing → (rows : ℕ) → List Event → State
 reached s t rows es = after_all s t rows (start t.protocol) es
 
+-- they end with an end at this horizon
+abbrev pub EndsAt : Shape → Timing → (rows : ℕ) → List Event → (horizon : ℕ) → Type 0
+EndsAt s t rows es horizon = (reached s t rows es).horizon ≡ Some horizon
+
 -- these events from the start are so far without an offence
 abbrev pub IsOffenceFree : Shape → Timing → (rows : ℕ) → List Event → Type 0
 IsOffenceFree s t rows es = HasNoOffence s t rows (start t.protocol) es

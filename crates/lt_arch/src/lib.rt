@@ -4,6 +4,8 @@
 
 mod chan;
 mod controller;
+mod deadlines;
+mod entries;
 mod event;
 mod limits;
 mod readers;
@@ -13,6 +15,8 @@ mod timing;
 
 pub use chan::{Chan, ChanKind};
 pub use controller::Controller;
+pub use deadlines::Deadlines;
+pub use entries::{Entries, Entry};
 pub use event::{Deed, Event, Offence};
 pub use limits::{GREATEST_BOUND, GREATEST_COUNTDOWN, GREATEST_TIME};
 pub use shape::Shape;

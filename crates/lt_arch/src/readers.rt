@@ -1,9 +1,10 @@
 // What is read of a timing. Everything else reads its numbers by these calls alone.
 ghost use Rattle.std.specs.Prelude.{◌≡◌, ◌≢◌, ◌≤◌, ◌<◌, ◌^◌, length, IfOk};
-ghost use Rattle.lt_arch.specs.Readers.{tmin_of, tmax_of, send_of, execute_of, dmin_of, dmax_of, most_of, pair_at, pair_place};
+ghost use Rattle.lt_arch.specs.Readers.{tmin_of, tmax_of, send_of, execute_of, dmin_of, dmax_of, most_of, slowest_of, pair_at, pair_place};
 ghost use Rattle.lt_arch.specs.declared.limits.TheConstants.{GREATEST_BOUND, GREATEST_COUNTDOWN};
 
 use crate::{PairTime, Timing};
+use std::cmp::max;
 use lt_base::Memory;
 
 impl Timing {
@@ -105,6 +106,19 @@ impl Timing {
         ensures range { result ≤ GREATEST_BOUND }
     {
         self.most
+    }
+
+    /// The greatest upper period of a node, in ticks.
+    #[tactic(auto, unfolding(crate::specs::Readers::slowest_of))]
+    pub fn slowest(&self) -> u64
+        ensures value { result ≡ slowest_of self.now }
+        ensures range { result ≤ GREATEST_BOUND }
+    {
+        let mut slowest = 0;
+        for node in 0..self.node_count() {
+            slowest = max(slowest, self.tmax_of(node));
+        }
+        slowest
     }
 
     fn pair(&self, from: u32, to: u32) -> PairTime
