@@ -1,11 +1,11 @@
 -- Steps one after another.
-use Rattle.std.proofs.Common.{◌≡◌, ◌<◌, ℕ, Result, Ok, Err, MatchResult, IsTrue, refl, sym, ◌∙◌, ap, subst, arith, inl, inr}
+use Rattle.std.proofs.Common.{◌<◌, Result, Ok, Err, MatchResult, IsTrue, refl, sym, ◌∙◌, subst, arith, inl, inr}
 use Rattle.lt_base.specs.declared.memory.Or.{Or}
 use Rattle.lt_base.specs.declared.memory.Or.TheVariants.{Fault, Memory}
-use Rattle.lt_io.specs.FilesState.{FilesState, KeepsFiles}
-use Rattle.lt_io.specs.FabricState.{FabricState, KeepsFabric}
+use Rattle.lt_io.specs.FilesState.{FilesState}
+use Rattle.lt_io.specs.FabricState.{FabricState}
 use Rattle.lt_run.specs.World.{World, KeepsWorld, IsCalm, Blame, Content, Reading, Linking, Blames, alone}
-use Rattle.lt_run.specs.Answered.{Answered, Verdict, Settles, Refuses, OrBlames, RefusesReading, RefusesFirst, AndThen}
+use Rattle.lt_run.specs.Answered.{Answered, Verdict, Settles, OrBlames, AndThen}
 
 pub keeps_itself : (w : World) → KeepsWorld w w
 keeps_itself w = record {

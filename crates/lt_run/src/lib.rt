@@ -2,5 +2,6 @@
 #![tactic(auto)]
 
 mod fault;
+mod reading;
 
 pub use fault::{Part, RunFault};
