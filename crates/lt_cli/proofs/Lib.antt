@@ -1,3 +1,4 @@
 pub mod Lines
 pub mod Four
 pub mod Ends
+pub mod Texts

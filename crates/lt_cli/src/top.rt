@@ -28,7 +28,7 @@ fn perform<F: Files, W: Fabric, O: Sink, E: Sink>(
         let new : Objects = record { files = F.state files.new; fabric = W.state fabric.new; out = O.state out.new; err = E.state err.new } in
         Ran (words_verdict old.files.named (map string_bytes words.now)) old new result }
 {
-    match answer(alloc, words, files, fabric) {
+    match answer(alloc, words, files) {
         Ok(text) => print(out, &text),
         Err(Or::Fault(refusal)) => refuse(alloc, err, refusal),
         Err(Or::Memory) => Status::Memory,

@@ -1,5 +1,6 @@
 -- A file that is read whole and then as a form.
 use Rattle.std.proofs.Common.{◌≡◌, ◌≤◌, ℕ, List, length, Option, Some, None, Result, Ok, Err, refl, sym, ap, subst}
+use Rattle.std.specs.Prelude.{IsErrAnd}
 use Rattle.lt_base.specs.declared.memory.Or.{Or}
 use Rattle.lt_base.specs.declared.memory.Or.TheVariants.{Fault, Memory}
 use Rattle.lt_run.specs.declared.fault.Part.{Part}
@@ -9,6 +10,11 @@ use Rattle.lt_run.specs.World.{World, IsCalm, Reading}
 use Rattle.lt_run.specs.Answered.{Answered, Verdict, OfFile, OfForm, RefusesReading}
 use Rattle.lt_run.specs.Blamed.{run_blame}
 use Rattle.lt_run.specs.Fetched.{IsWhole, bytes_verdict}
+
+-- the only error
+pub err_is : {T E : Type 0} (r : Result T E) (e : E) → IsErrAnd r (λ f. f ≡ e) → r ≡ Err e
+err_is (Ok x) e is = absurd is
+err_is (Err f) e is = ap (λ g. Err g) is
 
 -- no file of more bytes is of the form
 abbrev pub IsShort : {T : Type 0} → (List ℕ → T → Type 0) → Type 0

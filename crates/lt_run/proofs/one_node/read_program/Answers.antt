@@ -1,0 +1,22 @@
+use Rattle.std.proofs.Common.{◌≡◌, subst, sym, ℕ, List}
+use Rattle.lt_run.specs.Run.{program_verdict}
+use Rattle.lt_small.specs.Program.{IsProgram}
+use Rattle.lt_run.proofs.Forms.{reads, reads_none, reads_short, unfetched, err_is}
+use Rattle.lt_run.proofs.Shorts.{program_short}
+use Rattle.lt_run.proofs.one_node.read_program.Goals as goal
+
+pub returns-in_err-bytes : goal.returns-in_err-bytes
+unfolding program_verdict
+returns-in_err-bytes g c = rw (err_is _ _ c.from_residual.ensures.1) (unfetched _ _ program_short _ _ _ _ c.in_err-bytes.ensures)
+
+pub returns-in-Some : goal.returns-in-Some
+unfolding program_verdict
+returns-in-Some g c =
+    let form = rw c.in-Some.is at c.in_ok-small.ensures in
+    reads _ _ program_short _ _ _ _ c.in-Some.small c.in_ok-bytes.ensures (subst (λ (b : List ℕ). IsProgram b c.in-Some.small) c.as_slice.ensures form)
+
+pub returns : goal.returns
+unfolding program_verdict
+returns g c =
+    let none = rw c.in-None.is at c.in_ok-small.ensures in
+    reads_none _ _ program_short _ _ _ _ c.in_ok-bytes.ensures (λ small program. none small (subst (λ (b : List ℕ). IsProgram b small) (sym c.as_slice.ensures) program))
