@@ -1,0 +1,6 @@
+//! Files of the small form: a program of one delay, inputs with a column of ints, and the events of one node.
+//! They are all that `run` reads until the whole language and all files are read.
+#![tactic(auto)]
+
+mod line;
+mod number;
