@@ -1,2 +1,4 @@
 pub mod Cuts
 pub mod Numerals
+pub mod Lines
+pub mod Rows

@@ -45,7 +45,7 @@ starts (b ∷ bs) h = elim (eqb_tells b 48) [
       (omega arith, omega (arith, low), λ e. absurd (w.1 e))
 ]
 
-digits_of : (n : ℕ) → n < 2 ^ 64 → AllDigits 10 (decimal n)
+pub digits_of : (n : ℕ) → n < 2 ^ 64 → AllDigits 10 (decimal n)
 digits_of n h = (decimal_is_IsNumeral n h).0.1
 
 pub decimal_plain : (n : ℕ) → n < 2 ^ 64 → begins_plain (decimal n) ≡ true
@@ -67,10 +67,10 @@ no_other bs r n m h e is p = let right = parse-decimal 64 n bs r h h e p in cc
 pub no_error : {E : Type 0} (bs : List ℕ) (r : Result ℕ E) (n : ℕ) (d : E) → n < 2 ^ 64 → bs ≡ decimal n → r ≡ Err d → ParsesUnsigned 64 10 bs r → ⊥
 no_error {E} bs r n d h e is p = let both : Err d ≡ Ok n = sym is ∙ parse-decimal 64 n bs r h h e p in cc
 
-long_pos : (n : ℕ) → IsLong (pos n) → n ≤ 2 ^ 63 - 1
+pub long_pos : (n : ℕ) → IsLong (pos n) → n ≤ 2 ^ 63 - 1
 long_pos n h = omega (arith, ints)
 
-long_neg : (n : ℕ) → IsLong (negsuc n) → n ≤ 2 ^ 63 - 1
+pub long_neg : (n : ℕ) → IsLong (negsuc n) → n ≤ 2 ^ 63 - 1
 long_neg n h = omega (arith, ints)
 
 no_minus : (n : ℕ) (ds : List ℕ) → n < 2 ^ 64 → decimal n ≢ 45 ∷ ds

@@ -1,6 +1,7 @@
--- Numbers in files.
-use Rattle.std.specs.Prelude.{◌≡◌, ◌≢◌, ℕ, ◌<◌, ◌==◌, ◌&&◌, ◌||◌, nat_le, Bool, true, false, List, [], ◌∷◌, length, slice_index, ℤ, FitsSigned}
+-- Numbers and lines in files.
+use Rattle.std.specs.Prelude.{◌≡◌, ◌≢◌, ℕ, ◌<◌, ◌==◌, ◌&&◌, ◌||◌, nat_le, Bool, true, false, List, [], ◌∷◌, ◌++◌, length, slice_index, ℤ, FitsSigned}
 use Rattle.std.specs.Int.{w64}
+use Rattle.std.specs.Fmt.{decimal}
 
 -- a byte does not stand in a text
 abbrev pub Lacks : ℕ → List ℕ → Type 0
@@ -18,3 +19,7 @@ is_empty (b ∷ bs) = false
 abbrev pub begins_plain : List ℕ → Bool
 begins_plain [] = false
 begins_plain (b ∷ bs) = (b == 48 && is_empty bs) || (nat_le 49 b && nat_le b 57)
+
+-- a line: a number as it is printed, a comma, the rest, a line feed
+abbrev pub line_of : ℕ → List ℕ → List ℕ
+line_of n tail = decimal n ++ 44 ∷ (tail ++ 10 ∷ [])

@@ -2,5 +2,9 @@
 //! They are all that `run` reads until the whole language and all files are read.
 #![tactic(auto)]
 
+mod inputs;
+mod limits;
 mod line;
 mod number;
+
+pub use inputs::read_inputs;

@@ -1,4 +1,4 @@
-// Fronts of texts.
+// Lines, and other fronts of texts.
 ghost use Rattle.std.specs.Prelude.{◌≡◌, ◌≢◌, ◌++◌, ◌∷◌, ◌==◌, List, ℕ, MatchOption, position};
 ghost use Rattle.lt_small.specs.Numbers.{Lacks};
 

@@ -1,9 +1,9 @@
 // Numbers as they are printed: in decimal, without leading zeros.
-ghost use Rattle.std.specs.Prelude.{◌≡◌, ◌≢◌, ◌≤◌, ◌^◌, ℕ, ℤ, MatchOption};
+ghost use Rattle.std.specs.Prelude.{◌≡◌, ◌≢◌, ◌≤◌, ◌^◌, ◌++◌, ℕ, ℤ, List, MatchOption};
 ghost use Rattle.std.specs.Fmt.{decimal, signed_decimal};
-ghost use Rattle.lt_small.specs.Numbers.{begins_plain, IsLong};
+ghost use Rattle.lt_small.specs.Numbers.{begins_plain, IsLong, Lacks, line_of};
 
-use crate::line::after;
+use crate::line::{after, cut};
 
 /// Whether a text begins as a printed number does: with a digit, and with a zero only where that is all.
 fn begins_plain(text: &[u8]) -> bool
@@ -43,4 +43,30 @@ pub fn int(text: &[u8]) -> Option<i64>
         };
     }
     Some(number(text, i64::MAX as u64)? as i64)
+}
+
+/// A line with its line feed: a number, the text behind the comma, and what stands behind the line.
+#[derive(Clone, Copy)]
+pub struct Line<'a> {
+    pub number: u64,
+    pub tail: &'a [u8],
+    pub rest: &'a [u8],
+}
+
+/// The line at the front of a text, where its number is within a bound.
+pub fn read_line(bytes: &[u8], most: u64) -> Option<Line<'_>>
+    ensures { MatchOption result
+        ((n : ℕ) (tail rest : List ℕ) → n ≤ most → Lacks 10 tail → bytes.now ≢ line_of n tail ++ rest)
+        (λ l. (l.number ≤ most) × Lacks 10 l.tail.now × (bytes.now ≡ line_of l.number l.tail.now ++ l.rest.now)) }
+{
+    let Some((line, rest)) = cut(bytes, b'\n') else {
+        return None;
+    };
+    let Some((digits, tail)) = cut(line, b',') else {
+        return None;
+    };
+    match number(digits, most) {
+        Some(number) => Some(Line { number, tail, rest }),
+        None => None,
+    }
 }
