@@ -2,3 +2,5 @@ pub mod Cuts
 pub mod Numerals
 pub mod Lines
 pub mod Rows
+pub mod Steps
+pub mod Events

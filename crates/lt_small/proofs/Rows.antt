@@ -91,18 +91,6 @@ pub rows_end : (bytes rest : List ℕ) (table : InputTable) → RowsLeft bytes r
 rows_end bytes rest table st none =
     (st.done, record { text = st.sound [] none ∙ ap (rows_text 0) (append-nil st.done); count = st.count; long = st.long }, st.table_is)
 
--- there are too many lines
-pub rows_full : (bytes rest : List ℕ) (table : InputTable) → RowsLeft bytes rest table → rest ≢ [] → 100000 ≤ length table.rows → (values : List ℤ) → IsRows bytes values → ⊥
-rows_full bytes rest table st some full values is =
-    let c = st.complete values is.long is.text in
-    let here : length table.rows ≡ length st.done = ap (λ (t : InputTable). length t.rows) st.table_is ∙ length-map st.done (λ (y : ℤ). Int y ∷ []) in
-    let count : length values ≡ length st.done + length c.0 = ap length c.1 ∙ length-append st.done c.0 in
-    by c.0 c.2 (omega (arith, is.count, count, here, full))
-  where
-    by : (us : List ℤ) → rest ≡ rows_text (length st.done) us → length us ≤ 0 → ⊥
-    by [] e h = some e
-    by (u ∷ us) e h = absurd (omega arith)
-
 -- what comes next is no line of this instant
 pub rows_stuck : (bytes rest : List ℕ) (table : InputTable) (k : ℕ) → RowsLeft bytes rest table → rest ≢ [] → k ≡ length table.rows
     → ((z : ℤ) (after : List ℕ) → IsLong z → rest ≢ line_of k (signed_decimal z) ++ after) → (values : List ℤ) → IsRows bytes values → ⊥

@@ -1,2 +1,5 @@
 pub mod Numbers
 pub mod Inputs
+pub mod OneNode
+pub mod Schedule
+pub mod Node

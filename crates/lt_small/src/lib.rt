@@ -5,6 +5,9 @@
 mod inputs;
 mod limits;
 mod line;
+mod node;
 mod number;
+mod schedule;
 
 pub use inputs::read_inputs;
+pub use schedule::read_schedule;
