@@ -4,3 +4,4 @@ pub mod Lines
 pub mod Rows
 pub mod Steps
 pub mod Events
+pub mod Fits

@@ -3,3 +3,4 @@ pub mod Inputs
 pub mod OneNode
 pub mod Schedule
 pub mod Node
+pub mod Program

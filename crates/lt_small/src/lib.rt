@@ -7,7 +7,10 @@ mod limits;
 mod line;
 mod node;
 mod number;
+mod program;
 mod schedule;
+mod tokens;
 
 pub use inputs::read_inputs;
+pub use program::{Operator, Side, SmallProgram};
 pub use schedule::read_schedule;
