@@ -5,3 +5,4 @@ pub mod Rows
 pub mod Steps
 pub mod Events
 pub mod Fits
+pub mod WholeCuts

@@ -18,7 +18,7 @@ pub fn read_tokens(alloc: Global, bytes: &[u8]) -> Result<Option<Vec<Token>>, Me
 {
     let mut tokens = Vec::with_capacity(alloc, TOKENS)?;
     let mut rest = bytes;
-    for _turn in 0..TOKENS {
+    for turn in 0..TOKENS {
         let behind = skip(rest);
         match read_front(alloc, behind)? {
             Front::Begins(token, length) => {
