@@ -6,3 +6,4 @@ pub mod Steps
 pub mod Events
 pub mod Fits
 pub mod WholeCuts
+pub mod Forms

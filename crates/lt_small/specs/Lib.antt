@@ -4,3 +4,4 @@ pub mod OneNode
 pub mod Schedule
 pub mod Node
 pub mod Program
+pub mod Form

@@ -2,6 +2,7 @@
 //! They are all that `run` reads until the whole language and all files are read.
 #![tactic(auto)]
 
+mod form;
 mod inputs;
 mod limits;
 mod line;
