@@ -171,3 +171,15 @@ under_header rows bytes lines (Some m) size e h =
 -- without the header
 pub no_header : (rows : ℕ) (bytes : List ℕ) → ((lines : List ℕ) → bytes ≢ codes "time,event,place\n" ++ lines) → (events : List Event) → IsSchedule rows bytes events → ⊥
 no_header rows bytes none events is = none (events_text events) is.text
+
+one_events : (es fs : List Event) → All IsNodeEvent es → All IsNodeEvent fs → events_text es ≡ events_text fs → es ≡ fs
+one_events [] [] l m e = refl
+one_events [] (d ∷ fs) l m e = absurd (line_some (time_of d) (place_text d) (events_text fs) (sym e))
+one_events (d ∷ es) fs l m e =
+    let f = first_event d (events_text es) fs (l 0 d (omega arith)) m e in
+    let tail = subst (λ (gs : List Event). All IsNodeEvent gs) f.1 m in
+    ap (λ (gs : List Event). d ∷ gs) (one_events es f.0 (λ i x lt. l (suc i) x (omega arith)) (λ i x lt. tail (suc i) x (omega arith)) f.2) ∙ sym f.1
+
+-- a file has the events of one list at most
+pub one_schedule : (rows : ℕ) (bytes : List ℕ) (es fs : List Event) → IsSchedule rows bytes es → IsSchedule rows bytes fs → es ≡ fs
+one_schedule rows bytes es fs p q = one_events es fs p.own q.own (append_cancel_left (codes "time,event,place\n") (events_text es) (events_text fs) (sym p.text ∙ q.text))

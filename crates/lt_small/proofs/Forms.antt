@@ -1,6 +1,6 @@
 -- Tokens by their places.
 use Rattle.std.proofs.Common.{◌≡◌, ◌≢◌, ℕ, zero, suc, ◌+◌, ◌<◌, ◌≤◌, List, [], ◌∷◌, length, drop, get_or, codes, refl, sym, ap, ◌∙◌, arith, drop-cons, add-one, subst}
-use Rattle.std.proofs.lemmas.List.{drop_all}
+use Rattle.std.proofs.lemmas.List.{drop_all, get_or_default}
 use Rattle.lt_tokens.specs.declared.token.Infix.TheVariants as infix_token
 use Rattle.lt_tokens.specs.declared.token.Token.{Token}
 use Rattle.lt_tokens.specs.declared.token.Token.TheVariants as token
@@ -55,9 +55,4 @@ same_names tokens s input output w e n =
 
 -- what an index reads
 pub at_place : (tokens : List Token) (k : ℕ) (t u : Token) → k < length tokens → t ≡ get_or tokens k t → t ≡ u → token_at tokens k ≡ u
-at_place tokens k t u h at is = by tokens k h ∙ sym at ∙ is
-  where
-    by : (ts : List Token) (k : ℕ) → k < length ts → get_or ts k token.Tel ≡ get_or ts k t
-    by [] k h = absurd (omega arith)
-    by (x ∷ ts) zero h = refl
-    by (x ∷ ts) (suc k) h = by ts k (omega arith)
+at_place tokens k t u h at is = get_or_default tokens k token.Tel t h ∙ sym at ∙ is

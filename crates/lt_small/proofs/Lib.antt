@@ -7,3 +7,4 @@ pub mod Events
 pub mod Fits
 pub mod WholeCuts
 pub mod Forms
+pub mod OnePrograms

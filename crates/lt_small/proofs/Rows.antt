@@ -126,3 +126,18 @@ pub rows_count : (bytes rest : List ℕ) (table : InputTable) (k : ℕ) → Rows
 rows_count bytes rest table k st at differ =
     let here : k ≡ length st.done = at ∙ ap (λ (t : InputTable). length t.rows) st.table_is ∙ length-map st.done (λ (y : ℤ). Int y ∷ []) in
     omega (arith, st.count, here, differ)
+
+one_rows : (k : ℕ) (us vs : List ℤ) → All IsLong us → All IsLong vs → k + length us < 2 ^ 64 → rows_text k us ≡ rows_text k vs → us ≡ vs
+one_rows k [] [] l m h e = refl
+one_rows k [] (z ∷ vs) l m h e = absurd (line_some k (signed_decimal z) (rows_text (k + 1) vs) (sym e))
+one_rows k (z ∷ us) vs l m h e =
+    let f = first_row k z (rows_text (k + 1) us) vs (omega arith) (l 0 z (omega arith)) m e in
+    let tail = subst (λ (ws : List ℤ). All IsLong ws) f.1 m in
+    ap (λ (ws : List ℤ). z ∷ ws) (one_rows (k + 1) us f.0 (λ i d lt. l (suc i) d (omega arith)) (λ i d lt. tail (suc i) d (omega arith)) (omega arith) f.2) ∙ sym f.1
+
+-- a file has the values of one list at most
+pub one_inputs : (name bytes : List ℕ) (us vs : List ℤ) → IsInputs name bytes us → IsInputs name bytes vs → us ≡ vs
+one_inputs name bytes us vs p q =
+    let named = append_cancel_left (codes "instant,") (name ++ 10 ∷ rows_text 0 us) (name ++ 10 ∷ rows_text 0 vs) (sym p.text ∙ q.text) in
+    let fed = append_cancel_left name (10 ∷ rows_text 0 us) (10 ∷ rows_text 0 vs) named in
+    one_rows 0 us vs p.long q.long (omega (arith, p.count)) cc

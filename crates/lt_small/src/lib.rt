@@ -9,9 +9,11 @@ mod line;
 mod node;
 mod number;
 mod program;
+mod reading;
 mod schedule;
 mod tokens;
 
 pub use inputs::read_inputs;
 pub use program::{Operator, Side, SmallProgram};
+pub use reading::read_program;
 pub use schedule::read_schedule;
