@@ -11,10 +11,12 @@ use lt_base::{Inputs, Memory, Value};
 use std::alloc::Global;
 
 /// The values of an inputs file for the input of this name, and none exactly where the file is not of the small form.
+#[tactic(auto, using(crate::proofs::Rows::one_inputs))]
 pub fn read_inputs(alloc: Global, bytes: &[u8], input: &str) -> Result<Option<Inputs>, Memory>
-    ensures { IfOk result (λ o. MatchOption o
+    ensures exact { IfOk result (λ o. MatchOption o
         ((values : List ℤ) → IsInputs input.now bytes.now values → ⊥)
         (λ table. (values : List ℤ) × IsInputs input.now bytes.now values × (table ≡ table_of values))) }
+    ensures one { (these those : List ℤ) → IsInputs input.now bytes.now these → IsInputs input.now bytes.now those → these ≡ those }
 {
     if bytes.len() > GREATEST_BYTES {
         return Ok(None);

@@ -15,10 +15,12 @@ use lt_arch::{Event, GREATEST_TIME};
 
 /// How many instants the node has executed at the end of a schedule file, with so many rows of inputs, and none exactly
 /// where the file is not of the small form.
+#[tactic(auto, using(crate::proofs::Events::one_schedule))]
 pub fn read_schedule(bytes: &[u8], rows: u32) -> Option<u32>
-    ensures { MatchOption result
+    ensures exact { MatchOption result
         ((events : List ArchEvent) → IsSchedule rows bytes.now events → ⊥)
         (λ m. (events : List ArchEvent) × IsSchedule rows bytes.now events × (m ≡ executed_of (reached one_node plain rows events) 0)) }
+    ensures one { (these those : List ArchEvent) → IsSchedule rows bytes.now these → IsSchedule rows bytes.now those → these ≡ those }
 {
     if bytes.len() > GREATEST_BYTES {
         return None;
