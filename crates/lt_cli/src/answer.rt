@@ -46,11 +46,7 @@ fn run_text<F: Files>(
         (alone (F.state files.old)) (alone (F.state files.new)) result }
 {
     match run(alloc, files, program, inputs, schedule) {
-        Ok(printed) => Ok(outputs_text(
-            alloc,
-            printed.names.as_slice(),
-            printed.cells.as_slice(),
-        )?),
+        Ok(printed) => Ok(outputs_text(alloc, printed.names.as_slice(), printed.cells.as_slice())?),
         Err(e) => Err(e.map(Refusal::Run)),
     }
 }

@@ -1,5 +1,5 @@
 -- A small program on a table of one column.
-use Rattle.std.proofs.Common.{◌≡◌, ℕ, ℤ, ◌+◌, ◌*◌, ◌<◌, ◌≤◌, List, [], ◌∷◌, length, map, take, Some, get_or, refl, subst, arith}
+use Rattle.std.proofs.Common.{◌≡◌, ℤ, ◌≤◌, List, [], ◌∷◌, length, map, Some, get_or, refl, subst, arith}
 use Rattle.std.proofs.lemmas.List.{length-map}
 use Rattle.lt_base.specs.declared.value.Value.{Value}
 use Rattle.lt_base.specs.declared.value.Value.TheVariants.{Int}
@@ -12,8 +12,7 @@ use Rattle.lt_base.proofs.Streams.{stream_length}
 use Rattle.lt_base.specs.Typing.{AllFit}
 use Rattle.lt_meaning.specs.Streams.{InputsFitMain, HasMainStreams, cell_count}
 use Rattle.lt_small.specs.declared.program.SmallProgram.{SmallProgram}
-use Rattle.lt_small.specs.Inputs.{table_of}
-use Rattle.lt_small.specs.Program.{program_of, main_of_small}
+use Rattle.lt_small.specs.Program.{program_of, function_of}
 use Rattle.lt_run.specs.Run.{IsColumn}
 
 ints_fit : (values : List ℤ) → AllFit (IntTy ∷ []) (map (map Some) (map (λ value. Int value ∷ []) values))
@@ -34,9 +33,9 @@ cells_are_few small table column = let few = column_rows table column in omega (
 
 -- the output's column is its stream
 pub output_column : (p : WholeProgram) (small : SmallProgram) (rows : List (List Value)) (streams : List (List Cell)) → p ≡ program_of small → HasMainStreams p rows streams
-    → get_or streams 1 [] ≡ stream_of (main_of_small small ∷ []) (main_of_small small) rows 1
+    → get_or streams 1 [] ≡ stream_of (function_of small ∷ []) (function_of small) rows 1
 output_column p small rows streams is has =
     (subst (λ (q : WholeProgram). HasMainStreams q rows streams) is has).streams 1 (omega arith)
 
-pub output_length : (small : SmallProgram) (rows : List (List Value)) → length (stream_of (main_of_small small ∷ []) (main_of_small small) rows 1) ≡ length rows
-output_length small rows = stream_length (main_of_small small ∷ []) (main_of_small small) 1 rows
+pub output_length : (small : SmallProgram) (rows : List (List Value)) → length (stream_of (function_of small ∷ []) (function_of small) rows 1) ≡ length rows
+output_length small rows = stream_length (function_of small ∷ []) (function_of small) 1 rows

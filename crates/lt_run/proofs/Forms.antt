@@ -6,10 +6,10 @@ use Rattle.lt_base.specs.declared.memory.Or.TheVariants.{Fault, Memory}
 use Rattle.lt_run.specs.declared.fault.Part.{Part}
 use Rattle.lt_run.specs.declared.fault.RunFault.{RunFault}
 use Rattle.lt_run.specs.declared.fault.RunFault.TheVariants.{NotBuilt, Read}
-use Rattle.lt_run.specs.World.{World, IsCalm, Reading}
+use Rattle.lt_run.specs.World.{World}
 use Rattle.lt_run.specs.Answered.{Answered, Verdict, OfFile, OfForm, RefusesReading}
 use Rattle.lt_run.specs.Blamed.{run_blame}
-use Rattle.lt_run.specs.Fetched.{IsWhole, bytes_verdict}
+use Rattle.lt_run.specs.Fetched.{bytes_verdict}
 
 -- the only error
 pub err_is : {T E : Type 0} (r : Result T E) (e : E) → IsErrAnd r (λ f. f ≡ e) → r ≡ Err e

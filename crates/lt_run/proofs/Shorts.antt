@@ -1,7 +1,5 @@
 -- No form has more bytes than are read.
 use Rattle.lt_small.specs.Program.{IsProgram}
-use Rattle.lt_small.specs.Inputs.{IsInputs}
-use Rattle.lt_small.specs.Schedule.{IsSchedule}
 use Rattle.std.proofs.Common.{ℕ, List}
 use Rattle.lt_run.specs.Run.{IsTable, Executes}
 use Rattle.lt_run.proofs.Forms.{IsShort}

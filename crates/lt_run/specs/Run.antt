@@ -1,13 +1,15 @@
 -- A run of one node on three files of the small form.
-use Rattle.std.specs.Prelude.{◌≡◌, ◌≤◌, ℕ, ℤ, List, [], ◌∷◌, length, take, Option, Result, Ok, Err}
+use Rattle.std.specs.Prelude.{◌≡◌, ◌≤◌, ℕ, ℤ, List, [], ◌∷◌, length, take, Option, Ok, Err}
 use Rattle.lt_base.specs.declared.value.Cell.{Cell}
 use Rattle.lt_base.specs.Inputs.{InputTable}
 use Rattle.lt_base.specs.Meaning.{stream_of}
 use Rattle.lt_arch.specs.declared.event.Event.{Event}
 use Rattle.lt_small.specs.declared.program.SmallProgram.{SmallProgram}
-use Rattle.lt_small.specs.Program.{IsProgram, main_of_small}
+use Rattle.lt_small.specs.Program.{IsProgram, function_of}
 use Rattle.lt_small.specs.Inputs.{IsInputs, table_of}
-use Rattle.lt_small.specs.Schedule.{IsSchedule, executed_by}
+use Rattle.lt_small.specs.Schedule.{IsSchedule, one_node, plain}
+use Rattle.lt_arch.specs.State.{executed_of}
+use Rattle.lt_arch.specs.Schedule.{reached}
 use Rattle.lt_run.specs.declared.fault.Part.TheVariants as part
 use Rattle.lt_run.specs.declared.fault.RunFault.{RunFault}
 use Rattle.lt_run.specs.declared.fault.RunFault.TheVariants.{NotBuilt, Read}
@@ -24,11 +26,11 @@ IsColumn table = (values : List ℤ) × (length values ≤ 100000) × (table ≡
 
 -- the bytes hold a schedule that is admissible for so many input rows, and by which so many instants are executed
 abbrev pub Executes : (rows : ℕ) (bytes : List ℕ) → ℕ → Type 0
-Executes rows bytes executed = (events : List Event) × IsSchedule rows bytes events × (executed ≡ executed_by rows events)
+Executes rows bytes executed = (events : List Event) × IsSchedule rows bytes events × (executed ≡ executed_of (reached one_node plain rows events) 0)
 
 -- the first executed entries of the output's stream
 abbrev pub cells_of : SmallProgram → InputTable → (executed : ℕ) → List Cell
-cells_of small table executed = take executed (stream_of (main_of_small small ∷ []) (main_of_small small) table.rows 1)
+cells_of small table executed = take executed (stream_of (function_of small ∷ []) (function_of small) table.rows 1)
 
 -- what is printed: the output with these cells
 pub record Prints (small : SmallProgram) (table : InputTable) (executed : ℕ) (printed : Printed) : Type 0 where

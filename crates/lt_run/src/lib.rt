@@ -2,10 +2,10 @@
 #![tactic(auto)]
 
 mod fault;
+mod one_node;
 mod printed;
 mod reading;
-mod one_node;
 
-pub use printed::Printed;
-pub use one_node::run;
 pub use fault::{Part, RunFault};
+pub use one_node::run;
+pub use printed::Printed;

@@ -1,5 +1,6 @@
 // A run of one node on three files of the small form.
 ghost use Rattle.std.specs.Prelude.{◌≡◌, ◌<◌, ◌≤◌, ◌-◌, ◌^◌, length, IfOk};
+ghost use Rattle.lt_small.specs.Program.{IsWellFormed};
 ghost use Rattle.lt_run.specs.World.{alone};
 ghost use Rattle.lt_run.specs.Answered.{Answered};
 ghost use Rattle.lt_run.specs.Blamed.{run_blame};
@@ -10,7 +11,7 @@ use crate::{Part, Printed, RunFault};
 use lt_base::{Inputs, List, Memory, Name, Or};
 use lt_io::Files;
 use lt_meaning::{StreamsFault, streams};
-use lt_small::{SmallProgram, whole_program};
+use lt_small::SmallProgram;
 use std::alloc::Global;
 
 /// Runs the program on the inputs along the schedule, files that are read in this order, and answers the cells of its output.
@@ -38,7 +39,8 @@ fn read_program<F: Files>(
     name: &str,
 ) -> Result<SmallProgram, Or<RunFault>>
     requires { (F.state files.old).faults < 2 ^ 64 - 1 }
-    ensures { Answered run_blame (program_verdict ((F.state files.old).named name.now)) (alone (F.state files.old)) (alone (F.state files.new)) result }
+    ensures answered { Answered run_blame (program_verdict ((F.state files.old).named name.now)) (alone (F.state files.old)) (alone (F.state files.new)) result }
+    ensures well_formed { IfOk result IsWellFormed }
 {
     let bytes = fetch(alloc, files, name, Part::Program)?;
     match lt_small::read_program(alloc, bytes.as_slice())? {
@@ -88,11 +90,12 @@ fn print(
     table: &Inputs,
     executed: u32,
 ) -> Result<Printed, Memory>
+    requires small { IsWellFormed small.now }
     requires table { IsColumn table.now }
     requires executed { executed ≤ length table.now.rows }
     ensures { IfOk result (Prints small.now table.now executed) }
 {
-    let program = whole_program(alloc, small)?;
+    let program = small.program(alloc)?;
     let streams = match streams(alloc, &program, table) {
         Ok(streams) => streams,
         Err(Or::Fault(StreamsFault::TooMany)) => unreachable!(),

@@ -1,6 +1,6 @@
-use Rattle.std.proofs.Common.{◌≡◌, ◌∙◌}
+use Rattle.std.proofs.Common.{◌∙◌}
 use Rattle.lt_cli.specs.Texts.{outputs_text}
-use Rattle.lt_cli.proofs.Texts.{text_printed, text_short, text_refused}
+use Rattle.lt_cli.proofs.Texts.{text_printed, text_refused}
 use Rattle.lt_cli.proofs.answer.run_text.Goals as goal
 
 pub returns-in_ok-outputs_text-in-Ok : goal.returns-in_ok-outputs_text-in-Ok
