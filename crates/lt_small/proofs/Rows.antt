@@ -78,12 +78,12 @@ rows_more bytes rest after table more k z st at few long r width rows =
       count = omega (arith, next);
       long = All-push IsLong st.done z st.long long;
       sound = λ us e.
-        st.sound (z ∷ us) (r ∙ ap (λ (n : ℕ). line_of n (signed_decimal z) ++ after) here ∙ ap (λ (t : List ℕ). line_of (length st.done) (signed_decimal z) ++ t) (e ∙ ap (λ (n : ℕ). rows_text n us) (next ∙ ap (λ (n : ℕ). n + 1) here)))
-        ∙ ap (rows_text 0) (sym (append_assoc st.done (z ∷ []) us));
+          st.sound (z ∷ us) (r ∙ ap (λ (n : ℕ). line_of n (signed_decimal z) ++ after) here ∙ ap (λ (t : List ℕ). line_of (length st.done) (signed_decimal z) ++ t) (e ∙ ap (λ (n : ℕ). rows_text n us) (next ∙ ap (λ (n : ℕ). n + 1) here)))
+          ∙ ap (rows_text 0) (sym (append_assoc st.done (z ∷ []) us));
       complete = λ vs l e.
-        let c = st.complete vs l e in
-        let f = first_row k z after c.0 (omega arith) long (left_long vs st.done c.0 c.1 l) (sym r ∙ c.2 ∙ ap (λ (n : ℕ). rows_text n c.0) (sym here)) in
-        (f.0, c.1 ∙ ap (λ (us : List ℤ). st.done ++ us) f.1 ∙ sym (append_assoc st.done (z ∷ []) f.0), f.2 ∙ ap (λ (n : ℕ). rows_text n f.0) (sym next));
+          let c = st.complete vs l e in
+          let f = first_row k z after c.0 (omega arith) long (left_long vs st.done c.0 c.1 l) (sym r ∙ c.2 ∙ ap (λ (n : ℕ). rows_text n c.0) (sym here)) in
+          (f.0, c.1 ∙ ap (λ (us : List ℤ). st.done ++ us) f.1 ∙ sym (append_assoc st.done (z ∷ []) f.0), f.2 ∙ ap (λ (n : ℕ). rows_text n f.0) (sym next));
     }
 
 -- all lines are read

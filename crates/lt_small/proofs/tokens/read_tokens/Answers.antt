@@ -16,7 +16,7 @@ loop-turn-preserved c =
     let n = c.in-Begins.length in
     record {
       cut = token_more c.args.bytes.now c.loop-turn.rest.now behind _ c.loop-turn.tokens.items c.push.new.self.items c.in-Begins.token n c.in_ok-token.field-0
-      c.loop-turn.invariant.cut c.skip-behind.ensures.value c.in-Begins.is c.in_ok-token.ensures.value c.in_ok-push-in-Begins.ensures.items (all_taken behind n);
+          c.loop-turn.invariant.cut c.skip-behind.ensures.value c.in-Begins.is c.in_ok-token.ensures.value c.in_ok-push-in-Begins.ensures.items (all_taken behind n);
       count = grind arith;
     }
 
