@@ -1,5 +1,5 @@
 -- The lines of a schedule file.
-use Rattle.std.proofs.Common.{◌≡◌, ◌≢◌, ℕ, zero, suc, ◌+◌, ◌^◌, ◌<◌, ◌≤◌, List, [], ◌∷◌, ◌++◌, length, codes, Bool, true, false, Option, Some, None, is_some, MatchOption, refl, sym, ap, subst, ◌∙◌, arith, All, lit<, if◌then◌else◌, not, ◌==◌, eq-eqb, slice_index, slice_index_or}
+use Rattle.std.proofs.Common.{◌≡◌, ◌≢◌, ℕ, zero, suc, ◌+◌, ◌^◌, ◌<◌, ◌≤◌, List, [], ◌∷◌, ◌++◌, length, codes, Bool, true, false, Option, Some, None, is_some, MatchOption, refl, sym, ap, subst, ◌∙◌, arith, All, if◌then◌else◌, not, ◌==◌, eq-eqb, slice_index, slice_index_or}
 use Rattle.std.specs.List.{list_all}
 use Rattle.std.proofs.lemmas.List.Sums.{AllPass-from_list_all}
 use Rattle.std.proofs.lemmas.Option.{none-some}
@@ -12,12 +12,12 @@ use Rattle.lt_arch.specs.declared.event.Offence.TheVariants.{NoEnd}
 use Rattle.lt_arch.specs.State.{State, start, executed_of}
 use Rattle.lt_arch.specs.declared.timing.Protocol.TheVariants.{BackPressure}
 use Rattle.lt_arch.specs.Step.{offence_of, after, time_of}
-use Rattle.lt_arch.specs.Schedule.{after_all, reached, first_offence_from, numbered_or, missing_end, IsAdmissible}
+use Rattle.lt_arch.specs.Schedule.{after_all, reached, first_offence_from, numbered_or, missing_end}
 use Rattle.lt_small.specs.declared.node.Node.{Node}
 use Rattle.lt_small.specs.Node.{IsNode}
 use Rattle.lt_small.specs.Numbers.{Lacks, line_of}
-use Rattle.lt_small.specs.Schedule.{IsNodeEvent, place_text, events_text, schedule_text, IsEvents, IsSchedule, one_node, plain}
-use Rattle.lt_small.proofs.Lines.{one_line, lacks_cons}
+use Rattle.lt_small.specs.Schedule.{IsNodeEvent, place_text, events_text, IsEvents, IsSchedule, one_node, plain}
+use Rattle.lt_small.proofs.Lines.{one_line}
 use Rattle.lt_small.proofs.Rows.{line_some}
 
 lacks_none : (b : ℕ) → Lacks b []

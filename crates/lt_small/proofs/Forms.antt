@@ -1,5 +1,5 @@
 -- Tokens by their places.
-use Rattle.std.proofs.Common.{◌≡◌, ◌≢◌, ℕ, zero, suc, ◌+◌, ◌<◌, ◌≤◌, List, [], ◌∷◌, length, drop, get_or, codes, refl, sym, ap, ◌∙◌, arith, drop-cons, add-one, subst}
+use Rattle.std.proofs.Common.{◌≡◌, ℕ, zero, suc, ◌+◌, ◌<◌, List, [], ◌∷◌, length, drop, get_or, refl, sym, ap, ◌∙◌, arith, drop-cons, add-one, subst}
 use Rattle.std.proofs.lemmas.List.{drop_all, get_or_default}
 use Rattle.lt_tokens.specs.declared.token.Infix.TheVariants as infix_token
 use Rattle.lt_tokens.specs.declared.token.Token.{Token}

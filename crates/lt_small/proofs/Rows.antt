@@ -1,5 +1,5 @@
 -- The lines of an inputs file.
-use Rattle.std.proofs.Common.{◌≡◌, ◌≢◌, ℕ, zero, suc, ◌+◌, ◌^◌, ◌<◌, ◌≤◌, ℤ, List, [], ◌∷◌, ◌++◌, length, map, ◌==◌, Bool, true, false, codes, Option, Some, None, MatchOption, Bor, refl, sym, ap, subst, ◌∙◌, arith, append_assoc, All, lit<, Result, Ok, Err, IfOk}
+use Rattle.std.proofs.Common.{◌≡◌, ◌≢◌, ℕ, suc, ◌+◌, ◌^◌, ◌<◌, ◌≤◌, ℤ, List, [], ◌∷◌, ◌++◌, length, map, ◌==◌, Bool, true, false, codes, Option, Some, None, MatchOption, Bor, refl, sym, ap, subst, ◌∙◌, arith, append_assoc, All, Result, Ok, Err, IfOk}
 use Rattle.std.proofs.lemmas.List.{append_cancel_left, map-append, length-append, length-map, append-nil}
 use Rattle.std.proofs.lemmas.List.Elements.{All-push}
 use Rattle.lt_base.specs.declared.memory.Memory.{Memory}
@@ -8,8 +8,8 @@ use Rattle.std.specs.Fmt.{decimal, signed_decimal}
 use Rattle.lt_base.specs.declared.value.Value.{Value}
 use Rattle.lt_base.specs.declared.value.Value.TheVariants.{Int}
 use Rattle.lt_base.specs.Inputs.{InputTable}
-use Rattle.lt_small.specs.Numbers.{Lacks, IsLong, line_of}
-use Rattle.lt_small.specs.Inputs.{rows_text, inputs_text, IsRows, IsInputs, table_of}
+use Rattle.lt_small.specs.Numbers.{IsLong, line_of}
+use Rattle.lt_small.specs.Inputs.{rows_text, IsRows, IsInputs, table_of}
 use Rattle.lt_small.proofs.Lines.{one_line, one_int, signed_lacks}
 
 pub header_end : (bytes named feed input : List ℕ) (r : Option (Bor (List ℕ))) → bytes ≡ codes "instant," ++ named → named ≡ input ++ feed

@@ -1,4 +1,4 @@
-use Rattle.std.proofs.Common.{◌≡◌, List, ℕ, length, arith}
+use Rattle.std.proofs.Common.{arith}
 use Rattle.lt_small.specs.declared.program.SmallProgram.{SmallProgram}
 use Rattle.lt_small.proofs.Forms.{form_is, at_place}
 use Rattle.lt_small.proofs.form.parts_of.Goals as goal

@@ -1,5 +1,4 @@
-use Rattle.std.proofs.Common.{◌≡◌, ◌≢◌, ◌∙◌, sym, ap, List, ℕ, [], length, arith}
-use Rattle.lt_tokens.specs.Text.{skip}
+use Rattle.std.proofs.Common.{◌∙◌, sym, arith}
 use Rattle.lt_small.proofs.Cuts.{all_taken}
 use Rattle.lt_small.proofs.Rows.{some_left, none_left}
 use Rattle.lt_small.proofs.WholeCuts.{tokens_stuck, tokens_left, token_more}
