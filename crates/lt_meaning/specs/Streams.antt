@@ -1,5 +1,5 @@
 -- A program's streams as a table.
-use Rattle.std.specs.Prelude.{◌≡◌, ℕ, ◌*◌, ◌<◌, Option, Some, None, List, [], length, map, MatchOption, slice_index_or}
+use Rattle.std.specs.Prelude.{◌≡◌, ℕ, ◌*◌, ◌<◌, Option, Some, List, [], length, map, MatchOption, slice_index_or}
 use Rattle.lt_base.specs.declared.value.Value.{Value}
 use Rattle.lt_base.specs.declared.value.Cell.{Cell}
 use Rattle.lt_base.specs.Program.{Function, WholeProgram}

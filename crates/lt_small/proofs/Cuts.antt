@@ -1,5 +1,5 @@
 -- Texts that are cut at a byte.
-use Rattle.std.proofs.Common.{◌≡◌, ◌≢◌, ℕ, zero, suc, ◌+◌, ◌-◌, ◌<◌, ◌==◌, Bool, true, false, List, [], ◌∷◌, ◌++◌, length, take, drop, get_or, Option, Some, None, refl, sym, ap, subst, ◌∙◌, arith, add-one, drop-cons, cond, option_map}
+use Rattle.std.proofs.Common.{◌≡◌, ◌≢◌, ℕ, suc, ◌+◌, ◌-◌, ◌<◌, ◌==◌, Bool, true, false, List, [], ◌∷◌, ◌++◌, length, take, drop, get_or, Some, None, refl, sym, ap, subst, ◌∙◌, arith, add-one, drop-cons, cond}
 use Rattle.std.proofs.lemmas.Bool.Decides.{nat_tests}
 use Rattle.std.specs.List.{position, position_from}
 use Rattle.std.proofs.lemmas.Bool.{false≢true}
@@ -20,9 +20,10 @@ pub found : (stop : ℕ) (bs : List ℕ) (i : ℕ) → position (λ b. b == stop
 found stop bs i h =
     let at = position-Some (λ b. b == stop) bs i 0 h in
     let here : get_or bs i 0 ≡ stop = eqb_true (get_or bs i 0) stop at.1 in
-    let rest : drop i bs ≡ stop ∷ drop (i + 1) bs = drop-cons bs i 0 at.0 ∙ (λ k. here k ∷ drop (sym (add-one i) k) bs) in
-    (sym (take-append-drop i bs) ∙ ap (λ t. take i bs ++ t) rest,
-    λ k lt. let less : k < i = omega (arith, length-take {A = ℕ}) in subst (λ b. b ≢ stop) (sym (get_or-take i bs k 0 less)) (eqb_false (get_or bs k 0) stop (at.2 k less)))
+    let rest : drop i bs ≡ stop ∷ drop (i + 1) bs = drop-cons bs i 0 at.0 ∙ (λ k. here k ∷ drop (sym (add-one i) k) bs) in (
+      sym (take-append-drop i bs) ∙ ap (λ t. take i bs ++ t) rest,
+      λ k lt. let less : k < i = omega (arith, length-take {A = ℕ}) in subst (λ b. b ≢ stop) (sym (get_or-take i bs k 0 less)) (eqb_false (get_or bs k 0) stop (at.2 k less)),
+    )
 
 stands_in : (stop i : ℕ) (t r : List ℕ) → position_from (λ b. b == stop) i (t ++ stop ∷ r) ≡ None → ⊥
 stands_in stop i [] r h = by (stop == stop) (grind (arith, nat_tests)) h

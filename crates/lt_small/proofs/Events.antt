@@ -1,5 +1,5 @@
 -- The lines of a schedule file.
-use Rattle.std.proofs.Common.{◌≡◌, ◌≢◌, ℕ, zero, suc, ◌+◌, ◌^◌, ◌<◌, ◌≤◌, List, [], ◌∷◌, ◌++◌, length, codes, Bool, true, false, Option, Some, None, is_some, MatchOption, refl, sym, ap, subst, ◌∙◌, arith, All, lit<, if◌then◌else◌, not, ◌==◌, eq-eqb, slice_index, slice_index_or}
+use Rattle.std.proofs.Common.{◌≡◌, ◌≢◌, ℕ, zero, suc, ◌+◌, ◌^◌, ◌<◌, ◌≤◌, List, [], ◌∷◌, ◌++◌, length, codes, Bool, true, false, Option, Some, None, is_some, MatchOption, refl, sym, ap, subst, ◌∙◌, arith, All, if◌then◌else◌, not, ◌==◌, eq-eqb, slice_index, slice_index_or}
 use Rattle.std.specs.List.{list_all}
 use Rattle.std.proofs.lemmas.List.Sums.{AllPass-from_list_all}
 use Rattle.std.proofs.lemmas.Option.{none-some}
@@ -12,12 +12,12 @@ use Rattle.lt_arch.specs.declared.event.Offence.TheVariants.{NoEnd}
 use Rattle.lt_arch.specs.State.{State, start, executed_of}
 use Rattle.lt_arch.specs.declared.timing.Protocol.TheVariants.{BackPressure}
 use Rattle.lt_arch.specs.Step.{offence_of, after, time_of}
-use Rattle.lt_arch.specs.Schedule.{after_all, reached, first_offence_from, numbered_or, missing_end, IsAdmissible}
+use Rattle.lt_arch.specs.Schedule.{after_all, reached, first_offence_from, numbered_or, missing_end}
 use Rattle.lt_small.specs.declared.node.Node.{Node}
 use Rattle.lt_small.specs.Node.{IsNode}
 use Rattle.lt_small.specs.Numbers.{Lacks, line_of}
-use Rattle.lt_small.specs.Schedule.{IsNodeEvent, place_text, events_text, schedule_text, IsEvents, IsSchedule, one_node, plain}
-use Rattle.lt_small.proofs.Lines.{one_line, lacks_cons}
+use Rattle.lt_small.specs.Schedule.{IsNodeEvent, place_text, events_text, IsEvents, IsSchedule, one_node, plain}
+use Rattle.lt_small.proofs.Lines.{one_line}
 use Rattle.lt_small.proofs.Rows.{line_some}
 
 lacks_none : (b : ℕ) → Lacks b []
@@ -109,14 +109,14 @@ events_more rows bytes rest behind node next d left h r steps =
       number = left.number + 1;
       node_is = stepped.1;
       sound = λ es own e clean.
-        left.sound (d ∷ es) (own_cons d es h own) (r ∙ ap (λ (t : List ℕ). line_of (time_of d) (place_text d) ++ t) e)
-        (ap (λ (o : Option Offence). numbered_or left.number o (first_offence_from one_node plain rows more (left.number + 1) es)) stepped.0 ∙ clean);
+          left.sound (d ∷ es) (own_cons d es h own) (r ∙ ap (λ (t : List ℕ). line_of (time_of d) (place_text d) ++ t) e)
+          (ap (λ (o : Option Offence). numbered_or left.number o (first_offence_from one_node plain rows more (left.number + 1) es)) stepped.0 ∙ clean);
       complete = λ whole w.
-        let c = left.complete whole w in
-        let f = first_event d behind c.0 h c.2 (sym r ∙ c.1) in
-        let own = subst (λ (es : List Event). All IsNodeEvent es) f.1 c.2 in
-        let clean = subst (λ (es : List Event). first_offence_from one_node plain rows left.state left.number es ≡ None) f.1 c.3 in
-        (f.0, f.2, (λ k x lt. own (suc k) x (omega arith)), (clean_first left.number (offence_of one_node plain left.state d) (first_offence_from one_node plain rows more (left.number + 1) f.0) clean).1);
+          let c = left.complete whole w in
+          let f = first_event d behind c.0 h c.2 (sym r ∙ c.1) in
+          let own = subst (λ (es : List Event). All IsNodeEvent es) f.1 c.2 in
+          let clean = subst (λ (es : List Event). first_offence_from one_node plain rows left.state left.number es ≡ None) f.1 c.3 in
+          (f.0, f.2, (λ k x lt. own (suc k) x (omega arith)), (clean_first left.number (offence_of one_node plain left.state d) (first_offence_from one_node plain rows more (left.number + 1) f.0) clean).1);
     }
 
 -- what comes next is no line of an event

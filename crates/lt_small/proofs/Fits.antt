@@ -1,7 +1,6 @@
 -- The program of a small program, and its inputs.
 use Rattle.std.proofs.Common.{◌≡◌, ℤ, List, [], ◌∷◌, Some, map, refl, sym, subst}
 use Rattle.lt_base.specs.declared.value.Ty.TheVariants.{Int as IntTy}
-use Rattle.lt_base.specs.declared.value.Value.{Value}
 use Rattle.lt_base.specs.declared.value.Value.TheVariants.{Int}
 use Rattle.lt_base.specs.Program.{WholeProgram}
 use Rattle.lt_base.specs.Typing.{AllFit}

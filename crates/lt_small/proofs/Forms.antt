@@ -1,5 +1,5 @@
 -- Tokens by their places.
-use Rattle.std.proofs.Common.{◌≡◌, ◌≢◌, ℕ, zero, suc, ◌+◌, ◌<◌, ◌≤◌, List, [], ◌∷◌, length, drop, get_or, codes, refl, sym, ap, ◌∙◌, arith, drop-cons, add-one, subst}
+use Rattle.std.proofs.Common.{◌≡◌, ℕ, zero, suc, ◌+◌, ◌<◌, List, [], ◌∷◌, length, drop, get_or, refl, sym, ap, ◌∙◌, arith, drop-cons, add-one, subst}
 use Rattle.std.proofs.lemmas.List.{drop_all, get_or_default}
 use Rattle.lt_tokens.specs.declared.token.Infix.TheVariants as infix_token
 use Rattle.lt_tokens.specs.declared.token.Token.{Token}
@@ -28,9 +28,9 @@ pub form_is : (tokens : List Token) (s : SmallProgram) → length tokens ≡ 25 
 form_is tokens s count h r b n number left operator right =
     are_listed tokens count
     ∙ (λ i.
-      h.node_0 i ∷ n.main_1 i ∷ h.open_2 i ∷ n.input_3 i ∷ h.colon_4 i ∷ h.int_5 i ∷ h.close_6 i ∷ h.returns_7 i
-      ∷ r.open_8 i ∷ n.output_9 i ∷ r.colon_10 i ∷ r.int_11 i ∷ r.close_12 i ∷ r.let_13 i
-      ∷ n.left_14 i ∷ b.equals_15 i ∷ number i ∷ b.fby_17 i ∷ b.open_18 i ∷ left i ∷ operator i ∷ right i ∷ b.close_22 i ∷ b.semicolon_23 i ∷ b.tel_24 i ∷ [])
+    h.node_0 i ∷ n.main_1 i ∷ h.open_2 i ∷ n.input_3 i ∷ h.colon_4 i ∷ h.int_5 i ∷ h.close_6 i ∷ h.returns_7 i
+    ∷ r.open_8 i ∷ n.output_9 i ∷ r.colon_10 i ∷ r.int_11 i ∷ r.close_12 i ∷ r.let_13 i
+    ∷ n.left_14 i ∷ b.equals_15 i ∷ number i ∷ b.fby_17 i ∷ b.open_18 i ∷ left i ∷ operator i ∷ right i ∷ b.close_22 i ∷ b.semicolon_23 i ∷ b.tel_24 i ∷ [])
 
 -- the tokens of a small program at their places
 pub has_header : (tokens : List Token) (s : SmallProgram) → tokens ≡ tokens_of s → HasHeader tokens

@@ -1,5 +1,5 @@
 -- The lines of an inputs file.
-use Rattle.std.proofs.Common.{◌≡◌, ◌≢◌, ℕ, zero, suc, ◌+◌, ◌^◌, ◌<◌, ◌≤◌, ℤ, List, [], ◌∷◌, ◌++◌, length, map, ◌==◌, Bool, true, false, codes, Option, Some, None, MatchOption, Bor, refl, sym, ap, subst, ◌∙◌, arith, append_assoc, All, lit<, Result, Ok, Err, IfOk}
+use Rattle.std.proofs.Common.{◌≡◌, ◌≢◌, ℕ, suc, ◌+◌, ◌^◌, ◌<◌, ◌≤◌, ℤ, List, [], ◌∷◌, ◌++◌, length, map, ◌==◌, Bool, true, false, codes, Option, Some, None, MatchOption, Bor, refl, sym, ap, subst, ◌∙◌, arith, append_assoc, All, Result, Ok, Err, IfOk}
 use Rattle.std.proofs.lemmas.List.{append_cancel_left, map-append, length-append, length-map, append-nil}
 use Rattle.std.proofs.lemmas.List.Elements.{All-push}
 use Rattle.lt_base.specs.declared.memory.Memory.{Memory}
@@ -8,8 +8,8 @@ use Rattle.std.specs.Fmt.{decimal, signed_decimal}
 use Rattle.lt_base.specs.declared.value.Value.{Value}
 use Rattle.lt_base.specs.declared.value.Value.TheVariants.{Int}
 use Rattle.lt_base.specs.Inputs.{InputTable}
-use Rattle.lt_small.specs.Numbers.{Lacks, IsLong, line_of}
-use Rattle.lt_small.specs.Inputs.{rows_text, inputs_text, IsRows, IsInputs, table_of}
+use Rattle.lt_small.specs.Numbers.{IsLong, line_of}
+use Rattle.lt_small.specs.Inputs.{rows_text, IsRows, IsInputs, table_of}
 use Rattle.lt_small.proofs.Lines.{one_line, one_int, signed_lacks}
 
 pub header_end : (bytes named feed input : List ℕ) (r : Option (Bor (List ℕ))) → bytes ≡ codes "instant," ++ named → named ≡ input ++ feed
@@ -78,12 +78,12 @@ rows_more bytes rest after table more k z st at few long r width rows =
       count = omega (arith, next);
       long = All-push IsLong st.done z st.long long;
       sound = λ us e.
-        st.sound (z ∷ us) (r ∙ ap (λ (n : ℕ). line_of n (signed_decimal z) ++ after) here ∙ ap (λ (t : List ℕ). line_of (length st.done) (signed_decimal z) ++ t) (e ∙ ap (λ (n : ℕ). rows_text n us) (next ∙ ap (λ (n : ℕ). n + 1) here)))
-        ∙ ap (rows_text 0) (sym (append_assoc st.done (z ∷ []) us));
+          st.sound (z ∷ us) (r ∙ ap (λ (n : ℕ). line_of n (signed_decimal z) ++ after) here ∙ ap (λ (t : List ℕ). line_of (length st.done) (signed_decimal z) ++ t) (e ∙ ap (λ (n : ℕ). rows_text n us) (next ∙ ap (λ (n : ℕ). n + 1) here)))
+          ∙ ap (rows_text 0) (sym (append_assoc st.done (z ∷ []) us));
       complete = λ vs l e.
-        let c = st.complete vs l e in
-        let f = first_row k z after c.0 (omega arith) long (left_long vs st.done c.0 c.1 l) (sym r ∙ c.2 ∙ ap (λ (n : ℕ). rows_text n c.0) (sym here)) in
-        (f.0, c.1 ∙ ap (λ (us : List ℤ). st.done ++ us) f.1 ∙ sym (append_assoc st.done (z ∷ []) f.0), f.2 ∙ ap (λ (n : ℕ). rows_text n f.0) (sym next));
+          let c = st.complete vs l e in
+          let f = first_row k z after c.0 (omega arith) long (left_long vs st.done c.0 c.1 l) (sym r ∙ c.2 ∙ ap (λ (n : ℕ). rows_text n c.0) (sym here)) in
+          (f.0, c.1 ∙ ap (λ (us : List ℤ). st.done ++ us) f.1 ∙ sym (append_assoc st.done (z ∷ []) f.0), f.2 ∙ ap (λ (n : ℕ). rows_text n f.0) (sym next));
     }
 
 -- all lines are read

@@ -1,13 +1,12 @@
 -- Texts that are cut into tokens.
-use Rattle.std.proofs.Common.{◌≡◌, ◌≢◌, ℕ, suc, ◌+◌, ◌-◌, ◌<◌, ◌≤◌, Bool, true, false, List, [], ◌∷◌, ◌++◌, length, take, drop, refl, sym, ap, subst, ◌∙◌, arith}
+use Rattle.std.proofs.Common.{◌≡◌, ◌≢◌, ℕ, ◌<◌, ◌≤◌, List, [], ◌∷◌, ◌++◌, length, drop, refl, sym, ap, subst, ◌∙◌, arith}
 use Rattle.std.proofs.lemmas.List.{append-nil, length-append}
 use Rattle.lt_tokens.specs.declared.front.Front as code
 use Rattle.lt_tokens.specs.declared.front.Front.TheVariants as variants
 use Rattle.lt_tokens.specs.declared.token.Token.{Token}
 use Rattle.lt_tokens.specs.Fronts.{front_of}
-use Rattle.lt_tokens.specs.Text.{Front, Begins, Over, BadByte, BadNumber, front, skip, Cuts}
+use Rattle.lt_tokens.specs.Text.{Begins, front, skip, Cuts}
 use Rattle.lt_small.specs.Program.{CutsWhole}
-use Rattle.lt_small.proofs.Cuts.{all_taken}
 
 -- one token more
 pub cuts_push : (bytes : List ℕ) (ts : List Token) (rest after : List ℕ) (t : Token) → Cuts bytes ts rest → front (skip rest) ≡ Begins t after → Cuts bytes (ts ++ t ∷ []) after

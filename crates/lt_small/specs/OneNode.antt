@@ -1,11 +1,10 @@
 -- What the shape and the timing of one node keep.
-use Rattle.std.proofs.Common.{◌≡◌, ◌≢◌, ℕ, ◌≤◌, List, [], ◌∷◌, refl, All, AllPairs}
+use Rattle.std.proofs.Common.{◌≢◌, ℕ, ◌≤◌, List, [], ◌∷◌, refl, All, AllPairs}
 use Rattle.std.specs.List.{AllPass}
 use Rattle.std.proofs.lemmas.List.Sums.{AllPass-from_list_all}
 use Rattle.std.proofs.lemmas.List.Kept.{AllPairs-cons}
 use Rattle.std.proofs.lemmas.List.Elements.{All-nil}
 use Rattle.lt_arch.specs.declared.chan.Chan.{Chan}
-use Rattle.lt_arch.specs.declared.times.PairTime.{PairTime}
 use Rattle.lt_arch.specs.Names.{is_identifier}
 use Rattle.lt_arch.specs.Ends.{HasEnds}
 use Rattle.lt_arch.specs.Pairs.{HasNoneAbove}

@@ -50,7 +50,7 @@ fn parts_of(tokens: &[Token]) -> Option<Parts<'_>>
     ensures { MatchOption result
         ((s : PlainProgram) → IsWellFormed s → tokens.now ≢ tokens_of s)
         (λ p. let s : PlainProgram = record { input = p.input.now; output = p.output.now; number = p.number; operator = p.operator; left = p.left; right = p.right } in
-            IsWellFormed s × (tokens.now ≡ tokens_of s)) }
+        IsWellFormed s × (tokens.now ≡ tokens_of s)) }
 {
     if !has_header(tokens) || !has_returns(tokens) || !has_body(tokens) {
         return None;

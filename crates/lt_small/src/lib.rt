@@ -11,6 +11,8 @@ mod number;
 mod program;
 mod reading;
 mod schedule;
+#[cfg(test)]
+mod tests;
 mod tokens;
 
 pub use inputs::read_inputs;

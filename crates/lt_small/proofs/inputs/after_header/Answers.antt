@@ -1,4 +1,4 @@
-use Rattle.std.proofs.Common.{◌≡◌, ◌∙◌, ap, List, ℕ, ◌++◌}
+use Rattle.std.proofs.Common.{◌∙◌, ap, List, ℕ, ◌++◌}
 use Rattle.lt_small.proofs.Rows.{header_end}
 use Rattle.lt_small.proofs.inputs.after_header.Goals as goal
 

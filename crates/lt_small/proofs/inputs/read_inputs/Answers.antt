@@ -1,4 +1,4 @@
-use Rattle.std.proofs.Common.{◌≤◌, length, arith}
+use Rattle.std.proofs.Common.{arith}
 use Rattle.lt_small.proofs.Rows.{with_header}
 use Rattle.lt_small.proofs.inputs.read_inputs.Goals as goal
 

@@ -1,4 +1,4 @@
-use Rattle.std.proofs.Common.{◌≡◌, ℕ, arith, sym, ◌∙◌}
+use Rattle.std.proofs.Common.{arith, sym, ◌∙◌}
 use Rattle.std.specs.Fmt.{signed_decimal}
 use Rattle.lt_small.proofs.Lines.{one_line, signed_lacks}
 use Rattle.lt_small.proofs.inputs.read_row.Goals as goal

@@ -1,4 +1,4 @@
-use Rattle.std.proofs.Common.{◌≡◌, ◌-◌, ◌+◌, ◌++◌, ◌∷◌, List, ℕ, take, drop, length, ◌∙◌, sym, ap}
+use Rattle.std.proofs.Common.{◌+◌, ◌++◌, ◌∷◌, List, ℕ, take, ◌∙◌, sym, ap}
 use Rattle.lt_small.proofs.Cuts.{found, not_found, all_taken}
 use Rattle.lt_small.proofs.line.cut.Goals as goal
 

@@ -1,4 +1,4 @@
-use Rattle.std.proofs.Common.{◌≡◌, ℕ, List, ◌∷◌, ◌++◌, ap, arith, subst, sym, ◌∙◌}
+use Rattle.std.proofs.Common.{ℕ, List, ◌∷◌, ◌++◌, ap, arith, subst, sym, ◌∙◌}
 use Rattle.std.specs.Fmt.{decimal}
 use Rattle.lt_small.specs.Numbers.{Lacks}
 use Rattle.lt_small.proofs.Lines.{cut_line, cut_field, line_is, lacks_tail}
@@ -18,10 +18,11 @@ returns-in-Some-number c =
     let tail = c.in-Some-cut.tail.now in
     let rest = c.in-Some.rest.now in
     let number = c.in-Some-number.number in
-    let cut = c.in-Some-cut.ensures.0 in
-    (c.in-Some-number.ensures.0,
-    lacks_tail 10 44 digits tail (subst (Lacks 10) cut c.in-Some.ensures.1),
-    c.in-Some.ensures.0 ∙ ap (λ (t : List ℕ). t ++ 10 ∷ rest) cut ∙ ap (λ (t : List ℕ). (t ++ 44 ∷ tail) ++ 10 ∷ rest) c.in-Some-number.ensures.1 ∙ sym (line_is number tail rest))
+    let cut = c.in-Some-cut.ensures.0 in (
+      c.in-Some-number.ensures.0,
+      lacks_tail 10 44 digits tail (subst (Lacks 10) cut c.in-Some.ensures.1),
+      c.in-Some.ensures.0 ∙ ap (λ (t : List ℕ). t ++ 10 ∷ rest) cut ∙ ap (λ (t : List ℕ). (t ++ 44 ∷ tail) ++ 10 ∷ rest) c.in-Some-number.ensures.1 ∙ sym (line_is number tail rest),
+    )
 
 pub returns-in-None : goal.returns-in-None
 returns-in-None c = λ n tail rest h l e.

@@ -1,4 +1,4 @@
-use Rattle.std.proofs.Common.{◌≡◌, ◌∙◌, sym, subst, refl, List, length, arith}
+use Rattle.std.proofs.Common.{◌≡◌, sym, subst, refl, List, length, arith}
 use Rattle.lt_tokens.specs.declared.token.Token.{Token}
 use Rattle.lt_small.specs.Program.{CutsWhole, tokens_of}
 use Rattle.lt_small.proofs.OnePrograms.{of_tokens}

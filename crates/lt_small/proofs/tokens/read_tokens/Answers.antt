@@ -1,5 +1,4 @@
-use Rattle.std.proofs.Common.{◌≡◌, ◌≢◌, ◌∙◌, sym, ap, List, ℕ, [], length, arith}
-use Rattle.lt_tokens.specs.Text.{skip}
+use Rattle.std.proofs.Common.{◌∙◌, sym, arith}
 use Rattle.lt_small.proofs.Cuts.{all_taken}
 use Rattle.lt_small.proofs.Rows.{some_left, none_left}
 use Rattle.lt_small.proofs.WholeCuts.{tokens_stuck, tokens_left, token_more}
@@ -16,7 +15,7 @@ loop-turn-preserved c =
     let n = c.in-Begins.length in
     record {
       cut = token_more c.args.bytes.now c.loop-turn.rest.now behind _ c.loop-turn.tokens.items c.push.new.self.items c.in-Begins.token n c.in_ok-token.field-0
-      c.loop-turn.invariant.cut c.skip-behind.ensures.value c.in-Begins.is c.in_ok-token.ensures.value c.in_ok-push-in-Begins.ensures.items (all_taken behind n);
+          c.loop-turn.invariant.cut c.skip-behind.ensures.value c.in-Begins.is c.in_ok-token.ensures.value c.in_ok-push-in-Begins.ensures.items (all_taken behind n);
       count = grind arith;
     }
 

@@ -1,5 +1,4 @@
-use Rattle.std.proofs.Common.{◌≡◌, [], ◌∷◌, ◌++◌, List, ap, ◌∙◌}
-use Rattle.lt_base.specs.Program.{Function, WholeProgram}
+use Rattle.std.proofs.Common.{◌≡◌, [], ◌∷◌, ◌++◌, ◌∙◌}
 use Rattle.lt_small.specs.Program.{program_of, function_of}
 use Rattle.lt_small.proofs.Fits.{fits}
 use Rattle.lt_small.proofs.program.SmallProgram.program.Goals as goal
