@@ -9,3 +9,4 @@ mod top;
 
 pub use refusal::Refusal;
 pub use status::Status;
+pub use top::ltta;
