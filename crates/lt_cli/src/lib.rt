@@ -10,3 +10,6 @@ mod top;
 pub use refusal::Refusal;
 pub use status::Status;
 pub use top::ltta;
+
+#[cfg(test)]
+mod tests;

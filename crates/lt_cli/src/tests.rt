@@ -1,0 +1,218 @@
+// Whole calls over objects in memory.
+ghost use Rattle.std.specs.Prelude.{◌≡◌, ◌<◌, ◌-◌, ◌^◌, All, IfOk, []};
+ghost use Rattle.lt_io.specs.MemFiles.{mem_files_state};
+ghost use Rattle.lt_io.specs.MemSink.{mem_sink_state};
+
+use crate::{Status, ltta};
+use lt_base::{List, Memory, Name};
+use lt_io::{MemFabric, MemFile, MemFiles, MemSink};
+use std::alloc::Global;
+use std::test::Fail;
+
+const PROGRAM: &str = "node main(x: int) returns (y: int) let y = 0 fby (y + x); tel";
+
+const INPUTS: &str = "instant,x\n0,1\n1,2\n2,3\n";
+
+const SCHEDULE: &str = "time,event,place\n0,act,all\n4,act,all\n8,act,all\n12,end,\n";
+
+const USAGE: &str = "words: usage: ltta run P I S\n";
+
+#[derive(Drop)]
+struct Ended {
+    status: Status,
+    out: List<u8>,
+    err: List<u8>,
+}
+
+// Which calls are to fail; 0 for none.
+#[derive(Clone, Copy, Drop)]
+struct Faults {
+    files: u64,
+    out: u64,
+    err: u64,
+}
+
+const NONE: Faults = Faults {
+    files: 0,
+    out: 0,
+    err: 0,
+};
+
+// The contents of the files `p`, `i` and `s`.
+#[derive(Clone, Copy)]
+struct Texts<'a> {
+    program: &'a str,
+    inputs: &'a str,
+    schedule: &'a str,
+}
+
+const COUNTER: Texts = Texts {
+    program: PROGRAM,
+    inputs: INPUTS,
+    schedule: SCHEDULE,
+};
+
+fn listed(alloc: Global, call: u64) -> Result<List<u64>, Memory>
+    requires { call < 2 ^ 64 - 1 }
+    ensures { IfOk result (λ calls. All (λ n. n < 2 ^ 64 - 1) calls) }
+{
+    let mut calls = List::new(alloc);
+    if call > 0 {
+        calls.push(call)?;
+    }
+    Ok(calls)
+}
+
+fn file(alloc: Global, name: &str, text: &str) -> Result<MemFile, Memory> {
+    Ok(MemFile {
+        name: Name::from_str(alloc, name)?,
+        bytes: List::from_slice(alloc, text.as_bytes())?,
+    })
+}
+
+fn words(alloc: Global, line: &str) -> Result<Vec<String>, Memory> {
+    let mut words = Vec::new(alloc);
+    for word in line.split(' ') {
+        words.push(String::from_str(alloc, word)?)?;
+    }
+    Ok(words)
+}
+
+fn files(alloc: Global, texts: Texts, fails: u64) -> Result<MemFiles, Memory>
+    requires { fails < 2 ^ 64 - 1 }
+    ensures { IfOk result (λ files. (mem_files_state files).faults ≡ 0) }
+{
+    let mut files = List::new(alloc);
+    files.push(file(alloc, "p", texts.program)?)?;
+    files.push(file(alloc, "i", texts.inputs)?)?;
+    files.push(file(alloc, "s", texts.schedule)?)?;
+    Ok(MemFiles::new(files, listed(alloc, fails)?))
+}
+
+fn sink(alloc: Global, fails: u64) -> Result<MemSink, Memory>
+    requires { fails < 2 ^ 64 - 1 }
+    ensures { IfOk result (λ sink. (mem_sink_state sink).faults ≡ 0) }
+{
+    Ok(MemSink::new(alloc, listed(alloc, fails)?))
+}
+
+fn call(alloc: Global, line: &str, texts: Texts, faults: Faults) -> Result<Ended, Memory>
+    requires files { faults.files < 2 ^ 64 - 1 }
+    requires out { faults.out < 2 ^ 64 - 1 }
+    requires err { faults.err < 2 ^ 64 - 1 }
+{
+    let words = words(alloc, line)?;
+    let mut files = files(alloc, texts, faults.files)?;
+    let mut fabric = MemFabric::new(alloc, List::new(alloc));
+    let mut out = sink(alloc, faults.out)?;
+    let mut err = sink(alloc, faults.err)?;
+    let status = ltta(alloc, &words, &mut files, &mut fabric, &mut out, &mut err);
+    Ok(Ended {
+        status,
+        out: out.into_bytes(),
+        err: err.into_bytes(),
+    })
+}
+
+#[test]
+fn runs_end_as_they_should(rt: HostRuntime) -> Result<(), Fail> {
+    let alloc = rt.alloc();
+    let every_tick: &str =
+        "time,event,place\n0,act,all\n4,act,all\n8,act,all\n9,act,all\n10,act,all\n11,act,all\n12,act,all\n12,end,\n";
+    let at_once: &str = "time,event,place\n0,end,\n";
+    let late: &str = "time,event,place\n1000,end,\n";
+    let rows = [
+        ("run p i s", COUNTER, Status::Ok, "y: 0 1\n", ""),
+        (
+            "run p i s",
+            Texts {
+                schedule: every_tick,
+                ..COUNTER
+            },
+            Status::Ok,
+            "y: 0 1 3\n",
+            "",
+        ),
+        (
+            "run p i s",
+            Texts {
+                schedule: at_once,
+                ..COUNTER
+            },
+            Status::Ok,
+            "y:\n",
+            "",
+        ),
+        (
+            "run p i s",
+            Texts {
+                schedule: late,
+                ..COUNTER
+            },
+            Status::Schedule,
+            "",
+            "not built: schedule\n",
+        ),
+        (
+            "run p i s",
+            Texts {
+                program: "node main",
+                ..COUNTER
+            },
+            Status::Program,
+            "",
+            "not built: program\n",
+        ),
+        (
+            "run p i s",
+            Texts {
+                inputs: "instant,y\n",
+                ..COUNTER
+            },
+            Status::Inputs,
+            "",
+            "not built: inputs\n",
+        ),
+        ("run q i s", COUNTER, Status::Outside, "", "fault: read\n"),
+        (
+            "run p q s",
+            Texts {
+                program: "",
+                ..COUNTER
+            },
+            Status::Program,
+            "",
+            "not built: program\n",
+        ),
+        ("run p i q", COUNTER, Status::Outside, "", "fault: read\n"),
+        ("run p i", COUNTER, Status::Words, "", USAGE),
+        ("walk p i s", COUNTER, Status::Words, "", USAGE),
+    ];
+    for (line, texts, status, out, err) in rows {
+        let ended = call(alloc, line, texts, NONE)?;
+        assert_eq!(rt; ended.status, status, "{line}");
+        assert_eq!(rt; ended.out.as_slice(), out.as_bytes(), "{line}");
+        assert_eq!(rt; ended.err.as_slice(), err.as_bytes(), "{line}");
+    }
+    Ok(())
+}
+
+#[test]
+fn a_failed_call_ends_it(rt: HostRuntime) -> Result<(), Fail> {
+    let alloc = rt.alloc();
+    // Three files, each opened once and read twice.
+    for n in 1u64..=9 {
+        let ended = call(alloc, "run p i s", COUNTER, Faults { files: n, ..NONE })?;
+        assert_eq!(rt; ended.status, Status::Outside, "call {n}");
+        assert_eq!(rt; ended.out.as_slice(), b"".as_slice());
+        assert_eq!(rt; ended.err.as_slice(), b"fault: read\n".as_slice());
+    }
+    let ended = call(alloc, "run p i s", COUNTER, Faults { out: 1, ..NONE })?;
+    assert_eq!(rt; ended.status, Status::Write);
+    assert_eq!(rt; ended.out.as_slice(), b"".as_slice());
+    assert_eq!(rt; ended.err.as_slice(), b"".as_slice());
+    let ended = call(alloc, "run", COUNTER, Faults { err: 1, ..NONE })?;
+    assert_eq!(rt; ended.status, Status::Write);
+    assert_eq!(rt; ended.err.as_slice(), b"".as_slice());
+    Ok(())
+}
