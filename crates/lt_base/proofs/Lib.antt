@@ -12,6 +12,7 @@ pub mod Tells
 pub mod Kept
 pub mod First
 pub mod Weighing
+pub mod Behaviour
 pub mod Defined
 mod Cuts
 mod Shape

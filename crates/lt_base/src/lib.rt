@@ -4,6 +4,7 @@
 mod clock;
 mod expression;
 mod function;
+pub mod laws;
 mod list;
 mod memory;
 mod name;
