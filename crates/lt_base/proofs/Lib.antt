@@ -1,4 +1,5 @@
 pub mod Examples
+mod Columns
 pub mod Lookups
 pub mod Reading
 pub mod Graph

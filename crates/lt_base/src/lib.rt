@@ -4,6 +4,7 @@
 mod clock;
 mod expression;
 mod function;
+mod inputs;
 pub mod laws;
 mod list;
 mod memory;
@@ -18,6 +19,7 @@ mod weights;
 pub use clock::Clock;
 pub use expression::Expr;
 pub use function::{Decl, Equation, Func};
+pub use inputs::Inputs;
 pub use list::{Duplicate, List};
 pub use memory::{Memory, Or};
 pub use name::Name;

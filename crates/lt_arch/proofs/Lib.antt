@@ -1,0 +1,9 @@
+pub mod Ordered
+pub mod Facts
+pub mod Changes
+pub mod Fresh
+pub mod Ranges
+pub mod Schedules
+pub mod Raising
+pub mod Winners
+pub mod Examples

@@ -1,0 +1,12 @@
+pub mod Greatest
+pub mod Pairs
+pub mod Names
+pub mod Ends
+pub mod Readers
+pub mod State
+pub mod Deeds
+pub mod Deadline
+pub mod Queue
+pub mod Step
+pub mod Schedule
+pub mod Shapes

@@ -1,0 +1,3 @@
+pub mod Lines
+pub mod Four
+pub mod Ends

@@ -1,0 +1,62 @@
+-- What is printed: the lines of refusals, and the text of outputs.
+use Rattle.std.specs.Prelude.{ℕ, true, false, List, [], ◌++◌, ◌∷◌, codes, zip, Result, Ok, Err}
+use Rattle.std.specs.List.{flat_map}
+use Rattle.std.specs.Fmt.{signed_decimal}
+use Rattle.lt_base.specs.declared.value.Value.TheVariants.{Int, Bool as Truth}
+use Rattle.lt_base.specs.declared.value.Cell.{Cell}
+use Rattle.lt_base.specs.declared.value.Cell.TheVariants.{Absent, Here}
+use Rattle.lt_run.specs.declared.fault.Part.TheVariants as part
+use Rattle.lt_run.specs.declared.fault.RunFault.TheVariants.{NotBuilt, Read}
+use Rattle.lt_cli.specs.declared.refusal.Refusal.{Refusal}
+use Rattle.lt_cli.specs.declared.refusal.Refusal.TheVariants.{Words, Run}
+use Rattle.lt_cli.specs.declared.status.Status.{Status}
+use Rattle.lt_cli.specs.declared.status.Status.TheVariants as status
+
+-- what is printed of a refusal, without its line feed
+abbrev pub line_of : Refusal → List ℕ
+line_of Words = codes "words: usage: ltta run P I S"
+line_of (Run (NotBuilt part.Program)) = codes "not built: program"
+line_of (Run (NotBuilt part.Inputs)) = codes "not built: inputs"
+line_of (Run (NotBuilt part.Schedule)) = codes "not built: schedule"
+line_of (Run Read) = codes "fault: read"
+
+-- the status of a refusal
+abbrev pub refusal_status : Refusal → Status
+refusal_status Words = status.Words
+refusal_status (Run (NotBuilt part.Program)) = status.Program
+refusal_status (Run (NotBuilt part.Inputs)) = status.Inputs
+refusal_status (Run (NotBuilt part.Schedule)) = status.Schedule
+refusal_status (Run Read) = status.Outside
+
+-- the status of a text, or of a refusal
+abbrev pub status_of : Result (List ℕ) Refusal → Status
+status_of (Ok text) = status.Ok
+status_of (Err refusal) = refusal_status refusal
+
+-- what each sink is to take
+abbrev pub out_text : Result (List ℕ) Refusal → List ℕ
+out_text (Ok text) = text
+out_text (Err refusal) = []
+
+abbrev pub err_text : Result (List ℕ) Refusal → List ℕ
+err_text (Ok text) = []
+err_text (Err refusal) = line_of refusal ++ 10 ∷ []
+
+-- a cell: a decimal number, `true`, `false`, or `.` for an absence
+abbrev pub cell_text : Cell → List ℕ
+cell_text Absent = codes "."
+cell_text (Here (Int n)) = signed_decimal n
+cell_text (Here (Truth true)) = codes "true"
+cell_text (Here (Truth false)) = codes "false"
+
+-- a space before each cell
+abbrev pub cells_text : List Cell → List ℕ
+cells_text cells = flat_map (λ cell. 32 ∷ cell_text cell) cells
+
+-- an output's name, `:`, its cells and a line feed
+abbrev pub output_line : List ℕ → List Cell → List ℕ
+output_line name cells = name ++ 58 ∷ cells_text cells ++ 10 ∷ []
+
+-- a line for each output, in order
+abbrev pub outputs_text : List (List ℕ) → List (List Cell) → List ℕ
+outputs_text names cells = flat_map (λ output. output_line output.0 output.1) (zip names cells)

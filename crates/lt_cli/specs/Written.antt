@@ -1,0 +1,16 @@
+-- How a text reaches one sink.
+use Rattle.std.specs.Prelude.{◌≡◌, ℕ, List}
+use Rattle.lt_io.specs.SinkState.{SinkState, KeepsSink}
+use Rattle.lt_cli.specs.declared.status.Status.{Status}
+use Rattle.lt_cli.specs.declared.status.Status.TheVariants.{Write, Memory}
+use Rattle.lt_cli.specs.Ran.{Took, TookFront, Broke}
+
+-- whole, up to the sink's fault, or up to want of memory
+pub data Reaches (done : Status) (text : List ℕ) (old new : SinkState) (ends : Status) : Type 0 where
+  whole : ends ≡ done → Took text old new → Reaches done text old new ends
+  broke : ends ≡ Write → Broke text old new → Reaches done text old new ends
+  short : ends ≡ Memory → TookFront text old new → Reaches done text old new ends
+
+pub record Written (done : Status) (text : List ℕ) (old new : SinkState) (ends : Status) : Type 0 where
+  pub keeps : KeepsSink old new
+  pub reaches : Reaches done text old new ends

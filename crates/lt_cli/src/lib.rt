@@ -1,0 +1,12 @@
+//! The top call: what the words ask for, done, and printed.
+#![tactic(auto)]
+
+mod answer;
+mod command;
+mod print;
+mod refusal;
+mod status;
+mod top;
+
+pub use refusal::Refusal;
+pub use status::Status;

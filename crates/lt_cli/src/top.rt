@@ -1,0 +1,61 @@
+// The top call.
+ghost use Rattle.std.specs.Prelude.{◌≡◌, ◌<◌, ◌-◌, ◌^◌, ◌++◌, ◌∷◌, [], map, string_bytes};
+ghost use Rattle.lt_cli.specs.Objects.{Objects};
+ghost use Rattle.lt_cli.specs.Ran.{Ran};
+ghost use Rattle.lt_cli.specs.Texts.{refusal_status, line_of};
+ghost use Rattle.lt_cli.specs.Written.{Written};
+ghost use Rattle.lt_cli.specs.Commands.{words_verdict};
+
+use crate::answer::answer;
+use crate::{Refusal, Status};
+use lt_base::{List, Or};
+use lt_io::{Fabric, Files, Sink, SinkErr, write_all};
+use std::alloc::Global;
+
+fn perform<F: Files, W: Fabric, O: Sink, E: Sink>(
+    alloc: Global,
+    words: &[String],
+    files: &mut F,
+    fabric: &mut W,
+    out: &mut O,
+    err: &mut E,
+) -> Status
+    requires files { (F.state files.old).faults < 2 ^ 64 - 1 }
+    requires fabric { (W.state fabric.old).faults < 2 ^ 64 - 1 }
+    requires out { (O.state out.old).faults < 2 ^ 64 - 1 }
+    requires err { (E.state err.old).faults < 2 ^ 64 - 1 }
+    ensures { let old : Objects = record { files = F.state files.old; fabric = W.state fabric.old; out = O.state out.old; err = E.state err.old } in
+        let new : Objects = record { files = F.state files.new; fabric = W.state fabric.new; out = O.state out.new; err = E.state err.new } in
+        Ran (words_verdict old.files.named (map string_bytes words.now)) old new result }
+{
+    match answer(alloc, words, files, fabric) {
+        Ok(text) => print(out, &text),
+        Err(Or::Fault(refusal)) => refuse(alloc, err, refusal),
+        Err(Or::Memory) => Status::Memory,
+    }
+}
+
+fn print<O: Sink>(out: &mut O, text: &List<u8>) -> Status
+    requires { (O.state out.old).faults < 2 ^ 64 - 1 }
+    ensures { Written Status.Ok text.now (O.state out.old) (O.state out.new) result }
+{
+    match write_all(out, text.as_slice()) {
+        Ok(()) => Status::Ok,
+        Err(SinkErr::Failed) => Status::Write,
+        Err(SinkErr::Memory) => Status::Memory,
+    }
+}
+
+fn refuse<E: Sink>(alloc: Global, err: &mut E, refusal: Refusal) -> Status
+    requires { (E.state err.old).faults < 2 ^ 64 - 1 }
+    ensures { Written (refusal_status refusal) (line_of refusal ++ 10 ∷ []) (E.state err.old) (E.state err.new) result }
+{
+    let Ok(line) = format!(in alloc; "{refusal}\n") else {
+        return Status::Memory;
+    };
+    match write_all(err, line.as_bytes()) {
+        Ok(()) => refusal.status(),
+        Err(SinkErr::Failed) => Status::Write,
+        Err(SinkErr::Memory) => Status::Memory,
+    }
+}

@@ -1,0 +1,14 @@
+pub mod Counts
+pub mod FilesState
+pub mod SinkState
+pub mod FabricState
+pub mod Calls
+pub mod MemFiles
+pub mod MemSink
+pub mod RepeatFiles
+pub mod ChannelState
+pub mod MemFabric
+pub mod FlipState
+pub mod FlipFabric
+pub mod TightFabric
+pub mod Transfer

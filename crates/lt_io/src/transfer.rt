@@ -1,0 +1,118 @@
+// Whole files that are read, and whole texts that are written.
+ghost use Rattle.std.specs.Prelude.{◌≡◌, ◌<◌, ◌≤◌, ◌+◌, ◌-◌, ◌^◌, ◌++◌, [], IsTrue, IsSome, IsNone, IsSomeAnd, IfOk, OnOk, MatchResult, length};
+ghost use Rattle.lt_io.specs.Counts.{SinkCounted, OrCounted};
+ghost use Rattle.lt_io.specs.FilesState.{KeepsFiles, left};
+ghost use Rattle.lt_io.specs.SinkState.{KeepsSink};
+ghost use Rattle.lt_io.specs.Transfer.{whole_of, IsFront};
+
+use crate::{Failed, Files, Sink, SinkErr};
+use lt_base::{List, Or};
+use std::alloc::Global;
+
+const PIECE: usize = 8192;
+
+/// A whole file, or that it has more bytes than the limit.
+#[derive(Drop)]
+pub enum Whole {
+    Bytes(List<u8>),
+    TooLong,
+}
+
+/// Reads a whole file of at most this many bytes. No more bytes are read than the limit and one.
+pub fn read_file<F: Files>(
+    alloc: Global,
+    files: &mut F,
+    name: &str,
+    limit: usize,
+) -> Result<Whole, Or<Failed>>
+    requires count { (F.state files.old).faults < 2 ^ 64 - 1 }
+    requires limit { limit < 2 ^ 63 }
+    ensures cause { OrCounted (F.state files.old).faults (F.state files.new).faults result }
+    ensures keeps { KeepsFiles (F.state files.old) (F.state files.new) }
+
+    // Where the files tell their bytes: the named file's, if it is there and within the limit.
+    ensures whole { IsTrue (F.state files.old).told
+        → IfOk result (λ whole. IsSomeAnd ((F.state files.old).named name.now) (λ bytes. whole ≡ whole_of limit bytes)) }
+    ensures missing { IsTrue (F.state files.old).told → IsNone ((F.state files.old).named name.now)
+        → (F.state files.old).faults < (F.state files.new).faults }
+    ensures sound { IsTrue (F.state files.old).sound → IsSome ((F.state files.old).named name.now)
+        → (F.state files.new).faults ≡ (F.state files.old).faults }
+    ensures budget { IsTrue (F.state files.old).told → (F.state files.new).faults ≡ (F.state files.old).faults
+        → (F.state files.new).place ≤ limit + 1 }
+{
+    match files.open(name) {
+        Ok(()) => read_rest(alloc, files, limit),
+        Err(failed) => Err(Or::Fault(failed)),
+    }
+}
+
+/// Reads what is left of the open file.
+fn read_rest<F: Files>(alloc: Global, files: &mut F, limit: usize) -> Result<Whole, Or<Failed>>
+    requires count { (F.state files.old).faults < 2 ^ 64 - 1 }
+    requires opened { IsTrue (F.state files.old).is_open }
+    requires limit { limit < 2 ^ 63 }
+    ensures cause { OrCounted (F.state files.old).faults (F.state files.new).faults result }
+    ensures keeps { KeepsFiles (F.state files.old) (F.state files.new) }
+    ensures whole { IsTrue (F.state files.old).told → IfOk result (λ whole. whole ≡ whole_of limit (left (F.state files.old))) }
+    ensures sound { IsTrue (F.state files.old).sound → (F.state files.new).faults ≡ (F.state files.old).faults }
+    ensures budget { IsTrue (F.state files.old).told → (F.state files.new).faults ≡ (F.state files.old).faults
+        → (F.state files.new).place ≤ (F.state files.old).place + limit + 1 }
+{
+    let mut held = List::new(alloc);
+    while held.len() <= limit {
+        let room = limit - held.len() + 1;
+        if read_piece(files, &mut held, room)? == 0 {
+            return Ok(Whole::Bytes(held));
+        }
+    }
+    Ok(Whole::TooLong)
+}
+
+/// Reads a piece of at most `room` bytes onto the end, and says how many they are.
+fn read_piece<F: Files>(
+    files: &mut F,
+    held: &mut List<u8>,
+    room: usize,
+) -> Result<usize, Or<Failed>>
+    requires count { (F.state files.old).faults < 2 ^ 64 - 1 }
+    requires opened { IsTrue (F.state files.old).is_open }
+    requires some { 0 < room }
+    ensures cause { OrCounted (F.state files.old).faults (F.state files.new).faults result }
+    ensures keeps { KeepsFiles (F.state files.old) (F.state files.new) }
+    ensures opened { IsTrue (F.state files.new).is_open }
+    ensures longer { IfOk result (λ n. (n ≤ room) × (length held.new ≡ length held.old + n)) }
+    ensures bytes { IsTrue (F.state files.old).told → OnOk result
+        (held.new ++ left (F.state files.new) ≡ held.old ++ left (F.state files.old)) }
+    ensures place { IsTrue (F.state files.old).told → IfOk result (λ n. (F.state files.new).place ≡ (F.state files.old).place + n) }
+    ensures at_end { IsTrue (F.state files.old).told → IfOk result (λ n. n ≡ 0 → left (F.state files.new) ≡ []) }
+    ensures sound { IsTrue (F.state files.old).sound → (F.state files.new).faults ≡ (F.state files.old).faults }
+    ensures budget { IsTrue (F.state files.old).told → (F.state files.new).faults ≡ (F.state files.old).faults
+        → (F.state files.new).place ≤ (F.state files.old).place + room }
+{
+    let mut piece = [0u8; PIECE];
+    let most = room.min(PIECE);
+    match files.read(&mut piece[..most]) {
+        Ok(count) => {
+            held.extend(&piece[..count])?;
+            Ok(count)
+        }
+        Err(failed) => Err(Or::Fault(failed)),
+    }
+}
+
+/// Writes all the bytes. An error leaves a front of them taken.
+pub fn write_all<S: Sink>(sink: &mut S, bytes: &[u8]) -> Result<(), SinkErr>
+    requires { (S.state sink.old).faults < 2 ^ 64 - 1 }
+    ensures cause { SinkCounted (S.state sink.old).faults (S.state sink.new).faults result }
+    ensures keeps { KeepsSink (S.state sink.old) (S.state sink.new) }
+    ensures taken { IsTrue (S.state sink.old).told → MatchResult result
+        (λ _. (S.state sink.new).taken ≡ (S.state sink.old).taken ++ bytes.now)
+        (λ _. IsFront (S.state sink.old).taken bytes.now (S.state sink.new).taken) }
+    ensures sound { IsTrue (S.state sink.old).sound → (S.state sink.new).faults ≡ (S.state sink.old).faults }
+{
+    let mut done = 0;
+    while done < bytes.len() {
+        done += sink.write(&bytes[done..])?;
+    }
+    Ok(())
+}

@@ -1,0 +1,2 @@
+pub mod OneDelay
+pub mod Lengths

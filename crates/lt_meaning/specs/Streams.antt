@@ -1,0 +1,35 @@
+-- A program's streams as a table.
+use Rattle.std.specs.Prelude.{◌≡◌, ℕ, ◌*◌, ◌<◌, Option, Some, None, List, [], length, map, MatchOption, slice_index_or}
+use Rattle.lt_base.specs.declared.value.Value.{Value}
+use Rattle.lt_base.specs.declared.value.Cell.{Cell}
+use Rattle.lt_base.specs.Program.{Function, WholeProgram}
+use Rattle.lt_base.specs.Inputs.{InputTable}
+use Rattle.lt_base.specs.Meaning.{function_of, stream_of}
+use Rattle.lt_base.specs.Typing.{input_types, AllFit}
+use Rattle.lt_base.specs.Sizes.{weight}
+
+-- a table has the stream of each variable of a function on these rows, by the variable's number
+pub record HasStreams (fs : List Function) (f : Function) (rows : List (List Value)) (table : List (List Cell)) : Type 0 where
+  pub width : length table ≡ length f.decls
+  pub streams : (x : ℕ) → x < length f.decls → slice_index_or table x [] ≡ stream_of fs f rows x
+
+-- the function that is run, if there is one
+abbrev pub main_of : WholeProgram → Option Function
+main_of p = function_of p.funcs p.main
+
+-- a table has the streams of main's variables on these rows
+abbrev pub HasMainStreams : WholeProgram → List (List Value) → List (List Cell) → Type 0
+HasMainStreams p rows table = MatchOption (main_of p) ⊥ (λ f. HasStreams p.funcs f rows table)
+
+-- how many cells count against the limit: the weight of main for each row
+abbrev pub cell_count : WholeProgram → List (List Value) → ℕ
+cell_count p rows = weight p.funcs (length p.funcs) p.main * length rows
+
+-- a column for each input of a function, and in each row values of the inputs' types
+pub record InputsFit (f : Function) (inputs : InputTable) : Type 0 where
+  pub width : inputs.width ≡ f.n_in
+  pub rows : AllFit (input_types f) (map (map Some) inputs.rows)
+
+-- the inputs fit main
+abbrev pub InputsFitMain : WholeProgram → InputTable → Type 0
+InputsFitMain p inputs = MatchOption (main_of p) ⊥ (λ f. InputsFit f inputs)

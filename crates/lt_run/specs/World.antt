@@ -1,0 +1,48 @@
+-- The files and the fabric that a call is handed, and how their counts of faults move.
+use Rattle.std.specs.Prelude.{◌≡◌, ◌<◌, true, false, []}
+use Rattle.lt_io.specs.FilesState.{FilesState, KeepsFiles}
+use Rattle.lt_io.specs.FabricState.{FabricState, KeepsFabric}
+
+pub record World : Type 0 where
+  pub files : FilesState
+  pub fabric : FabricState
+
+-- what no call changes
+pub record KeepsWorld (old new : World) : Type 0 where
+  pub files : KeepsFiles old.files new.files
+  pub fabric : KeepsFabric old.fabric new.fabric
+
+-- neither count rose
+pub record IsCalm (old new : World) : Type 0 where
+  pub files : new.files.faults ≡ old.files.faults
+  pub fabric : new.fabric.faults ≡ old.fabric.faults
+
+-- whose fault a refusal is: that of what was read, of a call on the files, or of a call on the fabric
+pub data Blame : Type 0 where
+  Content : Blame
+  Reading : Blame
+  Linking : Blame
+
+-- the count of the one to blame rose, and the others stayed
+abbrev pub Blames : World → World → Blame → Type 0
+Blames old new Content = IsCalm old new
+Blames old new Reading = (old.files.faults < new.files.faults) × (new.fabric.faults ≡ old.fabric.faults)
+Blames old new Linking = (new.files.faults ≡ old.files.faults) × (old.fabric.faults < new.fabric.faults)
+
+-- no fabric at all
+abbrev no_fabric : FabricState
+no_fabric = record {
+  faithful = true;
+  prompt = true;
+  sound = true;
+  told = false;
+  kinds = [];
+  transit = λ _. [];
+  sent = λ _. [];
+  delivered = λ _. [];
+  faults = 0;
+}
+
+-- files without a fabric, as a step sees them that needs none
+abbrev pub alone : FilesState → World
+alone files = record { files = files; fabric = no_fabric }
