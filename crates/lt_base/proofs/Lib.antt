@@ -16,5 +16,6 @@ pub mod Weighing
 pub mod Behaviour
 pub mod Defined
 mod Cuts
+mod Fixtures
 mod Shape
 mod Wrapping

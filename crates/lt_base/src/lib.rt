@@ -13,6 +13,8 @@ mod operators;
 mod program;
 mod steps;
 pub mod tables;
+#[cfg(test)]
+mod tests;
 mod value;
 mod weights;
 
