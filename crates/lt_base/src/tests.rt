@@ -8,8 +8,8 @@ ghost use Rattle.lt_base.specs.Fixtures.{HasOnly, call_on_input, two_calls};
 
 use crate::weights::{Measure, totals};
 use crate::{
-    Bin, Clock, Decl, Equation, Expr, Func, Imp, List, Memory, Name, Program, Sizes, Ty, Un, Value,
-    Whole, sizes,
+    Bin, Clock, Decl, Equation, Expr, Func, Imp, Inputs, List, Memory, Name, Program, Sizes, Ty,
+    Un, Value, Whole, sizes,
 };
 use std::alloc::Global;
 use std::test::Fail;
@@ -168,5 +168,19 @@ fn long_chains_of_calls_are_quick(rt: HostRuntime) -> Result<(), Fail> {
     ] {
         assert_eq!(rt; weights[function], want, "of {function}");
     }
+    Ok(())
+}
+
+#[test]
+fn lists_and_tables_grow(rt: HostRuntime) -> Result<(), Fail> {
+    let mut numbers = List::from_slice(rt.alloc(), &[1u32, 2])?;
+    numbers.push(3)?;
+    assert_eq!(rt; numbers.copy()?.as_slice(), [1, 2, 3].as_slice());
+    let mut bytes = List::new(rt.alloc());
+    bytes.extend(b"ab")?;
+    assert_eq!(rt; bytes.as_slice(), b"ab".as_slice());
+    let mut inputs = Inputs::new(rt.alloc(), 1)?;
+    inputs.push(&[Value::Int(7)])?;
+    assert_eq!(rt; inputs.copy()?.value(0, 0), Value::Int(7));
     Ok(())
 }
