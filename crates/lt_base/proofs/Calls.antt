@@ -90,3 +90,8 @@ module _ (fs : List Function) (height : ℕ → ℕ) (layered : Layered fs heigh
 pub stream_callee : (fs fs' : List Function) (f : Function) → ((x : ℕ) (e : Expression) → right_of f.eqs x ≡ Some e → EachCall (Agree (calls fs (length fs)) (calls fs' (length fs'))) e) → (rows : List (List Value)) (x : ℕ) → stream_of fs f rows x ≡ stream_of fs' f rows x
 stream_callee fs fs' f agree rows x =
     ap (λ es. reverse (map (λ env. cell env (clock_of f.decls x) x) es)) (environments_callee (calls fs (length fs)) (calls fs' (length fs')) f agree (reverse (map (map Some) rows)))
+
+-- so has a function without calls
+pub callless_streams : (fs fs' : List Function) (f : Function) → ((x : ℕ) (e : Expression) → right_of f.eqs x ≡ Some e → EachCall (λ _. ⊥) e) → (rows : List (List Value)) (x : ℕ) → stream_of fs f rows x ≡ stream_of fs' f rows x
+callless_streams fs fs' f callless =
+    stream_callee fs fs' f (λ x e r. each_call_map (λ _. ⊥) (Agree (calls fs (length fs)) (calls fs' (length fs'))) (λ g no. absurd no) e (callless x e r))

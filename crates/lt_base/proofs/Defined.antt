@@ -241,8 +241,7 @@ module _ (fs : List Function) (f : Function) (callee : Callee) (Q : ℕ → Type
       let before = all_typed es rows s.1 i.1 in
       (λ x. typed_below es row env before s.0 i.0 (suc (place x)) x (omega arith), before)
 
--- ---- the functions of a program
-
+-- rows that fit have a value of its type for each input
 ty_fits : (ds : List Decl) (n x : ℕ) (row : Row) (t : Ty) → RowFits (map (λ d. d.ty) (take n ds)) row → x < n → ty_at ds x ≡ Some t → HasType (entry row x) t
 ty_fits [] n x row t f l h = absurd (cc)
 ty_fits (d ∷ ds) zero x row t f l h = absurd (omega arith)
@@ -254,6 +253,13 @@ inputs_fit : (f : Function) → GoodFunction f → (rows : List Row) → AllFit 
 inputs_fit f good [] a = tt
 inputs_fit f good (row ∷ rows) a =
     (λ x t l h k. ty_fits f.decls f.n_in x row t a.0 (is_input f good x l h) k, inputs_fit f good rows a.1)
+
+-- so it is in a function without calls, whatever the program is
+pub callless_defined : (fs : List Function) (f : Function) (callee : Callee) → GoodFunction f → Causal f → ClockedFunction fs f → TypedFunction fs f → ((x : ℕ) (e : Expression) → right_of f.eqs x ≡ Some e → EachCall (λ _. ⊥) e) → (es : List Environment) (rows : List Row) → Solves callee f es rows → AllFit (input_types f) rows → AllDefined f.decls es
+callless_defined fs f callee good causal clocked typed callless es rows s fits =
+    all_typed fs f callee (λ _. ⊥) (λ g q. absurd q) (place_of f causal) (ordered f causal) clocked typed callless es rows s (inputs_fit f good rows fits)
+
+-- ---- the functions of a program
 
 -- the rows in the other order fit as well
 fit_append : (ts : List Ty) (rows more : List Row) → AllFit ts rows → AllFit ts more → AllFit ts (rows ++ more)

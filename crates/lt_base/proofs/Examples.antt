@@ -1,5 +1,5 @@
 -- Worked programs.
-use Rattle.std.specs.Prelude.{◌≡◌, ℕ, zero, suc, true, false, pos, List, [], ◌∷◌}
+use Rattle.std.specs.Prelude.{◌≡◌, ℕ, zero, suc, ◌-◌, ◌^◌, true, false, ℤ, pos, negsuc, List, [], ◌∷◌}
 use Rattle.std.proofs.Common.{refl}
 use Rattle.std.specs.Int.{int_wrap}
 use Rattle.lt_base.specs.declared.value.Ty.TheVariants.{Int as IntTy, Bool as BoolTy}
@@ -7,13 +7,17 @@ use Rattle.lt_base.specs.declared.value.Value.{Value}
 use Rattle.lt_base.specs.declared.value.Value.TheVariants.{Int, Bool as Truth}
 use Rattle.lt_base.specs.declared.operators.Bin.TheVariants.{Add, Sub, And, Xor}
 use Rattle.lt_base.specs.declared.operators.Un.TheVariants.{Not}
-use Rattle.lt_base.specs.declared.operators.Imp.TheVariants.{Min, Max}
+use Rattle.lt_base.specs.declared.operators.Imp.TheVariants.{Min, Max, Gcd}
 use Rattle.lt_base.specs.declared.value.Cell.{Cell}
 use Rattle.lt_base.specs.declared.value.Cell.TheVariants.{Absent, Here}
-use Rattle.lt_base.specs.Expression.{literal, variable, unary, binary, imported, sampled, merged, delayed, call, no_arguments, argument}
+use Rattle.lt_base.specs.Expression.{Expression, literal, variable, unary, binary, imported, sampled, merged, delayed, follow, arrow, call, no_arguments, argument}
 use Rattle.lt_base.specs.declared.function.Decl.{Decl}
 use Rattle.lt_base.specs.Program.{Function}
 use Rattle.lt_base.specs.Meaning.{ClockPairs, stream_of}
+use Rattle.lt_base.specs.Operators.{quotient, remainder, imp}
+use Rattle.lt_base.specs.Graph.{ClosedWalk}
+use Rattle.lt_base.specs.Dependence.{dependencies, Depends}
+use Rattle.lt_base.specs.Sizes.{nested, weight_with, parts_with}
 
 abbrev pub int_on : ClockPairs → Decl
 int_on ck = record { name = []; ty = IntTy; clock = ck }
@@ -137,3 +141,78 @@ last_of (c ∷ d ∷ cs) = last_of (d ∷ cs)
 pub twice_16 : last_of (stream_of (twice ∷ []) twice (empty_rows 16) 0) ≡ Here (num 32767)
 unfolding int_wrap
 twice_16 = refl
+
+-- ---- a delay with any left side, and the first instant
+
+abbrev pub one_to_three : List (List Value)
+one_to_three = (num 1 ∷ []) ∷ (num 2 ∷ []) ∷ (num 3 ∷ []) ∷ []
+
+abbrev pub one_equation : Expression → Function
+one_equation e = record { name = []; decls = int_on [] ∷ int_on [] ∷ []; n_in = 1; outs = 1 ∷ []; eqs = (1, e) ∷ [] }
+
+-- y = (x + 1) fby x
+abbrev pub followed : Function
+followed = one_equation (follow (binary Add (variable 0) (literal (num 1))) (variable 0))
+
+pub followed_y : stream_of (followed ∷ []) followed one_to_three 1 ≡ Here (num 2) ∷ Here (num 1) ∷ Here (num 2) ∷ []
+unfolding int_wrap
+followed_y = refl
+
+-- y = x -> 10 + (0 fby y)
+abbrev pub counted : Function
+counted = one_equation (arrow (variable 0) (binary Add (literal (num 10)) (delayed (num 0) (variable 1))))
+
+pub counted_y : stream_of (counted ∷ []) counted one_to_three 1 ≡ Here (num 1) ∷ Here (num 11) ∷ Here (num 21) ∷ []
+unfolding int_wrap
+counted_y = refl
+
+-- y = y -> x reads y, so it lies on a closed walk
+pub first_reads : ClosedWalk (Depends (one_equation (arrow (variable 1) (variable 0)))) (1 ∷ [])
+first_reads = refl
+
+-- y = x fby y does not
+pub delay_reads : dependencies (one_equation (follow (variable 0) (variable 1))) 1 ≡ 0 ∷ []
+delay_reads = refl
+
+-- a delay with an expression on its left weighs two, and a first instant one
+pub followed_size : nested weight_with (followed ∷ []) 1 0 ≡ 4
+followed_size = refl
+
+pub counted_size : nested weight_with (counted ∷ []) 1 0 ≡ 4
+counted_size = refl
+
+pub counted_parts : nested parts_with (counted ∷ []) 1 0 ≡ 6
+counted_parts = refl
+
+-- ---- the operators' boundary cases
+
+abbrev pub least : ℤ
+least = negsuc (2 ^ 63 - 1)
+
+pub least_div : quotient least (negsuc 0) ≡ least
+unfolding int_wrap
+least_div = refl
+
+pub least_mod : remainder least (negsuc 0) ≡ pos 0
+least_mod = refl
+
+pub cut_div : quotient (negsuc 6) (pos 2) ≡ negsuc 2
+unfolding int_wrap
+cut_div = refl
+
+pub cut_mod : remainder (negsuc 6) (pos 2) ≡ negsuc 0
+cut_mod = refl
+
+pub by_zero : quotient (negsuc 6) (pos 0) ≡ pos 0
+by_zero = refl
+
+pub rest_by_zero : remainder (negsuc 6) (pos 0) ≡ negsuc 6
+rest_by_zero = refl
+
+pub least_gcd : imp Gcd least (pos 0) ≡ least
+unfolding int_wrap
+least_gcd = refl
+
+pub no_gcd : imp Gcd (pos 0) (pos 0) ≡ pos 0
+unfolding int_wrap
+no_gcd = refl

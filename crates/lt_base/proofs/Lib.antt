@@ -13,7 +13,9 @@ pub mod Tells
 pub mod Kept
 pub mod First
 pub mod Weighing
+pub mod Behaviour
 pub mod Defined
 mod Cuts
+mod Fixtures
 mod Shape
 mod Wrapping

@@ -58,6 +58,11 @@ mutual
       let q = values_local callee args ck past cur cur' r.1 in
       λ i. p i ∷ q i
 
+-- whether a clock is present hangs on its variables
+pub present_local : (ck : ClockPairs) (cur cur' : Environment) → EachClockVar (λ y. cur y ≡ cur' y) ck → present cur ck ≡ present cur' ck
+present_local [] cur cur' r = refl
+present_local ((c, b) ∷ ck) cur cur' r = let p = present_local ck cur cur' r.1 in λ i. p i && is_truth (r.0 i) b
+
 -- ---- the meaning is a solution
 
 module _ (callee : Callee) (f : Function) (past : List Environment) (row : Row) where

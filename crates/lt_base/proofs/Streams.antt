@@ -1,5 +1,5 @@
 -- Streams: what any solution shows, and what later rows leave as it is.
-use Rattle.std.proofs.Common.{◌≡◌, ℕ, suc, ◌<◌, Bool, true, false, List, [], ◌∷◌, ◌++◌, length, map, reverse, take, Some, refl, sym, ap, ◌∙◌, arith}
+use Rattle.std.proofs.Common.{◌≡◌, ℕ, suc, ◌<◌, Bool, true, false, List, [], ◌∷◌, ◌++◌, length, map, reverse, take, Some, refl, sym, ap, ◌∙◌, subst, arith}
 use Rattle.std.specs.Prelude.{if◌then◌else◌}
 use Rattle.std.proofs.lemmas.List.{reverse-append, map-append, length-reverse, length-map}
 use Rattle.std.proofs.Math.Seq.{take-append_seam}
@@ -8,7 +8,7 @@ use Rattle.lt_base.specs.declared.value.Value.{Value}
 use Rattle.lt_base.specs.declared.value.Cell.{Cell}
 use Rattle.lt_base.specs.declared.value.Cell.TheVariants.{Absent}
 use Rattle.lt_base.specs.Program.{Function}
-use Rattle.lt_base.specs.Meaning.{ClockPairs, Environment, Row, Callee, clock_of, present, valuation, environments, calls, here, cell, stream_of}
+use Rattle.lt_base.specs.Meaning.{ClockPairs, Environment, Row, Callee, clock_of, present, valuation, environments, answer, calls, here, cell, stream_of}
 use Rattle.lt_base.specs.Clocking.{WellFormed, ClockedFunction}
 use Rattle.lt_base.specs.Dependence.{Causal}
 use Rattle.lt_base.specs.Solution.{Solves, Same, AllSame}
@@ -68,6 +68,12 @@ pub stream_is : (fs : List Function) (f : Function) → Causal f → ClockedFunc
 stream_is fs f causal clocked rows es s x d =
     ap reverse (cells_same f.decls (clock_of f.decls x) x refl d (clocked.clocks x) es _ (means (calls fs (length fs)) fs f causal clocked (reverse (map (map Some) rows)) es s))
 
+-- a call that answers what the function means answers what any solution shows of the output
+pub call_is : (callee : Callee) (fs : List Function) (f : Function) (g : ℕ) → ((rows : List Row) → callee g rows ≡ answer f.outs (environments callee f rows)) → Causal f → ClockedFunction fs f → (y : ℕ) → f.outs ≡ y ∷ [] → y < length f.decls → clock_of f.decls y ≡ [] → (env : Environment) (past : List Environment) (row : Row) (rows : List Row) → Solves callee f (env ∷ past) (row ∷ rows) → callee g (row ∷ rows) ≡ env y
+call_is callee fs f g meant causal clocked y out declared on_base env past row rows s =
+    let same = means callee fs f causal clocked (row ∷ rows) (env ∷ past) s in
+    meant (row ∷ rows) ∙ ap (λ ys. answer ys (environments callee f (row ∷ rows))) out ∙ sym (same.0 y declared (ap (present env) on_base))
+
 -- ---- later rows
 
 module _ (fs : List Function) (f : Function) (x : ℕ) where
@@ -114,3 +120,15 @@ module _ (fs : List Function) (f : Function) (x : ℕ) where
   pub stream_push : (rows : List (List Value)) (row : List Value) → stream_of fs f (rows ++ row ∷ []) x ≡ stream_of fs f rows x ++ shown (valuation callee f (environments callee f (newest_first rows)) (map Some row) (length f.eqs)) ∷ []
   unfolding newer_of
   stream_push rows row = stream_append rows (row ∷ [])
+
+-- a solution of one more row shows one more cell of the stream
+pub stream_next : (fs : List Function) (f : Function) → Causal f → ClockedFunction fs f → (rows : List (List Value)) (row : List Value) (env : Environment) (past : List Environment) → Solves (calls fs (length fs)) f (env ∷ past) (map Some row ∷ reverse (map (map Some) rows)) → (x : ℕ) → x < length f.decls → stream_of fs f (rows ++ row ∷ []) x ≡ stream_of fs f rows x ++ cell env (clock_of f.decls x) x ∷ []
+stream_next fs f causal clocked rows row env past s x d =
+    let C = calls fs (length fs) in
+    let shown : Environment → Cell = λ e. cell e (clock_of f.decls x) x in
+    let before = reverse (map (map Some) rows) in
+    let more : reverse (map (map Some) (rows ++ row ∷ [])) ≡ map Some row ∷ before =
+    ap reverse (map-append (map Some) rows (row ∷ [])) ∙ reverse-append (map (map Some) rows) (map Some row ∷ []) in
+    sym (stream_is fs f causal clocked (rows ++ row ∷ []) (env ∷ past) (subst (Solves C f (env ∷ past)) (sym more) s) x d)
+    ∙ reverse-append (shown env ∷ []) (map shown past)
+    ∙ ap (λ l. l ++ shown env ∷ []) (stream_is fs f causal clocked rows past s.1 x d)

@@ -16,6 +16,7 @@ use Rattle.lt_base.specs.Solution.{Given, Obeys, Solves, AllSame}
 use Rattle.lt_base.specs.Placed.{renamed, below, seen, thinned, Shows, StandsIn}
 use Rattle.lt_base.specs.Tells.{AtEach, Tells, ArgumentsTell, TellsFunction}
 use Rattle.lt_base.proofs.Solution.{given_some, means, and_both, and_left, pick_same}
+use Rattle.lt_base.proofs.Streams.{call_is}
 use Rattle.lt_base.proofs.Placed.{present_below, value_thin}
 
 pub at_each : (P : List Environment → Environment → Type 0) → ((past : List Environment) (env : Environment) → P past env) → (es : List Environment) → AtEach P es
@@ -184,7 +185,4 @@ module _ (callee : Callee) where
             let rows' = values_of callee args ck past env ∷ rows_at ck (values_of callee args ck) past in
             let s1 : Shows h (thinned r ck past) (rows_at ck (values_of callee args ck) past) = shows_args past (λ x d q. (i x d q).1) in
             let solved = told_by fs f h r ck clocked past env rows' row t s.0 (λ rs. told fs f h r ck clocked past rows rs (earlier fs f h r ck clocked env past t) s.1) true p (λ x d q. (i x d q).0 p, s1) in
-            let same = means callee fs h causal clocked rows' (seen r env ∷ thinned r ck past) solved in
-            same.0 y declared (ap (present (seen r env)) on_base)
-            ∙ sym (ap (λ ys. answer ys (environments callee h rows')) out)
-            ∙ sym (meant rows')
+            sym (call_is callee fs h g meant causal clocked y out declared on_base (seen r env) (thinned r ck past) (values_of callee args ck past env) (rows_at ck (values_of callee args ck) past) solved)

@@ -47,13 +47,21 @@ nested s fs (suc n) g = size_of (s (nested s fs n)) (function_of fs g)
 abbrev pub AddsUp : ((ℕ → ℕ) → Function → ℕ) → List Function → (ℕ → ℕ) → Type 0
 AddsUp s fs w = (g : ℕ) (f : Function) → function_of fs g ≡ Some f → w g ≡ s w f
 
+-- the weight of a function with that many nested calls
+abbrev pub weight : List Function → ℕ → ℕ → ℕ
+weight fs n g = nested weight_with fs n g
+
+-- the expression parts of a function with that many nested calls
+abbrev pub total_parts : List Function → ℕ → ℕ → ℕ
+total_parts fs n g = nested parts_with fs n g
+
 -- the weight of a program's main function
 abbrev pub program_weight : WholeProgram → ℕ
-program_weight p = nested weight_with p.funcs (length p.funcs) p.main
+program_weight p = weight p.funcs (length p.funcs) p.main
 
 -- the expression parts of a program's main function
 abbrev pub program_parts : WholeProgram → ℕ
-program_parts p = nested parts_with p.funcs (length p.funcs) p.main
+program_parts p = total_parts p.funcs (length p.funcs) p.main
 
 -- cut at the greatest number of 64 bits
 abbrev pub cut : ℕ → ℕ

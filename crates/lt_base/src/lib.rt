@@ -5,6 +5,7 @@ mod clock;
 mod expression;
 mod function;
 mod inputs;
+pub mod laws;
 mod list;
 mod memory;
 mod name;
@@ -12,6 +13,8 @@ mod operators;
 mod program;
 mod steps;
 pub mod tables;
+#[cfg(test)]
+mod tests;
 mod value;
 mod weights;
 

@@ -11,7 +11,7 @@ use std::alloc::Global;
 
 // What is added up.
 #[derive(Clone, Copy)]
-enum Measure {
+pub(crate) enum Measure {
     Weight,
     Parts,
 }
@@ -31,7 +31,11 @@ pub fn sizes(alloc: Global, p: &Program) -> Result<Sizes, Memory>
 }
 
 // The measure of each function. Each round allows for one more nested call, and the first one that changes nothing is the last.
-fn totals(alloc: Global, functions: &[Func], measure: Measure) -> Result<Vec<u64>, Memory>
+pub(crate) fn totals(
+    alloc: Global,
+    functions: &[Func],
+    measure: Measure,
+) -> Result<Vec<u64>, Memory>
     ensures { IfOk result (λ table. (g : ℕ) → in_table table.items g ≡ cut (nested (measured measure) functions.now (length functions.now) g)) }
 {
     let mut table: Vec<u64> = Vec::new(alloc);
