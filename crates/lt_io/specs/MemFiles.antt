@@ -1,5 +1,5 @@
 -- Files in memory.
-use Rattle.std.specs.Prelude.{ℕ, true, List, [], Option, slice_get, unwrap_or, position}
+use Rattle.std.specs.Prelude.{ℕ, true, List, [], Option, slice_get, unwrap_or, position, find}
 use Rattle.std.specs.Str.{bytes_eq}
 use Rattle.std.specs.Option.{option_map}
 use Rattle.lt_io.specs.FilesState.{FilesState}
@@ -18,7 +18,7 @@ place_of files name = position (λ file. bytes_eq file.name name) files
 
 -- the bytes of the first file of this name
 abbrev pub lookup : List MemFile → List ℕ → Option (List ℕ)
-lookup files name = option_map (bytes_at files) (place_of files name)
+lookup files name = option_map (λ file. file.bytes) (find (λ file. bytes_eq file.name name) files)
 
 abbrev pub mem_files_state : MemFiles → FilesState
 mem_files_state m = record { sound = never_fails m.calls; told = true; named = lookup m.files; bytes = bytes_at m.files m.current; place = m.place; is_open = m.is_open; faults = m.calls.faults }

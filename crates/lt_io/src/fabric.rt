@@ -6,7 +6,8 @@ ghost use Rattle.lt_io.specs.FabricState.{FabricState, OpensChannels, SendsMessa
 use crate::LinkErr;
 use lt_base::{List, Ty, Value};
 
-/// Channels between nodes, numbered from 0, each of which carries messages in order.
+/// Channels between nodes, numbered from 0, each of which carries messages in order. A call that
+/// answers an error leaves the channels and all their messages as they were.
 pub trait Fabric {
     ghost state: { Self → FabricState };
 
@@ -23,7 +24,8 @@ pub trait Fabric {
         requires types { map ty_of payload.now ≡ kind_of (state self.old) ch }
         ensures { SendsMessage (state self.old) (state self.new) ch (record { payload = payload.now; bit = bit }) result };
 
-    /// Takes the oldest message in transit, and answers its bit.
+    /// Takes the oldest message in transit, and answers its bit. What `into` holds after an error is
+    /// not said.
     fn deliver(&mut self, ch: u32, into: &mut [Value]) -> Result<bool, LinkErr>
         requires count { (state self.old).faults < 2 ^ 64 - 1 }
         requires channel { ch < length (state self.old).kinds }

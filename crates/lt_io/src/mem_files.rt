@@ -57,6 +57,7 @@ impl Files for MemFiles {
 
     ghost sound_tells = { λ files sound. refl };
 
+    #[tactic(auto, using(crate::proofs::Lookup::lookup_is))]
     fn open(&mut self, name: &str) -> Result<(), Failed>
         requires { (mem_files_state self.old).faults < 2 ^ 64 - 1 }
         ensures opens { OpensFile (mem_files_state self.old) (mem_files_state self.new) name.now result }
