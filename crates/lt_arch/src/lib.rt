@@ -12,6 +12,7 @@ mod readers;
 mod shape;
 mod times;
 mod timing;
+mod watch;
 
 pub use chan::{Chan, ChanKind};
 pub use controller::Controller;
@@ -22,3 +23,4 @@ pub use limits::{GREATEST_BOUND, GREATEST_COUNTDOWN, GREATEST_TIME};
 pub use shape::Shape;
 pub use times::{NodeTime, PairTime};
 pub use timing::{Protocol, Timing};
+pub use watch::Watch;
