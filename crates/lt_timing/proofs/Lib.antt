@@ -5,3 +5,4 @@ pub mod LeastRight
 pub mod SameBounds
 pub mod Ranges
 pub mod LeastSetup
+pub mod Examples
