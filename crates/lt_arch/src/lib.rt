@@ -7,6 +7,7 @@ mod controller;
 mod deadlines;
 mod entries;
 mod event;
+pub mod laws;
 mod limits;
 mod readers;
 mod shape;
