@@ -13,6 +13,8 @@ mod readers;
 mod shape;
 mod times;
 mod timing;
+#[cfg(test)]
+mod tests;
 mod watch;
 
 pub use chan::{Chan, ChanKind};
