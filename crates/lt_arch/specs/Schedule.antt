@@ -1,6 +1,8 @@
 -- Lists of events.
-use Rattle.std.specs.Prelude.{◌≡◌, ℕ, ◌+◌, ◌<◌, ◌≤◌, List, [], ◌∷◌, length, Option, Some, None, is_some, true, false, if◌then◌else◌}
+use Rattle.std.specs.Prelude.{◌≡◌, ◌⊎◌, ℕ, ◌+◌, ◌<◌, ◌≤◌, List, [], ◌∷◌, ◌++◌, Bool, not, length, Option, Some, None, is_some, true, false, if◌then◌else◌}
+use Rattle.std.specs.List.{AllPass}
 use Rattle.lt_arch.specs.declared.event.Event.{Event}
+use Rattle.lt_arch.specs.declared.event.Event.TheVariants.{Act, Del, End}
 use Rattle.lt_arch.specs.declared.event.Offence.{Offence}
 use Rattle.lt_arch.specs.declared.event.Offence.TheVariants.{NoEnd}
 use Rattle.lt_arch.specs.declared.timing.Timing.{Timing}
@@ -52,6 +54,42 @@ EndsAt s t rows es horizon = (reached s t rows es).horizon ≡ Some horizon
 -- these events from the start are so far without an offence
 abbrev pub IsOffenceFree : Shape → Timing → (rows : ℕ) → List Event → Type 0
 IsOffenceFree s t rows es = HasNoOffence s t rows (start t.protocol) es
+
+-- What the first offence tells.
+
+-- it is that of an event, and no event before has one
+pub record IsOffenceAt (s : Shape) (t : Timing) (rows : ℕ) (es : List Event) (found : ℕ × Offence) : Type 0 where
+  pub front : List Event
+  pub event : Event
+  pub later : List Event
+  pub list_is : es ≡ front ++ event ∷ later
+  pub number_is : found.0 ≡ length front + 1
+  pub free : IsOffenceFree s t rows front
+  pub offence_is : offence_of s t (reached s t rows front) event ≡ Some found.1
+
+-- or no event has one, and no end was taken
+pub record LacksEnd (s : Shape) (t : Timing) (rows : ℕ) (es : List Event) (found : ℕ × Offence) : Type 0 where
+  pub free : IsOffenceFree s t rows es
+  pub open_end : (reached s t rows es).horizon ≡ None
+  pub number_is : found.0 ≡ length es + 1
+  pub offence_is : found.1 ≡ NoEnd
+
+abbrev pub IsFirstOffence : Shape → Timing → (rows : ℕ) → List Event → Option (ℕ × Offence) → Type 0
+IsFirstOffence s t rows es None = IsOffenceFree s t rows es × (h : ℕ) × EndsAt s t rows es h
+IsFirstOffence s t rows es (Some found) = IsOffenceAt s t rows es found ⊎ LacksEnd s t rows es found
+
+abbrev pub is_end : Event → Bool
+is_end (Act n at) = false
+is_end (Del c at) = false
+is_end (End at) = true
+
+-- a list that ends with its only end
+pub record EndsOnce (es : List Event) (h : ℕ) : Type 0 where
+  pub front : List Event
+  pub list_is : es ≡ front ++ End h ∷ []
+  pub no_end_before : AllPass (λ e. not (is_end e)) front
+
+-- What one-place memories and freshness bits need.
 
 -- what one-place memories and freshness bits need of a state
 pub record IsOnePlace (s : Shape) (st : State) : Type 0 where

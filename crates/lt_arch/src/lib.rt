@@ -7,11 +7,15 @@ mod controller;
 mod deadlines;
 mod entries;
 mod event;
+pub mod laws;
 mod limits;
 mod readers;
 mod shape;
 mod times;
 mod timing;
+#[cfg(test)]
+mod tests;
+mod watch;
 
 pub use chan::{Chan, ChanKind};
 pub use controller::Controller;
@@ -22,3 +26,4 @@ pub use limits::{GREATEST_BOUND, GREATEST_COUNTDOWN, GREATEST_TIME};
 pub use shape::Shape;
 pub use times::{NodeTime, PairTime};
 pub use timing::{Protocol, Timing};
+pub use watch::Watch;

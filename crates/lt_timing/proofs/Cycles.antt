@@ -1,11 +1,10 @@
 -- Cycles are at least one tick.
-use Rattle.std.proofs.Common.{◌≡◌, ℕ, ◌+◌, ◌*◌, ◌<◌, ◌≤◌, ◌⊎◌, inl, inr, length, Bool, true, false, refl, arith, suc, zero, max}
+use Rattle.std.proofs.Common.{◌≡◌, ℕ, ◌+◌, ◌*◌, ◌<◌, ◌≤◌, ◌⊎◌, inl, inr, length, Bool, true, false, refl, arith}
 use Rattle.std.proofs.Math.Nat.{mul-le-mul_right}
 use Rattle.lt_arch.specs.declared.timing.Timing.{Timing}
-use Rattle.lt_arch.specs.Greatest.{greatest}
-use Rattle.lt_arch.specs.Readers.{tmax_of, send_of, execute_of, slowest_of, is_back_pressure}
+use Rattle.lt_arch.specs.Readers.{tmax_of, send_of, execute_of, is_back_pressure}
 use Rattle.lt_arch.proofs.Ranges.{tmax-some, send-some, slowest-some}
-use Rattle.lt_timing.specs.Bounds.{cycle_of, time_based_cycle, back_pressure_cycle}
+use Rattle.lt_timing.specs.Bounds.{cycle_of, time_based_cycle}
 
 pub time_based_cycle-some : (t : Timing) (n : ℕ) → 1 ≤ time_based_cycle t n
 time_based_cycle-some t n =

@@ -33,7 +33,11 @@ pub fn bound(timing: &Timing, node: u32, h: u64) -> u64
     match timing.protocol {
         Protocol::BackPressure => {
             let slowest = timing.slowest();
-            if h < slowest { 1 } else { instants_by(slowest, cycle, h) }
+            if h < slowest {
+                1
+            } else {
+                instants_by(slowest, cycle, h)
+            }
         }
         Protocol::TimeBased => instants_by(first, cycle, h),
     }

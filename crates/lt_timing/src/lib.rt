@@ -1,6 +1,16 @@
 //! Which timings are accepted, the least countdowns, and the cycles and bounds that a timing gives.
 #![tactic(auto)]
 
+mod acceptance;
 mod bounds;
+mod countdowns;
+mod fault;
+pub mod laws;
+mod sides;
+#[cfg(test)]
+mod tests;
 
+pub use acceptance::accepts;
 pub use bounds::{bound, cycle};
+pub use countdowns::least;
+pub use fault::{TimingFault, Which};
