@@ -1,4 +1,17 @@
 pub mod Examples
+pub mod Lookups
+pub mod Reading
+pub mod Graph
+pub mod Order
+pub mod Solution
+pub mod Streams
+pub mod Calls
+pub mod Heights
+pub mod Placed
+pub mod Tells
+pub mod Kept
+pub mod First
+pub mod Defined
+pub mod Shape
 mod Columns
-mod Shape
 mod Wrapping

@@ -4,6 +4,7 @@ use Rattle.std.specs.List.{All, list_any}
 use Rattle.lt_base.specs.Expression.{Expression, literal, variable, unary, binary, imported, choose, sampled, merged, delayed, follow, arrow, call, Arguments, no_arguments, argument}
 use Rattle.lt_base.specs.Program.{Function, WholeProgram}
 use Rattle.lt_base.specs.Meaning.{ClockPairs, clock_of, right_of}
+use Rattle.lt_base.specs.Graph.{NoClosedWalk}
 
 -- the variables read outside the right side of every delay, in text order
 abbrev mutual
@@ -45,19 +46,9 @@ dependencies f x = dependencies_of (right_of f.eqs x) (clock_of f.decls x)
 abbrev pub Depends : Function → ℕ → ℕ → Type 0
 Depends f x y = has y (dependencies f x) ≡ true
 
--- a walk from x by these variables to y
-abbrev pub Walks : Function → ℕ → List ℕ → ℕ → Type 0
-Walks f x [] y = Depends f x y
-Walks f x (z ∷ zs) y = Depends f x z × Walks f z zs y
-
--- each depends on the next, and the last on the first
-abbrev pub ClosedWalk : Function → List ℕ → Type 0
-ClosedWalk f [] = ⊥
-ClosedWalk f (x ∷ xs) = Walks f x xs x
-
 -- no walk of dependencies is closed
 abbrev pub Causal : Function → Type 0
-Causal f = (xs : List ℕ) → ClosedWalk f xs → ⊥
+Causal f = NoClosedWalk (Depends f)
 
 -- every function of a program is causal
 abbrev pub CausalProgram : WholeProgram → Type 0

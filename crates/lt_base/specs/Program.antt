@@ -85,7 +85,8 @@ pub record GoodFunction (f : Function) : Type 0 where
   -- one equation for each variable that is no input, and none for any other number
   pub lefts : (x : ℕ) → count_by (λ e. nat_eq x e.0) f.eqs ≡ (if nat_le f.n_in x && nat_lt x (length f.decls) then 1 else 0)
 
--- what every program keeps: the numbers in it are those of its functions
+-- what every program keeps: its functions keep what they do, and the numbers in it are those of its functions
 pub record GoodProgram (p : WholeProgram) : Type 0 where
+  pub functions : All GoodFunction p.funcs
   pub main : p.main < length p.funcs
   pub calls : All (λ f. All (λ e. CallsBelow (length p.funcs) e.1) f.eqs) p.funcs
