@@ -1,0 +1,4 @@
+mod Found
+mod Calls
+mod Places
+mod TypeLemmas
