@@ -7,7 +7,7 @@ use Rattle.std.proofs.lemmas.Option.{slice_get_past, slice_get_read, slice_get-g
 use Rattle.std.proofs.lemmas.List.{get_or-take, length-take, get_or-reverse, length-reverse, reverse-reverse}
 use Rattle.lt_base.specs.declared.function.Decl.{Decl}
 use Rattle.lt_base.specs.Expression.{Expression}
-use Rattle.lt_base.specs.Program.{Function, GoodFunction}
+use Rattle.lt_base.specs.Program.{Function, GoodFunction, VarsBelow}
 use Rattle.lt_base.specs.Meaning.{clock_of, right_of, function_of}
 use Rattle.lt_base.specs.Equations.{EquationsIn}
 use Rattle.lt_base.proofs.Lookups.{all_found, left_below}
@@ -86,3 +86,8 @@ item_read xs inside items k x p q l r = ap (λ ys. slice_get ys k) (sym (p ∙ q
 
 pub item_inside : {X : Type 0} (xs inside items : List X) (k : ℕ) → items ≡ inside → inside ≡ xs → k < length items → k < length xs
 item_inside xs inside items k p q l = subst (λ ys. k < length ys) (p ∙ q) l
+
+-- the variables of a right side are the function's
+pub right_inside : (f : Function) → GoodFunction f → (k : ℕ) (q : ℕ × Expression) → slice_get f.eqs k ≡ Some q → VarsBelow (length f.decls) q.1
+right_inside f good k q h =
+    subst (λ (q : ℕ × Expression). VarsBelow (length f.decls) q.1) (get_or_from_slice_get f.eqs k q q h) (good.rights k q (slice_get_within f.eqs k q h))

@@ -2,3 +2,6 @@ mod Found
 mod Calls
 mod Places
 mod TypeLemmas
+mod ClockLemmas
+mod AtLemmas
+mod ClockedLemmas
