@@ -1,0 +1,3 @@
+mod Walks
+mod Search
+mod Round

@@ -1,0 +1,6 @@
+//! The causality of a function.
+#![tactic(auto)]
+
+mod circling;
+mod sorting;
+
