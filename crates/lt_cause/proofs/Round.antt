@@ -239,10 +239,10 @@ module _ (g : List (List ℕ)) (start : ℕ) (seen : List Bool) (rest path : Lis
             seen_fewer = let e = sum_by-set unseen seen y true false y_inside in let u : unseen (get_or seen y false) ≡ 1 = ap unseen new in omega (arith, e, u)
 
     -- it leads to the start
-    pub closes : Leads g x start → Circles g start (p ++ x ∷ [])
+    pub closes : Leads g x start → Circles (Leads g) start (p ++ x ∷ [])
     closes l =
-        let whole : Circles g start path = record { starts = first path s.starts (counted_long x path on); closed = around path s.starts (counted_long x path on) (along_to start l); once = λ z. let a = s.on_path z in let b = flag_most (known seen z) in omega (arith, a, b) } in
-        subst (Circles g start) top whole
+        let whole : Circles (Leads g) start path = record { starts = first path s.starts (counted_long x path on); closed = around path s.starts (counted_long x path on) (along_to start l); once = λ z. let a = s.on_path z in let b = flag_most (known seen z) in omega (arith, a, b) } in
+        subst (Circles (Leads g) start) top whole
       where
         first : (q : List ℕ) → Begins start q → 0 < length q → slice_get q 0 ≡ Some start
         first [] b n = absurd (omega arith)

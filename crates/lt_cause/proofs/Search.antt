@@ -180,7 +180,7 @@ module _ (g : List (List ℕ)) (marks : List Mark) (rest path order : List ℕ) 
     along_top = s.trail p x top
 
     -- it leads to a number that is open: a walk is closed
-    pub closes : (y : ℕ) → Leads g x y → mark marks y ≡ Open → HasClosedWalk g
+    pub closes : (y : ℕ) → Leads g x y → mark marks y ≡ Open → HasClosedWalk (Leads g)
     closes y l o =
         let c : count y path ≡ 1 = s.on_path y ∙ ap opened o in
         let on = has_counted y path (omega (arith, c)) in
@@ -298,7 +298,7 @@ settled g marks rest order s x h = by (mark marks x) (s.on_path x) h
     by Open e h = absurd (omega (arith, e))
     by Done e h = refl
 
-pub sorts : (g : List (List ℕ)) (marks : List Mark) (rest order : List ℕ) → Sorting g marks rest [] order → ((x : ℕ) → x < length g → mark marks x ≡ Done) → Sorts g order
+pub sorts : (g : List (List ℕ)) (marks : List Mark) (rest order : List ℕ) → Sorting g marks rest [] order → ((x : ℕ) → x < length g → mark marks x ≡ Done) → Sorts (Leads g) (length g) order
 sorts g marks rest order s all = record { once = λ x. s.in_order x ∙ by x (nat_lt x (length g)) refl; after = s.after }
   where
     by : (x : ℕ) (b : Bool) → nat_lt x (length g) ≡ b → ◌≡◌ {A = ℕ} (finished (mark marks x)) (if b then 1 else 0)

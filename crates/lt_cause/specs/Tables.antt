@@ -20,17 +20,17 @@ IsTable g = (x y : ℕ) → Leads g x y → y < length g
 abbrev pub count : ℕ → List ℕ → ℕ
 count x xs = count_by (nat_eq x) xs
 
--- each number of the table once, and each after those that it leads to
-pub record Sorts (g : List (List ℕ)) (order : List ℕ) : Type 0 where
-  pub once : (x : ℕ) → count x order ≡ (if nat_lt x (length g) then 1 else 0)
-  pub after : (i x : ℕ) → slice_get order i ≡ Some x → (y : ℕ) → Leads g x y → has y (take i order) ≡ true
+-- each number below n once, and each after those that it is related to
+pub record Sorts (R : ℕ → ℕ → Type 0) (n : ℕ) (order : List ℕ) : Type 0 where
+  pub once : (x : ℕ) → count x order ≡ (if nat_lt x n then 1 else 0)
+  pub after : (i x : ℕ) → slice_get order i ≡ Some x → (y : ℕ) → R x y → has y (take i order) ≡ true
 
 -- some walk is closed
-abbrev pub HasClosedWalk : List (List ℕ) → Type 0
-HasClosedWalk g = (walk : List ℕ) × ClosedWalk (Leads g) walk
+abbrev pub HasClosedWalk : (ℕ → ℕ → Type 0) → Type 0
+HasClosedWalk R = (walk : List ℕ) × ClosedWalk R walk
 
 -- a closed walk from the number, without a repeated one
-pub record Circles (g : List (List ℕ)) (v : ℕ) (walk : List ℕ) : Type 0 where
+pub record Circles (R : ℕ → ℕ → Type 0) (v : ℕ) (walk : List ℕ) : Type 0 where
   pub starts : slice_get walk 0 ≡ Some v
-  pub closed : ClosedWalk (Leads g) walk
+  pub closed : ClosedWalk R walk
   pub once : (x : ℕ) → count x walk ≤ 1

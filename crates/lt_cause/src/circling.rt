@@ -26,7 +26,7 @@ pub fn circle(
 ) -> Result<Option<Vec<u32>>, Memory>
     requires table { IsTable table.now }
     requires start { start < length table.now }
-    ensures { IfOk result (λ r. MatchOption r ((walk : Items ℕ) → ClosedWalk (Leads table.now) (start ∷ walk) → ⊥) (λ walk. Circles table.now start walk.items)) }
+    ensures { IfOk result (λ r. MatchOption r ((walk : Items ℕ) → ClosedWalk (Leads table.now) (start ∷ walk) → ⊥) (λ walk. Circles (Leads table.now) start walk.items)) }
 {
     let mut seen = unseen(alloc, table.len())?;
     let mut rest = degrees(alloc, table)?;

@@ -1,7 +1,7 @@
 // Numbers in an order in which each comes after those that it leads to.
 
 ghost use Rattle.std.specs.Prelude.{◌≡◌, ◌<◌, ◌^◌, IfOk, MatchOption, length, map, replicate, slice_index};
-ghost use Rattle.lt_cause.specs.Tables.{next, IsTable, Sorts, HasClosedWalk};
+ghost use Rattle.lt_cause.specs.Tables.{next, Leads, IsTable, Sorts, HasClosedWalk};
 
 use lt_base::{List, Memory};
 use std::alloc::Global;
@@ -49,7 +49,7 @@ fn new_marks(alloc: Global, size: usize) -> Result<Vec<Mark>, Memory>
 pub fn sorted(alloc: Global, table: &List<List<u32>>) -> Result<Option<Vec<u32>>, Memory>
     requires table { IsTable table.now }
     requires size { length table.now < 2 ^ 32 }
-    ensures { IfOk result (λ r. MatchOption r (HasClosedWalk table.now) (λ order. Sorts table.now order.items)) }
+    ensures { IfOk result (λ r. MatchOption r (HasClosedWalk (Leads table.now)) (λ order. Sorts (Leads table.now) (length table.now) order.items)) }
 {
     let size = table.len();
     let mut marks = new_marks(alloc, size)?;

@@ -88,7 +88,7 @@ returns-then-y-start c =
     let at = c.leads_to-y.ensures in
     let leads = leads_at g x (left - 1) y place at in
     let back : c.push-then-left-gt0.new.self.items ≡ p ++ x ∷ [] = c.in_ok-push-2.ensures.items in
-    subst (Circles g start) (sym back) (closes g start seen rest path s p x top (subst (Leads g x) c.if-y-start.true leads))
+    subst (Circles (Leads g) start) (sym back) (closes g start seen rest path s p x top (subst (Leads g x) c.if-y-start.true leads))
 
 pub index-requires : goal.index-requires
 index-requires c =
