@@ -1,5 +1,4 @@
 pub mod Examples
-mod Columns
 pub mod Lookups
 pub mod Reading
 pub mod Graph
@@ -18,4 +17,6 @@ pub mod Defined
 mod Cuts
 mod Fixtures
 mod Shape
+pub mod Shape
+mod Columns
 mod Wrapping

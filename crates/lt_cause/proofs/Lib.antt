@@ -1,0 +1,7 @@
+mod Walks
+mod Search
+mod Round
+mod Table
+mod Picked
+mod Cycles
+pub mod Places

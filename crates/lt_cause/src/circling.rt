@@ -1,0 +1,52 @@
+// Closed walks from a number.
+
+ghost use Rattle.std.specs.Prelude.{◌≡◌, ◌<◌, ◌^◌, ◌∷◌, ℕ, false, List as Items, IfOk, MatchOption, length, replicate};
+ghost use Rattle.lt_base.specs.Graph.{ClosedWalk};
+ghost use Rattle.lt_cause.specs.Tables.{Leads, IsTable, Circles};
+
+use crate::sorting::{degrees, leads_to};
+use lt_base::{List, Memory};
+use std::alloc::Global;
+
+fn unseen(alloc: Global, size: usize) -> Result<Vec<bool>, Memory>
+    ensures { IfOk result (λ r. r.items ≡ replicate size false) }
+{
+    let mut seen = Vec::with_capacity(alloc, size)?;
+    for _number in 0..size {
+        seen.push(false)?;
+    }
+    Ok(seen)
+}
+
+/// A closed walk from a number, without a repeated one, if there is a closed walk from it. It searches in depth.
+pub fn circle(
+    alloc: Global,
+    table: &List<List<u32>>,
+    start: u32,
+) -> Result<Option<Vec<u32>>, Memory>
+    requires table { IsTable table.now }
+    requires start { start < length table.now }
+    ensures { IfOk result (λ r. MatchOption r ((walk : Items ℕ) → ClosedWalk (Leads table.now) (start ∷ walk) → ⊥) (λ walk. Circles (Leads table.now) start walk.items)) }
+{
+    let mut seen = unseen(alloc, table.len())?;
+    let mut rest = degrees(alloc, table)?;
+    let mut path = Vec::new(alloc);
+    seen[start as usize] = true;
+    path.push(start)?;
+    while let Some(x) = path.pop() {
+        let left = rest[x as usize];
+        if left > 0 {
+            let y = leads_to(table, x, left - 1);
+            rest[x as usize] = left - 1;
+            path.push(x)?;
+            if y == start {
+                return Ok(Some(path));
+            }
+            if !seen[y as usize] {
+                seen[y as usize] = true;
+                path.push(y)?;
+            }
+        }
+    }
+    Ok(None)
+}

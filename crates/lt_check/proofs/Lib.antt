@@ -1,0 +1,7 @@
+mod Found
+mod Calls
+mod Places
+mod TypeLemmas
+mod ClockLemmas
+mod AtLemmas
+mod ClockedLemmas

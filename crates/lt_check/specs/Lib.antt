@@ -1,0 +1,4 @@
+pub mod Places
+pub mod TypeFaults
+pub mod Innermost
+pub mod ClockFaults

@@ -1,0 +1,11 @@
+//! The types and the clocks of a program.
+#![tactic(auto)]
+
+mod clocking;
+mod innermost;
+mod readers;
+mod rules;
+mod typing;
+
+pub use clocking::{ClockFault, clocks};
+pub use typing::{TypeFault, types};
