@@ -1,4 +1,5 @@
 pub mod Examples
+mod Columns
 pub mod Lookups
 pub mod Reading
 pub mod Graph
@@ -17,6 +18,4 @@ pub mod Defined
 mod Cuts
 mod Fixtures
 mod Shape
-pub mod Shape
-mod Columns
 mod Wrapping
