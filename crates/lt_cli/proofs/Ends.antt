@@ -1,6 +1,5 @@
 -- How an answer ends a call of the whole.
-use Rattle.std.proofs.Common.{◌≡◌, ◌<◌, ℕ, List, [], ◌∷◌, ◌++◌, Result, Ok, Err, IsTrue, refl, sym, append-nil}
-use Rattle.lt_base.specs.declared.memory.Or.{Or}
+use Rattle.std.proofs.Common.{ℕ, List, [], ◌∷◌, ◌++◌, Ok, Err, refl, sym, append-nil}
 use Rattle.lt_base.specs.declared.memory.Or.TheVariants.{Fault, Memory}
 use Rattle.lt_io.specs.SinkState.{SinkState, KeepsSink}
 use Rattle.lt_run.specs.World.{World}
@@ -9,9 +8,8 @@ use Rattle.lt_cli.specs.declared.refusal.Refusal.{Refusal}
 use Rattle.lt_cli.specs.declared.status.Status.{Status}
 use Rattle.lt_cli.specs.declared.status.Status.TheVariants as status
 use Rattle.lt_cli.specs.Blamed.{blame_of}
-use Rattle.lt_cli.specs.Texts.{refusal_status, line_of, out_text, err_text}
-use Rattle.lt_cli.specs.Objects.{Objects}
-use Rattle.lt_cli.specs.Ran.{Ran, Ends, Printed, FoundNoMemory, Reported, Took, TookFront}
+use Rattle.lt_cli.specs.Texts.{refusal_status, line_of}
+use Rattle.lt_cli.specs.Ran.{Ran, Reported, Took, TookFront}
 use Rattle.lt_cli.specs.Ran.{printed, unprinted, both_whole, out_broke, err_broke, both_short}
 use Rattle.lt_cli.specs.Written.{Written, Reaches, whole, broke, short}
 

@@ -1,3 +1,6 @@
 pub mod Lines
 pub mod Four
 pub mod Ends
+pub mod Texts
+pub mod Facts
+pub mod Causes

@@ -6,3 +6,4 @@ pub mod Objects
 pub mod Ran
 pub mod Written
 pub mod Commands
+pub mod Clauses

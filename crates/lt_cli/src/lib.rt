@@ -2,7 +2,6 @@
 #![tactic(auto)]
 
 mod answer;
-mod command;
 mod print;
 mod refusal;
 mod status;
@@ -10,3 +9,4 @@ mod top;
 
 pub use refusal::Refusal;
 pub use status::Status;
+pub use top::ltta;

@@ -1,6 +1,8 @@
 // The top call.
-ghost use Rattle.std.specs.Prelude.{◌≡◌, ◌<◌, ◌-◌, ◌^◌, ◌++◌, ◌∷◌, [], map, string_bytes};
-ghost use Rattle.lt_cli.specs.Objects.{Objects};
+ghost use Rattle.std.specs.Prelude.{◌≡◌, ◌≢◌, ◌<◌, ◌-◌, ◌^◌, ◌++◌, ◌∷◌, [], ℕ, List as Items, IsTrue, map, string_bytes};
+ghost use Rattle.lt_cli.specs.Words.{AskRun};
+ghost use Rattle.lt_cli.specs.Clauses.{IsWordsExact, IsRunExact, IsOutsideCaused, IsWriteCaused, IsMissingExact};
+ghost use Rattle.lt_cli.specs.Objects.{Objects, IsQuiet, Tells};
 ghost use Rattle.lt_cli.specs.Ran.{Ran};
 ghost use Rattle.lt_cli.specs.Texts.{refusal_status, line_of};
 ghost use Rattle.lt_cli.specs.Written.{Written};
@@ -11,6 +13,52 @@ use crate::{Refusal, Status};
 use lt_base::{List, Or};
 use lt_io::{Fabric, Files, Sink, SinkErr, write_all};
 use std::alloc::Global;
+
+/// Does what the words say: reads the files that they name, and writes a text to `out` or a refusal's line to `err`.
+/// No command sends messages yet, so the fabric stays as it is.
+pub fn ltta<F: Files, W: Fabric, O: Sink, E: Sink>(
+    alloc: Global,
+    words: &[String],
+    files: &mut F,
+    fabric: &mut W,
+    out: &mut O,
+    err: &mut E,
+) -> Status
+    requires files { (F.state files.old).faults < 2 ^ 64 - 1 }
+    requires fabric { (W.state fabric.old).faults < 2 ^ 64 - 1 }
+    requires empty { (W.state fabric.old).kinds ≡ [] }
+    requires out { (O.state out.old).faults < 2 ^ 64 - 1 }
+    requires err { (E.state err.old).faults < 2 ^ 64 - 1 }
+
+    // Where the objects tell what they hold, no count rose and memory was found: each status exactly
+    // where it is right, with its text or its line.
+    ensures words { let old : Objects = record { files = F.state files.old; fabric = W.state fabric.old; out = O.state out.old; err = E.state err.old } in
+        let new : Objects = record { files = F.state files.new; fabric = W.state fabric.new; out = O.state out.new; err = E.state err.new } in
+        Tells old → IsQuiet old new → result ≢ Status.Memory → IsWordsExact (map string_bytes words.now) old new result }
+    ensures run { let old : Objects = record { files = F.state files.old; fabric = W.state fabric.old; out = O.state out.old; err = E.state err.old } in
+        let new : Objects = record { files = F.state files.new; fabric = W.state fabric.new; out = O.state out.new; err = E.state err.new } in
+        (program inputs schedule : Items ℕ) → AskRun (map string_bytes words.now) program inputs schedule
+        → Tells old → IsQuiet old new → result ≢ Status.Memory → IsRunExact program inputs schedule old new result }
+
+    // What a status says of the outside.
+    ensures outside { let old : Objects = record { files = F.state files.old; fabric = W.state fabric.old; out = O.state out.old; err = E.state err.old } in
+        let new : Objects = record { files = F.state files.new; fabric = W.state fabric.new; out = O.state out.new; err = E.state err.new } in
+        result ≡ Status.Outside → IsOutsideCaused old new }
+    ensures write { let old : Objects = record { files = F.state files.old; fabric = W.state fabric.old; out = O.state out.old; err = E.state err.old } in
+        let new : Objects = record { files = F.state files.new; fabric = W.state fabric.new; out = O.state out.new; err = E.state err.new } in
+        result ≡ Status.Write → IsWriteCaused old new }
+    ensures missing { let old : Objects = record { files = F.state files.old; fabric = W.state fabric.old; out = O.state out.old; err = E.state err.old } in
+        let new : Objects = record { files = F.state files.new; fabric = W.state fabric.new; out = O.state out.new; err = E.state err.new } in
+        (program inputs schedule : Items ℕ) → AskRun (map string_bytes words.now) program inputs schedule
+        → IsTrue old.files.sound → result ≢ Status.Memory → IsMissingExact program inputs schedule old new }
+
+    // All of it: what was to be printed, how far it was, and whose count rose.
+    ensures ran { let old : Objects = record { files = F.state files.old; fabric = W.state fabric.old; out = O.state out.old; err = E.state err.old } in
+        let new : Objects = record { files = F.state files.new; fabric = W.state fabric.new; out = O.state out.new; err = E.state err.new } in
+        Ran (words_verdict old.files.named (map string_bytes words.now)) old new result }
+{
+    perform(alloc, words, files, fabric, out, err)
+}
 
 fn perform<F: Files, W: Fabric, O: Sink, E: Sink>(
     alloc: Global,
@@ -28,7 +76,7 @@ fn perform<F: Files, W: Fabric, O: Sink, E: Sink>(
         let new : Objects = record { files = F.state files.new; fabric = W.state fabric.new; out = O.state out.new; err = E.state err.new } in
         Ran (words_verdict old.files.named (map string_bytes words.now)) old new result }
 {
-    match answer(alloc, words, files, fabric) {
+    match answer(alloc, words, files) {
         Ok(text) => print(out, &text),
         Err(Or::Fault(refusal)) => refuse(alloc, err, refusal),
         Err(Or::Memory) => Status::Memory,

@@ -1,16 +1,15 @@
 -- The streams of a delay of an operation on the input and the output.
-use Rattle.std.proofs.Common.{◌≡◌, ℕ, zero, suc, ◌<◌, ◌≤◌, ◌==◌, Bool, true, false, if◌then◌else◌, ℤ, ◌+ℤ◌, ◌-ℤ◌, ◌+◌, List, [], ◌∷◌, ◌++◌, Option, Some, None, length, map, reverse, take, slice_get, get_or, refl, ap, sym, subst, ◌∙◌, arith, add-one, MatchOption}
+use Rattle.std.proofs.Common.{◌≡◌, ℕ, zero, suc, ◌<◌, ◌≤◌, ◌==◌, Bool, true, false, if◌then◌else◌, ℤ, ◌+ℤ◌, ◌-ℤ◌, ◌+◌, List, [], ◌∷◌, ◌++◌, Option, Some, length, map, reverse, take, slice_get, get_or, refl, ap, sym, subst, ◌∙◌, arith, add-one, MatchOption}
 use Rattle.std.proofs.Math.Seq.{take-suc}
 use Rattle.std.proofs.lemmas.List.{map-append, reverse-append, take_all}
 use Rattle.std.proofs.lemmas.Option.{get_or_from_slice_get}
-use Rattle.lt_base.specs.declared.value.Ty.TheVariants.{Int as IntTy, Bool as BoolTy}
+use Rattle.lt_base.specs.declared.value.Ty.TheVariants.{Int as IntTy}
 use Rattle.lt_base.specs.declared.value.Value.{Value}
 use Rattle.lt_base.specs.declared.value.Value.TheVariants.{Int, Bool as Truth}
 use Rattle.lt_base.specs.declared.value.Cell.{Cell}
 use Rattle.lt_base.specs.declared.value.Cell.TheVariants.{Here}
 use Rattle.lt_base.specs.declared.operators.Bin.{Bin}
-use Rattle.lt_base.specs.declared.operators.Bin.TheVariants.{Add, Sub, Mul, Div, Mod, Eq, Ne, Lt, Le, Gt, Ge, And, Or, Xor, Implies}
-use Rattle.lt_base.specs.Value.{ty_of}
+use Rattle.lt_base.specs.declared.operators.Bin.TheVariants.{Add, Sub}
 use Rattle.lt_base.specs.Operators.{op2, wrap}
 use Rattle.lt_base.specs.Program.{Function, WholeProgram}
 use Rattle.lt_base.specs.Expression.{Expression, variable, binary, delayed}
@@ -71,7 +70,7 @@ added f rows row = valuation (calls (f ∷ []) 1) f (environments_on f rows) (ma
 
 stream_more : (n i u : List ℕ) (first : Value) (o : Bin) (a b : ℕ) (rows : List (List Value)) (row : List Value) (x : ℕ)
     → let f = delay_function n i u first o a b in
-      stream_of (f ∷ []) f (rows ++ row ∷ []) x ≡ stream_of (f ∷ []) f rows x ++ cell (added f rows row) (clock_of f.decls x) x ∷ []
+    stream_of (f ∷ []) f (rows ++ row ∷ []) x ≡ stream_of (f ∷ []) f rows x ++ cell (added f rows row) (clock_of f.decls x) x ∷ []
 stream_more n i u first o a b rows row x =
     let f = delay_function n i u first o a b in
     let shown : Environment → Cell = λ env. cell env (clock_of f.decls x) x in
@@ -101,14 +100,14 @@ stands_more first o a b rows ins outs x y z la lb st i e = record {
   int = i;
   ins_are = λ n i u. (λ k. st.ins_are n i u k ++ Here x ∷ []) ∙ sym (stream_more n i u first o a b rows (x ∷ []) 0);
   outs_are = λ n i u.
-    let shown = sym (added_output n i u first o a b rows x y (st.coming n i u)) in
-    (λ k. st.outs_are n i u k ++ here (shown k) ∷ []) ∙ sym (stream_more n i u first o a b rows (x ∷ []) 1);
+      let shown = sym (added_output n i u first o a b rows x y (st.coming n i u)) in
+      (λ k. st.outs_are n i u k ++ here (shown k) ∷ []) ∙ sym (stream_more n i u first o a b rows (x ∷ []) 1);
   coming = λ n i u.
-    let f = delay_function n i u first o a b in
-    let env = added f rows (x ∷ []) in
-    let out = added_output n i u first o a b rows x y (st.coming n i u) in
-    ap (λ (rs : List Row). next first o a b (environments (calls (f ∷ []) 1) f rs)) (reversed rows (x ∷ []))
-    ∙ (λ k. both (op2 o) (operand_is env a x y la refl out k) (operand_is env b x y lb refl out k)) ∙ e;
+      let f = delay_function n i u first o a b in
+      let env = added f rows (x ∷ []) in
+      let out = added_output n i u first o a b rows x y (st.coming n i u) in
+      ap (λ (rs : List Row). next first o a b (environments (calls (f ∷ []) 1) f rs)) (reversed rows (x ∷ []))
+      ∙ (λ k. both (op2 o) (operand_is env a x y la refl out k) (operand_is env b x y lb refl out k)) ∙ e;
 }
 
 -- what is known when all rows are done
@@ -167,5 +166,5 @@ pub right_is : (p : WholeProgram) (small : IsSmall p) (fs : List Function) (f : 
     → delayed (Int small.first) (binary small.operator (variable small.left) (variable small.right)) ≡ e
 right_is p small fs f e funcs at right =
     let is : f ≡ delay_function small.name small.input small.output (Int small.first) small.operator small.left small.right =
-        at ∙ ap (λ (gs : List Function). get_or gs 0 f) (funcs ∙ ap (λ (q : WholeProgram). q.funcs) small.is) in
+    at ∙ ap (λ (gs : List Function). get_or gs 0 f) (funcs ∙ ap (λ (q : WholeProgram). q.funcs) small.is) in
     sym (subst (λ (g : Function). MatchOption (slice_get g.eqs 0) ⊥ (λ q. e ≡ q.1)) is right)

@@ -1,12 +1,12 @@
 -- A program's streams as a table.
-use Rattle.std.specs.Prelude.{◌≡◌, ℕ, ◌*◌, ◌<◌, Option, Some, None, List, [], length, map, MatchOption, slice_index_or}
+use Rattle.std.specs.Prelude.{◌≡◌, ℕ, ◌*◌, ◌<◌, Option, Some, List, [], length, map, MatchOption, slice_index_or}
 use Rattle.lt_base.specs.declared.value.Value.{Value}
 use Rattle.lt_base.specs.declared.value.Cell.{Cell}
 use Rattle.lt_base.specs.Program.{Function, WholeProgram}
 use Rattle.lt_base.specs.Inputs.{InputTable}
 use Rattle.lt_base.specs.Meaning.{function_of, stream_of}
 use Rattle.lt_base.specs.Typing.{input_types, AllFit}
-use Rattle.lt_base.specs.Sizes.{weight}
+use Rattle.lt_base.specs.Sizes.{program_weight}
 
 -- a table has the stream of each variable of a function on these rows, by the variable's number
 pub record HasStreams (fs : List Function) (f : Function) (rows : List (List Value)) (table : List (List Cell)) : Type 0 where
@@ -23,7 +23,7 @@ HasMainStreams p rows table = MatchOption (main_of p) ⊥ (λ f. HasStreams p.fu
 
 -- how many cells count against the limit: the weight of main for each row
 abbrev pub cell_count : WholeProgram → List (List Value) → ℕ
-cell_count p rows = weight p.funcs (length p.funcs) p.main * length rows
+cell_count p rows = program_weight p * length rows
 
 -- a column for each input of a function, and in each row values of the inputs' types
 pub record InputsFit (f : Function) (inputs : InputTable) : Type 0 where

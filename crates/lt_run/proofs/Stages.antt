@@ -1,11 +1,11 @@
 -- Steps one after another.
-use Rattle.std.proofs.Common.{◌≡◌, ◌<◌, ℕ, Result, Ok, Err, MatchResult, IsTrue, refl, sym, ◌∙◌, ap, subst, arith, inl, inr}
+use Rattle.std.proofs.Common.{◌≡◌, ℕ, List, Option, ◌<◌, Result, Ok, Err, MatchResult, IsTrue, refl, sym, ◌∙◌, subst, arith, inl, inr}
 use Rattle.lt_base.specs.declared.memory.Or.{Or}
 use Rattle.lt_base.specs.declared.memory.Or.TheVariants.{Fault, Memory}
-use Rattle.lt_io.specs.FilesState.{FilesState, KeepsFiles}
-use Rattle.lt_io.specs.FabricState.{FabricState, KeepsFabric}
+use Rattle.lt_io.specs.FilesState.{FilesState}
+use Rattle.lt_io.specs.FabricState.{FabricState}
 use Rattle.lt_run.specs.World.{World, KeepsWorld, IsCalm, Blame, Content, Reading, Linking, Blames, alone}
-use Rattle.lt_run.specs.Answered.{Answered, Verdict, Settles, Refuses, OrBlames, RefusesReading, RefusesFirst, AndThen}
+use Rattle.lt_run.specs.Answered.{Answered, Verdict, Settles, OrBlames, AndThen}
 
 pub keeps_itself : (w : World) → KeepsWorld w w
 keeps_itself w = record {
@@ -119,3 +119,16 @@ beside {blame} {V} a b w r answered =
     cause_beside blame a b w (Ok x) cause = record { files = cause.files; fabric = refl }
     cause_beside blame a b w (Err (Fault e)) cause = blames_beside a b w (blame e) cause
     cause_beside blame a b w (Err Memory) cause = record { files = cause.files; fabric = refl }
+
+-- a step on files with the same names
+pub renamed : {T E : Type 0} {blame : E → Blame} (V : (List ℕ → Option (List ℕ)) → Verdict T E) (n m : List ℕ → Option (List ℕ)) (a b : World) (r : Result T (Or E)) → n ≡ m → Answered blame (V n) a b r → Answered blame (V m) a b r
+renamed {blame} V n m a b r same answered = subst (λ (names : List ℕ → Option (List ℕ)). Answered blame (V names) a b r) same answered
+
+-- a step that is right of one verdict is right of a wider one
+pub widened : {T E : Type 0} {blame : E → Blame} (V W : Verdict T E) (a b : World) (r : Result T (Or E)) → ((o : Result T E) → V o → W o) → Answered blame V a b r → Answered blame W a b r
+widened {blame} V W a b r wider answered = record {
+  keeps = answered.keeps;
+  cause = answered.cause;
+  exact = λ told calm. settles_too V W wider r (answered.exact told calm);
+  sound = λ told sound rose. let reading = answered.sound told sound rose in (reading.0, reading.1, wider (Err reading.0) reading.2);
+}

@@ -1,3 +1,5 @@
 pub mod World
 pub mod Answered
 pub mod Blamed
+pub mod Fetched
+pub mod Run

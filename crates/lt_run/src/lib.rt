@@ -2,5 +2,10 @@
 #![tactic(auto)]
 
 mod fault;
+mod one_node;
+mod printed;
+mod reading;
 
 pub use fault::{Part, RunFault};
+pub use one_node::run;
+pub use printed::Printed;

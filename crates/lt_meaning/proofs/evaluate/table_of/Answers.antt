@@ -1,6 +1,6 @@
-use Rattle.std.proofs.Common.{List, [], ◌∷◌, ◌++◌, length, ap, ◌∙◌, arith}
+use Rattle.std.proofs.Common.{List, [], ◌∷◌, ◌++◌, ap, ◌∙◌, arith}
 use Rattle.lt_base.specs.declared.value.Cell.{Cell}
-use Rattle.lt_meaning.proofs.OneDelay.{stands_first, stands_next, stands_end}
+use Rattle.lt_meaning.proofs.OneDelay.{stands_next, stands_end}
 use Rattle.lt_meaning.proofs.evaluate.table_of.Goals as goal
 
 pub loop-k-preserved : goal.loop-k-preserved

@@ -1,4 +1,4 @@
-use Rattle.std.proofs.Common.{◌≡◌, length, take}
+use Rattle.std.proofs.Common.{take}
 use Rattle.lt_meaning.proofs.OneDelay.{Stands}
 use Rattle.lt_meaning.proofs.evaluate.table_of.Given as goal
 

@@ -1,4 +1,4 @@
-use Rattle.std.proofs.Common.{◌≡◌, sym, ◌∙◌, subst}
+use Rattle.std.proofs.Common.{sym, subst}
 use Rattle.lt_meaning.specs.Small.{IsInt}
 use Rattle.lt_meaning.proofs.OneDelay.{sums, operand_int}
 use Rattle.lt_meaning.proofs.delay.Operation.value.Goals as goal
