@@ -67,6 +67,7 @@ pub struct RealSink<W: Write> {
 }
 
 impl<W: Write> RealSink<W> {
+    /// A sink into this stream.
     pub fn new(stream: W) -> Self
         ensures { (⟦<RealSink<W> as Sink>⟧.state result).faults ≡ 0 }
     {
