@@ -67,7 +67,6 @@ pub struct RealSink<W: Write> {
 }
 
 impl<W: Write> RealSink<W> {
-    /// A sink into this stream.
     pub fn new(stream: W) -> Self
         ensures { (⟦<RealSink<W> as Sink>⟧.state result).faults ≡ 0 }
     {
