@@ -5,3 +5,4 @@ mod Table
 mod Picked
 mod Cycles
 pub mod Places
+mod Fixture

@@ -7,3 +7,6 @@ mod dependence;
 mod sorting;
 
 pub use causality::{Cycle, Order, causal};
+
+#[cfg(test)]
+mod tests;
