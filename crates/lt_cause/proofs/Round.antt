@@ -227,8 +227,8 @@ module _ (g : List (List ℕ)) (start : ℕ) (seen : List Bool) (rest path : Lis
               small = small_set;
               fresh = λ z a b. fresh_set z a (still_new z b);
               looked = λ z j b a d. was z ((known (set seen y true) (get_or (next g z) j 0) ≡ true) × (get_or (next g z) j 0 ≡ start → ⊥))
-              (λ k. looked_set (λ w. (known (set seen y true) w ≡ true) × (w ≡ start → ⊥)) (now_known, other) z j (λ i c e. let r = s.looked z i k c e in (still (get_or (next g z) i 0) r.0, r.1)) a d)
-              (λ same. let n = fresh_set z (subst (λ w. w < length g) (sym same) inside) (ap (known seen) same ∙ new) in absurd (omega (arith, n, a, d))) b;
+                  (λ k. looked_set (λ w. (known (set seen y true) w ≡ true) × (w ≡ start → ⊥)) (now_known, other) z j (λ i c e. let r = s.looked z i k c e in (still (get_or (next g z) i 0) r.0, r.1)) a d)
+                  (λ same. let n = fresh_set z (subst (λ w. w < length g) (sym same) inside) (ap (known seen) same ∙ new) in absurd (omega (arith, n, a, d))) b;
               waits = λ z b r. let c = count_push z y path in was z (0 < count z (path ++ y ∷ [])) (λ k. let w = waits_set z k r in omega (arith, c, w)) (λ same. let o : one z y ≡ 1 = ap (λ w. one w y) same ∙ one_self y in omega (arith, c, o)) b;
               trail = trail_push (Leads g) path y (along_to y l);
               starts = begins_push start path y (counted_long x path on) s.starts;

@@ -67,11 +67,7 @@ fn push_clock(clock: &Clock, to: &mut List<u32>) -> Result<(), Memory>
 }
 
 /// What the variable of an equation depends on.
-fn depends_on(
-    alloc: Global,
-    decls: &List<Decl>,
-    equation: &Equation,
-) -> Result<List<u32>, Memory>
+fn depends_on(alloc: Global, decls: &List<Decl>, equation: &Equation) -> Result<List<u32>, Memory>
     requires { equation.now.0 < length decls.now }
     ensures { IfOk result (λ list. list ≡ reads equation.now.1 ++ clock_vars (clock_of decls.now equation.now.0)) }
 {

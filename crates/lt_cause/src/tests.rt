@@ -9,7 +9,9 @@ use std::alloc::Global;
 use std::test::Fail;
 
 const X: u32 = 0;
+
 const Y: u32 = 1;
+
 const Z: u32 = 2;
 
 fn int(alloc: Global) -> Result<Decl, Memory>
@@ -71,7 +73,10 @@ fn cycles(rt: HostRuntime) -> Result<(), Fail> {
     // y = y -> x; z = y
     let y = Box::new(alloc, Expr::Var(Y))?;
     let arrow = Expr::Arrow(y, Box::new(alloc, Expr::Var(X))?);
-    assert_eq!(rt; cycle_of(alloc, arrow, Expr::Var(Y))?.as_slice(), [Y].as_slice());
+    assert_eq!(rt;
+        cycle_of(alloc, arrow, Expr::Var(Y))?.as_slice(),
+        [Y].as_slice()
+    );
     Ok(())
 }
 

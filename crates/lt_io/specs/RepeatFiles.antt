@@ -7,7 +7,7 @@ pub record RepeatState : Type 0 where
   -- the bytes, and how many times the file has them
   pub line : List ℕ
   pub times : ℕ
-  -- how many times they were read whole, and how many of them since
+  -- how many times they were read whole, and how many bytes since
   pub whole : ℕ
   pub since : ℕ
   pub is_open : Bool

@@ -8,12 +8,7 @@ use std::alloc::Global;
 use std::test::Fail;
 
 // Two nodes with delays from 1 to 4 both ways.
-fn two_nodes(
-    alloc: Global,
-    a: NodeTime,
-    b: NodeTime,
-    protocol: Protocol,
-) -> Result<Timing, Memory>
+fn two_nodes(alloc: Global, a: NodeTime, b: NodeTime, protocol: Protocol) -> Result<Timing, Memory>
     ensures { IfOk result (λ timing. length timing.nodes ≡ 2) }
 {
     let forth = PairTime {
@@ -103,14 +98,20 @@ fn equal_nodes(rt: HostRuntime) -> Result<(), Fail> {
     assert_eq!(rt; accepts(&timing), Ok(()));
     assert_eq!(rt; least(&timing, 0), (3, 3));
     assert_eq!(rt; cycle(&timing, 0), 66);
-    assert_eq!(rt; (bound(&timing, 0, 1000), bound(&timing, 0, 1001)), (15, 16));
+    assert_eq!(rt;
+        (bound(&timing, 0, 1000), bound(&timing, 0, 1001)),
+        (15, 16)
+    );
     let timing = two_nodes(alloc, quick(2, 3), quick(2, 3), Protocol::TimeBased)?;
     assert_eq!(rt; accepts(&timing), fault(Which::Send, 46, 48));
     assert_eq!(rt; accepts(&even(alloc)?), fault(Which::Execute, 20, 20));
     let timing = two_nodes(alloc, quick(1, 1), quick(1, 1), Protocol::BackPressure)?;
     assert_eq!(rt; accepts(&timing), Ok(()));
     assert_eq!(rt; cycle(&timing, 0), 30);
-    assert_eq!(rt; (bound(&timing, 0, 1000), bound(&timing, 0, 1001)), (33, 34));
+    assert_eq!(rt;
+        (bound(&timing, 0, 1000), bound(&timing, 0, 1001)),
+        (33, 34)
+    );
     Ok(())
 }
 
@@ -121,11 +122,17 @@ fn mixed_nodes(rt: HostRuntime) -> Result<(), Fail> {
     assert_eq!(rt; accepts(&timing), Ok(()));
     assert_eq!(rt; (least(&timing, 0), least(&timing, 1)), ((3, 4), (2, 1)));
     assert_eq!(rt; (cycle(&timing, 0), cycle(&timing, 1)), (77, 66));
-    assert_eq!(rt; (bound(&timing, 0, 1000), bound(&timing, 1, 1000)), (13, 15));
+    assert_eq!(rt;
+        (bound(&timing, 0, 1000), bound(&timing, 1, 1000)),
+        (13, 15)
+    );
     let timing = two_nodes(alloc, quick(2, 4), slow(), Protocol::TimeBased)?;
     assert_eq!(rt; accepts(&timing), fault(Which::Send, 55, 59));
     let timing = two_nodes(alloc, quick(3, 4), slow(), Protocol::BackPressure)?;
     assert_eq!(rt; (cycle(&timing, 0), cycle(&timing, 1)), (52, 52));
-    assert_eq!(rt; (bound(&timing, 0, 1000), bound(&timing, 1, 1000)), (19, 19));
+    assert_eq!(rt;
+        (bound(&timing, 0, 1000), bound(&timing, 1, 1000)),
+        (19, 19)
+    );
     Ok(())
 }

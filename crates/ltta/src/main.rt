@@ -14,7 +14,14 @@ fn main(rt: HostRuntime) -> ExitCode {
     let mut err = RealSink::new(rt.stderr());
     // Words that are no text are wrong words.
     let words = words(&rt).unwrap_or(Vec::new(rt.alloc()));
-    let status = ltta(rt.alloc(), &words, &mut files, &mut fabric, &mut out, &mut err);
+    let status = ltta(
+        rt.alloc(),
+        &words,
+        &mut files,
+        &mut fabric,
+        &mut out,
+        &mut err,
+    );
     ExitCode::from(status.number())
 }
 

@@ -47,8 +47,8 @@ loop-equation-preserved c =
     record {
       size = length-set c.loop-equation.table.items c.left.result c.in_ok-list.list ∙ n;
       told = subst (λ items. (x : ℕ) → get_or (set c.loop-equation.table.items c.left.result c.in_ok-list.list) x [] ≡ dependencies_of (right_of (take (i + 1) items) x) (clock_of f.decls x)) (sym same)
-      (dependencies_more f good i q at c.loop-equation.table.items c.left.result c.in_ok-list.list c.left.ensures inside list
-      (subst (λ items. (x : ℕ) → get_or c.loop-equation.table.items x [] ≡ dependencies_of (right_of (take i items) x) (clock_of f.decls x)) same c.loop-equation.invariant.told));
+          (dependencies_more f good i q at c.loop-equation.table.items c.left.result c.in_ok-list.list c.left.ensures inside list
+          (subst (λ items. (x : ℕ) → get_or c.loop-equation.table.items x [] ≡ dependencies_of (right_of (take i items) x) (clock_of f.decls x)) same c.loop-equation.invariant.told));
     }
 
 pub returns-clause-inside : goal.returns-clause-inside
