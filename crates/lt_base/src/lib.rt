@@ -4,9 +4,11 @@
 mod list;
 mod memory;
 mod name;
+mod operators;
 mod value;
 
 pub use list::{Duplicate, List};
 pub use memory::{Memory, Or};
 pub use name::Name;
+pub use operators::{Bin, Imp, Un};
 pub use value::{Cell, Ty, Value};
