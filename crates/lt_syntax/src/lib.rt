@@ -1,13 +1,8 @@
-// A library with one function.
+//! The concrete syntax: text to tree and back.
 #![tactic(auto)]
 
-ghost use Rattle.std.specs.Prelude.{◌≡◌};
-ghost use Rattle.lt_syntax.specs.Echo.{echo_of};
+mod term;
+mod tree;
 
-// The `ensures` clause is the contract: what `echo` returns is `echo_of` of its argument, a definition
-// in `specs/Echo.antt`, which a caller's clause can cite too.
-pub fn echo(x: usize) -> usize
-    ensures { result ≡ echo_of x }
-{
-    x
-}
+pub use term::Term;
+pub use tree::{DeclText, EqText, NodeText};
