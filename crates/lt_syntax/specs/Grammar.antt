@@ -22,7 +22,7 @@ mutual
     paren : Form → Form
     minus : Form → Form
     negated : Form → Form
-    infix : Infix → Form → Form → Form
+    binary : Infix → Form → Form → Form
     choice : Form → Form → Form → Form
     sampled : Form → List ℕ → Bool → Form
     merged : List ℕ → Form → Form → Form
@@ -41,7 +41,7 @@ abbrev mutual
   IsAt l (paren a) = (l ≤ 12) × IsAt 1 a
   IsAt l (minus a) = (l ≤ 10) × IsAt 11 a
   IsAt l (negated a) = (l ≤ 5) × IsAt 5 a
-  IsAt l (infix o a b) = (l ≤ level (line o)) × IsAt (left (line o)) a × IsAt (right (line o)) b
+  IsAt l (binary o a b) = (l ≤ level (line o)) × IsAt (left (line o)) a × IsAt (right (line o)) b
   IsAt l (choice c a b) = (l ≤ 1) × IsAt 1 c × IsAt 1 a × IsAt 1 b
   IsAt l (sampled a c b) = (l ≤ 9) × IsAt 9 a
   IsAt l (merged c a b) = (l ≤ 11) × IsAt 12 a × IsAt 12 b
@@ -65,7 +65,7 @@ abbrev mutual
   tokens (paren a) ts = token.Open ∷ tokens a (token.Close ∷ ts)
   tokens (minus a) ts = token.Infix (Operator Sub) ∷ tokens a ts
   tokens (negated a) ts = token.Not ∷ tokens a ts
-  tokens (infix o a b) ts = tokens a (token.Infix o ∷ tokens b ts)
+  tokens (binary o a b) ts = tokens a (token.Infix o ∷ tokens b ts)
   tokens (choice c a b) ts = token.If ∷ tokens c (token.Then ∷ tokens a (token.Else ∷ tokens b ts))
   tokens (sampled a c b) ts = tokens a (token.When ∷ polarity b (token.Ident c ∷ ts))
   tokens (merged c a b) ts = token.Merge ∷ token.Ident c ∷ tokens a (tokens b ts)
@@ -106,7 +106,7 @@ abbrev mutual
   height (paren a) = height a + 1
   height (minus a) = height a + 1
   height (negated a) = height a + 1
-  height (infix o a b) = max (left_height o (literal a) (height a)) (height b) + 1
+  height (binary o a b) = max (left_height o (literal a) (height a)) (height b) + 1
   height (choice c a b) = max (max (height c) (height a)) (height b) + 1
   height (sampled a c b) = height a + 1
   height (merged c a b) = max (height a) (height b) + 1
@@ -125,7 +125,7 @@ abbrev mutual
   meaning (paren a) = meaning a
   meaning (minus a) = tree.Unary Neg (meaning a)
   meaning (negated a) = tree.Unary Not (meaning a)
-  meaning (infix o a b) = joined o (literal a) (meaning a) (meaning b)
+  meaning (binary o a b) = joined o (literal a) (meaning a) (meaning b)
   meaning (choice c a b) = tree.Choice (meaning c) (meaning a) (meaning b)
   meaning (sampled a c b) = tree.Sampled (meaning a) c b
   meaning (merged c a b) = tree.Merged c (meaning a) (meaning b)

@@ -1,8 +1,12 @@
 //! The concrete syntax: text to tree and back.
 #![tactic(auto)]
 
+mod fault;
+pub mod laws;
+mod section;
 mod term;
 mod tree;
 
+pub use fault::{SyntaxFault, SyntaxKind};
 pub use term::Term;
 pub use tree::{DeclText, EqText, NodeText};
