@@ -198,3 +198,9 @@ pub not_call : (x : List ℕ) (fs : List Frame) (t : Token) → stop t ≤ max 1
 not_call x fs token.Open h = ap (λ b. if b then Go (InCall x [] 0 ∷ fs) Want else has fs (name_of x) token.Open) (lt-leb (hole fs) 11 (omega (arith, h)))
 not_call x fs _ h = refl
 
+-- - before a form
+pub negative_of : (a : Form) → IsAt 11 a → complete AfterMinus (operand a) ≡ operand (form.minus a)
+negative_of (form.number v) at = refl
+negative_of (form.minus a) at = absurd (omega (arith, at.0))
+negative_of _ at = refl
+

@@ -1,3 +1,4 @@
 pub mod Complete
 pub mod Runs
 pub mod Nodes
+pub mod Zipper

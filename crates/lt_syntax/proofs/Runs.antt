@@ -16,7 +16,7 @@ use Rattle.lt_syntax.specs.Grammar.{Form, Forms, IsAt, AreExprs, polarity, token
 use Rattle.lt_syntax.specs.Machine.{Operand, Frame, AfterMinus, AfterNot, InParen, AfterInfix, AfterIf, AfterThen, AfterElse, Sampling, AfterMerge, FirstPart, SecondPart, InCall, Mode, Want, Named, Has, WantClock, Next, Bad, Go, Done, number_of, truth_of, name_of, paren_of, sampled_of, call_of, part, hole, ends, complete, close, stop, want, second, after, has, clock, named, go, least, need}
 use Rattle.lt_syntax.specs.Parser.{Phase, In, State, Kind, Unexpected, TooDeep, checked, move, finish, step_on, step, on, run}
 
-use Rattle.lt_syntax.proofs.Complete.{operand, height_pos, left_pos, literal_low, table, ends_part, kept, kept_high, kept_infix, kept_when, ended, not_call}
+use Rattle.lt_syntax.proofs.Complete.{operand, height_pos, left_pos, literal_low, table, ends_part, kept, kept_high, kept_infix, kept_when, ended, not_call, negative_of}
 
 -- the trees of arguments, as a list
 abbrev pub trees_of : Forms → List Tm
@@ -98,11 +98,6 @@ module _ (limit : ℕ) (done : List NodeText) (n : NodeText) (x : List ℕ) wher
       moves fs Want token.Open (InParen ∷ fs) (tokens a (token.Close ∷ t ∷ w)) refl h
       ∙ ra.by 1 at.1 (InParen ∷ fs) token.Close (t ∷ w) (omega arith) (omega arith) (omega arith) h (omega arith)
       ∙ lands (InParen ∷ fs) (Has (operand a)) token.Close fs (operand (form.paren a)) (t ∷ w) refl }
-
-  negative_of : (a : Form) → IsAt 11 a → complete AfterMinus (operand a) ≡ operand (form.minus a)
-  negative_of (form.number v) at = refl
-  negative_of (form.minus a) at = absurd (omega (arith, at.0))
-  negative_of _ at = refl
 
   runs_minus : (a : Form) → Runs a → Runs (form.minus a)
   runs_minus a ra = record { by = λ l at fs t w hl st sh nd hh.
