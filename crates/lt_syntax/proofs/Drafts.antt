@@ -124,26 +124,26 @@ phase (s_left x ins outs b ls es y) = HasLeft (body_tree x ins outs ls es) y
 phase (s_in x ins outs b ls es y zs h) = In (body_tree x ins outs ls es) y (stack zs) (mode h)
 
 -- the text of a spot, and then r
-abbrev pub spot : Spot → List Token → List Token
-spot s_idle r = r
-spot (s_told x ins outs b ls es) r = node (whole_node x ins outs b ls es false) r
-spot s_node r = token.Node ∷ r
-spot (s_name x) r = token.Node ∷ token.Ident x ∷ r
-spot (s_opened x) r = head x r
-spot (s_want d xs) r = lead d (each name_comma xs r)
-spot (s_has d xs) r = lead d (between token.Comma ident xs r)
-spot (s_type d xs) r = lead d (between token.Comma ident xs (token.Colon ∷ r))
-spot (s_group d xs ty c) r = lead d (group (group_of xs ty c) r)
-spot (s_polarity d xs ty c) r = lead d (group (group_of xs ty c) (token.When ∷ r))
-spot (s_variable d xs ty c) r = lead d (group (group_of xs ty c) (token.When ∷ token.Not ∷ r))
-spot (s_ins x ins) r = with_ins x ins r
-spot (s_returning x ins) r = with_ins x ins (token.Returns ∷ r)
-spot (s_outs x ins outs) r = with_outs x ins outs r
-spot (s_head x ins outs) r = with_outs x ins outs (token.Semicolon ∷ r)
-spot (s_locals x ins outs b ls) r = with_outs x ins outs (optional b token.Semicolon (token.Var ∷ each local ls r))
-spot (s_body x ins outs b ls es) r = with_locals x ins outs b ls (each equation es r)
-spot (s_left x ins outs b ls es y) r = with_locals x ins outs b ls (each equation es (token.Ident y ∷ r))
-spot (s_in x ins outs b ls es y zs h) r = with_locals x ins outs b ls (each equation es (token.Ident y ∷ token.Infix (meet.Operator Eq) ∷ all_opened zs (held h r)))
+abbrev pub spot_text : Spot → List Token → List Token
+spot_text s_idle r = r
+spot_text (s_told x ins outs b ls es) r = node (whole_node x ins outs b ls es false) r
+spot_text s_node r = token.Node ∷ r
+spot_text (s_name x) r = token.Node ∷ token.Ident x ∷ r
+spot_text (s_opened x) r = head x r
+spot_text (s_want d xs) r = lead d (each name_comma xs r)
+spot_text (s_has d xs) r = lead d (between token.Comma ident xs r)
+spot_text (s_type d xs) r = lead d (between token.Comma ident xs (token.Colon ∷ r))
+spot_text (s_group d xs ty c) r = lead d (group (group_of xs ty c) r)
+spot_text (s_polarity d xs ty c) r = lead d (group (group_of xs ty c) (token.When ∷ r))
+spot_text (s_variable d xs ty c) r = lead d (group (group_of xs ty c) (token.When ∷ token.Not ∷ r))
+spot_text (s_ins x ins) r = with_ins x ins r
+spot_text (s_returning x ins) r = with_ins x ins (token.Returns ∷ r)
+spot_text (s_outs x ins outs) r = with_outs x ins outs r
+spot_text (s_head x ins outs) r = with_outs x ins outs (token.Semicolon ∷ r)
+spot_text (s_locals x ins outs b ls) r = with_outs x ins outs (optional b token.Semicolon (token.Var ∷ each local ls r))
+spot_text (s_body x ins outs b ls es) r = with_locals x ins outs b ls (each equation es r)
+spot_text (s_left x ins outs b ls es y) r = with_locals x ins outs b ls (each equation es (token.Ident y ∷ r))
+spot_text (s_in x ins outs b ls es y zs h) r = with_locals x ins outs b ls (each equation es (token.Ident y ∷ token.Infix (meet.Operator Eq) ∷ all_opened zs (held h r)))
 
 -- the trees of the nodes that are whole
 abbrev pub all_done : List Node → Spot → List NodeText

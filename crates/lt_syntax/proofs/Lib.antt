@@ -4,3 +4,4 @@ pub mod Nodes
 pub mod Zipper
 pub mod Sound
 pub mod Drafts
+pub mod Steps
