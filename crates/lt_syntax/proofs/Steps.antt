@@ -49,12 +49,12 @@ nodes_more l m h (d ∷ ds) e = (node_more l m h d e.0, nodes_more l m h ds e.1)
 
 begun_more : (l m : ℕ) → l ≤ m → (zs : List Begun) → AreBegun l zs → AreBegun m zs
 begun_more l m h [] g = tt
-begun_more l m h (z ∷ zs) g = (begun_more l m h zs g.0, g.1, omega (arith, g.2))
+begun_more l m h (z ∷ zs) g = (begun_more l m h zs g.0, g.1, omega (arith, g.2), g.3)
 
 fit_more : (l m : ℕ) → l ≤ m → (zs : List Begun) (k : Holding) → Fit l zs k → Fit m zs k
-fit_more l m h zs z_want f = omega (arith, f)
-fit_more l m h zs (z_named x) f = omega (arith, f)
-fit_more l m h zs (z_has a) f = record { level = f.level; nine = f.nine; stands = f.stands; at = f.at; room = omega (arith, f.room) }
+fit_more l m h zs z_want f = (omega (arith, f.0), f.1)
+fit_more l m h zs (z_named x) f = (omega (arith, f.0), f.1)
+fit_more l m h zs (z_has a) f = record { level = f.level; nine = f.nine; stands = f.stands; at = f.at; room = omega (arith, f.room); ready = f.ready }
 fit_more l m h zs z_clock f = f
 
 -- a spot in which an equation is written
@@ -207,7 +207,7 @@ module _ (limit : ℕ) (one : 1 ≤ limit) where
         written = λ r. ap (λ z. each node ds (with_outs x ins outs (optional b token.Semicolon z))) (sym (locals_some ls (token.Let ∷ r) g.1)) }
   step_good ds (s_body x ins outs b ls es) (token.Ident y) w g = record { nodes = ds; spot = s_left x ins outs b ls es y; done_is = refl; phase_is = refl; whole = w; good = g; written = λ r. refl }
   step_good ds (s_body x ins outs b ls es) token.Tel w g = record { nodes = ds; spot = s_told x ins outs b ls es; done_is = refl; phase_is = refl; whole = w; good = g; written = λ r. refl }
-  step_good ds (s_left x ins outs b ls es y) (token.Infix (meet.Operator Eq)) w g = record { nodes = ds; spot = s_in x ins outs b ls es y [] z_want; done_is = refl; phase_is = refl; whole = w; good = (g.0, g.1, tt, one); written = λ r. refl }
+  step_good ds (s_left x ins outs b ls es y) (token.Infix (meet.Operator Eq)) w g = record { nodes = ds; spot = s_in x ins outs b ls es y [] z_want; done_is = refl; phase_is = refl; whole = w; good = (g.0, g.1, tt, (one, tt)); written = λ r. refl }
   step_good ds (s_in x ins outs b ls es y zs h) t w g =
       checked_good ds x ins outs b ls es y w g.0 g.1 (go (mode h) (stack zs) t) (λ r. all_opened zs (held h (t ∷ r))) (λ more le. go_fine more h zs t (begun_more limit more le zs g.2) (fit_more limit more le zs h g.3))
   step_good ds _ _ w g = tt

@@ -122,6 +122,12 @@ Waits (z_sampling a b ∷ zs) = Unit {0}
 Waits (z_merge ∷ zs) = Unit {0}
 Waits _ = ⊥
 
+-- an operand may stand on top of these
+abbrev pub Ready : List Begun → Type 0
+Ready (z_sampling a b ∷ zs) = ⊥
+Ready (z_merge ∷ zs) = ⊥
+Ready _ = Unit {0}
+
 -- the form with its last part
 abbrev pub closing : Begun → Form → Form
 closing z_minus b = form.minus b
