@@ -5,3 +5,5 @@ pub mod Zipper
 pub mod Sound
 pub mod Drafts
 pub mod Steps
+pub mod Viable
+pub mod Whole

@@ -13,7 +13,7 @@ use Rattle.lt_syntax.specs.Tree.{Tm}
 use Rattle.lt_syntax.specs.Grammar.{Form, IsAt, polarity, tokens, height, meaning}
 use Rattle.lt_syntax.specs.Program.{Group, Node, each, between, optional, ident, clause, group, local, locals, equation, node, NotEmpty, Each, IsGroup, IsPlain, IsEquation, IsNode, declared, decls, node_tree, Program}
 use Rattle.lt_syntax.specs.Machine.{Want, Has}
-use Rattle.lt_syntax.specs.Parser.{Phase, Idle, Told, WantNode, HasNode, Opened, WantName, HasName, WantType, HasGroup, WantPolarity, WantVariable, HasIns, Returning, HasOuts, HasHead, HasLocals, Body, HasLeft, In, State, Kind, empty_node, add, add_equation, next_group, end_group, move, finish, step_on, step, on, run, start}
+use Rattle.lt_syntax.specs.Parser.{Phase, Idle, Told, WantNode, HasNode, Opened, WantName, HasName, WantType, HasGroup, WantPolarity, WantVariable, HasIns, Returning, HasOuts, HasHead, HasLocals, Body, HasLeft, In, State, Kind, empty_node, add, add_equation, next_group, end_group, move, finish, step_on, step, on, run, start, Ends}
 use Rattle.lt_syntax.proofs.Complete.{height_pos}
 use Rattle.lt_syntax.proofs.Runs.{runs}
 
@@ -153,6 +153,10 @@ abbrev pub behind : Bool → Phase
 behind true = Idle
 behind false = Told
 
+pub ends_behind : (b : Bool) → Ends (behind b)
+ends_behind true = tt
+ends_behind false = tt
+
 module _ (limit : ℕ) where
   pub node_runs : (done : List NodeText) (d : Node) (w : List Token) → IsNode limit d → at limit done Idle (node d w) ≡ run limit (record { done = done ++ node_tree d ∷ []; phase = behind d.last }) w
   node_runs done d w m =
@@ -166,16 +170,6 @@ module _ (limit : ℕ) where
       ∙ all_locals_run limit done n2 d.semicolon d.locals w2 m.3
       ∙ equations_run limit done n3 d.eqs (optional d.last token.Semicolon w) m.4
       ∙ elim d.last as (λ b. run limit (record { done = done ++ node_tree d ∷ []; phase = Told }) (optional b token.Semicolon w) ≡ run limit (record { done = done ++ node_tree d ∷ []; phase = behind b }) w) [ true ↦ refl | false ↦ refl ]
-
-  -- a program may end here
-  abbrev pub Ends : Phase → Type 0
-  Ends Idle = Unit {0}
-  Ends Told = Unit {0}
-  Ends _ = ⊥
-
-  pub ends_behind : (b : Bool) → Ends (behind b)
-  ends_behind true = tt
-  ends_behind false = tt
 
   told : (done : List NodeText) (b : Bool) (d : Node) (w : List Token) → at limit done (behind b) (node d w) ≡ at limit done Idle (node d w)
   told done true d w = refl

@@ -138,3 +138,9 @@ run limit s (t ∷ ts) = on (step limit s t) (λ s'. run limit s' ts)
 -- nothing is read yet
 abbrev pub start : State
 start = record { done = []; phase = Idle }
+
+-- the text may end here
+abbrev pub Ends : Phase → Type 0
+Ends Idle = Unit {0}
+Ends Told = Unit {0}
+Ends _ = ⊥
