@@ -66,7 +66,7 @@ call_of f xs h = record { tree = tree.Call f (tms xs); height = max 1 h + 1; lea
 
 -- the value of a number's literal with - before it
 abbrev pub negative : Option Value → Option Value
-negative (Some (Int n)) = Some (Int (neg_ℤ n))
+negative (Some (Int (pos n))) = Some (Int (neg_ℤ (pos n)))
 negative _ = None
 
 -- the level that the next part must have
@@ -160,10 +160,14 @@ clock (token.Ident c) (Sampling a b ∷ fs) = Go fs (Has (sampled_of a c b))
 clock (token.Ident c) (AfterMerge ∷ fs) = Go (FirstPart c ∷ fs) Want
 clock _ _ = Bad
 
--- a token behind a name; ( makes it a call, but in a part of a merge
+-- behind a name ( makes a call, but in a part of a merge
+abbrev pub opens : Token → List Frame → Bool
+opens token.Open fs = nat_le (hole fs) 11
+opens _ fs = false
+
+-- a token behind a name
 abbrev pub named : List ℕ → List Frame → Token → Next
-named x fs token.Open = if nat_le (hole fs) 11 then Go (InCall x [] 0 ∷ fs) Want else has fs (name_of x) token.Open
-named x fs t = has fs (name_of x) t
+named x fs t = if opens t fs then Go (InCall x [] 0 ∷ fs) Want else has fs (name_of x) t
 
 abbrev pub go : Mode → List Frame → Token → Next
 go Want fs t = want t fs
