@@ -37,7 +37,7 @@ abbrev pub tm_of : Term → Tm
 tm_of = fold-Term Tm tm_step
 
 abbrev pub operand_of : code.Operand → machine.Operand
-operand_of a = record { tree = tm_of a.term; height = a.height; lead = a.lead }
+operand_of a = record { tree = tm_of a.term.value; height = a.height; lead = a.lead }
 
 abbrev pub frame_of : Frame → machine.Frame
 frame_of frame.AfterMinus = machine.AfterMinus

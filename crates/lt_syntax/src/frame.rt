@@ -1,5 +1,5 @@
 // Operands, and forms that are begun.
-ghost use Rattle.std.specs.Prelude.{◌≡◌, ◌+◌, ◌<◌, ◌≤◌, ◌^◌, IfOk};
+ghost use Rattle.std.specs.Prelude.{◌≡◌, ◌+◌, ◌<◌, ◌≤◌, ◌^◌, IfOk, map};
 ghost use Rattle.lt_tokens.specs.Text.{greatest};
 ghost use Rattle.lt_syntax.specs.Grammar.{joined, left_height};
 ghost use Rattle.lt_syntax.specs.Machine as machine;
@@ -13,7 +13,7 @@ use std::alloc::Global;
 /// A whole operand: its tree, the height of its text, and its value where the text is a literal.
 #[derive(Drop)]
 pub struct Operand {
-    pub term: Term,
+    pub term: Box<Term>,
     pub height: u32,
     pub lead: Option<Value>,
 }
@@ -52,36 +52,48 @@ pub enum Next {
     Done(Operand),
 }
 
-pub fn number(n: u64) -> Operand
+pub fn number(alloc: Global, n: u64) -> Result<Operand, Memory>
     requires { n ≤ greatest }
-    ensures { operand_of result ≡ machine.number_of n }
+    ensures { IfOk result (λ r. operand_of r ≡ machine.number_of n) }
 {
     let value = Value::Int(n as i64);
-    Operand {
-        term: Term::Lit(value),
+    Ok(Operand {
+        term: Box::new(alloc, Term::Lit(value))?,
         height: 1,
         lead: Some(value),
-    }
+    })
 }
 
-pub fn truth(b: bool) -> Operand
-    ensures { operand_of result ≡ machine.truth_of b }
+pub fn truth(alloc: Global, b: bool) -> Result<Operand, Memory>
+    ensures { IfOk result (λ r. operand_of r ≡ machine.truth_of b) }
 {
-    Operand {
-        term: Term::Lit(Value::Bool(b)),
+    Ok(Operand {
+        term: Box::new(alloc, Term::Lit(Value::Bool(b)))?,
         height: 1,
         lead: Some(Value::Bool(b)),
-    }
+    })
 }
 
-pub fn variable(x: Name) -> Operand
-    ensures { operand_of result ≡ machine.name_of x }
+pub fn variable(alloc: Global, x: Name) -> Result<Operand, Memory>
+    ensures { IfOk result (λ r. operand_of r ≡ machine.name_of x) }
 {
-    Operand {
-        term: Term::Var(x),
+    Ok(Operand {
+        term: Box::new(alloc, Term::Var(x))?,
         height: 1,
         lead: None,
-    }
+    })
+}
+
+/// A whole call with arguments of this height.
+pub fn call(alloc: Global, f: Name, xs: Vec<Term>, h: u32) -> Result<Operand, Memory>
+    requires { h + 2 < 2 ^ 32 }
+    ensures { IfOk result (λ r. operand_of r ≡ machine.call_of f (map tm_of xs.items) h) }
+{
+    Ok(Operand {
+        term: Box::new(alloc, Term::Call(f, xs))?,
+        height: h.max(1) + 1,
+        lead: None,
+    })
 }
 
 /// The value of a number's literal with `-` before it.
@@ -99,7 +111,7 @@ fn after_minus(alloc: Global, b: Operand) -> Result<Operand, Memory>
     ensures { IfOk result (λ r. operand_of r ≡ machine.complete machine.AfterMinus (operand_of b)) }
 {
     Ok(Operand {
-        term: Term::Un(Un::Neg, Box::new(alloc, b.term)?),
+        term: Box::new(alloc, Term::Un(Un::Neg, b.term))?,
         height: b.height + 1,
         lead: negative(b.lead),
     })
@@ -110,7 +122,7 @@ fn after_not(alloc: Global, b: Operand) -> Result<Operand, Memory>
     ensures { IfOk result (λ r. operand_of r ≡ machine.complete machine.AfterNot (operand_of b)) }
 {
     Ok(Operand {
-        term: Term::Un(Un::Not, Box::new(alloc, b.term)?),
+        term: Box::new(alloc, Term::Un(Un::Not, b.term))?,
         height: b.height + 1,
         lead: None,
     })
@@ -132,18 +144,21 @@ pub fn left_height(o: Infix, a: &Operand) -> u32
     }
 }
 
-fn joined(alloc: Global, o: Infix, lead: Option<Value>, a: Term, b: Term) -> Result<Term, Memory>
-    ensures { IfOk result (λ r. tm_of r ≡ joined o lead (tm_of a) (tm_of b)) }
+fn joined(
+    alloc: Global,
+    o: Infix,
+    lead: Option<Value>,
+    a: Box<Term>,
+    b: Box<Term>,
+) -> Result<Term, Memory>
+    ensures { IfOk result (λ r. tm_of r ≡ joined o lead (tm_of a.value) (tm_of b.value)) }
 {
-    let right = Box::new(alloc, b)?;
     match (o, lead) {
-        (Infix::Operator(bin), _) => Ok(Term::Bin(bin, Box::new(alloc, a)?, right)),
-        (Infix::Fby, Some(value)) => Ok(Term::Fby(value, right)),
-        (Infix::Fby, None) => Ok(Term::Follow(Box::new(alloc, a)?, right)),
-        (Infix::Arrow, Some(value)) => {
-            Ok(Term::Arrow(Box::new(alloc, Term::Lit(value))?, right))
-        }
-        (Infix::Arrow, None) => Ok(Term::Arrow(Box::new(alloc, a)?, right)),
+        (Infix::Operator(bin), _) => Ok(Term::Bin(bin, a, b)),
+        (Infix::Fby, Some(value)) => Ok(Term::Fby(value, b)),
+        (Infix::Fby, None) => Ok(Term::Follow(a, b)),
+        (Infix::Arrow, Some(value)) => Ok(Term::Arrow(Box::new(alloc, Term::Lit(value))?, b)),
+        (Infix::Arrow, None) => Ok(Term::Arrow(a, b)),
     }
 }
 
@@ -153,7 +168,7 @@ fn after_infix(alloc: Global, o: Infix, a: Operand, b: Operand) -> Result<Operan
 {
     let height = left_height(o, &a).max(b.height) + 1;
     Ok(Operand {
-        term: joined(alloc, o, a.lead, a.term, b.term)?,
+        term: Box::new(alloc, joined(alloc, o, a.lead, a.term, b.term)?)?,
         height,
         lead: None,
     })
@@ -164,11 +179,8 @@ fn after_else(alloc: Global, c: Operand, a: Operand, b: Operand) -> Result<Opera
     ensures { IfOk result (λ r. operand_of r ≡ machine.complete (machine.AfterElse (operand_of c) (operand_of a)) (operand_of b)) }
 {
     let height = c.height.max(a.height).max(b.height) + 1;
-    let test = Box::new(alloc, c.term)?;
-    let then = Box::new(alloc, a.term)?;
-    let other = Box::new(alloc, b.term)?;
     Ok(Operand {
-        term: Term::If(test, then, other),
+        term: Box::new(alloc, Term::If(c.term, a.term, b.term))?,
         height,
         lead: None,
     })
@@ -179,10 +191,8 @@ fn second_part(alloc: Global, c: Name, a: Operand, b: Operand) -> Result<Operand
     ensures { IfOk result (λ r. operand_of r ≡ machine.complete (machine.SecondPart c (operand_of a)) (operand_of b)) }
 {
     let height = a.height.max(b.height) + 1;
-    let first = Box::new(alloc, a.term)?;
-    let second = Box::new(alloc, b.term)?;
     Ok(Operand {
-        term: Term::Merge(c, first, second),
+        term: Box::new(alloc, Term::Merge(c, a.term, b.term))?,
         height,
         lead: None,
     })
@@ -220,7 +230,7 @@ pub fn sampled(alloc: Global, a: Operand, c: Name, b: bool) -> Result<Operand, M
     ensures { IfOk result (λ r. operand_of r ≡ machine.sampled_of (operand_of a) c b) }
 {
     Ok(Operand {
-        term: Term::When(Box::new(alloc, a.term)?, c, b),
+        term: Box::new(alloc, Term::When(a.term, c, b))?,
         height: a.height + 1,
         lead: None,
     })

@@ -1,10 +1,12 @@
 //! The concrete syntax: text to tree and back.
 #![tactic(auto)]
 
+mod expression;
 mod fault;
 mod frame;
 pub mod laws;
 mod section;
+mod stack;
 mod term;
 mod tree;
 
