@@ -4,6 +4,7 @@
 mod expression;
 mod fault;
 mod frame;
+mod header;
 pub mod laws;
 mod section;
 mod stack;
