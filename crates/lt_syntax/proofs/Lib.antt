@@ -7,3 +7,4 @@ pub mod Drafts
 pub mod Steps
 pub mod Viable
 pub mod Whole
+pub mod Reading

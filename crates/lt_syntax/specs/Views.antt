@@ -5,9 +5,6 @@ use Rattle.lt_syntax.specs.declared.term.Term.TheOpen.{Term-F, Lit, Var, Un, Bin
 use Rattle.lt_syntax.specs.declared.term.Term.TheFolds.{fold-Term}
 use Rattle.lt_base.specs.declared.memory.Or.{Or}
 use Rattle.lt_base.specs.declared.memory.Or.TheVariants as or
-use Rattle.lt_tokens.specs.declared.token.Token.{Token}
-use Rattle.lt_tokens.specs.declared.token.Token.TheVariants as token
-use Rattle.lt_tokens.specs.Text.{greatest}
 use Rattle.lt_syntax.specs.declared.frame.Operand as code
 use Rattle.lt_syntax.specs.declared.frame.Frame.{Frame}
 use Rattle.lt_syntax.specs.declared.frame.Frame.TheVariants as frame
@@ -71,8 +68,3 @@ abbrev pub next_of : Next → List machine.Frame → machine.Next
 next_of next.Bad fs = machine.Bad
 next_of (next.Go m) fs = machine.Go fs (mode_of m)
 next_of (next.Done a) fs = machine.Done (operand_of a)
-
--- a token's number is one of the language
-abbrev pub IsSmall : Token → Type 0
-IsSmall (token.Number n) = n ≤ greatest
-IsSmall _ = Unit {0}

@@ -1,9 +1,10 @@
 // The parser of expressions: what each token does to the forms that are begun.
 ghost use Rattle.std.specs.Prelude.{◌≡◌, ◌≤◌, ◌++◌, ◌∷◌, [], ℕ, List, map, IfOk};
 ghost use Rattle.lt_tokens.specs.declared.token.Token.TheVariants as token;
+ghost use Rattle.lt_tokens.specs.Fronts.{IsSmall};
 ghost use Rattle.lt_syntax.specs.Machine as machine;
 ghost use Rattle.lt_syntax.specs.Machine.{Held, HasRoom};
-ghost use Rattle.lt_syntax.specs.Views.{operand_of, frame_of, stack_of, mode_of, next_of, tm_of, IsSmall};
+ghost use Rattle.lt_syntax.specs.Views.{operand_of, frame_of, stack_of, mode_of, next_of, tm_of};
 
 use crate::frame::{
     Frame, Mode, Next, Operand, call, complete, number, paren, sampled, truth, variable,

@@ -1,9 +1,10 @@
 // The parser of programs: what each token does to what is begun.
 ghost use Rattle.std.specs.Prelude.{◌≡◌, ◌++◌, ◌∷◌, [], IfOk, OnOk, Err};
 ghost use Rattle.lt_tokens.specs.declared.token.Token.TheVariants as token;
+ghost use Rattle.lt_tokens.specs.Fronts.{IsSmall};
 ghost use Rattle.lt_syntax.specs.Parser as parser;
 ghost use Rattle.lt_syntax.specs.Program.{declared};
-ghost use Rattle.lt_syntax.specs.Views.{IsSmall, mode_of, stack_of, next_of};
+ghost use Rattle.lt_syntax.specs.Views.{mode_of, stack_of, next_of};
 ghost use Rattle.lt_syntax.specs.Phases.{phase_of, state_of, Moves, Steps, Fits};
 
 use crate::expression::go;

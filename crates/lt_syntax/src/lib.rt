@@ -6,6 +6,7 @@ mod fault;
 mod frame;
 mod header;
 pub mod laws;
+mod read;
 mod section;
 mod stack;
 mod term;
