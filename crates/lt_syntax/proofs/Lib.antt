@@ -8,3 +8,5 @@ pub mod Steps
 pub mod Viable
 pub mod Whole
 pub mod Reading
+pub mod Written
+pub mod Declares

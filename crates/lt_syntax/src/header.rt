@@ -1,5 +1,5 @@
 // The parser of programs: what each token does to what is begun.
-ghost use Rattle.std.specs.Prelude.{◌≡◌, ◌++◌, ◌∷◌, [], IfOk, OnOk, Err};
+ghost use Rattle.std.specs.Prelude.{◌≡◌, ◌++◌, ◌∷◌, [], IfOk, OnOk, Err, Result};
 ghost use Rattle.lt_tokens.specs.declared.token.Token.TheVariants as token;
 ghost use Rattle.lt_tokens.specs.Fronts.{IsSmall};
 ghost use Rattle.lt_syntax.specs.Parser as parser;
@@ -459,6 +459,17 @@ fn end_body(nodes: List<NodeText>, n: NodeText, t: Token) -> Result<Parser, Or<K
     Ok(Parser { nodes, phase })
 }
 
+/// The next phase beside the whole nodes.
+fn moved(nodes: List<NodeText>, phase: Result<Phase, Or<Kind>>) -> Result<Parser, Or<Kind>>
+    ensures { (next : Result parser.Phase parser.Kind) → Moves phase next → Steps result (parser.finish nodes next) }
+{
+    match phase {
+        Ok(phase) => Ok(Parser { nodes, phase }),
+        Err(Or::Fault(kind)) => Err(Or::Fault(kind)),
+        Err(Or::Memory) => Err(Or::Memory),
+    }
+}
+
 /// Takes one token.
 pub fn step(alloc: Global, p: Parser, t: Token) -> Result<Parser, Or<Kind>>
     requires small { IsSmall t }
@@ -468,9 +479,6 @@ pub fn step(alloc: Global, p: Parser, t: Token) -> Result<Parser, Or<Kind>>
     let Parser { nodes, phase } = p;
     match phase {
         Phase::Body(n) => end_body(nodes, n, t),
-        phase => {
-            let phase = move_on(alloc, phase, t)?;
-            Ok(Parser { nodes, phase })
-        }
+        phase => moved(nodes, move_on(alloc, phase, t)),
     }
 }

@@ -1,0 +1,170 @@
+-- The canonical form stands where it is asked, means its term, and is the lowest.
+use Rattle.std.proofs.Common.{◌≡◌, ℕ, zero, suc, ◌+◌, ◌≤◌, ◌<◌, max, Bool, true, false, List, [], ◌∷◌, ◌++◌, length, Option, Some, None, nat_le, ℤ, pos, negsuc, if◌then◌else◌, refl, sym, ap, ap₂, ◌∙◌, subst, arith, le-leb, leb-true, leb-false}
+use Rattle.lt_base.specs.declared.operators.Un.TheVariants.{Neg, Not}
+use Rattle.lt_base.specs.declared.operators.Bin.{Bin}
+use Rattle.lt_base.specs.declared.value.Value.{Value}
+use Rattle.lt_base.specs.declared.value.Value.TheVariants.{Int, Bool as Truth}
+use Rattle.lt_tokens.specs.declared.token.Infix.{Infix}
+use Rattle.lt_tokens.specs.declared.token.Infix.TheVariants.{Operator, Fby, Arrow}
+use Rattle.lt_tokens.specs.declared.token.Token.TheVariants as token
+use Rattle.lt_tokens.specs.Words.{word_of}
+use Rattle.lt_tokens.specs.Text.{greatest, is_letter, is_word}
+use Rattle.lt_syntax.specs.Tree as tree
+use Rattle.lt_syntax.specs.Tree.{Tm, Tms}
+use Rattle.lt_syntax.specs.Levels.{line, level, left, right}
+use Rattle.lt_syntax.specs.Grammar.{Form, Forms, number, truth, name, paren, minus, negated, binary, choice, sampled, merged, call, nil, cons, IsAt, AreExprs, literal, joined, left_height, height, heights, meaning, meanings}
+use Rattle.lt_syntax.specs.Canonical.{within, value_form, guarded, led, level_of, bare, all_bare, placed}
+use Rattle.lt_syntax.proofs.Complete.{height_pos, table}
+use Rattle.lt_syntax.proofs.Zipper.{at_lower}
+
+-- each byte passes
+abbrev pub AllWord : List ℕ → Type 0
+AllWord [] = Unit {0}
+AllWord (b ∷ w) = (is_word b ≡ true) × AllWord w
+
+-- a name that is read as one
+abbrev pub IsIdent : List ℕ → Type 0
+IsIdent [] = ⊥
+IsIdent (b ∷ w) = (is_letter b ≡ true) × AllWord w × (word_of (b ∷ w) ≡ token.Ident (b ∷ w))
+
+abbrev pub GoodValue : Value → Type 0
+GoodValue (Int (pos n)) = n ≤ greatest
+GoodValue (Int (negsuc n)) = suc n ≤ greatest
+GoodValue (Truth b) = Unit {0}
+
+abbrev pub GoodLit : Value → Type 0
+GoodLit (Int (pos n)) = n ≤ greatest
+GoodLit (Int (negsuc n)) = ⊥
+GoodLit (Truth b) = Unit {0}
+
+-- the term can be written
+abbrev mutual
+  pub Good : Tm → Type 0
+  Good (tree.Lit v) = GoodLit v
+  Good (tree.Var x) = IsIdent x
+  Good (tree.Unary o a) = Good a
+  Good (tree.Binary o a b) = Good a × Good b
+  Good (tree.Choice c a b) = Good c × Good a × Good b
+  Good (tree.Sampled a c b) = Good a × IsIdent c
+  Good (tree.Merged c a b) = IsIdent c × Good a × Good b
+  Good (tree.Delayed v b) = GoodValue v × Good b
+  Good (tree.Followed a b) = Good a × Good b
+  Good (tree.Arrow (tree.Lit v) b) = GoodValue v × Good b
+  Good (tree.Arrow a b) = Good a × Good b
+  Good (tree.Call f xs) = IsIdent f × AllGood xs
+
+  pub AllGood : Tms → Type 0
+  AllGood tree.Nil = Unit {0}
+  AllGood (tree.Cons a xs) = Good a × AllGood xs
+
+pub value_literal : (v : Value) → literal (value_form v) ≡ Some v
+value_literal (Int (pos n)) = refl
+value_literal (Int (negsuc n)) = refl
+value_literal (Truth b) = refl
+
+pub value_at : (v : Value) → IsAt 2 (value_form v)
+value_at (Int (pos n)) = omega arith
+value_at (Int (negsuc n)) = (omega arith, omega arith)
+value_at (Truth b) = omega arith
+
+lit_at : (v : Value) → GoodLit v → IsAt 12 (value_form v)
+lit_at (Int (pos n)) g = omega arith
+lit_at (Int (negsuc n)) g = absurd g
+lit_at (Truth b) g = omega arith
+
+lit_meaning : (v : Value) → GoodLit v → meaning (value_form v) ≡ tree.Lit v
+lit_meaning (Int (pos n)) g = refl
+lit_meaning (Int (negsuc n)) g = absurd g
+lit_meaning (Truth b) g = refl
+
+within_at : (l own : ℕ) (a : Form) → l ≤ 12 → 1 ≤ own → IsAt own a → IsAt l (within l own a)
+within_at l own a hi low at = elim (nat_le l own) as (λ t. nat_le l own ≡ t → IsAt l (if t then a else paren a)) [ true ↦ λ is. at_lower a l own (leb-true l own is) at | false ↦ λ is. (hi, at_lower a 1 own low at) ] refl
+
+within_meaning : (l own : ℕ) (a : Form) → meaning (within l own a) ≡ meaning a
+within_meaning l own a = elim (nat_le l own) as (λ t. meaning (if t then a else paren a) ≡ meaning a) [ true ↦ refl | false ↦ refl ]
+
+within_height : (l own : ℕ) (a : Form) → height (within l own a) ≤ height a + 1
+within_height l own a = elim (nat_le l own) as (λ t. height (if t then a else paren a) ≤ height a + 1) [ true ↦ omega arith | false ↦ omega arith ]
+
+within_same : (l own : ℕ) (a : Form) → l ≤ own → within l own a ≡ a
+within_same l own a h = ap (λ t. if t then a else paren a) (le-leb l own h)
+
+within_none : (l own : ℕ) (a : Form) → literal a ≡ None → literal (within l own a) ≡ None
+within_none l own a e = elim (nat_le l own) as (λ t. literal (if t then a else paren a) ≡ None) [ true ↦ e | false ↦ refl ]
+
+led_at : (a : Form) → IsAt 2 a → IsAt 2 (led a)
+led_at a at = elim (literal a) as (λ v. IsAt 2 (guarded v a)) [ Some v ↦ (omega arith, at_lower a 1 2 (omega arith) at) | None ↦ at ]
+
+led_none : (a : Form) → literal (led a) ≡ None
+led_none a = elim (literal a) as (λ v. literal a ≡ v → literal (guarded v a) ≡ None) [ Some v ↦ λ e. refl | None ↦ λ e. e ] refl
+
+led_meaning : (a : Form) → meaning (led a) ≡ meaning a
+led_meaning a = elim (literal a) as (λ v. meaning (guarded v a) ≡ meaning a) [ Some v ↦ refl | None ↦ refl ]
+
+led_height : (a : Form) → height (led a) ≤ height a + 1
+led_height a = elim (literal a) as (λ v. height (guarded v a) ≤ height a + 1) [ Some v ↦ omega arith | None ↦ omega arith ]
+
+led_same : (a : Form) → literal a ≡ None → led a ≡ a
+led_same a e = ap (λ v. guarded v a) e
+
+level_pos : (t : Tm) → 1 ≤ level_of t
+level_pos (tree.Unary Neg a) = omega arith
+level_pos (tree.Unary Not a) = omega arith
+level_pos (tree.Binary o a b) = (table (line (Operator o))).low
+level_pos _ = omega arith
+
+mutual
+  pub bare_at : (t : Tm) → Good t → IsAt (level_of t) (bare t)
+  bare_at (tree.Lit v) g = lit_at v g
+  bare_at (tree.Var x) g = omega arith
+  bare_at (tree.Unary Neg a) g = (omega arith, within_at 11 (level_of a) (bare a) (omega arith) (level_pos a) (bare_at a g))
+  bare_at (tree.Unary Not a) g = (omega arith, within_at 5 (level_of a) (bare a) (omega arith) (level_pos a) (bare_at a g))
+  bare_at (tree.Binary o a b) g =
+      let k = table (line (Operator o)) in
+      let e : level (line (Operator o)) ≤ level (line (Operator o)) = omega arith in
+      (e, within_at (left (line (Operator o))) (level_of a) (bare a) (omega (arith, k.left_high)) (level_pos a) (bare_at a g.0), within_at (right (line (Operator o))) (level_of b) (bare b) (omega (arith, k.right_high)) (level_pos b) (bare_at b g.1))
+  bare_at (tree.Choice c a b) g = (omega arith, within_at 1 (level_of c) (bare c) (omega arith) (level_pos c) (bare_at c g.0), within_at 1 (level_of a) (bare a) (omega arith) (level_pos a) (bare_at a g.1), within_at 1 (level_of b) (bare b) (omega arith) (level_pos b) (bare_at b g.2))
+  bare_at (tree.Sampled a c b) g = (omega arith, within_at 9 (level_of a) (bare a) (omega arith) (level_pos a) (bare_at a g.0))
+  bare_at (tree.Merged c a b) g = (omega arith, within_at 12 (level_of a) (bare a) (omega arith) (level_pos a) (bare_at a g.1), within_at 12 (level_of b) (bare b) (omega arith) (level_pos b) (bare_at b g.2))
+  bare_at (tree.Delayed v b) g = (omega arith, value_at v, within_at 1 (level_of b) (bare b) (omega arith) (level_pos b) (bare_at b g.1))
+  bare_at (tree.Followed a b) g = (omega arith, led_at (placed 2 a) (within_at 2 (level_of a) (bare a) (omega arith) (level_pos a) (bare_at a g.0)), within_at 1 (level_of b) (bare b) (omega arith) (level_pos b) (bare_at b g.1))
+  bare_at (tree.Arrow (tree.Lit v) b) g = (omega arith, value_at v, within_at 1 (level_of b) (bare b) (omega arith) (level_pos b) (bare_at b g.1))
+  bare_at (tree.Arrow a b) g = (omega arith, led_at (placed 2 a) (within_at 2 (level_of a) (bare a) (omega arith) (level_pos a) (bare_at a g.0)), within_at 1 (level_of b) (bare b) (omega arith) (level_pos b) (bare_at b g.1))
+  bare_at (tree.Call f xs) g = (omega arith, all_bare_at xs g.1)
+
+  all_bare_at : (xs : Tms) → AllGood xs → AreExprs (all_bare xs)
+  all_bare_at tree.Nil g = tt
+  all_bare_at (tree.Cons a xs) g = (within_at 1 (level_of a) (bare a) (omega arith) (level_pos a) (bare_at a g.0), all_bare_at xs g.1)
+
+pub placed_at : (l : ℕ) (t : Tm) → l ≤ 12 → Good t → IsAt l (placed l t)
+placed_at l t h g = within_at l (level_of t) (bare t) h (level_pos t) (bare_at t g)
+
+-- the left side of `fby` or `->`
+value_means : (o : Infix) (v : Value) (g : Form) → meaning (binary o (value_form v) g) ≡ joined o (Some v) (meaning (value_form v)) (meaning g)
+value_means o v g = ap (λ w. joined o w (meaning (value_form v)) (meaning g)) (value_literal v)
+
+led_means : (o : Infix) (f g : Form) → meaning (binary o (led f) g) ≡ joined o None (meaning f) (meaning g)
+led_means o f g = ap₂ (λ w a. joined o w a (meaning g)) (led_none f) (led_meaning f)
+
+mutual
+  pub bare_meaning : (t : Tm) → Good t → meaning (bare t) ≡ t
+  bare_meaning (tree.Lit v) g = lit_meaning v g
+  bare_meaning (tree.Var x) g = refl
+  bare_meaning (tree.Unary Neg a) g = ap (tree.Unary Neg) (within_meaning 11 (level_of a) (bare a) ∙ bare_meaning a g)
+  bare_meaning (tree.Unary Not a) g = ap (tree.Unary Not) (within_meaning 5 (level_of a) (bare a) ∙ bare_meaning a g)
+  bare_meaning (tree.Binary o a b) g = ap₂ (tree.Binary o) (within_meaning (left (line (Operator o))) (level_of a) (bare a) ∙ bare_meaning a g.0) (within_meaning (right (line (Operator o))) (level_of b) (bare b) ∙ bare_meaning b g.1)
+  bare_meaning (tree.Choice c a b) g = ap (λ z. tree.Choice z (meaning (placed 1 a)) (meaning (placed 1 b))) (within_meaning 1 (level_of c) (bare c) ∙ bare_meaning c g.0) ∙ ap₂ (tree.Choice c) (within_meaning 1 (level_of a) (bare a) ∙ bare_meaning a g.1) (within_meaning 1 (level_of b) (bare b) ∙ bare_meaning b g.2)
+  bare_meaning (tree.Sampled a c b) g = ap (λ z. tree.Sampled z c b) (within_meaning 9 (level_of a) (bare a) ∙ bare_meaning a g.0)
+  bare_meaning (tree.Merged c a b) g = ap₂ (tree.Merged c) (within_meaning 12 (level_of a) (bare a) ∙ bare_meaning a g.1) (within_meaning 12 (level_of b) (bare b) ∙ bare_meaning b g.2)
+  bare_meaning (tree.Delayed v b) g = value_means Fby v (placed 1 b) ∙ ap (tree.Delayed v) (within_meaning 1 (level_of b) (bare b) ∙ bare_meaning b g.1)
+  bare_meaning (tree.Followed a b) g = led_means Fby (placed 2 a) (placed 1 b) ∙ ap₂ tree.Followed (within_meaning 2 (level_of a) (bare a) ∙ bare_meaning a g.0) (within_meaning 1 (level_of b) (bare b) ∙ bare_meaning b g.1)
+  bare_meaning (tree.Arrow (tree.Lit v) b) g = value_means Arrow v (placed 1 b) ∙ ap (tree.Arrow (tree.Lit v)) (within_meaning 1 (level_of b) (bare b) ∙ bare_meaning b g.1)
+  bare_meaning (tree.Arrow a b) g = led_means Arrow (placed 2 a) (placed 1 b) ∙ ap₂ tree.Arrow (within_meaning 2 (level_of a) (bare a) ∙ bare_meaning a g.0) (within_meaning 1 (level_of b) (bare b) ∙ bare_meaning b g.1)
+  bare_meaning (tree.Call f xs) g = ap (tree.Call f) (all_bare_meaning xs g.1)
+
+  all_bare_meaning : (xs : Tms) → AllGood xs → meanings (all_bare xs) ≡ xs
+  all_bare_meaning tree.Nil g = refl
+  all_bare_meaning (tree.Cons a xs) g = ap₂ tree.Cons (within_meaning 1 (level_of a) (bare a) ∙ bare_meaning a g.0) (all_bare_meaning xs g.1)
+
+pub placed_means : (l : ℕ) (t : Tm) → Good t → meaning (placed l t) ≡ t
+placed_means l t g = within_meaning l (level_of t) (bare t) ∙ bare_meaning t g
