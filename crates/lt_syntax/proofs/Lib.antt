@@ -10,3 +10,4 @@ pub mod Whole
 pub mod Reading
 pub mod Written
 pub mod Declares
+pub mod Loop

@@ -37,7 +37,7 @@ kind_of kind.Unexpected = parser.Unexpected
 kind_of kind.TooDeep = parser.TooDeep
 
 abbrev pub state_of : Parser → parser.State
-state_of p = record { done = p.nodes; phase = phase_of p.phase }
+state_of p = record { done = p.nodes; phase = phase_of p.phase.value }
 
 -- the next phase, unless memory ran out
 abbrev pub Moves : Result Phase (Or Kind) → Result parser.Phase parser.Kind → Type 0

@@ -1,5 +1,5 @@
 // The parser of programs: what each token does to what is begun.
-ghost use Rattle.std.specs.Prelude.{◌≡◌, ◌++◌, ◌∷◌, [], IfOk, OnOk, Err, Result};
+ghost use Rattle.std.specs.Prelude.{◌≡◌, ◌++◌, ◌∷◌, [], IfOk, OnOk, IsTrue, ◌↔◌, Err, Result};
 ghost use Rattle.lt_tokens.specs.declared.token.Token.TheVariants as token;
 ghost use Rattle.lt_tokens.specs.Fronts.{IsSmall};
 ghost use Rattle.lt_syntax.specs.Parser as parser;
@@ -51,7 +51,31 @@ pub enum Phase {
 #[derive(Drop)]
 pub struct Parser {
     pub nodes: List<NodeText>,
-    pub phase: Phase,
+    pub phase: Box<Phase>,
+}
+
+fn parser_at(alloc: Global, nodes: List<NodeText>, phase: Phase) -> Result<Parser, Memory>
+    ensures { IfOk result (λ p. state_of p ≡ record { done = nodes; phase = phase_of phase }) }
+{
+    let phase = Box::new(alloc, phase)?;
+    Ok(Parser { nodes, phase })
+}
+
+/// Nothing is read yet.
+pub fn start(alloc: Global) -> Result<Parser, Memory>
+    ensures { IfOk result (λ p. state_of p ≡ parser.start) }
+{
+    parser_at(alloc, List::new(alloc), Phase::Idle)
+}
+
+/// The text may end here.
+pub fn may_end(phase: &Phase) -> bool
+    ensures { IsTrue result ↔ parser.Ends (phase_of phase.now) }
+{
+    match phase {
+        Phase::Idle | Phase::Told => true,
+        _ => false,
+    }
 }
 
 fn wrong() -> Or<Kind>
@@ -446,25 +470,33 @@ fn move_on(alloc: Global, phase: Phase, t: Token) -> Result<Phase, Or<Kind>>
 }
 
 /// `tel`, or an equation.
-fn end_body(nodes: List<NodeText>, n: NodeText, t: Token) -> Result<Parser, Or<Kind>>
+fn end_body(
+    alloc: Global,
+    nodes: List<NodeText>,
+    n: NodeText,
+    t: Token,
+) -> Result<Parser, Or<Kind>>
     ensures { Steps result (parser.step_on LIMIT nodes (parser.Body n) t) }
 {
     let mut nodes = nodes;
     if let Token::Tel = t {
         nodes.push(n)?;
-        let phase = Phase::Told;
-        return Ok(Parser { nodes, phase });
+        return Ok(parser_at(alloc, nodes, Phase::Told)?);
     }
     let phase = body(n, t)?;
-    Ok(Parser { nodes, phase })
+    Ok(parser_at(alloc, nodes, phase)?)
 }
 
 /// The next phase beside the whole nodes.
-fn moved(nodes: List<NodeText>, phase: Result<Phase, Or<Kind>>) -> Result<Parser, Or<Kind>>
+fn moved(
+    alloc: Global,
+    nodes: List<NodeText>,
+    phase: Result<Phase, Or<Kind>>,
+) -> Result<Parser, Or<Kind>>
     ensures { (next : Result parser.Phase parser.Kind) → Moves phase next → Steps result (parser.finish nodes next) }
 {
     match phase {
-        Ok(phase) => Ok(Parser { nodes, phase }),
+        Ok(phase) => Ok(parser_at(alloc, nodes, phase)?),
         Err(Or::Fault(kind)) => Err(Or::Fault(kind)),
         Err(Or::Memory) => Err(Or::Memory),
     }
@@ -473,12 +505,11 @@ fn moved(nodes: List<NodeText>, phase: Result<Phase, Or<Kind>>) -> Result<Parser
 /// Takes one token.
 pub fn step(alloc: Global, p: Parser, t: Token) -> Result<Parser, Or<Kind>>
     requires small { IsSmall t }
-    requires room { Fits LIMIT (phase_of p.phase) }
+    requires room { Fits LIMIT (phase_of p.phase.value) }
     ensures { Steps result (parser.step LIMIT (state_of p) t) }
 {
-    let Parser { nodes, phase } = p;
-    match phase {
-        Phase::Body(n) => end_body(nodes, n, t),
-        phase => moved(nodes, move_on(alloc, phase, t)),
+    match Box::into_inner(p.phase) {
+        Phase::Body(n) => end_body(alloc, p.nodes, n, t),
+        phase => moved(alloc, p.nodes, move_on(alloc, phase, t)),
     }
 }

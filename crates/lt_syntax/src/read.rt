@@ -6,7 +6,7 @@ ghost use Rattle.lt_syntax.specs.Phases.{phase_of, state_of, Fits};
 ghost use Rattle.lt_syntax.specs.Reads.{Answers, StepsAt, EndsWith};
 
 use crate::fault::{SyntaxFault, SyntaxKind};
-use crate::header::{Kind, Parser, Phase, step};
+use crate::header::{Kind, Parser, may_end, start, step};
 use crate::stack::LIMIT;
 use crate::tree::NodeText;
 use lt_base::{List, Or};
@@ -15,7 +15,7 @@ use std::alloc::Global;
 
 fn step_at(alloc: Global, p: Parser, t: Token, at: usize) -> Result<Parser, Or<SyntaxFault>>
     requires small { IsSmall t }
-    requires room { Fits LIMIT (phase_of p.phase) }
+    requires room { Fits LIMIT (phase_of p.phase.value) }
     ensures { StepsAt at result (parser.step LIMIT (state_of p) t) }
 {
     match step(alloc, p, t) {
@@ -36,23 +36,17 @@ fn step_at(alloc: Global, p: Parser, t: Token, at: usize) -> Result<Parser, Or<S
 fn whole(p: Parser) -> Option<List<NodeText>>
     ensures { EndsWith (state_of p) result }
 {
-    if p.nodes.is_empty() {
+    if p.nodes.is_empty() || !may_end(&p.phase) {
         return None;
     }
-    match p.phase {
-        Phase::Idle | Phase::Told => Some(p.nodes),
-        _ => None,
-    }
+    Some(p.nodes)
 }
 
 /// The nodes that the bytes spell, or the first offending place.
 pub fn read(alloc: Global, bytes: &[u8]) -> Result<List<NodeText>, Or<SyntaxFault>>
     ensures { Answers LIMIT bytes.now result }
 {
-    let mut p = Parser {
-        nodes: List::new(alloc),
-        phase: Phase::Idle,
-    };
+    let mut p = start(alloc)?;
     let mut rest = bytes;
     'text: loop {
         let here = skip(rest);
