@@ -168,3 +168,56 @@ mutual
 
 pub placed_means : (l : ℕ) (t : Tm) → Good t → meaning (placed l t) ≡ t
 placed_means l t g = within_meaning l (level_of t) (bare t) ∙ bare_meaning t g
+
+-- the canonical form is the lowest
+pub placed_low : (l : ℕ) (t : Tm) → l ≤ level_of t → height (placed l t) ≤ height (bare t)
+placed_low l t h = omega (arith, ap height (within_same l (level_of t) (bare t) h))
+
+pub placed_more : (l : ℕ) (t : Tm) → height (placed l t) ≤ height (placed 1 t) + 1
+placed_more l t = omega (arith, within_height l (level_of t) (bare t), ap height (within_same 1 (level_of t) (bare t) (level_pos t)))
+
+-- a left side in parentheses
+led_more : (t : Tm) → height (led (placed 2 t)) ≤ height (placed 1 t) + 1
+led_more t =
+    let one = ap height (within_same 1 (level_of t) (bare t) (level_pos t)) in
+    elim (nat_le 2 (level_of t)) as (λ b. height (led (if b then bare t else paren (bare t))) ≤ height (placed 1 t) + 1) [
+      true ↦ omega (arith, one, led_height (bare t))
+    | false ↦ omega (arith, one) ]
+
+led_open : (t : Tm) (n : ℕ) → literal (bare t) ≡ None → height (placed 2 t) ≤ n → height (led (placed 2 t)) ≤ n
+led_open t n e h = omega (arith, ap height (led_same (placed 2 t) (within_none 2 (level_of t) (bare t) e)), h)
+
+abbrev pub Low : Form → Type 0
+Low a = (l : ℕ) → IsAt l a → height (placed l (meaning a)) ≤ height a
+
+minus_low : (a : Form) → IsAt 11 a → literal (minus a) ≡ None → Low a → height (led (placed 2 (tree.Unary Neg (meaning a)))) ≤ height a + 1
+minus_low (number n) at e h = cc
+minus_low (truth b) at e h = omega arith
+minus_low (name x) at e h = omega arith
+minus_low (paren a) at e h = omega (arith, h 11 at, height_pos a, led_height (minus (placed 11 (meaning a))), placed_more 11 (meaning a), h 1 (omega arith, at.1))
+minus_low (minus a) at e h = absurd (omega (arith, at.0))
+minus_low (negated a) at e h = absurd (omega (arith, at.0))
+minus_low (binary o a b) at e h = absurd (omega (arith, at.0, (table (line o)).high))
+minus_low (choice c a b) at e h = absurd (omega (arith, at.0))
+minus_low (sampled a c b) at e h = absurd (omega (arith, at.0))
+minus_low (merged c a b) at e h = omega (arith, h 11 at)
+minus_low (call f xs) at e h = omega (arith, h 11 at)
+
+-- a left side that is no literal
+left_low : (a : Form) → IsAt 2 a → literal a ≡ None → Low a → height (led (placed 2 (meaning a))) ≤ height a
+left_low (number n) at e h = cc
+left_low (truth b) at e h = cc
+left_low (name x) at e h = omega arith
+left_low (paren a) at e h = omega (arith, led_more (meaning a), h 2 at, placed_more 2 (meaning a), h 1 (omega arith, at.1), inner a at.1 h)
+    where
+    inner : (a : Form) → IsAt 1 a → Low (paren a) → height (placed 1 (meaning a)) ≤ height a + 1
+    inner a at h = h 1 (omega arith, at)
+left_low (minus a) at e h = minus_low a at.1 e ?
+left_low (negated a) at e h = omega (arith, h 2 at)
+left_low (binary (Operator o) a b) at e h = led_open (meaning (binary (Operator o) a b)) (height (binary (Operator o) a b)) refl (h 2 at)
+left_low (binary Fby a b) at e h = absurd (omega (arith, at.0))
+left_low (binary Arrow a b) at e h = absurd (omega (arith, at.0))
+left_low (choice c a b) at e h = absurd (omega (arith, at.0))
+left_low (sampled a c b) at e h = led_open (meaning (sampled a c b)) (height (sampled a c b)) refl (h 2 at)
+left_low (merged c a b) at e h = led_open (meaning (merged c a b)) (height (merged c a b)) refl (h 2 at)
+left_low (call f xs) at e h = led_open (meaning (call f xs)) (height (call f xs)) refl (h 2 at)
