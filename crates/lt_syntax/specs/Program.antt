@@ -120,3 +120,7 @@ pub record Spells (limit : ℕ) (bytes : List ℕ) (t : List NodeText) : Type 0 
   pub cut : Cuts bytes tokens rest
   pub ended : front (skip rest) ≡ text.Over
   pub program : Program limit tokens t
+
+-- some bytes spell the tree, within the height 200
+abbrev pub IsSpelled : List NodeText → Type 0
+IsSpelled t = (bytes : List ℕ) × Spells 200 bytes t

@@ -6,6 +6,7 @@ mod fault;
 mod frame;
 mod header;
 pub mod laws;
+mod program;
 mod read;
 mod section;
 mod stack;
@@ -13,5 +14,6 @@ mod term;
 mod tree;
 
 pub use fault::{SyntaxFault, SyntaxKind};
+pub use program::{Tree, parse};
 pub use term::Term;
 pub use tree::{DeclText, EqText, NodeText};
