@@ -190,34 +190,144 @@ led_open t n e h = omega (arith, ap height (led_same (placed 2 t) (within_none 2
 abbrev pub Low : Form → Type 0
 Low a = (l : ℕ) → IsAt l a → height (placed l (meaning a)) ≤ height a
 
-minus_low : (a : Form) → IsAt 11 a → literal (minus a) ≡ None → Low a → height (led (placed 2 (tree.Unary Neg (meaning a)))) ≤ height a + 1
-minus_low (number n) at e h = cc
-minus_low (truth b) at e h = omega arith
-minus_low (name x) at e h = omega arith
-minus_low (paren a) at e h = omega (arith, h 11 at, height_pos a, led_height (minus (placed 11 (meaning a))), placed_more 11 (meaning a), h 1 (omega arith, at.1))
-minus_low (minus a) at e h = absurd (omega (arith, at.0))
-minus_low (negated a) at e h = absurd (omega (arith, at.0))
-minus_low (binary o a b) at e h = absurd (omega (arith, at.0, (table (line o)).high))
-minus_low (choice c a b) at e h = absurd (omega (arith, at.0))
-minus_low (sampled a c b) at e h = absurd (omega (arith, at.0))
-minus_low (merged c a b) at e h = omega (arith, h 11 at)
-minus_low (call f xs) at e h = omega (arith, h 11 at)
+-- and so are the forms in its parentheses and behind its -
+abbrev pub Deep : Form → Type 0
+Deep (paren a) = Low (paren a) × Deep a
+Deep (minus a) = Low (minus a) × Deep a
+Deep a = Low a
+
+low_of : (a : Form) → Deep a → Low a
+low_of (paren a) d = d.0
+low_of (minus a) d = d.0
+low_of (number n) d = d
+low_of (truth b) d = d
+low_of (name x) d = d
+low_of (negated a) d = d
+low_of (binary o a b) d = d
+low_of (choice c a b) d = d
+low_of (sampled a c b) d = d
+low_of (merged c a b) d = d
+low_of (call f xs) d = d
+
+-- only a number behind - is in parentheses as a left side
+minus_led : (y : Form) → height (led (minus y)) ≤ max 3 (height y + 1)
+minus_led (number n) = omega arith
+minus_led _ = omega arith
+
+minus_low : (a : Form) → IsAt 11 a → literal (minus a) ≡ None → Deep a → height (led (placed 2 (tree.Unary Neg (meaning a)))) ≤ height a + 1
+minus_low (number n) at e d = cc
+minus_low (truth b) at e d = omega arith
+minus_low (name x) at e d = omega arith
+minus_low (paren a) at e d = omega (arith, minus_led (placed 11 (meaning a)), d.0 11 at, height_pos a)
+minus_low (minus a) at e d = absurd (omega (arith, at.0))
+minus_low (negated a) at e d = absurd (omega (arith, at.0))
+minus_low (binary o a b) at e d = absurd (omega (arith, at.0, (table (line o)).high))
+minus_low (choice c a b) at e d = absurd (omega (arith, at.0))
+minus_low (sampled a c b) at e d = absurd (omega (arith, at.0))
+minus_low (merged c a b) at e d = omega (arith, d 11 at)
+minus_low (call f xs) at e d = omega (arith, d 11 at)
 
 -- a left side that is no literal
-left_low : (a : Form) → IsAt 2 a → literal a ≡ None → Low a → height (led (placed 2 (meaning a))) ≤ height a
-left_low (number n) at e h = cc
-left_low (truth b) at e h = cc
-left_low (name x) at e h = omega arith
-left_low (paren a) at e h = omega (arith, led_more (meaning a), h 2 at, placed_more 2 (meaning a), h 1 (omega arith, at.1), inner a at.1 h)
-    where
-    inner : (a : Form) → IsAt 1 a → Low (paren a) → height (placed 1 (meaning a)) ≤ height a + 1
-    inner a at h = h 1 (omega arith, at)
-left_low (minus a) at e h = minus_low a at.1 e ?
-left_low (negated a) at e h = omega (arith, h 2 at)
-left_low (binary (Operator o) a b) at e h = led_open (meaning (binary (Operator o) a b)) (height (binary (Operator o) a b)) refl (h 2 at)
-left_low (binary Fby a b) at e h = absurd (omega (arith, at.0))
-left_low (binary Arrow a b) at e h = absurd (omega (arith, at.0))
-left_low (choice c a b) at e h = absurd (omega (arith, at.0))
-left_low (sampled a c b) at e h = led_open (meaning (sampled a c b)) (height (sampled a c b)) refl (h 2 at)
-left_low (merged c a b) at e h = led_open (meaning (merged c a b)) (height (merged c a b)) refl (h 2 at)
-left_low (call f xs) at e h = led_open (meaning (call f xs)) (height (call f xs)) refl (h 2 at)
+left_low : (a : Form) → IsAt 2 a → literal a ≡ None → Deep a → height (led (placed 2 (meaning a))) ≤ height a
+left_low (number n) at e d = cc
+left_low (truth b) at e d = cc
+left_low (name x) at e d = omega arith
+left_low (paren a) at e d = omega (arith, led_more (meaning a), low_of a d.1 1 at.1)
+left_low (minus a) at e d = minus_low a at.1 e d.1
+left_low (negated a) at e d = omega (arith, d 2 at)
+left_low (binary (Operator o) a b) at e d = led_open (meaning (binary (Operator o) a b)) (height (binary (Operator o) a b)) refl (d 2 at)
+left_low (binary Fby a b) at e d = absurd (omega (arith, at.0))
+left_low (binary Arrow a b) at e d = absurd (omega (arith, at.0))
+left_low (choice c a b) at e d = absurd (omega (arith, at.0))
+left_low (sampled a c b) at e d = led_open (meaning (sampled a c b)) (height (sampled a c b)) refl (d 2 at)
+left_low (merged c a b) at e d = led_open (meaning (merged c a b)) (height (merged c a b)) refl (d 2 at)
+left_low (call f xs) at e d = led_open (meaning (call f xs)) (height (call f xs)) refl (d 2 at)
+
+-- `fby` and `->` behind a literal
+value_height : (o : Infix) (v : Value) (g : Form) (n : ℕ) → left_height o (Some v) (height (value_form v)) ≡ 1 → height g ≤ n → height (binary o (value_form v) g) ≤ max 1 n + 1
+value_height o v g n e h =
+    let k : left_height o (literal (value_form v)) (height (value_form v)) ≡ 1 = ap (λ w. left_height o w (height (value_form v))) (value_literal v) ∙ e in
+    omega (arith, k, h)
+
+open_height : (o : Infix) (f g : Form) (m n : ℕ) → left_height o None (height (led f)) ≡ height (led f) → height (led f) ≤ m → height g ≤ n → height (binary o (led f) g) ≤ max m n + 1
+open_height o f g m n e h k =
+    let j : left_height o (literal (led f)) (height (led f)) ≡ height (led f) = ap (λ w. left_height o w (height (led f))) (led_none f) ∙ e in
+    omega (arith, j, h, k)
+
+one_low : (t : Tm) → height (placed 1 t) ≤ height (bare t)
+one_low t = placed_low 1 t (level_pos t)
+
+-- a form of the lowest level
+expr_low : (l : ℕ) (t : Tm) (n : ℕ) → l ≤ level_of t → height (bare t) ≤ n → height (placed l t) ≤ n
+expr_low l t n h k = omega (arith, placed_low l t h, k)
+
+arrow_low : (l : ℕ) (t u : Tm) (m n : ℕ) → l ≤ 1 → 1 ≤ m → height (led (placed 2 t)) ≤ m → height (placed 1 u) ≤ n → height (placed l (tree.Arrow t u)) ≤ max m n + 1
+arrow_low l (tree.Lit v) u m n h p k j = omega (arith, expr_low l (tree.Arrow (tree.Lit v) u) (max 1 n + 1) h (value_height Arrow v (placed 1 u) n refl j), p)
+arrow_low l t u m n h p k j = expr_low l (tree.Arrow t u) (max m n + 1) h (open_height Arrow (placed 2 t) (placed 1 u) m n refl k j)
+
+binary_low : (o : Infix) (a b : Form) → Deep a → Deep b → Low (binary o a b)
+binary_low (Operator o) a b da db l at =
+    let k = line (Operator o) in
+    expr_low l (tree.Binary o (meaning a) (meaning b)) (height (binary (Operator o) a b)) at.0 (omega (arith, low_of a da (left k) at.1, low_of b db (right k) at.2))
+binary_low Fby a b da db l at =
+    let hb = low_of b db 1 at.2 in
+    elim (literal a) as (λ v. literal a ≡ v → height (placed l (joined Fby v (meaning a) (meaning b))) ≤ max (left_height Fby v (height a)) (height b) + 1) [
+      Some v ↦ λ e. expr_low l (tree.Delayed v (meaning b)) (max 1 (height b) + 1) at.0 (value_height Fby v (placed 1 (meaning b)) (height b) refl hb)
+    | None ↦ λ e. expr_low l (tree.Followed (meaning a) (meaning b)) (max (height a) (height b) + 1) at.0 (open_height Fby (placed 2 (meaning a)) (placed 1 (meaning b)) (height a) (height b) refl (left_low a at.1 e da) hb) ] refl
+binary_low Arrow a b da db l at =
+    let hb = low_of b db 1 at.2 in
+    elim (literal a) as (λ v. literal a ≡ v → height (placed l (joined Arrow v (meaning a) (meaning b))) ≤ max (left_height Arrow v (height a)) (height b) + 1) [
+      Some v ↦ λ e. expr_low l (tree.Arrow (tree.Lit v) (meaning b)) (max 1 (height b) + 1) at.0 (value_height Arrow v (placed 1 (meaning b)) (height b) refl hb)
+    | None ↦ λ e. arrow_low l (meaning a) (meaning b) (height a) (height b) at.0 (height_pos a) (left_low a at.1 e da) hb ] refl
+
+call_low : (f : List ℕ) (xs : Forms) → (AreExprs xs → heights (all_bare (meanings xs)) ≤ heights xs) → Low (call f xs)
+call_low f xs k l at = let h = k at.1 in expr_low l (tree.Call f (meanings xs)) (height (call f xs)) at.0 (omega (arith, h))
+
+paren_low : (a : Form) → Deep a → Low (paren a)
+paren_low a d l at = omega (arith, placed_more l (meaning a), low_of a d 1 at.1)
+
+minus_is_low : (a : Form) → Deep a → Low (minus a)
+minus_is_low a d l at = expr_low l (tree.Unary Neg (meaning a)) (height a + 1) at.0 (omega (arith, low_of a d 11 at.1))
+
+number_low : (n : ℕ) → Low (number n)
+number_low n l at = expr_low l (tree.Lit (Int (pos n))) 1 at (omega arith)
+
+truth_low : (b : Bool) → Low (truth b)
+truth_low b l at = expr_low l (tree.Lit (Truth b)) 1 at (omega arith)
+
+name_low : (x : List ℕ) → Low (name x)
+name_low x l at = expr_low l (tree.Var x) 1 at (omega arith)
+
+negated_low : (a : Form) → Deep a → Low (negated a)
+negated_low a d l at = expr_low l (tree.Unary Not (meaning a)) (height a + 1) at.0 (omega (arith, low_of a d 5 at.1))
+
+choice_low : (c a b : Form) → Deep c → Deep a → Deep b → Low (choice c a b)
+choice_low c a b dc da db l at = expr_low l (tree.Choice (meaning c) (meaning a) (meaning b)) (height (choice c a b)) at.0 (omega (arith, low_of c dc 1 at.1, low_of a da 1 at.2, low_of b db 1 at.3))
+
+sampled_low : (a : Form) (c : List ℕ) (b : Bool) → Deep a → Low (sampled a c b)
+sampled_low a c b d l at = expr_low l (tree.Sampled (meaning a) c b) (height a + 1) at.0 (omega (arith, low_of a d 9 at.1))
+
+merged_low : (c : List ℕ) (a b : Form) → Deep a → Deep b → Low (merged c a b)
+merged_low c a b da db l at = expr_low l (tree.Merged c (meaning a) (meaning b)) (height (merged c a b)) at.0 (omega (arith, low_of a da 12 at.1, low_of b db 12 at.2))
+
+mutual
+  -- no form of the term is lower
+  pub deep : (a : Form) → Deep a
+  deep (number n) = number_low n
+  deep (truth b) = truth_low b
+  deep (name x) = name_low x
+  deep (paren a) = (paren_low a (deep a), deep a)
+  deep (minus a) = (minus_is_low a (deep a), deep a)
+  deep (negated a) = negated_low a (deep a)
+  deep (binary o a b) = binary_low o a b (deep a) (deep b)
+  deep (choice c a b) = choice_low c a b (deep c) (deep a) (deep b)
+  deep (sampled a c b) = sampled_low a c b (deep a)
+  deep (merged c a b) = merged_low c a b (deep a) (deep b)
+  deep (call f xs) = call_low f xs (all_low xs)
+
+  all_low : (xs : Forms) → AreExprs xs → heights (all_bare (meanings xs)) ≤ heights xs
+  all_low nil at = omega arith
+  all_low (cons a xs) at = omega (arith, low_of a (deep a) 1 at.0, all_low xs at.1)
+
+pub lowest : (a : Form) → Low a
+lowest a = low_of a (deep a)
