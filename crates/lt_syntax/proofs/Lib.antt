@@ -11,3 +11,4 @@ pub mod Reading
 pub mod Written
 pub mod Declares
 pub mod Loop
+pub mod Lexed

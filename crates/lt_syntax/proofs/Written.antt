@@ -18,14 +18,14 @@ use Rattle.lt_syntax.proofs.Complete.{height_pos, table}
 use Rattle.lt_syntax.proofs.Zipper.{at_lower}
 
 -- each byte passes
-abbrev pub AllWord : List ℕ → Type 0
-AllWord [] = Unit {0}
-AllWord (b ∷ w) = (is_word b ≡ true) × AllWord w
+abbrev pub AllPass : (ℕ → Bool) → List ℕ → Type 0
+AllPass p [] = Unit {0}
+AllPass p (b ∷ w) = (p b ≡ true) × AllPass p w
 
 -- a name that is read as one
 abbrev pub IsIdent : List ℕ → Type 0
 IsIdent [] = ⊥
-IsIdent (b ∷ w) = (is_letter b ≡ true) × AllWord w × (word_of (b ∷ w) ≡ token.Ident (b ∷ w))
+IsIdent (b ∷ w) = (is_letter b ≡ true) × AllPass is_word w × (word_of (b ∷ w) ≡ token.Ident (b ∷ w))
 
 abbrev pub GoodValue : Value → Type 0
 GoodValue (Int (pos n)) = n ≤ greatest
