@@ -1,5 +1,5 @@
 -- The bytes of a form are cut into its tokens.
-use Rattle.std.proofs.Common.{◌≡◌, ℕ, zero, suc, ◌+◌, ◌-◌, ◌≤◌, ◌<◌, ◌^◌, Bool, true, false, cond, List, [], ◌∷◌, ◌++◌, length, take, drop, codes, decimal, ◌==◌, ◌||◌, ◌&&◌, nat_le, if◌then◌else◌, refl, sym, ap, ap₂, ◌∙◌, subst, arith, rules, append_assoc, append-nil, le-leb}
+use Rattle.std.proofs.Common.{◌≡◌, ℕ, zero, suc, ◌+◌, ◌-◌, ◌≤◌, ◌<◌, ◌^◌, Bool, true, false, cond, List, [], ◌∷◌, ◌++◌, length, take, drop, codes, decimal, ◌==◌, ◌||◌, ◌&&◌, nat_le, Option, Some, None, if◌then◌else◌, refl, sym, ap, ap₂, ◌∙◌, subst, arith, rules, append_assoc, append-nil, le-leb}
 use Rattle.std.specs.List.{prefix_len, take_while}
 use Rattle.std.proofs.Math.Seq.{drop-append_seam}
 use Rattle.std.proofs.lemmas.Str.Parse.{IsNumeralModel, numerals_by_fold}
@@ -11,7 +11,7 @@ use Rattle.lt_tokens.specs.declared.token.Token.{Token}
 use Rattle.lt_tokens.specs.declared.token.Token.TheVariants as token
 use Rattle.lt_tokens.specs.Words.{word_of}
 use Rattle.lt_tokens.specs.Text as lexer
-use Rattle.lt_tokens.specs.Text.{Front, Begins, is_blank, is_digit, is_letter, is_word, skip, skip_comment, starts_with, value_on, greatest, span, word, number, symbol, front, Cuts}
+use Rattle.lt_tokens.specs.Text.{Front, Begins, is_blank, is_digit, is_letter, is_word, skip, skip_comment, starts_with, value_on, greatest, span, word, number, symbol, symbol_of, front, Cuts}
 use Rattle.lt_syntax.proofs.Written.{AllPass, IsIdent}
 
 abbrev pub Stops : List ℕ → Type 0
@@ -24,13 +24,13 @@ skip_plain b bs p q =
     ap (λ t. if t then skip bs else (if b == 45 && starts_with 45 bs then skip_comment bs else b ∷ bs)) p
     ∙ ap (λ t. if t && starts_with 45 bs then skip_comment bs else b ∷ bs) q
 
-letter_plain : (b : ℕ) → is_letter b ≡ true → (is_blank b ≡ false) × ((b == 45) ≡ false) × ((b == 62) ≡ false)
+pub letter_plain : (b : ℕ) → is_letter b ≡ true → (is_blank b ≡ false) × ((b == 45) ≡ false) × ((b == 62) ≡ false)
 letter_plain b h = (grind arith, grind arith, grind arith)
 
-digit_plain : (b : ℕ) → is_digit b ≡ true → (is_blank b ≡ false) × ((b == 45) ≡ false) × ((b == 62) ≡ false) × (is_letter b ≡ false)
+pub digit_plain : (b : ℕ) → is_digit b ≡ true → (is_blank b ≡ false) × ((b == 45) ≡ false) × ((b == 62) ≡ false) × (is_letter b ≡ false)
 digit_plain b h = (grind arith, grind arith, grind arith, grind arith)
 
-abbrev Halts : (ℕ → Bool) → List ℕ → Type 0
+abbrev pub Halts : (ℕ → Bool) → List ℕ → Type 0
 Halts p [] = Unit {0}
 Halts p (x ∷ r) = p x ≡ false
 
@@ -43,12 +43,12 @@ take_seam : (w r : List ℕ) → take (length w) (w ++ r) ≡ w
 take_seam [] r = refl
 take_seam (x ∷ w) r = ap (λ z. x ∷ z) (take_seam w r)
 
-span_stops : (p : ℕ → Bool) (w r : List ℕ) (k : List ℕ → List ℕ → Front) → AllPass p w → Halts p r → span p (w ++ r) k ≡ k w r
+pub span_stops : (p : ℕ → Bool) (w r : List ℕ) (k : List ℕ → List ℕ → Front) → AllPass p w → Halts p r → span p (w ++ r) k ≡ k w r
 span_stops p w r k a s =
     let e : take_while p (w ++ r) ≡ w = ap (λ n. take n (w ++ r)) (run_length p w r a s) ∙ take_seam w r in
     ap (λ z. k z (drop (length z) (w ++ r))) e ∙ ap (k w) (drop-append_seam w r)
 
-halts_word : (r : List ℕ) → Stops r → Halts is_word r
+pub halts_word : (r : List ℕ) → Stops r → Halts is_word r
 halts_word [] s = tt
 halts_word (b ∷ r) s = s
 
@@ -70,7 +70,7 @@ ident_front (b ∷ w) r i s =
     ∙ span_stops is_word (b ∷ w) r word (t, i.1) (halts_word r s)
     ∙ ap (λ z. Begins z r) i.2
 
-own : IsNumeralModel (AllPass is_digit) (value_on 0)
+pub own : IsNumeralModel (AllPass is_digit) (value_on 0)
 own = numerals_by_fold _ (search rules) value_on (search rules)
 
 digits_front : (n : ℕ) (u r : List ℕ) → AllPass is_digit u → 0 < length u → value_on 0 u ≡ n → n ≤ greatest → Stops r → front (skip (u ++ r)) ≡ Begins (token.Number n) r
@@ -85,7 +85,7 @@ digits_front n (b ∷ w) r a l v g s =
     ∙ ap (λ t. if t then Begins (token.Number (value_on 0 (b ∷ w))) r else lexer.BadNumber) (le-leb (value_on 0 (b ∷ w)) greatest h)
     ∙ ap (λ m. Begins (token.Number m) r) v
 
-small : (n : ℕ) → n ≤ greatest → n < 2 ^ 64
+pub small : (n : ℕ) → n ≤ greatest → n < 2 ^ 64
 small n h = omega arith
 
 -- a number's digits are cut off as it
@@ -116,4 +116,5 @@ colon_front (b ∷ r) = refl
 -- - before a byte that does not go on with it
 pub minus_front : (b : ℕ) (r : List ℕ) → (b == 45) ≡ false → (b == 62) ≡ false → front (skip (45 ∷ b ∷ r)) ≡ Begins (token.Infix (Operator Sub)) (b ∷ r)
 minus_front b r p q =
-    ap front (ap (λ t. if t then skip_comment (b ∷ r) else 45 ∷ b ∷ r) p) ∙ ?
+    ap front (ap (λ t. if t then skip_comment (b ∷ r) else 45 ∷ b ∷ r) p)
+    ∙ ap (λ t. symbol_of (if t then Some Arrow else None) (Some (token.Infix (Operator Sub))) (b ∷ r)) q

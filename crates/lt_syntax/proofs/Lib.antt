@@ -12,3 +12,5 @@ pub mod Written
 pub mod Declares
 pub mod Loop
 pub mod Lexed
+pub mod Texts
+pub mod Goods
