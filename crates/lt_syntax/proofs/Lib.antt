@@ -14,3 +14,4 @@ pub mod Loop
 pub mod Lexed
 pub mod Texts
 pub mod Goods
+pub mod Canon
