@@ -15,3 +15,4 @@ pub mod Lexed
 pub mod Texts
 pub mod Goods
 pub mod Canon
+pub mod Spelled
