@@ -75,15 +75,20 @@ reads_clocks : (cs : List (List ℕ × Bool)) → GoodClock cs → (r : List ℕ
 reads_clocks [] g r ts rest s c = c
 reads_clocks (k ∷ cs) g r ts rest s c =
     regroup (clock_text k.0 k.1) (clocks_text cs) r (each clause (k ∷ cs) ts) rest
-      (reads_clock k.0 k.1 (clocks_text cs ++ r) (each clause cs ts) rest g.0 (stops_clocks cs r s) (reads_clocks cs g.1 r ts rest s c))
+    (reads_clock k.0 k.1 (clocks_text cs ++ r) (each clause cs ts) rest g.0 (stops_clocks cs r s) (reads_clocks cs g.1 r ts rest s c))
 
 reads_decl : (d : DeclText) → GoodDecl d → (r : List ℕ) (ts : List Token) (rest : List ℕ) → Stops r → Cuts r ts rest → Cuts (decl_text d ++ r) (group (single d) ts) rest
 reads_decl d g r ts rest s c =
     let u = ty_text d.ty ++ clocks_text d.clock in
-    reads_name d.name (codes ": " ++ u) r (token.Colon ∷ token.Type d.ty ∷ each clause d.clock ts) rest g.0 refl
-      (32 ∷ (u ++ r), colon_front _,
-        (clocks_text d.clock ++ r, ap (λ z. front (skip z)) (append_assoc (ty_text d.ty) (clocks_text d.clock) r) ∙ ty_front d.ty (clocks_text d.clock ++ r) (stops_clocks d.clock r s),
-          reads_clocks d.clock g.1 r ts rest s c))
+    reads_name d.name (codes ": " ++ u) r (token.Colon ∷ token.Type d.ty ∷ each clause d.clock ts) rest g.0 refl (
+      32 ∷ (u ++ r),
+      colon_front _,
+      (
+        clocks_text d.clock ++ r,
+        ap (λ z. front (skip z)) (append_assoc (ty_text d.ty) (clocks_text d.clock) r) ∙ ty_front d.ty (clocks_text d.clock ++ r) (stops_clocks d.clock r s),
+        reads_clocks d.clock g.1 r ts rest s c,
+      ),
+    )
 
 reads_decls : (ds : List DeclText) → Each GoodDecl ds → (r : List ℕ) (ts : List Token) (rest : List ℕ) → Stops r → Cuts r ts rest → Cuts (decls_text ds ++ r) (between token.Semicolon group (map single ds) ts) rest
 reads_decls [] g r ts rest s c = c
@@ -92,9 +97,9 @@ reads_decls (d ∷ e ∷ ds) g r ts rest s c =
     let u = codes "; " ++ decls_text (e ∷ ds) in
     let ts' = between token.Semicolon group (map single (e ∷ ds)) ts in
     regroup (decl_text d) u r (group (single d) (token.Semicolon ∷ ts')) rest
-      (reads_decl d g.0 (u ++ r) (token.Semicolon ∷ ts') rest refl
-        (32 ∷ (decls_text (e ∷ ds) ++ r), semicolon_front _, blank ts' (some_decl e ds ts) (decls_text (e ∷ ds) ++ r) rest (reads_decls (e ∷ ds) g.1 r ts rest s c)))
-    where
+    (reads_decl d g.0 (u ++ r) (token.Semicolon ∷ ts') rest refl
+    (32 ∷ (decls_text (e ∷ ds) ++ r), semicolon_front _, blank ts' (some_decl e ds ts) (decls_text (e ∷ ds) ++ r) rest (reads_decls (e ∷ ds) g.1 r ts rest s c)))
+  where
     some_decl : (e : DeclText) (ds : List DeclText) (ts : List Token) → Nonempty (between token.Semicolon group (map single (e ∷ ds)) ts)
     some_decl e [] ts = record { head = token.Ident e.name; tail = _; is = refl }
     some_decl e (f ∷ ds) ts = record { head = token.Ident e.name; tail = _; is = refl }
@@ -109,8 +114,8 @@ reads_lines (d ∷ ds) g r ts rest c =
     let u = codes ";\n" ++ local_lines ds in
     let ts' = each local (map single ds) (token.Let ∷ ts) in
     regroup (decl_text d) u r (group (single d) (token.Semicolon ∷ ts')) rest
-      (reads_decl d g.0 (u ++ r) (token.Semicolon ∷ ts') rest refl
-        (10 ∷ (local_lines ds ++ r), semicolon_front _, newline ts' (some_local ds ts) (local_lines ds ++ r) rest (reads_lines ds g.1 r ts rest c)))
+    (reads_decl d g.0 (u ++ r) (token.Semicolon ∷ ts') rest refl
+    (10 ∷ (local_lines ds ++ r), semicolon_front _, newline ts' (some_local ds ts) (local_lines ds ++ r) rest (reads_lines ds g.1 r ts rest c)))
 
 reads_locals : (ds : List DeclText) → Each GoodDecl ds → (r : List ℕ) (ts : List Token) (rest : List ℕ) → Cuts r (token.Let ∷ ts) rest → Cuts (10 ∷ (locals_text ds ++ r)) (locals (map single ds) (token.Let ∷ ts)) rest
 reads_locals [] g r ts rest c = c
@@ -127,12 +132,14 @@ reads_equations (e ∷ es) g r ts rest c =
     let v = codes ";\n" ++ equation_lines es in
     let u = codes " = " ++ (text a ++ v) in
     let ts' = each equation (map (λ e. (e.0, placed 1 e.1)) es) (token.Tel ∷ ts) in
-    reads_name e.0 u r (token.Infix (Operator Eq) ∷ tokens a (token.Semicolon ∷ ts')) rest g.0.0 refl
-      (32 ∷ ((text a ++ v) ++ r), refl,
-        blank_form a (token.Semicolon ∷ ts') ((text a ++ v) ++ r) rest
-        (regroup (text a) v r (tokens a (token.Semicolon ∷ ts')) rest
+    reads_name e.0 u r (token.Infix (Operator Eq) ∷ tokens a (token.Semicolon ∷ ts')) rest g.0.0 refl (
+      32 ∷ ((text a ++ v) ++ r),
+      refl,
+      blank_form a (token.Semicolon ∷ ts') ((text a ++ v) ++ r) rest
+          (regroup (text a) v r (tokens a (token.Semicolon ∷ ts')) rest
           (reads a (good_placed 1 e.1 g.0.1) (v ++ r) (token.Semicolon ∷ ts') rest refl
-            (10 ∷ (equation_lines es ++ r), semicolon_front _, newline ts' (some_equation es ts) (equation_lines es ++ r) rest (reads_equations es g.1 r ts rest c)))))
+          (10 ∷ (equation_lines es ++ r), semicolon_front _, newline ts' (some_equation es ts) (equation_lines es ++ r) rest (reads_equations es g.1 r ts rest c)))),
+    )
 
 reads_node : (n : NodeText) → GoodNode n → (r : List ℕ) (ts : List Token) (rest : List ℕ) → Cuts (10 ∷ r) ts rest → Cuts (node_text n ++ r) (node (printed n) ts) rest
 reads_node n g r ts rest c =
@@ -147,18 +154,20 @@ reads_node n g r ts rest c =
     let u2 = decls_text n.ins ++ (codes ") returns (" ++ u3) in
     let c5 : Cuts (u5 ++ r) t4 rest = regroup (equation_lines n.eqs) (codes "tel\n") r t4 rest (reads_equations n.eqs g.eqs (codes "tel\n" ++ r) ts rest (10 ∷ r, refl, c)) in
     let c4 : Cuts (10 ∷ (u4 ++ r)) t3 rest =
-        subst (λ z. Cuts (10 ∷ z) t3 rest) (sym (append_assoc (locals_text n.locals) (codes "let\n" ++ u5) r))
-          (reads_locals n.locals g.locals ((codes "let\n" ++ u5) ++ r) t4 rest (10 ∷ (u5 ++ r), refl, newline t4 (some_equation n.eqs ts) (u5 ++ r) rest c5)) in
+    subst (λ z. Cuts (10 ∷ z) t3 rest) (sym (append_assoc (locals_text n.locals) (codes "let\n" ++ u5) r))
+    (reads_locals n.locals g.locals ((codes "let\n" ++ u5) ++ r) t4 rest (10 ∷ (u5 ++ r), refl, newline t4 (some_equation n.eqs ts) (u5 ++ r) rest c5)) in
     let c3 : Cuts (u3 ++ r) t2 rest =
-        regroup (decls_text n.outs) (codes ")\n" ++ u4) r t2 rest (reads_decls n.outs g.outs ((codes ")\n" ++ u4) ++ r) (token.Close ∷ t3) rest refl (10 ∷ (u4 ++ r), close_front _, c4)) in
+    regroup (decls_text n.outs) (codes ")\n" ++ u4) r t2 rest (reads_decls n.outs g.outs ((codes ")\n" ++ u4) ++ r) (token.Close ∷ t3) rest refl (10 ∷ (u4 ++ r), close_front _, c4)) in
     let t1 = token.Close ∷ token.Returns ∷ token.Open ∷ t2 in
     let c2 : Cuts (u2 ++ r) (between token.Semicolon group (map single n.ins) t1) rest =
-        regroup (decls_text n.ins) (codes ") returns (" ++ u3) r (between token.Semicolon group (map single n.ins) t1) rest
-          (reads_decls n.ins g.ins ((codes ") returns (" ++ u3) ++ r) t1 rest refl
-            (codes " returns (" ++ (u3 ++ r), refl, (codes " (" ++ (u3 ++ r), refl, (u3 ++ r, open_front _, c3)))) in
-    (32 ∷ ((n.name ++ (codes "(" ++ u2)) ++ r), refl,
+    regroup (decls_text n.ins) (codes ") returns (" ++ u3) r (between token.Semicolon group (map single n.ins) t1) rest
+    (reads_decls n.ins g.ins ((codes ") returns (" ++ u3) ++ r) t1 rest refl
+    (codes " returns (" ++ (u3 ++ r), refl, (codes " (" ++ (u3 ++ r), refl, (u3 ++ r, open_front _, c3)))) in (
+      32 ∷ ((n.name ++ (codes "(" ++ u2)) ++ r),
+      refl,
       reads_name n.name (codes "(" ++ u2) r (token.Open ∷ between token.Semicolon group (map single n.ins) t1) rest g.named refl
-        (u2 ++ r, open_front _, c2))
+          (u2 ++ r, open_front _, c2),
+    )
 
 pub reads_nodes : (n : NodeText) (ns : List NodeText) → Each GoodNode (n ∷ ns) → Cuts (canonical (n ∷ ns)) (each node (map printed (n ∷ ns)) []) (10 ∷ [])
 reads_nodes n [] g = reads_node n g.0 [] [] (10 ∷ []) refl

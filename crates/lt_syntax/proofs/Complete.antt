@@ -31,7 +31,6 @@ height_pos (form.sampled a c b) = omega arith
 height_pos (form.merged c a b) = omega arith
 height_pos (form.call f xs) = omega arith
 
-
 -- a left side of a meeting is not higher than its form
 pub left_le : (o : Infix) (v : Option Value) (h : ℕ) → 1 ≤ h → left_height o v h ≤ h
 left_le meet.Fby (Some v) h p = p
@@ -51,14 +50,14 @@ left_pos (meet.Operator o) v h p = p
 pub literal_low : (o : Infix) (a : Form) → height a ≤ left_height o (literal a) (height a) + 1
 literal_low (meet.Operator o) a = omega arith
 literal_low meet.Fby a = fby_low a
-    where
+  where
     fby_low : (a : Form) → height a ≤ left_height meet.Fby (literal a) (height a) + 1
     fby_low (form.number n) = omega arith
     fby_low (form.truth b) = omega arith
     fby_low (form.minus (form.number n)) = omega arith
     fby_low _ = omega arith
 literal_low meet.Arrow a = arrow_low a
-    where
+  where
     arrow_low : (a : Form) → height a ≤ left_height meet.Arrow (literal a) (height a) + 1
     arrow_low (form.number n) = omega arith
     arrow_low (form.truth b) = omega arith
@@ -86,7 +85,7 @@ table Product = record { low = omega arith; high = omega arith; lefts = omega ar
 -- two lines: a form whose right part stands at the other's level is not completed by it
 lines_apart : (j k : Line) → right j ≤ level k → level j < left k
 lines_apart Expr k h = let t = table k in lines_expr k
-    where
+  where
     lines_expr : (k : Line) → 1 < left k
     lines_expr Expr = omega arith
     lines_expr Impl = omega arith
@@ -127,7 +126,7 @@ ends_part (InCall f xs h) = omega arith
 pub below_left : (f : Frame) (k : Line) → part f ≤ level k → ends f < left k
 below_left AfterMinus k h = let t = table k in absurd (omega (arith, h, t.high))
 below_left AfterNot k h = let t = table k in omega (arith, h, t.lefts, below_five k h)
-    where
+  where
     below_five : (k : Line) → 5 ≤ level k → 5 < left k
     below_five Expr h = absurd (omega (arith, h))
     below_five Impl h = absurd (omega (arith, h))
@@ -203,4 +202,3 @@ pub negative_of : (a : Form) → IsAt 11 a → complete AfterMinus (operand a) �
 negative_of (form.number v) at = refl
 negative_of (form.minus a) at = absurd (omega (arith, at.0))
 negative_of _ at = refl
-

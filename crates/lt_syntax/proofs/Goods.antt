@@ -20,7 +20,6 @@ use Rattle.lt_syntax.specs.Canonical.{within, value_form, guarded, led, level_of
 use Rattle.lt_syntax.proofs.Complete.{table}
 use Rattle.lt_syntax.proofs.Written.{AllPass, IsIdent, GoodValue, GoodLit, Good, AllGood}
 use Rattle.lt_syntax.proofs.Lexed.{Stops, letter_plain, digit_plain, ident_front, number_front, open_front, close_front, comma_front, minus_front, own, small, span_stops, halts_word}
-
 use Rattle.std.proofs.Common.{leb-true, ◌||◌, bytes_eq, take, cond, drop}
 use Rattle.std.specs.List.{prefix_len, take_while}
 use Rattle.lt_tokens.specs.Words.{declaring, forming, joining, keyword_or, word_of}
@@ -181,13 +180,13 @@ IsWordOf s _ = Unit {0}
 
 keyword_is : (a b : Option Token) (c : Option Infix) (s : List ℕ) → NoName a → NoName b → IsWordOf s (keyword_or a b c s)
 keyword_is (Some t) b c s p q = from t p
-    where
+  where
     from : (t : Token) → NoName (Some t) → IsWordOf s t
     from (token.Ident x) p = absurd p
     from (token.Number n) p = absurd p
     from _ p = tt
 keyword_is None (Some t) c s p q = from t q
-    where
+  where
     from : (t : Token) → NoName (Some t) → IsWordOf s t
     from (token.Ident x) p = absurd p
     from (token.Number n) p = absurd p
@@ -198,25 +197,27 @@ keyword_is None None None s p q = refl
 good_word : (s : List ℕ) (b : ℕ) (w : List ℕ) → s ≡ b ∷ w → is_letter b ≡ true → AllPass is_word w → GoodToken (word_of s)
 good_word s b w e l a =
     elim (word_of s) as (λ t. word_of s ≡ t → IsWordOf s t → GoodToken t) [
-      token.Ident x ↦ λ q i. subst IsIdent (sym (i ∙ e)) (l, a, subst (λ z. word_of z ≡ token.Ident z) e (q ∙ ap token.Ident i))
-    | token.Number n ↦ λ q i. absurd i
-    | _ ↦ λ q i. tt ] refl (keyword_is (declaring s) (forming s) (joining s) s (declaring_no s) (forming_no s))
+      | token.Ident x ↦ λ q i. subst IsIdent (sym (i ∙ e)) (l, a, subst (λ z. word_of z ≡ token.Ident z) e (q ∙ ap token.Ident i))
+      | token.Number n ↦ λ q i. absurd i
+      | _ ↦ λ q i. tt
+    ] refl (keyword_is (declaring s) (forming s) (joining s) s (declaring_no s) (forming_no s))
 
 -- the longest front that passes
 passing : (p : ℕ → Bool) (bs : List ℕ) → AllPass p (take_while p bs)
 passing p [] = tt
 passing p (b ∷ bs) =
     elim (p b) as (λ t. p b ≡ t → AllPass p (take (cond t (1 + prefix_len p bs) 0) (b ∷ bs))) [
-      true ↦ λ e. subst (λ n. AllPass p (take n (b ∷ bs))) (suc_is (prefix_len p bs)) (e, passing p bs)
-    | false ↦ λ e. tt ] refl
-    where
+      | true ↦ λ e. subst (λ n. AllPass p (take n (b ∷ bs))) (suc_is (prefix_len p bs)) (e, passing p bs)
+      | false ↦ λ e. tt
+    ] refl
+  where
     suc_is : (n : ℕ) → suc n ≡ 1 + n
     suc_is n = omega arith
 
 taken : (p : ℕ → Bool) (b : ℕ) (bs : List ℕ) → p b ≡ true → take_while p (b ∷ bs) ≡ b ∷ take_while p bs
 taken p b bs e =
     ap (λ t. take (cond t (1 + prefix_len p bs) 0) (b ∷ bs)) e ∙ ap (λ n. take n (b ∷ bs)) (one_more (prefix_len p bs))
-    where
+  where
     one_more : (n : ℕ) → 1 + n ≡ suc n
     one_more n = omega arith
 
@@ -227,8 +228,9 @@ GoodFront _ = Unit {0}
 good_number : (s r : List ℕ) → GoodFront (number_of s r)
 good_number s r =
     elim (nat_le (value_on 0 s) greatest) as (λ t. nat_le (value_on 0 s) greatest ≡ t → GoodFront (if t then Begins (token.Number (value_on 0 s)) r else BadNumber)) [
-      true ↦ λ e. leb-true (value_on 0 s) greatest e
-    | false ↦ λ e. tt ] refl
+      | true ↦ λ e. leb-true (value_on 0 s) greatest e
+      | false ↦ λ e. tt
+    ] refl
 
 abbrev GoodSingle : Option Token → Type 0
 GoodSingle (Some t) = GoodToken t
@@ -246,10 +248,12 @@ front_good : (bs : List ℕ) → GoodFront (front bs)
 front_good [] = tt
 front_good (b ∷ bs) =
     elim (is_letter b) as (λ t. is_letter b ≡ t → GoodFront (if t then span is_word (b ∷ bs) word else (if is_digit b then span is_digit (b ∷ bs) number_of else symbol b bs))) [
-      true ↦ λ e. good_word (take_while is_word (b ∷ bs)) b (take_while is_word bs) (taken is_word b bs (ap (λ z. z || is_digit b) e)) e (passing is_word bs)
-    | false ↦ λ e. elim (is_digit b) as (λ t. GoodFront (if t then span is_digit (b ∷ bs) number_of else symbol b bs)) [
-          true ↦ good_number (take_while is_digit (b ∷ bs)) (drop (length (take_while is_digit (b ∷ bs))) (b ∷ bs))
-        | false ↦ symbol_good (pair b bs) (single b) bs (single_good b) ] ] refl
+      | true ↦ λ e. good_word (take_while is_word (b ∷ bs)) b (take_while is_word bs) (taken is_word b bs (ap (λ z. z || is_digit b) e)) e (passing is_word bs)
+      | false ↦ λ e. elim (is_digit b) as (λ t. GoodFront (if t then span is_digit (b ∷ bs) number_of else symbol b bs)) [
+        | true ↦ good_number (take_while is_digit (b ∷ bs)) (drop (length (take_while is_digit (b ∷ bs))) (b ∷ bs))
+        | false ↦ symbol_good (pair b bs) (single b) bs (single_good b)
+      ]
+    ] refl
 
 pub cuts_good : (ts : List Token) (bytes rest : List ℕ) → Cuts bytes ts rest → AllTokens ts
 cuts_good [] bytes rest c = tt

@@ -31,9 +31,10 @@ nothing limit bytes = record { tokens = []; cut = refl; ran = refl }
 
 pub goes : (limit : ℕ) (bytes rest : List ℕ) (s : State) (t : Token) (after : List ℕ) (s' : State) → SoFar limit bytes rest s → front (skip rest) ≡ text.Begins t after → step limit s t ≡ Ok s' → SoFar limit bytes after s'
 goes limit bytes rest s t after s' g f e = record {
-    tokens = g.tokens ++ t ∷ [];
-    cut = cuts_more g.tokens bytes rest t after g.cut f;
-    ran = run_on limit g.tokens (t ∷ []) start s g.ran ∙ ap (λ z. on z (λ s'. Ok s')) e }
+  tokens = g.tokens ++ t ∷ [];
+  cut = cuts_more g.tokens bytes rest t after g.cut f;
+  ran = run_on limit g.tokens (t ∷ []) start s g.ran ∙ ap (λ z. on z (λ s'. Ok s')) e;
+}
 
 module _ (limit : ℕ) (one : 1 ≤ limit) (bytes rest : List ℕ) (s : State) (g : SoFar limit bytes rest s) where
   -- a fault at what stands here

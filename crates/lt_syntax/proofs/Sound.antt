@@ -15,11 +15,8 @@ use Rattle.lt_syntax.specs.Grammar as form
 use Rattle.lt_syntax.specs.Grammar.{Form, Forms, IsAt, AreExprs, polarity, tokens, arguments, literal, joined, left_height, height, heights, meaning, meanings}
 use Rattle.lt_syntax.specs.Machine.{Operand, Frame, AfterMinus, AfterNot, InParen, AfterInfix, AfterIf, AfterThen, AfterElse, Sampling, AfterMerge, FirstPart, SecondPart, InCall, Mode, Want, Named, Has, WantClock, Next, Bad, Go, Done, number_of, truth_of, name_of, paren_of, sampled_of, call_of, part, hole, ends, complete, close, stop, want, second, after, has, clock, named, go, least, need}
 use Rattle.lt_syntax.specs.Parser.{Phase, In, State, Kind, Unexpected, TooDeep, checked, move, finish, step_on, step, on, run}
-
 use Rattle.lt_syntax.proofs.Complete.{operand, height_pos, left_pos, literal_low, table, ends_part, kept, kept_high, kept_infix, kept_when, ended, not_call, negative_of}
-
 use Rattle.lt_syntax.proofs.Runs.{trees_of, trees_meant}
-
 use Rattle.std.proofs.Common.{leb-true}
 use Rattle.lt_syntax.proofs.Zipper.{Begun, z_minus, z_not, z_paren, z_infix, z_if, z_then, z_else, z_sampling, z_merge, z_first, z_second, z_call, Holding, z_want, z_named, z_has, z_clock, tallest, frame, stack, mode, commas, opened, all_opened, held, AllExprs, IsBegun, Waits, Ready, closing, forms, at_lower, hole_le, meanings_snoc, tallest_snoc, commas_snoc, exprs_snoc, arguments_snoc, forms_exprs, call_is, call_more, Completes, completes, room_for}
 
@@ -99,17 +96,21 @@ module _ (limit : ℕ) where
   closed l pos (z ∷ zs) m b g rd at hm lm rm =
       let f = frame z in
       elim (nat_le l (ends f)) as (λ t. nat_le l (ends f) ≡ t → Closed l (z ∷ zs) b) [
-        true ↦ λ is.
-          let le : l ≤ ends f = leb-true l (ends f) is in
-          let c = completes z (hole (stack zs)) b g.1 (at_lower b (part f) m hm at) (omega arith) in
-          let d = closed l pos zs (ends f) (closing z b) g.0 g.3 c.at c.below le (room_for limit z (length (stack zs)) b g.2 (omega arith) (omega arith)) in
-          record {
-            begun = d.begun; form = d.form;
-            is = λ k. ap (λ t. if t then close l (stack zs) (complete f (operand b)) k else k (f ∷ stack zs) (operand b)) is ∙ ap (λ a. close l (stack zs) a k) c.is ∙ d.is k;
-            good = d.good; at = d.at; room = d.room;
-            text = λ r. ap (all_opened zs) (c.text r) ∙ d.text r;
-            ready = d.ready }
-      | false ↦ λ is. record { begun = z ∷ zs; form = b; is = λ k. ap (λ t. if t then close l (stack zs) (complete f (operand b)) k else k (f ∷ stack zs) (operand b)) is; good = g; at = at_lower b l m lm at; room = rm; text = λ r. refl; ready = rd }
+        | true ↦ λ is.
+            let le : l ≤ ends f = leb-true l (ends f) is in
+            let c = completes z (hole (stack zs)) b g.1 (at_lower b (part f) m hm at) (omega arith) in
+            let d = closed l pos zs (ends f) (closing z b) g.0 g.3 c.at c.below le (room_for limit z (length (stack zs)) b g.2 (omega arith) (omega arith)) in
+            record {
+              begun = d.begun;
+              form = d.form;
+              is = λ k. ap (λ t. if t then close l (stack zs) (complete f (operand b)) k else k (f ∷ stack zs) (operand b)) is ∙ ap (λ a. close l (stack zs) a k) c.is ∙ d.is k;
+              good = d.good;
+              at = d.at;
+              room = d.room;
+              text = λ r. ap (all_opened zs) (c.text r) ∙ d.text r;
+              ready = d.ready;
+            }
+        | false ↦ λ is. record { begun = z ∷ zs; form = b; is = λ k. ap (λ t. if t then close l (stack zs) (complete f (operand b)) k else k (f ∷ stack zs) (operand b)) is; good = g; at = at_lower b l m lm at; room = rm; text = λ r. refl; ready = rd }
       ] refl
 
   -- a test that guards a begun form
@@ -132,8 +133,8 @@ module _ (limit : ℕ) where
       let c = form.call f (forms (xs ++ a ∷ [])) in
       let h : height c ≡ max 1 (max (tallest xs) (height a)) + 1 = sym (ap (λ o. o.height) (call_more f xs a)) in
       subst (λ o. Rest (stack zs) (Has o) text) (sym (call_more f xs a))
-        (whole zs c 11 text g.0 g.3 (omega arith) g.1.0 (omega arith, forms_exprs (xs ++ a ∷ []) (exprs_snoc xs a g.1.1 at)) (omega (arith, h, g.2, rm))
-          (λ r. e r ∙ ap (λ z. all_opened zs (token.Ident f ∷ token.Open ∷ z)) (sym (arguments_snoc xs a (token.Close ∷ r)))))
+      (whole zs c 11 text g.0 g.3 (omega arith) g.1.0 (omega arith, forms_exprs (xs ++ a ∷ []) (exprs_snoc xs a g.1.1 at)) (omega (arith, h, g.2, rm))
+      (λ r. e r ∙ ap (λ z. all_opened zs (token.Ident f ∷ token.Open ∷ z)) (sym (arguments_snoc xs a (token.Close ∷ r)))))
 
   comma_rest : (zs : List Begun) (f : List ℕ) (xs : List Form) (a : Form) (text : List Token → List Token) → AreBegun (z_call f xs ∷ zs) → IsAt 1 a → ((r : List Token) → text r ≡ all_opened zs (token.Ident f ∷ token.Open ∷ commas xs (tokens a (token.Comma ∷ r)))) → need (InCall f (map meaning xs ++ meaning a ∷ []) (max (tallest xs) (height a)) ∷ stack zs) ≤ limit → Rest (InCall f (map meaning xs ++ meaning a ∷ []) (max (tallest xs) (height a)) ∷ stack zs) Want text
   comma_rest zs f xs a text g at e nd =
@@ -141,7 +142,7 @@ module _ (limit : ℕ) where
       let s : frame z ≡ InCall f (map meaning xs ++ meaning a ∷ []) (max (tallest xs) (height a)) = sym (ap₂ (InCall f) (meanings_snoc xs a) (tallest_snoc xs a)) in
       let nd' : need (stack (z ∷ zs)) ≤ limit = omega (arith, nd, tallest_snoc xs a) in
       subst (λ f'. Rest (f' ∷ stack zs) Want text) s
-        (begins z zs text g.0 g.3 tt (g.1.0, exprs_snoc xs a g.1.1 at) nd' (λ r. e r ∙ ap (λ z. all_opened zs (token.Ident f ∷ token.Open ∷ z)) (sym (commas_snoc xs a r))))
+      (begins z zs text g.0 g.3 tt (g.1.0, exprs_snoc xs a g.1.1 at) nd' (λ r. e r ∙ ap (λ z. all_opened zs (token.Ident f ∷ token.Open ∷ z)) (sym (commas_snoc xs a r))))
 
   after_fine : (t : Token) (zs : List Begun) (b : Form) → AreBegun zs → Ready zs → IsAt (stop t) b → stop t ≤ 9 → length (stack zs) + height b ≤ limit → Fine (after t (stack zs) (operand b)) (λ r. all_opened zs (tokens b (t ∷ r)))
   after_fine (token.Infix o) zs b g rd at lo rm = tested (hole (stack zs)) (level (line o)) (stack (z_infix o b ∷ zs)) _ (λ le nd. begins (z_infix o b) zs _ g rd tt (le, at) nd (λ r. refl))
@@ -202,7 +203,7 @@ module _ (limit : ℕ) where
   ended_fine t lo hi zs b g w =
       let c = closed (stop t) lo zs w.level b g w.ready w.at w.stands (omega (arith, w.nine)) w.room in
       fine_is (after t (stack c.begun) (operand c.form)) (has (stack zs) (operand b) t) _ (c.is (after t))
-        (fine_text (after t (stack c.begun) (operand c.form)) (λ r. all_opened zs (tokens b (t ∷ r))) (λ r. all_opened c.begun (tokens c.form (t ∷ r))) (λ r. c.text (t ∷ r)) (after_fine t c.begun c.form c.good c.ready c.at hi c.room))
+      (fine_text (after t (stack c.begun) (operand c.form)) (λ r. all_opened zs (tokens b (t ∷ r))) (λ r. all_opened c.begun (tokens c.form (t ∷ r))) (λ r. c.text (t ∷ r)) (after_fine t c.begun c.form c.good c.ready c.at hi c.room))
 
   high_fine : (t : Token) → stop t ≡ 12 → (zs : List Begun) (b : Form) (text : List Token → List Token) → Fine (after t (stack zs) (operand b)) text → Fine (has (stack zs) (operand b) t) text
   high_fine t e zs b text f = fine_is (after t (stack zs) (operand b)) (has (stack zs) (operand b) t) text (ap (λ l. close l (stack zs) (operand b) (after t)) e ∙ kept_high (stack zs) (operand b) (after t)) f
@@ -238,8 +239,9 @@ module _ (limit : ℕ) where
       let text : List Token → List Token = λ r. all_opened zs (token.Ident x ∷ token.Open ∷ r) in
       let h = hole (stack zs) in
       elim (nat_le h 11) as (λ b. nat_le h 11 ≡ b → Fine (if b then Go (InCall x [] 0 ∷ stack zs) Want else has (stack zs) (name_of x) token.Open) text) [
-        true ↦ λ is. λ nd. begins (z_call x []) zs text g rm.1 tt (leb-true h 11 is, tt) nd (λ r. refl)
-      | false ↦ λ is. has_fine token.Open zs (form.name x) g (name_whole x zs rm) ] refl
+        | true ↦ λ is. λ nd. begins (z_call x []) zs text g rm.1 tt (leb-true h 11 is, tt) nd (λ r. refl)
+        | false ↦ λ is. has_fine token.Open zs (form.name x) g (name_whole x zs rm)
+      ] refl
   named_fine x t zs g rm = has_fine t zs (form.name x) g (name_whole x zs rm)
 
   clock_fine : (t : Token) (zs : List Begun) → AreBegun zs → Waits zs → Fine (clock t (stack zs)) (λ r. all_opened zs (t ∷ r))

@@ -18,7 +18,6 @@ use Rattle.lt_syntax.proofs.Written.{IsIdent, Good, placed_at, placed_means, low
 use Rattle.lt_syntax.proofs.Lexed.{Stops, ident_front, span_stops, halts_word, open_front, close_front, semicolon_front, colon_front}
 use Rattle.lt_syntax.proofs.Texts.{GoodForm, Nonempty, some, blank, blank_form, reads}
 use Rattle.lt_syntax.proofs.Goods.{AllTokens, GoodToken, good_meaning, good_placed, tokens_good, cuts_good}
-
 use Rattle.lt_syntax.proofs.Canon.{single, printed, GoodClock, GoodDecl, GoodEquation, GoodNode, reads_nodes}
 
 names_good : (xs : List (List ℕ)) (ts : List Token) → AllTokens (between token.Comma ident xs ts) → Each IsIdent xs × AllTokens ts
@@ -95,7 +94,7 @@ no_clocks (g ∷ gs) m = each_append (λ d. d.clock ≡ []) (declared g.names g.
 some_decls : (gs : List Group) → NotEmpty gs → Each IsGroup gs → NotEmpty (decls gs)
 some_decls [] n m = absurd n
 some_decls (g ∷ gs) n m = by g.names m.0
-    where
+  where
     by : (xs : List (List ℕ)) → NotEmpty xs → NotEmpty (declared xs g.ty g.clock ++ decls gs)
     by [] n = absurd n
     by (x ∷ xs) n = tt
@@ -165,11 +164,12 @@ all_printed (n ∷ ns) g = (printed_good n g.0, all_printed ns g.1)
 spells : (ns : List NodeText) → NotEmpty ns → Each GoodNode ns → Spells 200 (canonical ns) ns
 spells [] n g = absurd n
 spells (n ∷ ns) e g = record {
-    tokens = each node (map printed (n ∷ ns)) [];
-    rest = 10 ∷ [];
-    cut = reads_nodes n ns g;
-    ended = refl;
-    program = record { nodes = map printed (n ∷ ns); some = tt; good = all_printed (n ∷ ns) g; spelled = refl; meant = all_trees (n ∷ ns) g } }
+  tokens = each node (map printed (n ∷ ns)) [];
+  rest = 10 ∷ [];
+  cut = reads_nodes n ns g;
+  ended = refl;
+  program = record { nodes = map printed (n ∷ ns); some = tt; good = all_printed (n ∷ ns) g; spelled = refl; meant = all_trees (n ∷ ns) g };
+}
 
 some_trees : (ds : List Node) → NotEmpty ds → NotEmpty (map node_tree ds)
 some_trees [] h = absurd h

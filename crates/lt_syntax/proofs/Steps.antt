@@ -64,13 +64,14 @@ equation_text ds x ins outs b ls es y w = each node ds (with_locals x ins outs b
 module _ (limit : ℕ) (one : 1 ≤ limit) where
   in_good : (more : ℕ) → limit ≤ more → (ds : List Node) (x : List ℕ) (ins outs : List Group) (b : Bool) (ls : List Group) (es : Eqs) (y : List ℕ) → Each (IsNode limit) ds → GoodHead ins outs ls → Each (IsEquation limit) es → (fs : List Frame) (m : Mode) (text : List Token → List Token) → Rest more fs m text → Good more (record { done = map node_tree ds; phase = In (body_tree x ins outs ls es) y fs m }) (λ r. equation_text ds x ins outs b ls es y (text r))
   in_good more le ds x ins outs b ls es y w g e fs m text r = record {
-      nodes = ds;
-      spot = s_in x ins outs b ls es y r.begun r.holding;
-      done_is = refl;
-      phase_is = ap₂ (λ fs m. In (body_tree x ins outs ls es) y fs m) r.stacked r.held_is;
-      whole = nodes_more limit more le ds w;
-      good = (g, equations_more limit more le es e, r.good, r.fit);
-      written = λ z. ap (equation_text ds x ins outs b ls es y) (r.written z) }
+    nodes = ds;
+    spot = s_in x ins outs b ls es y r.begun r.holding;
+    done_is = refl;
+    phase_is = ap₂ (λ fs m. In (body_tree x ins outs ls es) y fs m) r.stacked r.held_is;
+    whole = nodes_more limit more le ds w;
+    good = (g, equations_more limit more le es e, r.good, r.fit);
+    written = λ z. ap (equation_text ds x ins outs b ls es y) (r.written z);
+  }
 
   le_refl : (n : ℕ) → n ≤ n
   le_refl n = omega arith
@@ -81,20 +82,22 @@ module _ (limit : ℕ) (one : 1 ≤ limit) where
       let p = In (body_tree x ins outs ls es) y fs Want in
       let goal : List Token → List Token = λ r. equation_text ds x ins outs b ls es y (text r) in
       elim (nat_le (need fs) limit) as (λ t. nat_le (need fs) limit ≡ t → StepIs limit (finish (map node_tree ds) (if t then Ok p else Err TooDeep)) goal) [
-        true ↦ λ is. in_good limit (le_refl limit) ds x ins outs b ls es y w g e fs Want text (h limit (le_refl limit) (leb-true (need fs) limit is))
-      | false ↦ λ is.
-          let lt = leb-false (need fs) limit is in
-          let le : limit ≤ need fs = omega arith in
-          (need fs, le, record { done = map node_tree ds; phase = p }, in_good (need fs) le ds x ins outs b ls es y w g e fs Want text (h (need fs) le (le_refl (need fs)))) ] refl
+        | true ↦ λ is. in_good limit (le_refl limit) ds x ins outs b ls es y w g e fs Want text (h limit (le_refl limit) (leb-true (need fs) limit is))
+        | false ↦ λ is.
+            let lt = leb-false (need fs) limit is in
+            let le : limit ≤ need fs = omega arith in
+            (need fs, le, record { done = map node_tree ds; phase = p }, in_good (need fs) le ds x ins outs b ls es y w g e fs Want text (h (need fs) le (le_refl (need fs))))
+      ] refl
   checked_good ds x ins outs b ls es y w g e (Go fs WantClock) text h =
       let p = In (body_tree x ins outs ls es) y fs WantClock in
       let goal : List Token → List Token = λ r. equation_text ds x ins outs b ls es y (text r) in
       elim (nat_le (need fs) limit) as (λ t. nat_le (need fs) limit ≡ t → StepIs limit (finish (map node_tree ds) (if t then Ok p else Err TooDeep)) goal) [
-        true ↦ λ is. in_good limit (le_refl limit) ds x ins outs b ls es y w g e fs WantClock text (h limit (le_refl limit) (leb-true (need fs) limit is))
-      | false ↦ λ is.
-          let lt = leb-false (need fs) limit is in
-          let le : limit ≤ need fs = omega arith in
-          (need fs, le, record { done = map node_tree ds; phase = p }, in_good (need fs) le ds x ins outs b ls es y w g e fs WantClock text (h (need fs) le (le_refl (need fs)))) ] refl
+        | true ↦ λ is. in_good limit (le_refl limit) ds x ins outs b ls es y w g e fs WantClock text (h limit (le_refl limit) (leb-true (need fs) limit is))
+        | false ↦ λ is.
+            let lt = leb-false (need fs) limit is in
+            let le : limit ≤ need fs = omega arith in
+            (need fs, le, record { done = map node_tree ds; phase = p }, in_good (need fs) le ds x ins outs b ls es y w g e fs WantClock text (h (need fs) le (le_refl (need fs))))
+      ] refl
   checked_good ds x ins outs b ls es y w g e (Go fs (Named v)) text h = in_good limit (le_refl limit) ds x ins outs b ls es y w g e fs (Named v) text (h limit (le_refl limit))
   checked_good ds x ins outs b ls es y w g e (Go fs (Has a)) text h = in_good limit (le_refl limit) ds x ins outs b ls es y w g e fs (Has a) text (h limit (le_refl limit))
   checked_good ds x ins outs b ls es y w g e (Done a) text h =
@@ -108,7 +111,8 @@ module _ (limit : ℕ) (one : 1 ≤ limit) where
         phase_is = ap (λ z. Body (record { name = x; ins = decls ins; outs = decls outs; locals = decls ls; eqs = z })) (sym (map_snoc (λ e. (e.0, meaning e.1)) es q) ∙ ap (λ z. map (λ e. (e.0, meaning e.1)) es ++ (y, z) ∷ []) t);
         whole = w;
         good = (g, each_all_snoc (IsEquation limit) es q e (d.at, d.room));
-        written = λ r. ap (equation_text ds x ins outs b ls es y) (d.written r) ∙ ap (λ z. each node ds (with_locals x ins outs b ls z)) (sym (each_snoc equation es q r)) }
+        written = λ r. ap (equation_text ds x ins outs b ls es y) (d.written r) ∙ ap (λ z. each node ds (with_locals x ins outs b ls z)) (sym (each_snoc equation es q r));
+      }
 
   -- a group ends
   group_good : (ds : List Node) (d : Draft) (xs : List (List ℕ)) (ty : Ty) (c : List (List ℕ × Bool)) (t : Token) → Each (IsNode limit) ds → GoodSpot limit (s_group d xs ty c) → StepIs limit (finish (map node_tree ds) (end_group t (draft_tree d) (section d) xs ty c)) (λ r. each node ds (lead d (group (group_of xs ty c) (t ∷ r))))
@@ -116,34 +120,59 @@ module _ (limit : ℕ) (one : 1 ≤ limit) where
   group_good ds (d_locals x ins outs b gs) xs ty c token.When w g = record { nodes = ds; spot = s_polarity (d_locals x ins outs b gs) xs ty c; done_is = refl; phase_is = refl; whole = w; good = (g.0, g.1, tt); written = λ r. refl }
   group_good ds (d_ins x gs) xs ty c token.Semicolon w g =
       let q = group_of xs ty c in
-      record { nodes = ds; spot = s_want (d_ins x (gs ++ q ∷ [])) []; done_is = refl;
+      record {
+        nodes = ds;
+        spot = s_want (d_ins x (gs ++ q ∷ [])) [];
+        done_is = refl;
         phase_is = ap (λ z. WantName (record { name = x; ins = z; outs = []; locals = []; eqs = [] }) Ins []) (sym (decls_snoc gs q));
-        whole = w; good = each_all_snoc IsPlain gs q g.0 (g.1, g.2);
-        written = λ r. ap (λ z. each node ds (head x z)) (sym (each_snoc local gs q r)) }
+        whole = w;
+        good = each_all_snoc IsPlain gs q g.0 (g.1, g.2);
+        written = λ r. ap (λ z. each node ds (head x z)) (sym (each_snoc local gs q r));
+      }
   group_good ds (d_outs x ins gs) xs ty c token.Semicolon w g =
       let q = group_of xs ty c in
-      record { nodes = ds; spot = s_want (d_outs x ins (gs ++ q ∷ [])) []; done_is = refl;
+      record {
+        nodes = ds;
+        spot = s_want (d_outs x ins (gs ++ q ∷ [])) [];
+        done_is = refl;
         phase_is = ap (λ z. WantName (record { name = x; ins = decls ins; outs = z; locals = []; eqs = [] }) Outs []) (sym (decls_snoc gs q));
-        whole = w; good = (g.0.0, each_all_snoc IsGroup gs q g.0.1 g.1);
-        written = λ r. ap (λ z. each node ds (with_ins x ins (token.Returns ∷ token.Open ∷ z))) (sym (each_snoc local gs q r)) }
+        whole = w;
+        good = (g.0.0, each_all_snoc IsGroup gs q g.0.1 g.1);
+        written = λ r. ap (λ z. each node ds (with_ins x ins (token.Returns ∷ token.Open ∷ z))) (sym (each_snoc local gs q r));
+      }
   group_good ds (d_locals x ins outs b gs) xs ty c token.Semicolon w g =
       let q = group_of xs ty c in
-      record { nodes = ds; spot = s_locals x ins outs b (gs ++ q ∷ []); done_is = refl;
+      record {
+        nodes = ds;
+        spot = s_locals x ins outs b (gs ++ q ∷ []);
+        done_is = refl;
         phase_is = ap (λ z. HasLocals (record { name = x; ins = decls ins; outs = decls outs; locals = z; eqs = [] })) (sym (decls_snoc gs q));
-        whole = w; good = (record { plain = g.0.0; some = g.0.1; groups = g.0.2; locals = each_all_snoc IsGroup gs q g.0.3 g.1 }, not_empty_snoc gs q);
-        written = λ r. ap (λ z. each node ds (with_outs x ins outs (optional b token.Semicolon (token.Var ∷ z)))) (sym (each_snoc local gs q r)) }
+        whole = w;
+        good = (record { plain = g.0.0; some = g.0.1; groups = g.0.2; locals = each_all_snoc IsGroup gs q g.0.3 g.1 }, not_empty_snoc gs q);
+        written = λ r. ap (λ z. each node ds (with_outs x ins outs (optional b token.Semicolon (token.Var ∷ z)))) (sym (each_snoc local gs q r));
+      }
   group_good ds (d_ins x gs) xs ty c token.Close w g =
       let q = group_of xs ty c in
-      record { nodes = ds; spot = s_ins x (gs ++ q ∷ []); done_is = refl;
+      record {
+        nodes = ds;
+        spot = s_ins x (gs ++ q ∷ []);
+        done_is = refl;
         phase_is = ap (λ z. HasIns (record { name = x; ins = z; outs = []; locals = []; eqs = [] })) (sym (decls_snoc gs q));
-        whole = w; good = each_all_snoc IsPlain gs q g.0 (g.1, g.2);
-        written = λ r. ap (λ z. each node ds (head x z)) (sym (between_snoc token.Semicolon group gs q (token.Close ∷ r))) }
+        whole = w;
+        good = each_all_snoc IsPlain gs q g.0 (g.1, g.2);
+        written = λ r. ap (λ z. each node ds (head x z)) (sym (between_snoc token.Semicolon group gs q (token.Close ∷ r)));
+      }
   group_good ds (d_outs x ins gs) xs ty c token.Close w g =
       let q = group_of xs ty c in
-      record { nodes = ds; spot = s_outs x ins (gs ++ q ∷ []); done_is = refl;
+      record {
+        nodes = ds;
+        spot = s_outs x ins (gs ++ q ∷ []);
+        done_is = refl;
         phase_is = ap (λ z. HasOuts (record { name = x; ins = decls ins; outs = z; locals = []; eqs = [] })) (sym (decls_snoc gs q));
-        whole = w; good = record { plain = g.0.0; some = not_empty_snoc gs q; groups = each_all_snoc IsGroup gs q g.0.1 g.1; locals = tt };
-        written = λ r. ap (λ z. each node ds (with_ins x ins (token.Returns ∷ token.Open ∷ z))) (sym (between_snoc token.Semicolon group gs q (token.Close ∷ r))) }
+        whole = w;
+        good = record { plain = g.0.0; some = not_empty_snoc gs q; groups = each_all_snoc IsGroup gs q g.0.1 g.1; locals = tt };
+        written = λ r. ap (λ z. each node ds (with_ins x ins (token.Returns ∷ token.Open ∷ z))) (sym (between_snoc token.Semicolon group gs q (token.Close ∷ r)));
+      }
   group_good ds (d_ins x gs) xs ty c _ w g = tt
   group_good ds (d_outs x ins gs) xs ty c _ w g = tt
   group_good ds (d_locals x ins outs b gs) xs ty c _ w g = tt
@@ -151,9 +180,16 @@ module _ (limit : ℕ) (one : 1 ≤ limit) where
   -- a clause of a clock
   clocked : (ds : List Node) (d : Draft) (xs : List (List ℕ)) (ty : Ty) (c : List (List ℕ × Bool)) (v : List ℕ) (b : Bool) → Each (IsNode limit) ds → GoodDraft d × NotEmpty xs × MayClock d → Good limit (record { done = map node_tree ds; phase = HasGroup (draft_tree d) (section d) xs ty (c ++ (v, b) ∷ []) }) (λ r. each node ds (lead d (group (group_of xs ty c) (clause (v, b) r))))
   clocked ds d xs ty c v b w g =
-      record { nodes = ds; spot = s_group d xs ty (c ++ (v, b) ∷ []); done_is = refl; phase_is = refl; whole = w; good = (g.0, g.1, fits d g.2);
-        written = λ r. ap (λ z. each node ds (lead d (between token.Comma ident xs (token.Colon ∷ token.Type ty ∷ z)))) (sym (each_snoc clause c (v, b) r)) }
-      where
+      record {
+        nodes = ds;
+        spot = s_group d xs ty (c ++ (v, b) ∷ []);
+        done_is = refl;
+        phase_is = refl;
+        whole = w;
+        good = (g.0, g.1, fits d g.2);
+        written = λ r. ap (λ z. each node ds (lead d (between token.Comma ident xs (token.Colon ∷ token.Type ty ∷ z)))) (sym (each_snoc clause c (v, b) r));
+      }
+    where
       fits : (d : Draft) → MayClock d → ClockFits d (c ++ (v, b) ∷ [])
       fits (d_ins x gs) m = absurd m
       fits (d_outs x ins gs) m = tt
@@ -164,28 +200,54 @@ module _ (limit : ℕ) (one : 1 ≤ limit) where
   step_good ds s_idle token.Node w g = record { nodes = ds; spot = s_node; done_is = refl; phase_is = refl; whole = w; good = tt; written = λ r. refl }
   step_good ds (s_told x ins outs b ls es) token.Node w g =
       let q = whole_node x ins outs b ls es false in
-      record { nodes = ds ++ q ∷ []; spot = s_node; done_is = sym (map_snoc node_tree ds q); phase_is = refl;
-        whole = each_all_snoc (IsNode limit) ds q w (g.0.plain, g.0.some, g.0.groups, g.0.locals, g.1); good = tt;
-        written = λ r. sym (each_snoc node ds q (token.Node ∷ r)) }
+      record {
+        nodes = ds ++ q ∷ [];
+        spot = s_node;
+        done_is = sym (map_snoc node_tree ds q);
+        phase_is = refl;
+        whole = each_all_snoc (IsNode limit) ds q w (g.0.plain, g.0.some, g.0.groups, g.0.locals, g.1);
+        good = tt;
+        written = λ r. sym (each_snoc node ds q (token.Node ∷ r));
+      }
   step_good ds (s_told x ins outs b ls es) token.Semicolon w g =
       let q = whole_node x ins outs b ls es true in
-      record { nodes = ds ++ q ∷ []; spot = s_idle; done_is = sym (map_snoc node_tree ds q); phase_is = refl;
-        whole = each_all_snoc (IsNode limit) ds q w (g.0.plain, g.0.some, g.0.groups, g.0.locals, g.1); good = tt;
-        written = λ r. sym (each_snoc node ds q r) }
+      record {
+        nodes = ds ++ q ∷ [];
+        spot = s_idle;
+        done_is = sym (map_snoc node_tree ds q);
+        phase_is = refl;
+        whole = each_all_snoc (IsNode limit) ds q w (g.0.plain, g.0.some, g.0.groups, g.0.locals, g.1);
+        good = tt;
+        written = λ r. sym (each_snoc node ds q r);
+      }
   step_good ds s_node (token.Ident x) w g = record { nodes = ds; spot = s_name x; done_is = refl; phase_is = refl; whole = w; good = tt; written = λ r. refl }
   step_good ds (s_name x) token.Open w g = record { nodes = ds; spot = s_opened x; done_is = refl; phase_is = refl; whole = w; good = tt; written = λ r. refl }
   step_good ds (s_opened x) (token.Ident y) w g = record { nodes = ds; spot = s_has (d_ins x []) (y ∷ []); done_is = refl; phase_is = refl; whole = w; good = (tt, tt); written = λ r. refl }
   step_good ds (s_opened x) token.Close w g = record { nodes = ds; spot = s_ins x []; done_is = refl; phase_is = refl; whole = w; good = tt; written = λ r. refl }
   step_good ds (s_want d xs) (token.Ident y) w g =
-      record { nodes = ds; spot = s_has d (xs ++ y ∷ []); done_is = refl; phase_is = refl; whole = w; good = (g, not_empty_snoc xs y);
-        written = λ r. ap (λ z. each node ds (lead d z)) (sym (each_between xs y r)) }
+      record {
+        nodes = ds;
+        spot = s_has d (xs ++ y ∷ []);
+        done_is = refl;
+        phase_is = refl;
+        whole = w;
+        good = (g, not_empty_snoc xs y);
+        written = λ r. ap (λ z. each node ds (lead d z)) (sym (each_between xs y r));
+      }
   step_good ds (s_has d xs) token.Comma w g =
-      record { nodes = ds; spot = s_want d xs; done_is = refl; phase_is = refl; whole = w; good = g.0;
-        written = λ r. ap (λ z. each node ds (lead d z)) (between_comma xs r g.1) }
+      record {
+        nodes = ds;
+        spot = s_want d xs;
+        done_is = refl;
+        phase_is = refl;
+        whole = w;
+        good = g.0;
+        written = λ r. ap (λ z. each node ds (lead d z)) (between_comma xs r g.1);
+      }
   step_good ds (s_has d xs) token.Colon w g = record { nodes = ds; spot = s_type d xs; done_is = refl; phase_is = refl; whole = w; good = g; written = λ r. refl }
   step_good ds (s_type d xs) (token.Type ty) w g =
       record { nodes = ds; spot = s_group d xs ty []; done_is = refl; phase_is = refl; whole = w; good = (g.0, g.1, no_clock d); written = λ r. refl }
-      where
+    where
       no_clock : (d : Draft) → ClockFits d []
       no_clock (d_ins x gs) = refl
       no_clock (d_outs x ins gs) = tt
@@ -203,8 +265,15 @@ module _ (limit : ℕ) (one : 1 ≤ limit) where
   step_good ds (s_head x ins outs) token.Let w g = record { nodes = ds; spot = s_body x ins outs true [] []; done_is = refl; phase_is = refl; whole = w; good = (g, tt); written = λ r. refl }
   step_good ds (s_locals x ins outs b ls) (token.Ident y) w g = record { nodes = ds; spot = s_has (d_locals x ins outs b ls) (y ∷ []); done_is = refl; phase_is = refl; whole = w; good = ((g.0.plain, g.0.some, g.0.groups, g.0.locals), tt); written = λ r. refl }
   step_good ds (s_locals x ins outs b ls) token.Let w g =
-      record { nodes = ds; spot = s_body x ins outs b ls []; done_is = refl; phase_is = refl; whole = w; good = (g.0, tt);
-        written = λ r. ap (λ z. each node ds (with_outs x ins outs (optional b token.Semicolon z))) (sym (locals_some ls (token.Let ∷ r) g.1)) }
+      record {
+        nodes = ds;
+        spot = s_body x ins outs b ls [];
+        done_is = refl;
+        phase_is = refl;
+        whole = w;
+        good = (g.0, tt);
+        written = λ r. ap (λ z. each node ds (with_outs x ins outs (optional b token.Semicolon z))) (sym (locals_some ls (token.Let ∷ r) g.1));
+      }
   step_good ds (s_body x ins outs b ls es) (token.Ident y) w g = record { nodes = ds; spot = s_left x ins outs b ls es y; done_is = refl; phase_is = refl; whole = w; good = g; written = λ r. refl }
   step_good ds (s_body x ins outs b ls es) token.Tel w g = record { nodes = ds; spot = s_told x ins outs b ls es; done_is = refl; phase_is = refl; whole = w; good = g; written = λ r. refl }
   step_good ds (s_left x ins outs b ls es y) (token.Infix (meet.Operator Eq)) w g = record { nodes = ds; spot = s_in x ins outs b ls es y [] z_want; done_is = refl; phase_is = refl; whole = w; good = (g.0, g.1, tt, (one, tt)); written = λ r. refl }

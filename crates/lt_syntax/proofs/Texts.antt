@@ -102,40 +102,49 @@ reads_binary : (o : Infix) (a b : Form) → Reads a → Reads b → Reads (binar
 reads_binary o a b ra rb r ts rest s c =
     let u = operator o ++ (codes " " ++ text b) in
     regroup (text a) (codes " " ++ u) r (tokens (binary o a b) ts) rest
-      (ra ((codes " " ++ u) ++ r) (token.Infix o ∷ tokens b ts) rest refl
-        (32 ∷ (text b ++ r), operator_front o (text b) r, blank_form b ts (text b ++ r) rest (rb r ts rest s c)))
+    (ra ((codes " " ++ u) ++ r) (token.Infix o ∷ tokens b ts) rest refl
+    (32 ∷ (text b ++ r), operator_front o (text b) r, blank_form b ts (text b ++ r) rest (rb r ts rest s c)))
 
 reads_choice : (d a b : Form) → Reads d → Reads a → Reads b → Reads (choice d a b)
 reads_choice d a b rd ra rb r ts rest s c =
     let v = codes " else " ++ text b in
-    let u = codes " then " ++ (text a ++ v) in
-    (32 ∷ ((text d ++ u) ++ r), refl,
+    let u = codes " then " ++ (text a ++ v) in (
+      32 ∷ ((text d ++ u) ++ r),
+      refl,
       blank_form d (token.Then ∷ tokens a (token.Else ∷ tokens b ts)) ((text d ++ u) ++ r) rest
-      (regroup (text d) u r _ rest
-        (rd (u ++ r) (token.Then ∷ tokens a (token.Else ∷ tokens b ts)) rest refl
-          (32 ∷ ((text a ++ v) ++ r), refl,
+          (regroup (text d) u r _ rest
+          (rd (u ++ r) (token.Then ∷ tokens a (token.Else ∷ tokens b ts)) rest refl (
+            32 ∷ ((text a ++ v) ++ r),
+            refl,
             blank_form a (token.Else ∷ tokens b ts) ((text a ++ v) ++ r) rest
-            (regroup (text a) v r _ rest
-              (ra (v ++ r) (token.Else ∷ tokens b ts) rest refl
-                (32 ∷ (text b ++ r), refl, blank_form b ts (text b ++ r) rest (rb r ts rest s c))))))))
+                (regroup (text a) v r _ rest
+                (ra (v ++ r) (token.Else ∷ tokens b ts) rest refl
+                (32 ∷ (text b ++ r), refl, blank_form b ts (text b ++ r) rest (rb r ts rest s c)))),
+          ))),
+    )
 
 reads_sampled : (a : Form) (x : List ℕ) (b : Bool) → IsIdent x → Reads a → Reads (sampled a x b)
 reads_sampled a x true i ra r ts rest s c =
     regroup (text a) (clock_text x true) r (tokens (sampled a x true) ts) rest
-      (ra (clock_text x true ++ r) (token.When ∷ token.Ident x ∷ ts) rest refl (32 ∷ (x ++ r), refl, (r, ident_front x r i s, c)))
+    (ra (clock_text x true ++ r) (token.When ∷ token.Ident x ∷ ts) rest refl (32 ∷ (x ++ r), refl, (r, ident_front x r i s, c)))
 reads_sampled a x false i ra r ts rest s c =
     regroup (text a) (clock_text x false) r (tokens (sampled a x false) ts) rest
-      (ra (clock_text x false ++ r) (token.When ∷ token.Not ∷ token.Ident x ∷ ts) rest refl (codes " not " ++ (x ++ r), refl, (32 ∷ (x ++ r), refl, (r, ident_front x r i s, c))))
+    (ra (clock_text x false ++ r) (token.When ∷ token.Not ∷ token.Ident x ∷ ts) rest refl (codes " not " ++ (x ++ r), refl, (32 ∷ (x ++ r), refl, (r, ident_front x r i s, c))))
 
 reads_merged : (x : List ℕ) (a b : Form) → IsIdent x → Reads a → Reads b → Reads (merged x a b)
 reads_merged x a b i ra rb r ts rest s c =
     let v = codes " " ++ text b in
-    let u = codes " " ++ (text a ++ v) in
-    (32 ∷ ((x ++ u) ++ r), refl,
-      (u ++ r, ap (λ z. front (skip z)) (append_assoc x u r) ∙ ident_front x (u ++ r) i refl,
+    let u = codes " " ++ (text a ++ v) in (
+      32 ∷ ((x ++ u) ++ r),
+      refl,
+      (
+        u ++ r,
+        ap (λ z. front (skip z)) (append_assoc x u r) ∙ ident_front x (u ++ r) i refl,
         blank_form a (tokens b ts) ((text a ++ v) ++ r) rest
-        (regroup (text a) v r (tokens a (tokens b ts)) rest
-          (ra (v ++ r) (tokens b ts) rest refl (blank_form b ts (text b ++ r) rest (rb r ts rest s c))))))
+            (regroup (text a) v r (tokens a (tokens b ts)) rest
+            (ra (v ++ r) (tokens b ts) rest refl (blank_form b ts (text b ++ r) rest (rb r ts rest s c)))),
+      ),
+    )
 
 abbrev AllReads : Forms → Type 0
 AllReads nil = Unit {0}
@@ -147,20 +156,25 @@ reads_texts (cons a nil) rs r ts rest s c = rs.0 r ts rest s c
 reads_texts (cons a (cons b xs)) rs r ts rest s c =
     let u = codes ", " ++ texts (cons b xs) in
     regroup (text a) u r (tokens a (token.Comma ∷ arguments (cons b xs) ts)) rest
-      (rs.0 (u ++ r) (token.Comma ∷ arguments (cons b xs) ts) rest refl
-        (32 ∷ (texts (cons b xs) ++ r), comma_front _, blank (arguments (cons b xs) ts) (some_argument b xs ts) (texts (cons b xs) ++ r) rest (reads_texts (cons b xs) rs.1 r ts rest s c)))
-    where
+    (rs.0 (u ++ r) (token.Comma ∷ arguments (cons b xs) ts) rest refl
+    (32 ∷ (texts (cons b xs) ++ r), comma_front _, blank (arguments (cons b xs) ts) (some_argument b xs ts) (texts (cons b xs) ++ r) rest (reads_texts (cons b xs) rs.1 r ts rest s c)))
+  where
     some_argument : (b : Form) (xs : Forms) (ts : List Token) → Nonempty (arguments (cons b xs) ts)
     some_argument b nil ts = some b ts
     some_argument b (cons d xs) ts = some b (token.Comma ∷ arguments (cons d xs) ts)
 
 reads_call : (f : List ℕ) (xs : Forms) → IsIdent f → AllReads xs → Reads (call f xs)
 reads_call f xs i rs r ts rest s c =
-    let u = codes "(" ++ (texts xs ++ codes ")") in
-    (u ++ r, ap (λ z. front (skip z)) (append_assoc f u r) ∙ ident_front f (u ++ r) i refl,
-      ((texts xs ++ codes ")") ++ r, open_front _,
+    let u = codes "(" ++ (texts xs ++ codes ")") in (
+      u ++ r,
+      ap (λ z. front (skip z)) (append_assoc f u r) ∙ ident_front f (u ++ r) i refl,
+      (
+        (texts xs ++ codes ")") ++ r,
+        open_front _,
         regroup (texts xs) (codes ")") r (arguments xs (token.Close ∷ ts)) rest
-          (reads_texts xs rs (41 ∷ r) (token.Close ∷ ts) rest refl (r, close_front r, c))))
+            (reads_texts xs rs (41 ∷ r) (token.Close ∷ ts) rest refl (r, close_front r, c)),
+      ),
+    )
 
 -- the first byte behind -
 record Leads (u : List ℕ) : Type 0 where

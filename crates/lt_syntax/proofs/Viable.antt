@@ -56,50 +56,50 @@ module _ (limit : ℕ) where
   finishes [] m b g rd at hm rm = record { more = λ r. r; whole = b; at = at_lower b 1 m hm at; room = omega arith; text = λ r. refl }
   finishes (z_paren ∷ zs) m b g rd at hm rm =
       behind (z_paren ∷ zs) zs b (form.paren b) (λ r. token.Close ∷ r) (λ r. refl)
-        (finishes zs 12 (form.paren b) g.0 g.3 (omega arith, at_lower b 1 m hm at) (hole_le (stack zs)) (omega arith))
+      (finishes zs 12 (form.paren b) g.0 g.3 (omega arith, at_lower b 1 m hm at) (hole_le (stack zs)) (omega arith))
   finishes (z_call f xs ∷ zs) m b g rd at hm rm =
       let c = form.call f (forms (xs ++ b ∷ [])) in
       let h : height c ≤ max 1 (max (tallest xs) (height b)) + 1 = omega (arith, forms_tall (xs ++ b ∷ []), tallest_snoc xs b) in
       behind (z_call f xs ∷ zs) zs b c (λ r. token.Close ∷ r) (λ r. ap (λ z. all_opened zs (token.Ident f ∷ token.Open ∷ z)) (sym (arguments_snoc xs b (token.Close ∷ r))))
-        (finishes zs 11 c g.0 g.3 (omega arith, forms_exprs (xs ++ b ∷ []) (exprs_snoc xs b g.1.1 (at_lower b 1 m hm at))) g.1.0 (omega (arith, h, g.2)))
+      (finishes zs 11 c g.0 g.3 (omega arith, forms_exprs (xs ++ b ∷ []) (exprs_snoc xs b g.1.1 (at_lower b 1 m hm at))) g.1.0 (omega (arith, h, g.2)))
   finishes (z_if ∷ zs) m b g rd at hm rm =
       let c = form.choice b named named in
       behind (z_if ∷ zs) zs b c (λ r. token.Then ∷ token.Ident some_name ∷ token.Else ∷ token.Ident some_name ∷ r) (λ r. refl)
-        (finishes zs 1 c g.0 g.3 (omega arith, at_lower b 1 m hm at, omega arith, omega arith) g.1 (omega (arith, height_pos b)))
+      (finishes zs 1 c g.0 g.3 (omega arith, at_lower b 1 m hm at, omega arith, omega arith) g.1 (omega (arith, height_pos b)))
   finishes (z_then c ∷ zs) m b g rd at hm rm =
       let d = form.choice c b named in
       behind (z_then c ∷ zs) zs b d (λ r. token.Else ∷ token.Ident some_name ∷ r) (λ r. refl)
-        (finishes zs 1 d g.0 g.3 (omega arith, g.1.1, at_lower b 1 m hm at, omega arith) g.1.0 (omega (arith, height_pos b, g.2)))
+      (finishes zs 1 d g.0 g.3 (omega arith, g.1.1, at_lower b 1 m hm at, omega arith) g.1.0 (omega (arith, height_pos b, g.2)))
   finishes (z_first c ∷ zs) m b g rd at hm rm =
       let d = form.merged c b named in
       behind (z_first c ∷ zs) zs b d (λ r. token.Ident some_name ∷ r) (λ r. refl)
-        (finishes zs 11 d g.0 g.3 (omega arith, at_lower b 12 m hm at, omega arith) g.1 (omega (arith, height_pos b, g.2)))
+      (finishes zs 11 d g.0 g.3 (omega arith, at_lower b 12 m hm at, omega arith) g.1 (omega (arith, height_pos b, g.2)))
   finishes (z_sampling a v ∷ zs) m b g rd at hm rm = absurd rd
   finishes (z_merge ∷ zs) m b g rd at hm rm = absurd rd
   finishes (z_minus ∷ zs) m b g rd at hm rm =
       let c = completes z_minus (hole (stack zs)) b g.1 (at_lower b 11 m hm at) (omega arith) in
       behind (z_minus ∷ zs) zs b (closing z_minus b) (λ r. r) (λ r. ap (all_opened zs) (c.text r))
-        (finishes zs 10 (closing z_minus b) g.0 g.3 c.at c.below (room_for limit z_minus (length (stack zs)) b g.2 (omega arith) (omega arith)))
+      (finishes zs 10 (closing z_minus b) g.0 g.3 c.at c.below (room_for limit z_minus (length (stack zs)) b g.2 (omega arith) (omega arith)))
   finishes (z_not ∷ zs) m b g rd at hm rm =
       let c = completes z_not (hole (stack zs)) b g.1 (at_lower b 5 m hm at) (omega arith) in
       behind (z_not ∷ zs) zs b (closing z_not b) (λ r. r) (λ r. ap (all_opened zs) (c.text r))
-        (finishes zs 5 (closing z_not b) g.0 g.3 c.at c.below (room_for limit z_not (length (stack zs)) b g.2 (omega arith) (omega arith)))
+      (finishes zs 5 (closing z_not b) g.0 g.3 c.at c.below (room_for limit z_not (length (stack zs)) b g.2 (omega arith) (omega arith)))
   finishes (z_infix o a ∷ zs) m b g rd at hm rm =
       let k = table (line o) in
       let z = z_infix o a in
       let c = completes z (hole (stack zs)) b g.1 (at_lower b (right (line o)) m hm at) k.low in
       behind (z ∷ zs) zs b (closing z b) (λ r. r) (λ r. ap (all_opened zs) (c.text r))
-        (finishes zs (level (line o)) (closing z b) g.0 g.3 c.at c.below (room_for limit z (length (stack zs)) b g.2 (omega arith) k.low))
+      (finishes zs (level (line o)) (closing z b) g.0 g.3 c.at c.below (room_for limit z (length (stack zs)) b g.2 (omega arith) k.low))
   finishes (z_else d a ∷ zs) m b g rd at hm rm =
       let z = z_else d a in
       let c = completes z (hole (stack zs)) b g.1 (at_lower b 1 m hm at) (omega arith) in
       behind (z ∷ zs) zs b (closing z b) (λ r. r) (λ r. ap (all_opened zs) (c.text r))
-        (finishes zs 1 (closing z b) g.0 g.3 c.at c.below (room_for limit z (length (stack zs)) b g.2 (omega arith) (omega arith)))
+      (finishes zs 1 (closing z b) g.0 g.3 c.at c.below (room_for limit z (length (stack zs)) b g.2 (omega arith) (omega arith)))
   finishes (z_second d a ∷ zs) m b g rd at hm rm =
       let z = z_second d a in
       let c = completes z (hole (stack zs)) b g.1 (at_lower b 12 m hm at) (omega arith) in
       behind (z ∷ zs) zs b (closing z b) (λ r. r) (λ r. ap (all_opened zs) (c.text r))
-        (finishes zs 11 (closing z b) g.0 g.3 c.at c.below (room_for limit z (length (stack zs)) b g.2 (omega arith) (omega arith)))
+      (finishes zs 11 (closing z b) g.0 g.3 c.at c.below (room_for limit z (length (stack zs)) b g.2 (omega arith) (omega arith)))
 
   -- an expression that is begun, ended
   record Ending (zs : List Begun) (h : Holding) : Type 0 where
@@ -134,7 +134,6 @@ module _ (limit : ℕ) where
     good : IsNode limit whole
     text : spot_text p more ≡ node whole []
 
-
   good_node : (x : List ℕ) (ins outs : List Group) (b : Bool) (ls : List Group) (es : Eqs) → GoodHead ins outs ls → Each (IsEquation limit) es → IsNode limit (whole_node x ins outs b ls es false)
   good_node x ins outs b ls es g e = (g.plain, g.some, g.groups, g.locals, e)
 
@@ -151,19 +150,22 @@ module _ (limit : ℕ) where
 
   grown : (d : Draft) (g : Group) → GoodDraft d → IsGroup g → ClockFits d g.clock → Grown d g
   grown (d_ins x gs) g w i c = record {
-      whole = whole_node x (gs ++ g ∷ []) (some_group ∷ []) false [] [] false;
-      good = (each_all_snoc IsPlain gs g w (i, c), tt, (tt, tt), tt, tt);
-      text = ap (head x) (sym (between_snoc token.Semicolon group gs g (rest_of (d_ins x gs)))) }
+    whole = whole_node x (gs ++ g ∷ []) (some_group ∷ []) false [] [] false;
+    good = (each_all_snoc IsPlain gs g w (i, c), tt, (tt, tt), tt, tt);
+    text = ap (head x) (sym (between_snoc token.Semicolon group gs g (rest_of (d_ins x gs))));
+  }
   grown (d_outs x ins gs) g w i c = record {
-      whole = whole_node x ins (gs ++ g ∷ []) false [] [] false;
-      good = (w.0, not_empty_snoc gs g, each_all_snoc IsGroup gs g w.1 i, tt, tt);
-      text = ap (λ z. with_ins x ins (token.Returns ∷ token.Open ∷ z)) (sym (between_snoc token.Semicolon group gs g (rest_of (d_outs x ins gs)))) }
+    whole = whole_node x ins (gs ++ g ∷ []) false [] [] false;
+    good = (w.0, not_empty_snoc gs g, each_all_snoc IsGroup gs g w.1 i, tt, tt);
+    text = ap (λ z. with_ins x ins (token.Returns ∷ token.Open ∷ z)) (sym (between_snoc token.Semicolon group gs g (rest_of (d_outs x ins gs))));
+  }
   grown (d_locals x ins outs b gs) g w i c =
       let r = token.Let ∷ token.Tel ∷ [] in
       record {
-      whole = whole_node x ins outs b (gs ++ g ∷ []) [] false;
-      good = (w.0, w.1, w.2, each_all_snoc IsGroup gs g w.3 i, tt);
-      text = ap (λ z. with_outs x ins outs (optional b token.Semicolon (token.Var ∷ z))) (sym (each_snoc local gs g r)) ∙ ap (λ z. with_outs x ins outs (optional b token.Semicolon z)) (sym (locals_some (gs ++ g ∷ []) r (not_empty_snoc gs g))) }
+        whole = whole_node x ins outs b (gs ++ g ∷ []) [] false;
+        good = (w.0, w.1, w.2, each_all_snoc IsGroup gs g w.3 i, tt);
+        text = ap (λ z. with_outs x ins outs (optional b token.Semicolon (token.Var ∷ z))) (sym (each_snoc local gs g r)) ∙ ap (λ z. with_outs x ins outs (optional b token.Semicolon z)) (sym (locals_some (gs ++ g ∷ []) r (not_empty_snoc gs g)));
+      }
 
   free : (d : Draft) → ClockFits d []
   free (d_ins x gs) = refl
@@ -183,46 +185,72 @@ module _ (limit : ℕ) where
   spot_ends (s_opened x) one g = record { more = rest_of (d_ins x []); whole = whole_node x [] (some_group ∷ []) false [] [] false; good = (tt, tt, (tt, tt), tt, tt); text = refl }
   spot_ends (s_want d xs) one g =
       let q = grown d (group_of (xs ++ some_name ∷ []) ty.Int []) g (not_empty_snoc xs some_name) (free d) in
-      record { more = token.Ident some_name ∷ token.Colon ∷ token.Type ty.Int ∷ rest_of d; whole = q.whole; good = q.good;
-        text = ap (lead d) (sym (each_between xs some_name (token.Colon ∷ token.Type ty.Int ∷ rest_of d))) ∙ q.text }
+      record {
+        more = token.Ident some_name ∷ token.Colon ∷ token.Type ty.Int ∷ rest_of d;
+        whole = q.whole;
+        good = q.good;
+        text = ap (lead d) (sym (each_between xs some_name (token.Colon ∷ token.Type ty.Int ∷ rest_of d))) ∙ q.text;
+      }
   spot_ends (s_has d xs) one g = let q = grown d (group_of xs ty.Int []) g.0 g.1 (free d) in record { more = token.Colon ∷ token.Type ty.Int ∷ rest_of d; whole = q.whole; good = q.good; text = q.text }
   spot_ends (s_type d xs) one g = let q = grown d (group_of xs ty.Int []) g.0 g.1 (free d) in record { more = token.Type ty.Int ∷ rest_of d; whole = q.whole; good = q.good; text = q.text }
   spot_ends (s_group d xs t c) one g = let q = grown d (group_of xs t c) g.0 g.1 g.2 in record { more = rest_of d; whole = q.whole; good = q.good; text = q.text }
   spot_ends (s_polarity d xs t c) one g =
       let q = grown d (group_of xs t (c ++ (some_name, true) ∷ [])) g.0 g.1 (may d _ g.2) in
-      record { more = token.Ident some_name ∷ rest_of d; whole = q.whole; good = q.good;
-        text = ap (λ z. lead d (between token.Comma ident xs (token.Colon ∷ token.Type t ∷ z))) (sym (each_snoc clause c (some_name, true) (rest_of d))) ∙ q.text }
+      record {
+        more = token.Ident some_name ∷ rest_of d;
+        whole = q.whole;
+        good = q.good;
+        text = ap (λ z. lead d (between token.Comma ident xs (token.Colon ∷ token.Type t ∷ z))) (sym (each_snoc clause c (some_name, true) (rest_of d))) ∙ q.text;
+      }
   spot_ends (s_variable d xs t c) one g =
       let q = grown d (group_of xs t (c ++ (some_name, false) ∷ [])) g.0 g.1 (may d _ g.2) in
-      record { more = token.Ident some_name ∷ rest_of d; whole = q.whole; good = q.good;
-        text = ap (λ z. lead d (between token.Comma ident xs (token.Colon ∷ token.Type t ∷ z))) (sym (each_snoc clause c (some_name, false) (rest_of d))) ∙ q.text }
+      record {
+        more = token.Ident some_name ∷ rest_of d;
+        whole = q.whole;
+        good = q.good;
+        text = ap (λ z. lead d (between token.Comma ident xs (token.Colon ∷ token.Type t ∷ z))) (sym (each_snoc clause c (some_name, false) (rest_of d))) ∙ q.text;
+      }
   spot_ends (s_ins x ins) one g = record { more = token.Returns ∷ token.Open ∷ token.Ident some_name ∷ token.Colon ∷ token.Type ty.Int ∷ token.Close ∷ token.Let ∷ token.Tel ∷ []; whole = whole_node x ins (some_group ∷ []) false [] [] false; good = (g, tt, (tt, tt), tt, tt); text = refl }
   spot_ends (s_returning x ins) one g = record { more = token.Open ∷ token.Ident some_name ∷ token.Colon ∷ token.Type ty.Int ∷ token.Close ∷ token.Let ∷ token.Tel ∷ []; whole = whole_node x ins (some_group ∷ []) false [] [] false; good = (g, tt, (tt, tt), tt, tt); text = refl }
   spot_ends (s_outs x ins outs) one g = record { more = token.Let ∷ token.Tel ∷ []; whole = whole_node x ins outs false [] [] false; good = good_node x ins outs false [] [] g tt; text = refl }
   spot_ends (s_head x ins outs) one g = record { more = token.Let ∷ token.Tel ∷ []; whole = whole_node x ins outs true [] [] false; good = good_node x ins outs true [] [] g tt; text = refl }
-  spot_ends (s_locals x ins outs b ls) one g = record { more = token.Let ∷ token.Tel ∷ []; whole = whole_node x ins outs b ls [] false; good = good_node x ins outs b ls [] g.0 tt;
-      text = ap (λ z. with_outs x ins outs (optional b token.Semicolon z)) (sym (locals_some ls (token.Let ∷ token.Tel ∷ []) g.1)) }
+  spot_ends (s_locals x ins outs b ls) one g = record {
+    more = token.Let ∷ token.Tel ∷ [];
+    whole = whole_node x ins outs b ls [] false;
+    good = good_node x ins outs b ls [] g.0 tt;
+    text = ap (λ z. with_outs x ins outs (optional b token.Semicolon z)) (sym (locals_some ls (token.Let ∷ token.Tel ∷ []) g.1));
+  }
   spot_ends (s_body x ins outs b ls es) one g = record { more = token.Tel ∷ []; whole = whole_node x ins outs b ls es false; good = good_node x ins outs b ls es g.0 g.1; text = refl }
   spot_ends (s_left x ins outs b ls es y) one g =
       let q : List ℕ × Form = (y, named) in
-      record { more = token.Infix (meet.Operator Eq) ∷ token.Ident some_name ∷ token.Semicolon ∷ token.Tel ∷ []; whole = whole_node x ins outs b ls (es ++ q ∷ []) false;
+      record {
+        more = token.Infix (meet.Operator Eq) ∷ token.Ident some_name ∷ token.Semicolon ∷ token.Tel ∷ [];
+        whole = whole_node x ins outs b ls (es ++ q ∷ []) false;
         good = good_node x ins outs b ls (es ++ q ∷ []) g.0 (each_all_snoc (IsEquation limit) es q g.1 (omega arith, one));
-        text = ap (with_locals x ins outs b ls) (sym (each_snoc equation es q (token.Tel ∷ []))) }
+        text = ap (with_locals x ins outs b ls) (sym (each_snoc equation es q (token.Tel ∷ [])));
+      }
   spot_ends (s_in x ins outs b ls es y zs h) one g =
       let d = ending zs h g.2 g.3 in
       let q : List ℕ × Form = (y, d.whole) in
-      record { more = d.more (token.Semicolon ∷ token.Tel ∷ []); whole = whole_node x ins outs b ls (es ++ q ∷ []) false;
+      record {
+        more = d.more (token.Semicolon ∷ token.Tel ∷ []);
+        whole = whole_node x ins outs b ls (es ++ q ∷ []) false;
         good = good_node x ins outs b ls (es ++ q ∷ []) g.0 (each_all_snoc (IsEquation limit) es q g.1 (d.at, d.room));
         text = ap (λ z. with_locals x ins outs b ls (each equation es (token.Ident y ∷ token.Infix (meet.Operator Eq) ∷ z))) (d.text (token.Semicolon ∷ token.Tel ∷ []))
-          ∙ ap (with_locals x ins outs b ls) (sym (each_snoc equation es q (token.Tel ∷ []))) }
+            ∙ ap (with_locals x ins outs b ls) (sym (each_snoc equation es q (token.Tel ∷ [])));
+      }
 
   -- what is taken begins a program
   pub good_begins : (s : State) (ts : List Token) → 1 ≤ limit → Good limit s (λ r. ts ++ r) → Begins limit ts
   good_begins s ts one g =
-      let d = spot_ends g.spot one g.good in
-      (d.more, map node_tree (g.nodes ++ d.whole ∷ []), record {
-        nodes = g.nodes ++ d.whole ∷ [];
-        some = not_empty_snoc g.nodes d.whole;
-        good = each_all_snoc (IsNode limit) g.nodes d.whole g.whole d.good;
-        spelled = g.written d.more ∙ ap (each node g.nodes) d.text ∙ sym (each_snoc node g.nodes d.whole []);
-        meant = refl })
+      let d = spot_ends g.spot one g.good in (
+        d.more,
+        map node_tree (g.nodes ++ d.whole ∷ []),
+        record {
+          nodes = g.nodes ++ d.whole ∷ [];
+          some = not_empty_snoc g.nodes d.whole;
+          good = each_all_snoc (IsNode limit) g.nodes d.whole g.whole d.good;
+          spelled = g.written d.more ∙ ap (each node g.nodes) d.text ∙ sym (each_snoc node g.nodes d.whole []);
+          meant = refl;
+        },
+      )

@@ -20,8 +20,9 @@ pub run_on : (limit : ℕ) (p ts : List Token) (s0 s : State) → run limit s0 p
 run_on limit [] ts s0 s h = let e : s0 ≡ s = cc in ap (λ z. run limit z ts) e
 run_on limit (t ∷ p) ts s0 s h =
     elim (step limit s0 t) as (λ a. on a (λ s'. run limit s' p) ≡ Ok s → on a (λ s'. run limit s' (p ++ ts)) ≡ run limit s ts) [
-      Ok s' ↦ λ e. run_on limit p ts s' s e
-    | Err k ↦ λ e. cc ] h
+      | Ok s' ↦ λ e. run_on limit p ts s' s e
+      | Err k ↦ λ e. cc
+    ] h
 
 -- a step that is good at a limit is the same at a higher one
 abbrev Grows : {A : Type 0} → Result A Kind → Result A Kind → Type 0
@@ -33,12 +34,14 @@ checked_grows : (l m : ℕ) → l ≤ m → (n : NodeText) (x : List ℕ) (k : N
 checked_grows l m h n x Bad = refl
 checked_grows l m h n x (Go fs Want) =
     elim (nat_le (need fs) l) as (λ t. nat_le (need fs) l ≡ t → Grows (if t then Ok (In n x fs Want) else Err TooDeep) (checked m n x (Go fs Want))) [
-      true ↦ λ is. ap (λ t. if t then Ok (In n x fs Want) else Err TooDeep) (le-leb (need fs) m (le_trans (leb-true (need fs) l is) h))
-    | false ↦ λ is. tt ] refl
+      | true ↦ λ is. ap (λ t. if t then Ok (In n x fs Want) else Err TooDeep) (le-leb (need fs) m (le_trans (leb-true (need fs) l is) h))
+      | false ↦ λ is. tt
+    ] refl
 checked_grows l m h n x (Go fs WantClock) =
     elim (nat_le (need fs) l) as (λ t. nat_le (need fs) l ≡ t → Grows (if t then Ok (In n x fs WantClock) else Err TooDeep) (checked m n x (Go fs WantClock))) [
-      true ↦ λ is. ap (λ t. if t then Ok (In n x fs WantClock) else Err TooDeep) (le-leb (need fs) m (le_trans (leb-true (need fs) l is) h))
-    | false ↦ λ is. tt ] refl
+      | true ↦ λ is. ap (λ t. if t then Ok (In n x fs WantClock) else Err TooDeep) (le-leb (need fs) m (le_trans (leb-true (need fs) l is) h))
+      | false ↦ λ is. tt
+    ] refl
 checked_grows l m h n x (Go fs (Named y)) = refl
 checked_grows l m h n x (Go fs (Has a)) = refl
 checked_grows l m h n x (Done a) = refl
@@ -76,7 +79,7 @@ move_grows l m h (HasLeft n x) t = same (move l (HasLeft n x) t)
 
 step_grows : (l m : ℕ) → l ≤ m → (s : State) (t : Token) → Grows (step l s t) (step m s t)
 step_grows l m h s t = step_on_grows s.done s.phase t
-    where
+  where
     step_on_grows : (done : List NodeText) (p : Phase) (t : Token) → Grows (step_on l done p t) (step_on m done p t)
     step_on_grows done (Body n) token.Tel = refl
     step_on_grows done p t = finish_grows done (move l p t) (move m p t) (move_grows l m h p t)
@@ -85,8 +88,9 @@ run_grows : (l m : ℕ) → l ≤ m → (p : List Token) (s0 s : State) → run 
 run_grows l m h [] s0 s e = e
 run_grows l m h (t ∷ p) s0 s e =
     elim (step l s0 t) as (λ a. Grows a (step m s0 t) → on a (λ s'. run l s' p) ≡ Ok s → on (step m s0 t) (λ s'. run m s' p) ≡ Ok s) [
-      Ok s' ↦ λ g e. ap (λ z. on z (λ s'. run m s' p)) g ∙ run_grows l m h p s' s e
-    | Err k ↦ λ g e. cc ] (step_grows l m h s0 t) e
+      | Ok s' ↦ λ g e. ap (λ z. on z (λ s'. run m s' p)) g ∙ run_grows l m h p s' s e
+      | Err k ↦ λ g e. cc
+    ] (step_grows l m h s0 t) e
 
 -- a program is not stopped at one of its tokens
 not_stopped : (limit : ℕ) (p : List Token) (t : Token) (s : State) (k : Kind) → run limit start p ≡ Ok s → step limit s t ≡ Err k → Begins limit (p ++ t ∷ []) → ⊥
@@ -109,16 +113,19 @@ retext limit s f g e d = record { nodes = d.nodes; spot = d.spot; done_is = d.do
 -- the text ends behind whole nodes
 ended : (limit : ℕ) (p : List Token) (spot : Spot) (nodes : List Node) (done : List NodeText) (ph : Phase) → all_done nodes spot ≡ done → phase spot ≡ ph → Ends ph → NotEmpty done → Each (IsNode limit) nodes → GoodSpot limit spot → ((r : List Token) → p ++ r ≡ each node nodes (spot_text spot r)) → Program limit p done
 ended limit p s_idle nodes done ph d q e n w g t = record { nodes = nodes; some = some_nodes nodes (subst NotEmpty (sym d) n); good = w; spelled = sym (append-nil p) ∙ t []; meant = d }
-    where
+  where
     some_nodes : (nodes : List Node) → NotEmpty (map node_tree nodes) → NotEmpty nodes
     some_nodes [] h = absurd h
     some_nodes (x ∷ xs) h = tt
 ended limit p (s_told x ins outs b ls es) nodes done ph d q e n w g t =
     let k = whole_node x ins outs b ls es false in
-    record { nodes = nodes ++ k ∷ []; some = not_empty_snoc nodes k;
+    record {
+      nodes = nodes ++ k ∷ [];
+      some = not_empty_snoc nodes k;
       good = each_all_snoc (IsNode limit) nodes k w (g.0.plain, g.0.some, g.0.groups, g.0.locals, g.1);
       spelled = sym (append-nil p) ∙ t [] ∙ sym (each_snoc node nodes k []);
-      meant = sym (map_snoc node_tree nodes k) ∙ d }
+      meant = sym (map_snoc node_tree nodes k) ∙ d;
+    }
 ended limit p spot nodes done ph d q e n w g t = let f = subst Ends (sym q) e in absurd f
 
 abbrev done_of : Result State Kind → List NodeText
@@ -127,7 +134,7 @@ done_of (Err k) = []
 
 some_trees : (limit : ℕ) (ts : List Token) (t : List NodeText) → Program limit ts t → NotEmpty t
 some_trees limit ts t p = subst NotEmpty p.meant (by p.nodes p.some)
-    where
+  where
     by : (nodes : List Node) → NotEmpty nodes → NotEmpty (map node_tree nodes)
     by [] h = absurd h
     by (x ∷ xs) h = tt
@@ -142,18 +149,19 @@ module _ (limit : ℕ) (one : 1 ≤ limit) where
   state_good s t text g =
       let goal : List Token → List Token = λ r. each node g.nodes (spot_text g.spot (t ∷ r)) in
       step_text (step limit s t) (λ r. text (t ∷ r)) goal (λ r. g.written (t ∷ r))
-        (subst (λ z. StepIs limit z goal) (ap₂ (λ a b. step_on limit a b t) g.done_is g.phase_is) (step_good limit one g.nodes g.spot t g.whole g.good))
+      (subst (λ z. StepIs limit z goal) (ap₂ (λ a b. step_on limit a b t) g.done_is g.phase_is) (step_good limit one g.nodes g.spot t g.whole g.good))
 
   -- what is reached is good
   reached_on : (ts p : List Token) (s s' : State) → Good limit s (λ r. p ++ r) → run limit s ts ≡ Ok s' → Good limit s' (λ r. (p ++ ts) ++ r)
   reached_on [] p s s' g r = let e : s ≡ s' = cc in subst (λ z. Good limit z (λ r. (p ++ []) ++ r)) e (retext limit s (λ r. (p ++ []) ++ r) (λ r. p ++ r) (λ r. ap (λ z. z ++ r) (append-nil p)) g)
   reached_on (t ∷ ts) p s s' g r =
       elim (step limit s t) as (λ a. step limit s t ≡ a → on a (λ z. run limit z ts) ≡ Ok s' → Good limit s' (λ r. (p ++ t ∷ ts) ++ r)) [
-        Ok z ↦ λ e r.
-          let d : Good limit z (λ r. p ++ t ∷ r) = subst (λ a. StepIs limit a (λ r. p ++ t ∷ r)) e (state_good s t (λ r. p ++ r) g) in
-          let d' = retext limit z (λ r. (p ++ t ∷ []) ++ r) (λ r. p ++ t ∷ r) (λ r. append_assoc p (t ∷ []) r) d in
-          retext limit s' (λ r. (p ++ t ∷ ts) ++ r) (λ r. ((p ++ t ∷ []) ++ ts) ++ r) (λ r. ap (λ z. z ++ r) (sym (append_assoc p (t ∷ []) ts))) (reached_on ts (p ++ t ∷ []) z s' d' r)
-      | Err k ↦ λ e r. cc ] refl r
+        | Ok z ↦ λ e r.
+            let d : Good limit z (λ r. p ++ t ∷ r) = subst (λ a. StepIs limit a (λ r. p ++ t ∷ r)) e (state_good s t (λ r. p ++ r) g) in
+            let d' = retext limit z (λ r. (p ++ t ∷ []) ++ r) (λ r. p ++ t ∷ r) (λ r. append_assoc p (t ∷ []) r) d in
+            retext limit s' (λ r. (p ++ t ∷ ts) ++ r) (λ r. ((p ++ t ∷ []) ++ ts) ++ r) (λ r. ap (λ z. z ++ r) (sym (append_assoc p (t ∷ []) ts))) (reached_on ts (p ++ t ∷ []) z s' d' r)
+        | Err k ↦ λ e r. cc
+      ] refl r
 
   pub reached : (p : List Token) (s : State) → run limit start p ≡ Ok s → Good limit s (λ r. p ++ r)
   reached p s r = reached_on p [] start s (record { nodes = []; spot = s_idle; done_is = refl; phase_is = refl; whole = tt; good = tt; written = λ r. refl }) r

@@ -181,8 +181,9 @@ led_more : (t : Tm) → height (led (placed 2 t)) ≤ height (placed 1 t) + 1
 led_more t =
     let one = ap height (within_same 1 (level_of t) (bare t) (level_pos t)) in
     elim (nat_le 2 (level_of t)) as (λ b. height (led (if b then bare t else paren (bare t))) ≤ height (placed 1 t) + 1) [
-      true ↦ omega (arith, one, led_height (bare t))
-    | false ↦ omega (arith, one) ]
+      | true ↦ omega (arith, one, led_height (bare t))
+      | false ↦ omega (arith, one)
+    ]
 
 led_open : (t : Tm) (n : ℕ) → literal (bare t) ≡ None → height (placed 2 t) ≤ n → height (led (placed 2 t)) ≤ n
 led_open t n e h = omega (arith, ap height (led_same (placed 2 t) (within_none 2 (level_of t) (bare t) e)), h)
@@ -272,13 +273,15 @@ binary_low (Operator o) a b da db l at =
 binary_low Fby a b da db l at =
     let hb = low_of b db 1 at.2 in
     elim (literal a) as (λ v. literal a ≡ v → height (placed l (joined Fby v (meaning a) (meaning b))) ≤ max (left_height Fby v (height a)) (height b) + 1) [
-      Some v ↦ λ e. expr_low l (tree.Delayed v (meaning b)) (max 1 (height b) + 1) at.0 (value_height Fby v (placed 1 (meaning b)) (height b) refl hb)
-    | None ↦ λ e. expr_low l (tree.Followed (meaning a) (meaning b)) (max (height a) (height b) + 1) at.0 (open_height Fby (placed 2 (meaning a)) (placed 1 (meaning b)) (height a) (height b) refl (left_low a at.1 e da) hb) ] refl
+      | Some v ↦ λ e. expr_low l (tree.Delayed v (meaning b)) (max 1 (height b) + 1) at.0 (value_height Fby v (placed 1 (meaning b)) (height b) refl hb)
+      | None ↦ λ e. expr_low l (tree.Followed (meaning a) (meaning b)) (max (height a) (height b) + 1) at.0 (open_height Fby (placed 2 (meaning a)) (placed 1 (meaning b)) (height a) (height b) refl (left_low a at.1 e da) hb)
+    ] refl
 binary_low Arrow a b da db l at =
     let hb = low_of b db 1 at.2 in
     elim (literal a) as (λ v. literal a ≡ v → height (placed l (joined Arrow v (meaning a) (meaning b))) ≤ max (left_height Arrow v (height a)) (height b) + 1) [
-      Some v ↦ λ e. expr_low l (tree.Arrow (tree.Lit v) (meaning b)) (max 1 (height b) + 1) at.0 (value_height Arrow v (placed 1 (meaning b)) (height b) refl hb)
-    | None ↦ λ e. arrow_low l (meaning a) (meaning b) (height a) (height b) at.0 (height_pos a) (left_low a at.1 e da) hb ] refl
+      | Some v ↦ λ e. expr_low l (tree.Arrow (tree.Lit v) (meaning b)) (max 1 (height b) + 1) at.0 (value_height Arrow v (placed 1 (meaning b)) (height b) refl hb)
+      | None ↦ λ e. arrow_low l (meaning a) (meaning b) (height a) (height b) at.0 (height_pos a) (left_low a at.1 e da) hb
+    ] refl
 
 call_low : (f : List ℕ) (xs : Forms) → (AreExprs xs → heights (all_bare (meanings xs)) ≤ heights xs) → Low (call f xs)
 call_low f xs k l at = let h = k at.1 in expr_low l (tree.Call f (meanings xs)) (height (call f xs)) at.0 (omega (arith, h))

@@ -15,9 +15,7 @@ use Rattle.lt_syntax.specs.Grammar as form
 use Rattle.lt_syntax.specs.Grammar.{Form, Forms, IsAt, AreExprs, polarity, tokens, arguments, literal, joined, left_height, height, heights, meaning, meanings}
 use Rattle.lt_syntax.specs.Machine.{Operand, Frame, AfterMinus, AfterNot, InParen, AfterInfix, AfterIf, AfterThen, AfterElse, Sampling, AfterMerge, FirstPart, SecondPart, InCall, Mode, Want, Named, Has, WantClock, Next, Bad, Go, Done, number_of, truth_of, name_of, paren_of, sampled_of, call_of, part, hole, ends, complete, close, stop, want, second, after, has, clock, named, go, least, need}
 use Rattle.lt_syntax.specs.Parser.{Phase, In, State, Kind, Unexpected, TooDeep, checked, move, finish, step_on, step, on, run}
-
 use Rattle.lt_syntax.proofs.Complete.{operand, height_pos, left_pos, literal_low, table, ends_part, kept, kept_high, kept_infix, kept_when, ended, not_call, negative_of}
-
 use Rattle.lt_syntax.proofs.Runs.{trees_of, trees_meant}
 
 -- a form that is begun, with its parts as they are written

@@ -16,12 +16,7 @@ use lt_tokens::{Infix, Token};
 use std::alloc::Global;
 
 /// Completes the forms from this level on.
-fn close(
-    alloc: Global,
-    l: u8,
-    frames: &mut Vec<Frame>,
-    first: Operand,
-) -> Result<Operand, Memory>
+fn close(alloc: Global, l: u8, frames: &mut Vec<Frame>, first: Operand) -> Result<Operand, Memory>
     requires level { 1 ≤ l }
     requires room { HasRoom LIMIT (stack_of frames.old.items) (operand_of first) }
     ensures closed { IfOk result (λ b. (k : List machine.Frame → machine.Operand → machine.Next) → machine.close l (stack_of frames.old.items) (operand_of first) k ≡ k (stack_of frames.new.items) (operand_of b)) }

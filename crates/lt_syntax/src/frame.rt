@@ -134,13 +134,7 @@ pub fn left_height(o: Infix, a: &Operand) -> u32
 {
     match o {
         Infix::Operator(_) => a.height,
-        Infix::Fby | Infix::Arrow => {
-            if a.lead.is_some() {
-                1
-            } else {
-                a.height
-            }
-        }
+        Infix::Fby | Infix::Arrow => { if a.lead.is_some() { 1 } else { a.height } }
     }
 }
 

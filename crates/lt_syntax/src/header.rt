@@ -470,12 +470,7 @@ fn move_on(alloc: Global, phase: Phase, t: Token) -> Result<Phase, Or<Kind>>
 }
 
 /// `tel`, or an equation.
-fn end_body(
-    alloc: Global,
-    nodes: List<NodeText>,
-    n: NodeText,
-    t: Token,
-) -> Result<Parser, Or<Kind>>
+fn end_body(alloc: Global, nodes: List<NodeText>, n: NodeText, t: Token) -> Result<Parser, Or<Kind>>
     ensures { Steps result (parser.step_on LIMIT nodes (parser.Body n) t) }
 {
     let mut nodes = nodes;

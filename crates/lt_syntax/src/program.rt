@@ -98,18 +98,43 @@ mod tests {
     #[test]
     fn programs(rt: HostRuntime) {
         let a = rt.alloc();
-        assert!(&rt; answer(a, b"node main(x: int) returns (y: int) let y = 0 fby (y + x); tel") == 1);
-        assert!(&rt; answer(a, b"node main(x: int; c: bool) returns (y, w: int when c) let y = x when c; w = 0 fby y; tel") == 1);
-        assert!(&rt; answer(a, b"node f(a: int) returns (b: int) let b = a; tel node main(x: int) returns (y: int); var z: bool when not c when x; let y = (-5) fby x -> merge c (f(x, max(y))) 0; z = if not a = b => c then true else -y mod 2 <> 3; tel; -- end") == 2);
+        assert!(&rt;
+            answer(
+                a,
+                b"node main(x: int) returns (y: int) let y = 0 fby (y + x); tel"
+            ) == 1
+        );
+        assert!(&rt;
+            answer(
+                a,
+                b"node main(x: int; c: bool) returns (y, w: int when c) let y = x when c; w = 0 fby y; tel"
+            ) == 1
+        );
+        assert!(&rt;
+            answer(
+                a,
+                b"node f(a: int) returns (b: int) let b = a; tel node main(x: int) returns (y: int); var z: bool when not c when x; let y = (-5) fby x -> merge c (f(x, max(y))) 0; z = if not a = b => c then true else -y mod 2 <> 3; tel; -- end"
+            ) == 2
+        );
     }
 
     #[test]
     fn faults(rt: HostRuntime) {
         let a = rt.alloc();
-        assert!(&rt; answer(a, b"node main(x: int) returns (y: int) let y = 0 fby (y + x);") == 573);
+        assert!(&rt;
+            answer(
+                a,
+                b"node main(x: int) returns (y: int) let y = 0 fby (y + x);"
+            ) == 573
+        );
         assert!(&rt; answer(a, b"node main(x: int) returns (y: int) let y = x x; tel") == 453);
         assert!(&rt; answer(a, b"node main(x: int) returns (y: int) let y = x # x; tel") == 451);
-        assert!(&rt; answer(a, b"node main(x: int) returns (y: int) let y = 9223372036854775808; tel") == 432);
+        assert!(&rt;
+            answer(
+                a,
+                b"node main(x: int) returns (y: int) let y = 9223372036854775808; tel"
+            ) == 432
+        );
         assert!(&rt; answer(a, b"node main(x: int when c) returns (y: int) let tel") == 173);
         assert!(&rt; answer(a, b"node main() returns (y: int) let y = a < b < c; tel") == 433);
         assert!(&rt; answer(a, b"") == 3);
