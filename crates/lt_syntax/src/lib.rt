@@ -6,6 +6,7 @@ mod fault;
 mod frame;
 mod header;
 pub mod laws;
+mod printer;
 mod program;
 mod read;
 mod section;
@@ -14,6 +15,7 @@ mod term;
 mod tree;
 
 pub use fault::{SyntaxFault, SyntaxKind};
+pub use printer::print;
 pub use program::{Tree, parse};
 pub use term::Term;
 pub use tree::{DeclText, EqText, NodeText};

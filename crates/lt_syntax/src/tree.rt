@@ -65,6 +65,13 @@ impl EqText {
         EqText { left, right }
     }
 
+    /// The left side.
+    pub fn left(&self) -> &Name
+        ensures { result.now ≡ self.now.0 }
+    {
+        &self.left
+    }
+
     /// The right side.
     pub fn right(&self) -> &Term
         ensures { tm_of result.now ≡ self.now.1 }
