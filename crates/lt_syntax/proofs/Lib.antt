@@ -16,3 +16,4 @@ pub mod Texts
 pub mod Goods
 pub mod Canon
 pub mod Spelled
+pub mod Printing

@@ -33,6 +33,11 @@ guarded None a = a
 abbrev pub led : Form → Form
 led a = guarded (literal a) a
 
+-- the left side of `->`: a literal is one value
+abbrev pub arrow_left : Tm → Form → Form
+arrow_left (tree.Lit v) a = value_form v
+arrow_left t a = led a
+
 -- the level of a term's own form
 abbrev pub level_of : Tm → ℕ
 level_of (tree.Lit v) = 12
@@ -61,8 +66,7 @@ abbrev mutual
   bare (tree.Merged c a b) = merged c (within 12 (level_of a) (bare a)) (within 12 (level_of b) (bare b))
   bare (tree.Delayed v b) = binary Fby (value_form v) (within 1 (level_of b) (bare b))
   bare (tree.Followed a b) = binary Fby (led (within 2 (level_of a) (bare a))) (within 1 (level_of b) (bare b))
-  bare (tree.Arrow (tree.Lit v) b) = binary Arrow (value_form v) (within 1 (level_of b) (bare b))
-  bare (tree.Arrow a b) = binary Arrow (led (within 2 (level_of a) (bare a))) (within 1 (level_of b) (bare b))
+  bare (tree.Arrow a b) = binary Arrow (arrow_left a (within 2 (level_of a) (bare a))) (within 1 (level_of b) (bare b))
   bare (tree.Call f xs) = call f (all_bare xs)
 
   pub all_bare : Tms → Forms

@@ -1,9 +1,8 @@
 // The canonical text of a tree.
 ghost use Rattle.std.specs.Prelude.{◌≡◌, ◌++◌, OnOk, IfOk, decimal, map};
 ghost use Rattle.lt_tokens.specs.declared.token.Infix.TheVariants as meet;
-ghost use Rattle.lt_syntax.specs.Canonical.{value_form, led, level_of, bare, all_bare, placed, operator, truth_text, clock_text, text, texts, ty_text, clocks_text, decl_text, decls_text, local_lines, locals_text, equation_lines, node_text, canonical};
-ghost use Rattle.lt_syntax.specs.Printed.{is_number, looks_led, comma_before, semicolon_before, local_line, equation_line};
-ghost use Rattle.lt_syntax.specs.Tree as tree;
+ghost use Rattle.lt_syntax.specs.Canonical.{value_form, led, arrow_left, level_of, bare, all_bare, placed, operator, truth_text, clock_text, text, texts, ty_text, clocks_text, decl_text, decls_text, local_lines, locals_text, equation_lines, node_text, canonical};
+ghost use Rattle.lt_syntax.specs.Printed.{is_number, is_literal, looks_led, head_text, body_text, comma_before, semicolon_before, local_line, equation_line};
 ghost use Rattle.lt_syntax.specs.Tree.{tms};
 ghost use Rattle.lt_syntax.specs.Program.{Spells};
 ghost use Rattle.lt_syntax.specs.Views.{tm_of};
@@ -91,6 +90,15 @@ fn is_number(t: &Term) -> bool
     }
 }
 
+fn is_literal(t: &Term) -> bool
+    ensures { result ≡ is_literal (tm_of t.now) }
+{
+    match t {
+        Term::Lit(_) => true,
+        _ => false,
+    }
+}
+
 /// Whether the term would be read as a literal to the left of `fby` or `->`.
 fn looks_led(t: &Term) -> bool
     ensures { result ≡ looks_led (tm_of t.now) }
@@ -144,7 +152,13 @@ fn inside(out: &mut List<u8>, t: &Term) -> Result<(), Memory>
             out.extend(b"not ")?;
             show(out, 5, a)
         }
-        Term::Bin(o, a, b) => operation(out, *o, a, b),
+        Term::Bin(o, a, b) => {
+            show(out, left(Infix::Operator(*o)), a)?;
+            out.extend(b" ")?;
+            out.extend(symbol(*o))?;
+            out.extend(b" ")?;
+            show(out, right(Infix::Operator(*o)), b)
+        }
         Term::If(c, a, b) => {
             out.extend(b"if ")?;
             show(out, 1, c)?;
@@ -175,7 +189,11 @@ fn inside(out: &mut List<u8>, t: &Term) -> Result<(), Memory>
             out.extend(b" fby ")?;
             show(out, 1, b)
         }
-        Term::Arrow(a, b) => arrow(out, a, b),
+        Term::Arrow(a, b) => {
+            arrow_side(out, a)?;
+            out.extend(b" -> ")?;
+            show(out, 1, b)
+        }
         Term::Call(f, xs) => {
             out.extend(f.as_str().as_bytes())?;
             out.extend(b"(")?;
@@ -185,29 +203,16 @@ fn inside(out: &mut List<u8>, t: &Term) -> Result<(), Memory>
     }
 }
 
-/// Two operands of an operator.
+/// The left side of `->`; a literal is one value.
 #[cycle(show)]
-fn operation(out: &mut List<u8>, o: Bin, a: &Term, b: &Term) -> Result<(), Memory>
-    ensures { OnOk result (out.new ≡ out.old ++ text (bare (tree.Binary o (tm_of a.now) (tm_of b.now)))) }
+#[tactic(auto, using(crate::proofs::Printing::arrow_cases))]
+fn arrow_side(out: &mut List<u8>, t: &Term) -> Result<(), Memory>
+    ensures { OnOk result (out.new ≡ out.old ++ text (arrow_left (tm_of t.now) (placed 2 (tm_of t.now)))) }
 {
-    show(out, left(Infix::Operator(o)), a)?;
-    out.extend(b" ")?;
-    out.extend(symbol(o))?;
-    out.extend(b" ")?;
-    show(out, right(Infix::Operator(o)), b)
-}
-
-/// `->`; a literal to its left is one value.
-#[cycle(show)]
-fn arrow(out: &mut List<u8>, a: &Term, b: &Term) -> Result<(), Memory>
-    ensures { OnOk result (out.new ≡ out.old ++ text (bare (tree.Arrow (tm_of a.now) (tm_of b.now)))) }
-{
-    match a {
-        Term::Lit(v) => value(out, *v)?,
-        _ => left_side(out, a)?,
+    if is_literal(t) {
+        return inside(out, t);
     }
-    out.extend(b" -> ")?;
-    show(out, 1, b)
+    left_side(out, t)
 }
 
 /// The arguments of a call, separated by a comma and a space.
@@ -332,20 +337,43 @@ fn equations(out: &mut List<u8>, es: &[EqText]) -> Result<(), Memory>
     Ok(())
 }
 
-fn node(out: &mut List<u8>, n: &NodeText) -> Result<(), Memory>
-    ensures { OnOk result (out.new ≡ out.old ++ node_text n.now) }
+fn head(out: &mut List<u8>, n: &NodeText) -> Result<(), Memory>
+    ensures { OnOk result (out.new ≡ out.old ++ head_text n.now) }
 {
     out.extend(b"node ")?;
     out.extend(n.name.as_str().as_bytes())?;
     out.extend(b"(")?;
-    decls(out, n.ins.as_slice())?;
-    out.extend(b") returns (")?;
-    decls(out, n.outs.as_slice())?;
-    out.extend(b")\n")?;
+    decls(out, n.ins.as_slice())
+}
+
+fn body(out: &mut List<u8>, n: &NodeText) -> Result<(), Memory>
+    ensures { OnOk result (out.new ≡ out.old ++ body_text n.now) }
+{
     locals(out, n.locals.as_slice())?;
     out.extend(b"let\n")?;
     equations(out, n.eqs.as_slice())?;
     out.extend(b"tel\n")
+}
+
+fn node(out: &mut List<u8>, n: &NodeText) -> Result<(), Memory>
+    ensures { OnOk result (out.new ≡ out.old ++ node_text n.now) }
+{
+    head(out, n)?;
+    out.extend(b") returns (")?;
+    decls(out, n.outs.as_slice())?;
+    out.extend(b")\n")?;
+    body(out, n)?;
+    Ok(())
+}
+
+fn all_nodes(alloc: Global, ns: &[NodeText]) -> Result<List<u8>, Memory>
+    ensures { IfOk result (λ bytes. bytes ≡ canonical ns.now) }
+{
+    let mut out = List::new(alloc);
+    'nodes: for n in ns {
+        node(&mut out, n)?;
+    }
+    Ok(out)
 }
 
 /// The canonical text, which spells the tree.
@@ -353,10 +381,7 @@ pub fn print(alloc: Global, t: &Tree) -> Result<List<u8>, Memory>
     ensures text { IfOk result (λ bytes. bytes ≡ canonical t.now) }
     ensures spells { IfOk result (λ bytes. Spells 200 bytes t.now) }
 {
-    let _ = &t.nodes;
-    let mut out = List::new(alloc);
-    'nodes: for n in t.nodes.as_slice() {
-        node(&mut out, n)?;
-    }
+    t.kept();
+    let out = all_nodes(alloc, t.nodes.as_slice())?;
     Ok(out)
 }
