@@ -6,7 +6,6 @@ ghost use Rattle.lt_syntax.specs.Reads.{Answers, Finds};
 
 use crate::fault::SyntaxFault;
 use crate::read::read;
-use crate::stack::LIMIT;
 use crate::tree::NodeText;
 use lt_base::{List, Memory, Or};
 use std::alloc::Global;
@@ -57,9 +56,9 @@ impl Tree {
 /// The tree that the bytes spell, or the first offending place.
 pub fn parse(alloc: Global, bytes: &[u8]) -> Result<Tree, Or<SyntaxFault>>
     // A tree is spelled by the bytes, and a fault is the first one.
-    ensures exact { Answers LIMIT bytes.now result }
+    ensures exact { Answers 200 bytes.now result }
     // What is spelled is found, unless memory runs out.
-    ensures only { (t : List OneNode) → Spells LIMIT bytes.now t → Finds t result }
+    ensures only { (t : List OneNode) → Spells 200 bytes.now t → Finds t result }
 {
     match read(alloc, bytes) {
         Ok(nodes) => Ok(Tree { nodes }),
@@ -71,6 +70,7 @@ pub fn parse(alloc: Global, bytes: &[u8]) -> Result<Tree, Or<SyntaxFault>>
 #[cfg(test)]
 mod tests {
     use super::parse;
+    use crate::printer::print;
     use crate::fault::{SyntaxFault, SyntaxKind};
     use lt_base::Or;
     use std::alloc::Global;
@@ -93,6 +93,29 @@ mod tests {
             }
             Err(Or::Memory) => 7,
         }
+    }
+
+    // The text of the tree that is parsed, if it is this one.
+    fn prints(alloc: Global, text: &[u8], canonical: &[u8]) -> bool {
+        let Ok(tree) = parse(alloc, text) else {
+            return false;
+        };
+        let Ok(copy) = tree.copy() else {
+            return false;
+        };
+        let Ok(printed) = print(alloc, &copy) else {
+            return false;
+        };
+        printed.as_slice() == canonical
+    }
+
+    #[test]
+    fn canonical(rt: HostRuntime) {
+        let a = rt.alloc();
+        assert!(&rt; prints(a, b"node main(x: int) returns (y: int) let y = 0 fby (y + x); tel", b"node main(x: int) returns (y: int)\nlet\n  y = 0 fby y + x;\ntel\n"));
+        assert!(&rt; prints(a, b"node main(x: int) returns (y: int) let y = if (x < 1) then ((x)) else 0 fby (y + 2); tel", b"node main(x: int) returns (y: int)\nlet\n  y = if x < 1 then x else 0 fby y + 2;\ntel\n"));
+        assert!(&rt; prints(a, b"node main(x: int) returns (y: int) let y = (-5) fby x -> x; z = -5 fby x; tel", b"node main(x: int) returns (y: int)\nlet\n  y = (-5) fby x -> x;\n  z = -5 fby x;\ntel\n"));
+        assert!(&rt; prints(a, b"node f() returns (a, b: bool when not c when d) var e: int; let a = merge c (f(007, not true)) (-g); tel", b"node f() returns (a: bool when not c when d; b: bool when not c when d)\nvar\n  e: int;\nlet\n  a = merge c (f(7, not true)) (-g);\ntel\n"));
     }
 
     #[test]
