@@ -57,3 +57,10 @@ impl Duplicate for Name {
         self.copy()
     }
 }
+
+impl Duplicate for (Name, bool) {
+    fn duplicate(&self) -> Result<(Name, bool), Memory> {
+        let (name, flag) = self;
+        Ok((name.copy()?, *flag))
+    }
+}

@@ -1,7 +1,7 @@
 // The token at the front of a text.
-ghost use Rattle.std.specs.Prelude.{◌≡◌, ◌≤◌, ◌<◌, ◌+◌, ◌++◌, ◌∷◌, List, ℕ, length, MatchOption, IfOk, ⊤};
+ghost use Rattle.std.specs.Prelude.{◌≡◌, ◌≤◌, ◌<◌, ◌+◌, ◌++◌, ◌∷◌, List, ℕ, length, MatchOption, IfOk, IfSome, ⊤};
 ghost use Rattle.lt_tokens.specs.Text as text;
-ghost use Rattle.lt_tokens.specs.Fronts.{front_of, IsWithin};
+ghost use Rattle.lt_tokens.specs.Fronts.{front_of, IsSmall, IsWithin};
 
 use crate::bytes::{digits_length, is_letter, word_length};
 use crate::token::{Infix, Token};
@@ -58,7 +58,8 @@ fn pair(b: u8, after: &[u8]) -> Option<Infix>
 
 /// The symbol that is this byte.
 fn single(b: u8) -> Option<Token>
-    ensures { result ≡ text.single b }
+    ensures value { result ≡ text.single b }
+    ensures small { IfSome result IsSmall }
 {
     match b {
         b'=' => Some(Token::Infix(Infix::Operator(Bin::Eq))),

@@ -1,5 +1,6 @@
 // Keywords and names.
-ghost use Rattle.std.specs.Prelude.{◌≡◌, bytes_eq, IfOk};
+ghost use Rattle.std.specs.Prelude.{◌≡◌, bytes_eq, IfOk, IfSome};
+ghost use Rattle.lt_tokens.specs.Fronts.{IsSmall};
 ghost use Rattle.std.specs.Str.{IsUtf8};
 ghost use Rattle.lt_tokens.specs.Words as words;
 
@@ -15,7 +16,8 @@ fn is(s: &[u8], word: &[u8]) -> bool
 
 /// The keywords of declarations.
 fn declaring(s: &[u8]) -> Option<Token>
-    ensures { result ≡ words.declaring s.now }
+    ensures value { result ≡ words.declaring s.now }
+    ensures small { IfSome result IsSmall }
 {
     if is(s, b"node") {
         Some(Token::Node)
@@ -38,7 +40,8 @@ fn declaring(s: &[u8]) -> Option<Token>
 
 /// The keywords that begin or divide an expression.
 fn forming(s: &[u8]) -> Option<Token>
-    ensures { result ≡ words.forming s.now }
+    ensures value { result ≡ words.forming s.now }
+    ensures small { IfSome result IsSmall }
 {
     if is(s, b"true") {
         Some(Token::Truth(true))
@@ -95,7 +98,8 @@ fn name_of(alloc: Global, s: &[u8]) -> Result<Name, Memory>
 /// The keyword or the name that a word is.
 pub fn word_of(alloc: Global, s: &[u8]) -> Result<Token, Memory>
     requires { IsUtf8 s.now }
-    ensures { IfOk result (λ token. token ≡ words.word_of s.now) }
+    ensures value { IfOk result (λ token. token ≡ words.word_of s.now) }
+    ensures small { IfOk result IsSmall }
 {
     if let Some(token) = declaring(s) {
         return Ok(token);
