@@ -1,5 +1,5 @@
 -- The canonical text of a tree spells it.
-use Rattle.std.proofs.Common.{◌≡◌, ℕ, ◌+◌, ◌≤◌, Bool, true, false, List, [], ◌∷◌, ◌++◌, length, map, codes, refl, sym, ap, ap₂, ◌∙◌, subst, arith, append_assoc, append-nil}
+use Rattle.std.proofs.Common.{◌≡◌, ℕ, ◌≤◌, Bool, true, false, List, [], ◌∷◌, ◌++◌, map, codes, refl, sym, ap, ◌∙◌, subst, append_assoc}
 use Rattle.lt_base.specs.declared.operators.Bin.TheVariants.{Eq}
 use Rattle.lt_base.specs.declared.value.Ty.{Ty}
 use Rattle.lt_base.specs.declared.value.Ty.TheVariants as ty
@@ -11,13 +11,13 @@ use Rattle.lt_tokens.specs.Text.{Begins, skip, front, is_word, Cuts}
 use Rattle.lt_syntax.specs.declared.tree.DeclText.{DeclText}
 use Rattle.lt_syntax.specs.declared.tree.NodeText.{NodeText}
 use Rattle.lt_syntax.specs.Tree.{Tm}
-use Rattle.lt_syntax.specs.Grammar.{Form, IsAt, polarity, tokens, height, meaning}
-use Rattle.lt_syntax.specs.Program.{Group, Node, each, between, optional, ident, clause, group, local, locals, equation, node, NotEmpty, Each, IsGroup, IsPlain, IsEquation, IsNode, declared, decls, node_tree, Program, Spells}
+use Rattle.lt_syntax.specs.Grammar.{tokens, height}
+use Rattle.lt_syntax.specs.Program.{Group, Node, each, between, clause, group, local, locals, equation, node, NotEmpty, Each}
 use Rattle.lt_syntax.specs.Canonical.{placed, text, ty_text, clock_text, clocks_text, decl_text, decls_text, local_lines, locals_text, equation_lines, node_text, canonical}
-use Rattle.lt_syntax.proofs.Written.{IsIdent, Good, placed_at, placed_means, lowest}
+use Rattle.lt_syntax.proofs.Written.{IsIdent, Good}
 use Rattle.lt_syntax.proofs.Lexed.{Stops, ident_front, span_stops, halts_word, open_front, close_front, semicolon_front, colon_front}
-use Rattle.lt_syntax.proofs.Texts.{GoodForm, Nonempty, some, blank, blank_form, reads}
-use Rattle.lt_syntax.proofs.Goods.{AllTokens, GoodToken, good_meaning, good_placed, tokens_good, cuts_good}
+use Rattle.lt_syntax.proofs.Texts.{Nonempty, blank, blank_form, reads}
+use Rattle.lt_syntax.proofs.Goods.{good_placed}
 
 -- one declaration as a group, and a node as it is printed
 abbrev pub single : DeclText → Group

@@ -1,19 +1,15 @@
 -- The machine reads what the grammar of expressions writes.
-use Rattle.std.proofs.Common.{◌≡◌, ℕ, ◌+◌, ◌<◌, ◌≤◌, max, Bool, true, false, List, [], ◌∷◌, ◌++◌, length, map, Option, Some, None, Result, Ok, Err, nat_le, if◌then◌else◌, refl, sym, ap, ap₂, ◌∙◌, subst, arith, le-leb}
+use Rattle.std.proofs.Common.{◌≡◌, ℕ, ◌+◌, ◌<◌, ◌≤◌, max, List, [], ◌∷◌, Option, Some, None, if◌then◌else◌, refl, ap, arith, le-leb}
 use Rattle.std.proofs.lemmas.Bool.{lt-leb}
-use Rattle.lt_base.specs.declared.operators.Bin.TheVariants.{Sub, Eq}
 use Rattle.lt_base.specs.declared.value.Value.{Value}
 use Rattle.lt_tokens.specs.declared.token.Infix.{Infix}
 use Rattle.lt_tokens.specs.declared.token.Infix.TheVariants as meet
 use Rattle.lt_tokens.specs.declared.token.Token.{Token}
 use Rattle.lt_tokens.specs.declared.token.Token.TheVariants as token
-use Rattle.lt_syntax.specs.declared.tree.NodeText.{NodeText}
-use Rattle.lt_syntax.specs.Tree.{Tm, tms}
 use Rattle.lt_syntax.specs.Levels.{Line, Expr, Impl, Disj, Conj, Comp, Sum, Product, line, level, left, right}
 use Rattle.lt_syntax.specs.Grammar as form
 use Rattle.lt_syntax.specs.Grammar.{Form, Forms, IsAt, AreExprs, polarity, tokens, arguments, literal, joined, left_height, height, heights, meaning, meanings}
-use Rattle.lt_syntax.specs.Machine.{Operand, Frame, AfterMinus, AfterNot, InParen, AfterInfix, AfterIf, AfterThen, AfterElse, Sampling, AfterMerge, FirstPart, SecondPart, InCall, Mode, Want, Named, Has, WantClock, Next, Bad, Go, Done, number_of, truth_of, name_of, paren_of, sampled_of, call_of, part, hole, ends, complete, close, stop, want, second, after, has, clock, named, go, least, need}
-use Rattle.lt_syntax.specs.Parser.{Phase, In, State, Kind, Unexpected, TooDeep, checked, move, finish, step_on, step, on, run}
+use Rattle.lt_syntax.specs.Machine.{Operand, Frame, AfterMinus, AfterNot, InParen, AfterInfix, AfterIf, AfterThen, AfterElse, Sampling, AfterMerge, FirstPart, SecondPart, InCall, Want, Named, Next, Go, name_of, part, hole, ends, complete, close, stop, has, go}
 
 abbrev pub operand : Form → Operand
 operand a = record { tree = meaning a; height = height a; lead = literal a }

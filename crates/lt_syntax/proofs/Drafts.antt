@@ -1,22 +1,18 @@
 -- A program that is begun, as it is written.
-use Rattle.std.proofs.Common.{◌≡◌, ℕ, ◌+◌, ◌≤◌, max, Bool, true, false, List, [], ◌∷◌, ◌++◌, length, map, Option, Result, Ok, Err, nat_le, if◌then◌else◌, refl, sym, ap, ap₂, ◌∙◌, subst, arith, append_assoc, append-nil, leb-true, leb-false}
-use Rattle.lt_base.specs.declared.operators.Bin.TheVariants.{Sub, Eq}
+use Rattle.std.proofs.Common.{◌≡◌, ℕ, Bool, false, List, [], ◌∷◌, ◌++◌, map, refl, sym, ap, ◌∙◌, append_assoc, append-nil}
+use Rattle.lt_base.specs.declared.operators.Bin.TheVariants.{Eq}
 use Rattle.lt_base.specs.declared.value.Ty.{Ty}
 use Rattle.lt_tokens.specs.declared.token.Infix.TheVariants as meet
 use Rattle.lt_tokens.specs.declared.token.Token.{Token}
 use Rattle.lt_tokens.specs.declared.token.Token.TheVariants as token
-use Rattle.lt_syntax.specs.declared.tree.DeclText.{DeclText}
 use Rattle.lt_syntax.specs.declared.tree.NodeText.{NodeText}
 use Rattle.lt_syntax.specs.declared.section.Section.{Section}
 use Rattle.lt_syntax.specs.declared.section.Section.TheVariants.{Ins, Outs, Locals}
-use Rattle.lt_syntax.specs.Tree.{Tm}
-use Rattle.lt_syntax.specs.Grammar.{Form, IsAt, polarity, tokens, height, meaning}
-use Rattle.lt_syntax.specs.Program.{Group, Node, each, between, optional, ident, clause, group, local, locals, equation, node, NotEmpty, Each, IsGroup, IsPlain, IsEquation, IsNode, declared, decls, node_tree, Program}
-use Rattle.lt_syntax.specs.Machine.{Operand, Frame, Mode, Want, Named, Has, WantClock, Next, Bad, Go, Done, need, hole, go}
-use Rattle.lt_syntax.specs.Parser.{Phase, Idle, Told, WantNode, HasNode, Opened, WantName, HasName, WantType, HasGroup, WantPolarity, WantVariable, HasIns, Returning, HasOuts, HasHead, HasLocals, Body, HasLeft, In, State, Kind, Unexpected, TooDeep, empty_node, add, add_equation, next_group, end_group, checked, move, finish, step_on, step, on, run, start}
-use Rattle.lt_syntax.proofs.Complete.{operand, height_pos}
-use Rattle.lt_syntax.proofs.Zipper.{Begun, Holding, z_want, stack, mode, all_opened, held}
-use Rattle.lt_syntax.proofs.Sound.{AreBegun, Fit, Rest, Ended, Fine, go_fine}
+use Rattle.lt_syntax.specs.Grammar.{Form, meaning}
+use Rattle.lt_syntax.specs.Program.{Group, Node, each, between, optional, ident, group, local, locals, equation, node, NotEmpty, Each, IsGroup, IsPlain, IsEquation, declared, decls, node_tree}
+use Rattle.lt_syntax.specs.Parser.{Phase, Idle, Told, WantNode, HasNode, Opened, WantName, HasName, WantType, HasGroup, WantPolarity, WantVariable, HasIns, Returning, HasOuts, HasHead, HasLocals, Body, HasLeft, In, empty_node}
+use Rattle.lt_syntax.proofs.Zipper.{Begun, Holding, stack, mode, all_opened, held}
+use Rattle.lt_syntax.proofs.Sound.{AreBegun, Fit}
 
 -- a section of declarations that is begun, with its whole groups
 pub data Draft : Type 0 where

@@ -1,15 +1,12 @@
 -- The bytes of a form are cut into its tokens.
-use Rattle.std.proofs.Common.{◌≡◌, ℕ, zero, suc, ◌+◌, ◌-◌, ◌≤◌, ◌<◌, ◌^◌, Bool, true, false, cond, List, [], ◌∷◌, ◌++◌, length, take, drop, codes, decimal, ◌==◌, ◌||◌, ◌&&◌, nat_le, Option, Some, None, if◌then◌else◌, refl, sym, ap, ap₂, ◌∙◌, subst, arith, rules, append_assoc, append-nil, le-leb}
+use Rattle.std.proofs.Common.{◌≡◌, ℕ, ◌+◌, ◌≤◌, ◌<◌, ◌^◌, Bool, true, false, cond, List, [], ◌∷◌, ◌++◌, length, take, drop, decimal, ◌==◌, ◌||◌, ◌&&◌, Some, None, if◌then◌else◌, refl, ap, ◌∙◌, arith, rules, le-leb}
 use Rattle.std.specs.List.{prefix_len, take_while}
 use Rattle.std.proofs.Math.Seq.{drop-append_seam}
 use Rattle.std.proofs.lemmas.Str.Parse.{IsNumeralModel, numerals_by_fold}
 use Rattle.std.proofs.lemmas.Fmt.{digits_decimal, digits_value-decimal, decimal_nonempty}
-use Rattle.lt_base.specs.declared.operators.Bin.TheVariants.{Sub, Add, Mul, Div, Mod, Eq, Ne, Lt, Le, Gt, Ge, And, Or, Xor, Implies}
-use Rattle.lt_tokens.specs.declared.token.Infix.{Infix}
-use Rattle.lt_tokens.specs.declared.token.Infix.TheVariants.{Operator, Fby, Arrow}
-use Rattle.lt_tokens.specs.declared.token.Token.{Token}
+use Rattle.lt_base.specs.declared.operators.Bin.TheVariants.{Sub}
+use Rattle.lt_tokens.specs.declared.token.Infix.TheVariants.{Operator, Arrow}
 use Rattle.lt_tokens.specs.declared.token.Token.TheVariants as token
-use Rattle.lt_tokens.specs.Words.{word_of}
 use Rattle.lt_tokens.specs.Text as lexer
 use Rattle.lt_tokens.specs.Text.{Front, Begins, is_blank, is_digit, is_letter, is_word, skip, skip_comment, starts_with, value_on, greatest, span, word, number, symbol, symbol_of, front, Cuts}
 use Rattle.lt_syntax.proofs.Written.{AllPass, IsIdent}

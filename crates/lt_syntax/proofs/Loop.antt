@@ -1,5 +1,5 @@
 -- What one turn of the loop over the bytes gives.
-use Rattle.std.proofs.Common.{◌≡◌, ℕ, ◌+◌, ◌-◌, ◌≤◌, List, [], ◌∷◌, ◌++◌, length, drop, take, Result, Ok, Err, Option, Some, None, refl, sym, ap, ◌∙◌, subst, arith, length-drop, take_all}
+use Rattle.std.proofs.Common.{◌≡◌, ℕ, ◌+◌, ◌-◌, ◌≤◌, List, [], ◌∷◌, length, drop, take, Err, sym, ap, ◌∙◌, subst, arith, length-drop, take_all}
 use Rattle.lt_base.specs.declared.memory.Or.{Or}
 use Rattle.lt_base.specs.declared.memory.Or.TheVariants as or
 use Rattle.lt_tokens.specs.declared.front.Front as code
@@ -8,9 +8,6 @@ use Rattle.lt_tokens.specs.Text as text
 use Rattle.lt_tokens.specs.Text.{Front, front, skip}
 use Rattle.lt_tokens.specs.Fronts.{front_of}
 use Rattle.lt_syntax.specs.declared.fault.SyntaxFault.{SyntaxFault}
-use Rattle.lt_syntax.specs.declared.header.Parser.{Parser}
-use Rattle.lt_syntax.specs.declared.tree.NodeText.{NodeText}
-use Rattle.lt_syntax.specs.Faults.{IsFault}
 use Rattle.lt_syntax.specs.Machine.{Roomy, Held}
 use Rattle.lt_syntax.specs.Parser.{State, step}
 use Rattle.lt_syntax.specs.Phases.{Fits}

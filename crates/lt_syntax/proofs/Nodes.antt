@@ -1,8 +1,6 @@
 -- The machine reads every program.
-use Rattle.std.proofs.Common.{◌≡◌, ℕ, ◌+◌, ◌<◌, ◌≤◌, max, Bool, true, false, List, [], ◌∷◌, ◌++◌, length, map, Result, Ok, Err, refl, sym, ap, ap₂, ◌∙◌, subst, arith, append_assoc, append-nil}
-use Rattle.lt_base.specs.declared.operators.Bin.TheVariants.{Sub, Eq}
+use Rattle.std.proofs.Common.{◌≡◌, ℕ, Bool, true, false, List, [], ◌∷◌, ◌++◌, map, Result, Ok, refl, sym, ap, ◌∙◌, arith, append_assoc, append-nil}
 use Rattle.lt_base.specs.declared.value.Ty.{Ty}
-use Rattle.lt_tokens.specs.declared.token.Infix.TheVariants as meet
 use Rattle.lt_tokens.specs.declared.token.Token.{Token}
 use Rattle.lt_tokens.specs.declared.token.Token.TheVariants as token
 use Rattle.lt_syntax.specs.declared.tree.DeclText.{DeclText}
@@ -10,10 +8,9 @@ use Rattle.lt_syntax.specs.declared.tree.NodeText.{NodeText}
 use Rattle.lt_syntax.specs.declared.section.Section.{Section}
 use Rattle.lt_syntax.specs.declared.section.Section.TheVariants.{Ins, Outs, Locals}
 use Rattle.lt_syntax.specs.Tree.{Tm}
-use Rattle.lt_syntax.specs.Grammar.{Form, IsAt, polarity, tokens, height, meaning}
+use Rattle.lt_syntax.specs.Grammar.{Form, polarity, meaning}
 use Rattle.lt_syntax.specs.Program.{Group, Node, each, between, optional, ident, clause, group, local, locals, equation, node, NotEmpty, Each, IsGroup, IsPlain, IsEquation, IsNode, declared, decls, node_tree, Program}
-use Rattle.lt_syntax.specs.Machine.{Want, Has}
-use Rattle.lt_syntax.specs.Parser.{Phase, Idle, Told, WantNode, HasNode, Opened, WantName, HasName, WantType, HasGroup, WantPolarity, WantVariable, HasIns, Returning, HasOuts, HasHead, HasLocals, Body, HasLeft, In, State, Kind, empty_node, add, add_equation, next_group, end_group, move, finish, step_on, step, on, run, start, Ends}
+use Rattle.lt_syntax.specs.Parser.{Phase, Idle, Told, Opened, WantName, HasName, HasGroup, WantPolarity, HasIns, HasOuts, HasLocals, Body, State, Kind, empty_node, add, add_equation, run, start, Ends}
 use Rattle.lt_syntax.proofs.Complete.{height_pos}
 use Rattle.lt_syntax.proofs.Runs.{runs}
 

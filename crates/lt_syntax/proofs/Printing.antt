@@ -1,13 +1,12 @@
 -- What the printer writes, piece by piece.
-use Rattle.std.proofs.Common.{◌≡◌, ℕ, zero, suc, ◌+◌, ◌≤◌, ◌<◌, Bool, true, false, List, [], ◌∷◌, ◌++◌, length, map, take, get_or, codes, nat_lt, if◌then◌else◌, refl, sym, ap, ap₂, ◌∙◌, subst, arith, append_assoc, append-nil, add-one, take-suc, lt-ltb}
+use Rattle.std.proofs.Common.{◌≡◌, ℕ, zero, suc, ◌+◌, ◌<◌, Bool, List, [], ◌∷◌, ◌++◌, length, map, take, get_or, codes, nat_lt, if◌then◌else◌, refl, sym, ap, ◌∙◌, arith, append_assoc, append-nil, add-one, take-suc, lt-ltb}
 use Rattle.lt_syntax.specs.declared.term.Term.{Term}
 use Rattle.lt_syntax.specs.declared.tree.DeclText.{DeclText}
 use Rattle.lt_syntax.specs.declared.tree.NodeText.{NodeText}
 use Rattle.lt_syntax.specs.Tree as tree
 use Rattle.lt_syntax.specs.Tree.{Tm, tms}
-use Rattle.lt_syntax.specs.Grammar.{Form}
 use Rattle.lt_syntax.specs.Canonical.{led, arrow_left, bare, all_bare, placed, clock_text, text, texts, clocks_text, decl_text, decls_text, local_lines, equation_lines, node_text, canonical}
-use Rattle.lt_syntax.specs.Printed.{is_literal, head_text, body_text, comma_before, semicolon_before, local_line, equation_line}
+use Rattle.lt_syntax.specs.Printed.{is_literal, head_text, body_text, local_line, equation_line}
 use Rattle.lt_syntax.specs.Views.{tm_of}
 
 -- the left side of an arrow
@@ -29,7 +28,7 @@ next_apart {A} f piece s none one more old m k n xs i x h is p q r =
     r ∙ ap (λ z. z ++ piece x) (q ∙ ap (λ z. z ++ b) p ∙ append_assoc old (f (take i xs)) b)
     ∙ append_assoc old (f (take i xs) ++ b) (piece x)
     ∙ ap (λ z. old ++ z) (append_assoc (f (take i xs)) b (piece x) ∙ sym (apart i xs h) ∙ ap f t)
-    where
+  where
     apart : (i : ℕ) (xs : List A) → i < length xs → f (take i xs ++ x ∷ []) ≡ f (take i xs) ++ ((if nat_lt 0 i then s else []) ++ piece x)
     apart zero xs h = one x ∙ ap (λ z. z ++ piece x) (sym none)
     apart (suc j) [] h = absurd (omega (arith, h))

@@ -1,5 +1,5 @@
 -- The loop over the bytes.
-use Rattle.std.proofs.Common.{◌≡◌, ℕ, ◌+◌, ◌-◌, ◌≤◌, List, [], ◌∷◌, ◌++◌, length, Result, Ok, Err, Option, Some, None, refl, sym, ap, ◌∙◌, subst, arith, append-nil, append_assoc}
+use Rattle.std.proofs.Common.{◌≡◌, ℕ, ◌+◌, ◌≤◌, List, [], ◌∷◌, ◌++◌, length, Result, Ok, Err, Some, None, refl, sym, ap, ◌∙◌, subst, append-nil, append_assoc}
 use Rattle.lt_base.specs.declared.memory.Or.{Or}
 use Rattle.lt_base.specs.declared.memory.Or.TheVariants as or
 use Rattle.lt_tokens.specs.declared.token.Token.{Token}
@@ -9,11 +9,11 @@ use Rattle.lt_syntax.specs.declared.fault.SyntaxFault.{SyntaxFault}
 use Rattle.lt_syntax.specs.declared.fault.SyntaxKind.{SyntaxKind}
 use Rattle.lt_syntax.specs.declared.fault.SyntaxKind.TheVariants as kind
 use Rattle.lt_syntax.specs.declared.tree.NodeText.{NodeText}
-use Rattle.lt_syntax.specs.Program.{Program, Spells, NotEmpty}
-use Rattle.lt_syntax.specs.Faults.{Begins, Breaks, Exceeds, Offends, IsFault}
-use Rattle.lt_syntax.specs.Parser.{State, Kind, Unexpected, TooDeep, step, on, run, start, Ends}
+use Rattle.lt_syntax.specs.Program.{Program, Spells}
+use Rattle.lt_syntax.specs.Faults.{Begins, Offends, IsFault}
+use Rattle.lt_syntax.specs.Parser.{State, Kind, Unexpected, TooDeep, step, on, run, start}
 use Rattle.lt_syntax.specs.Reads.{Answers, Finds, syntax_kind, EndsWith}
-use Rattle.lt_syntax.proofs.Whole.{run_on, begins_at, breaks_at, exceeds_at, program_at, none_at, one_tree, cuts_one}
+use Rattle.lt_syntax.proofs.Whole.{run_on, begins_at, breaks_at, exceeds_at, program_at, none_at, one_tree}
 
 -- one more token is cut off
 pub cuts_more : (ts : List Token) (bytes r : List ℕ) (t : Token) (after : List ℕ) → Cuts bytes ts r → front (skip r) ≡ text.Begins t after → Cuts bytes (ts ++ t ∷ []) after

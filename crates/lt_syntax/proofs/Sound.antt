@@ -1,24 +1,16 @@
 -- A step of the machine keeps what it has taken written by what it holds.
-use Rattle.std.proofs.Common.{◌≡◌, ℕ, ◌+◌, ◌<◌, ◌≤◌, max, Bool, true, false, List, [], ◌∷◌, ◌++◌, length, map, Option, Some, None, Result, Ok, Err, nat_le, if◌then◌else◌, refl, sym, ap, ap₂, ◌∙◌, subst, arith, le-leb, append_assoc}
-use Rattle.std.proofs.lemmas.Bool.{lt-leb}
-use Rattle.lt_base.specs.declared.operators.Bin.TheVariants.{Sub, Eq}
-use Rattle.lt_base.specs.declared.value.Value.{Value}
-use Rattle.lt_tokens.specs.declared.token.Infix.{Infix}
+use Rattle.std.proofs.Common.{◌≡◌, ℕ, ◌+◌, ◌≤◌, max, true, false, List, [], ◌∷◌, ◌++◌, length, map, nat_le, if◌then◌else◌, refl, sym, ap, ap₂, ◌∙◌, subst, arith}
+use Rattle.lt_base.specs.declared.operators.Bin.TheVariants.{Sub}
 use Rattle.lt_tokens.specs.declared.token.Infix.TheVariants as meet
 use Rattle.lt_tokens.specs.declared.token.Token.{Token}
 use Rattle.lt_tokens.specs.declared.token.Token.TheVariants as token
-use Rattle.lt_syntax.specs.declared.tree.NodeText.{NodeText}
-use Rattle.lt_syntax.specs.Tree as tree
-use Rattle.lt_syntax.specs.Tree.{Tm, tms}
-use Rattle.lt_syntax.specs.Levels.{Line, Expr, Impl, Disj, Conj, Comp, Sum, Product, line, level, left, right}
+use Rattle.lt_syntax.specs.Levels.{line, level}
 use Rattle.lt_syntax.specs.Grammar as form
 use Rattle.lt_syntax.specs.Grammar.{Form, Forms, IsAt, AreExprs, polarity, tokens, arguments, literal, joined, left_height, height, heights, meaning, meanings}
-use Rattle.lt_syntax.specs.Machine.{Operand, Frame, AfterMinus, AfterNot, InParen, AfterInfix, AfterIf, AfterThen, AfterElse, Sampling, AfterMerge, FirstPart, SecondPart, InCall, Mode, Want, Named, Has, WantClock, Next, Bad, Go, Done, number_of, truth_of, name_of, paren_of, sampled_of, call_of, part, hole, ends, complete, close, stop, want, second, after, has, clock, named, go, least, need}
-use Rattle.lt_syntax.specs.Parser.{Phase, In, State, Kind, Unexpected, TooDeep, checked, move, finish, step_on, step, on, run}
-use Rattle.lt_syntax.proofs.Complete.{operand, height_pos, left_pos, literal_low, table, ends_part, kept, kept_high, kept_infix, kept_when, ended, not_call, negative_of}
-use Rattle.lt_syntax.proofs.Runs.{trees_of, trees_meant}
+use Rattle.lt_syntax.specs.Machine.{Operand, Frame, InCall, Mode, Want, Named, Has, WantClock, Next, Bad, Go, Done, name_of, call_of, part, hole, ends, complete, close, stop, want, second, after, has, clock, named, go, need}
+use Rattle.lt_syntax.proofs.Complete.{operand, height_pos, left_pos, table, kept_high}
 use Rattle.std.proofs.Common.{leb-true}
-use Rattle.lt_syntax.proofs.Zipper.{Begun, z_minus, z_not, z_paren, z_infix, z_if, z_then, z_else, z_sampling, z_merge, z_first, z_second, z_call, Holding, z_want, z_named, z_has, z_clock, tallest, frame, stack, mode, commas, opened, all_opened, held, AllExprs, IsBegun, Waits, Ready, closing, forms, at_lower, hole_le, meanings_snoc, tallest_snoc, commas_snoc, exprs_snoc, arguments_snoc, forms_exprs, call_is, call_more, Completes, completes, room_for}
+use Rattle.lt_syntax.proofs.Zipper.{Begun, z_minus, z_not, z_paren, z_infix, z_if, z_then, z_else, z_sampling, z_merge, z_first, z_second, z_call, Holding, z_want, z_named, z_has, z_clock, tallest, frame, stack, mode, commas, opened, all_opened, held, IsBegun, Waits, Ready, closing, forms, at_lower, hole_le, meanings_snoc, tallest_snoc, commas_snoc, exprs_snoc, arguments_snoc, forms_exprs, call_more, completes, room_for}
 
 module _ (limit : ℕ) where
   -- each form is begun where it may be, and there is room for it

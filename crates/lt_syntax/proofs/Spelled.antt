@@ -1,23 +1,16 @@
 -- The canonical text of a tree that is spelled spells it.
-use Rattle.std.proofs.Common.{◌≡◌, ℕ, ◌+◌, ◌≤◌, Bool, true, false, List, [], ◌∷◌, ◌++◌, length, map, codes, refl, sym, ap, ap₂, ◌∙◌, subst, arith, append_assoc, append-nil}
-use Rattle.lt_base.specs.declared.operators.Bin.TheVariants.{Eq}
+use Rattle.std.proofs.Common.{◌≡◌, ℕ, ◌≤◌, Bool, true, false, List, [], ◌∷◌, ◌++◌, map, refl, ap, ap₂, subst, arith}
 use Rattle.lt_base.specs.declared.value.Ty.{Ty}
-use Rattle.lt_base.specs.declared.value.Ty.TheVariants as ty
-use Rattle.lt_tokens.specs.declared.token.Infix.TheVariants.{Operator}
 use Rattle.lt_tokens.specs.declared.token.Token.{Token}
 use Rattle.lt_tokens.specs.declared.token.Token.TheVariants as token
-use Rattle.lt_tokens.specs.Text as lexer
-use Rattle.lt_tokens.specs.Text.{Begins, skip, front, is_word, Cuts}
 use Rattle.lt_syntax.specs.declared.tree.DeclText.{DeclText}
 use Rattle.lt_syntax.specs.declared.tree.NodeText.{NodeText}
 use Rattle.lt_syntax.specs.Tree.{Tm}
-use Rattle.lt_syntax.specs.Grammar.{Form, IsAt, polarity, tokens, height, meaning}
-use Rattle.lt_syntax.specs.Program.{Group, Node, each, between, optional, ident, clause, group, local, locals, equation, node, NotEmpty, Each, IsGroup, IsPlain, IsEquation, IsNode, declared, decls, node_tree, Program, Spells}
-use Rattle.lt_syntax.specs.Canonical.{placed, text, ty_text, clock_text, clocks_text, decl_text, decls_text, local_lines, locals_text, equation_lines, node_text, canonical}
-use Rattle.lt_syntax.proofs.Written.{IsIdent, Good, placed_at, placed_means, lowest}
-use Rattle.lt_syntax.proofs.Lexed.{Stops, ident_front, span_stops, halts_word, open_front, close_front, semicolon_front, colon_front}
-use Rattle.lt_syntax.proofs.Texts.{GoodForm, Nonempty, some, blank, blank_form, reads}
-use Rattle.lt_syntax.proofs.Goods.{AllTokens, GoodToken, good_meaning, good_placed, tokens_good, cuts_good}
+use Rattle.lt_syntax.specs.Grammar.{Form, height, meaning}
+use Rattle.lt_syntax.specs.Program.{Group, Node, each, between, optional, ident, clause, group, local, locals, equation, node, NotEmpty, Each, IsGroup, IsPlain, IsEquation, IsNode, declared, decls, node_tree, Spells}
+use Rattle.lt_syntax.specs.Canonical.{placed, canonical}
+use Rattle.lt_syntax.proofs.Written.{IsIdent, placed_at, placed_means, lowest}
+use Rattle.lt_syntax.proofs.Goods.{AllTokens, good_meaning, tokens_good, cuts_good}
 use Rattle.lt_syntax.proofs.Canon.{single, printed, GoodClock, GoodDecl, GoodEquation, GoodNode, reads_nodes}
 
 names_good : (xs : List (List ℕ)) (ts : List Token) → AllTokens (between token.Comma ident xs ts) → Each IsIdent xs × AllTokens ts

@@ -1,23 +1,18 @@
 -- A step of the parser keeps what it has taken written by what it holds.
-use Rattle.std.proofs.Common.{◌≡◌, ℕ, ◌+◌, ◌≤◌, max, Bool, true, false, List, [], ◌∷◌, ◌++◌, length, map, Option, Result, Ok, Err, nat_le, if◌then◌else◌, refl, sym, ap, ap₂, ◌∙◌, subst, arith, append_assoc, append-nil, leb-true, leb-false}
-use Rattle.lt_base.specs.declared.operators.Bin.TheVariants.{Sub, Eq}
+use Rattle.std.proofs.Common.{◌≡◌, ℕ, ◌≤◌, Bool, true, false, List, [], ◌∷◌, ◌++◌, map, Result, Ok, Err, nat_le, if◌then◌else◌, refl, sym, ap, ap₂, ◌∙◌, arith, leb-true, leb-false}
+use Rattle.lt_base.specs.declared.operators.Bin.TheVariants.{Eq}
 use Rattle.lt_base.specs.declared.value.Ty.{Ty}
 use Rattle.lt_tokens.specs.declared.token.Infix.TheVariants as meet
 use Rattle.lt_tokens.specs.declared.token.Token.{Token}
 use Rattle.lt_tokens.specs.declared.token.Token.TheVariants as token
-use Rattle.lt_syntax.specs.declared.tree.DeclText.{DeclText}
-use Rattle.lt_syntax.specs.declared.tree.NodeText.{NodeText}
-use Rattle.lt_syntax.specs.declared.section.Section.{Section}
-use Rattle.lt_syntax.specs.declared.section.Section.TheVariants.{Ins, Outs, Locals}
-use Rattle.lt_syntax.specs.Tree.{Tm}
-use Rattle.lt_syntax.specs.Grammar.{Form, IsAt, polarity, tokens, height, meaning}
-use Rattle.lt_syntax.specs.Program.{Group, Node, each, between, optional, ident, clause, group, local, locals, equation, node, NotEmpty, Each, IsGroup, IsPlain, IsEquation, IsNode, declared, decls, node_tree, Program}
-use Rattle.lt_syntax.specs.Machine.{Operand, Frame, Mode, Want, Named, Has, WantClock, Next, Bad, Go, Done, need, hole, go}
-use Rattle.lt_syntax.specs.Parser.{Phase, Idle, Told, WantNode, HasNode, Opened, WantName, HasName, WantType, HasGroup, WantPolarity, WantVariable, HasIns, Returning, HasOuts, HasHead, HasLocals, Body, HasLeft, In, State, Kind, Unexpected, TooDeep, empty_node, add, add_equation, next_group, end_group, checked, move, finish, step_on, step, on, run, start}
-use Rattle.lt_syntax.proofs.Complete.{operand, height_pos}
+use Rattle.lt_syntax.specs.declared.section.Section.TheVariants.{Ins, Outs}
+use Rattle.lt_syntax.specs.Grammar.{Form, meaning}
+use Rattle.lt_syntax.specs.Program.{Group, Node, each, between, optional, ident, clause, group, local, equation, node, NotEmpty, Each, IsGroup, IsPlain, IsEquation, IsNode, decls, node_tree}
+use Rattle.lt_syntax.specs.Machine.{Frame, Mode, Want, Named, Has, WantClock, Next, Bad, Go, Done, need, go}
+use Rattle.lt_syntax.specs.Parser.{WantName, HasGroup, HasIns, HasOuts, HasLocals, Body, In, State, Kind, Unexpected, TooDeep, end_group, checked, finish, step_on}
 use Rattle.lt_syntax.proofs.Zipper.{Begun, Holding, z_want, z_named, z_has, z_clock, stack, mode, all_opened, held}
-use Rattle.lt_syntax.proofs.Sound.{AreBegun, Fit, Rest, Ended, Fine, go_fine}
-use Rattle.lt_syntax.proofs.Drafts.{Draft, d_ins, d_outs, d_locals, section, draft_tree, head, with_ins, with_outs, lead, with_locals, GoodDraft, MayClock, ClockFits, name_comma, group_of, Eqs, Spot, s_idle, s_told, s_node, s_name, s_opened, s_want, s_has, s_type, s_group, s_polarity, s_variable, s_ins, s_returning, s_outs, s_head, s_locals, s_body, s_left, s_in, whole_node, body_tree, phase, spot_text, all_done, GoodHead, GoodSpot, each_snoc, between_snoc, each_between, between_comma, not_empty_snoc, each_all_snoc, decls_snoc, map_snoc, locals_some}
+use Rattle.lt_syntax.proofs.Sound.{AreBegun, Fit, Rest, Fine, go_fine}
+use Rattle.lt_syntax.proofs.Drafts.{Draft, d_ins, d_outs, d_locals, section, draft_tree, head, with_ins, with_outs, lead, with_locals, GoodDraft, MayClock, ClockFits, group_of, Eqs, Spot, s_idle, s_told, s_node, s_name, s_opened, s_want, s_has, s_type, s_group, s_polarity, s_variable, s_ins, s_returning, s_outs, s_head, s_locals, s_body, s_left, s_in, whole_node, body_tree, phase, spot_text, all_done, GoodHead, GoodSpot, each_snoc, between_snoc, each_between, between_comma, not_empty_snoc, each_all_snoc, decls_snoc, map_snoc, locals_some}
 
 -- the tokens of the text so far, and then any tokens, are written by whole nodes and a spot
 pub record Good (limit : ℕ) (s : State) (text : List Token → List Token) : Type 0 where

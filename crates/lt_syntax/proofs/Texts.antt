@@ -1,9 +1,6 @@
 -- The bytes of a form are cut into its tokens, and the canonical form of a term that can be written is such a form.
-use Rattle.std.proofs.Common.{◌≡◌, ℕ, zero, suc, ◌+◌, ◌≤◌, ◌<◌, Bool, true, false, List, [], ◌∷◌, ◌++◌, length, codes, decimal, ◌==◌, nat_le, Option, Some, None, ℤ, pos, negsuc, if◌then◌else◌, refl, sym, ap, ap₂, ◌∙◌, subst, arith, append_assoc, append-nil}
+use Rattle.std.proofs.Common.{◌≡◌, ℕ, ◌≤◌, ◌<◌, Bool, true, false, List, [], ◌∷◌, ◌++◌, length, codes, decimal, ◌==◌, refl, sym, ap, ◌∙◌, subst, arith, append_assoc}
 use Rattle.lt_base.specs.declared.operators.Bin.TheVariants.{Sub, Add, Mul, Div, Mod, Eq, Ne, Lt, Le, Gt, Ge, And, Or, Xor, Implies}
-use Rattle.lt_base.specs.declared.operators.Un.TheVariants.{Neg, Not}
-use Rattle.lt_base.specs.declared.value.Value.{Value}
-use Rattle.lt_base.specs.declared.value.Value.TheVariants.{Int, Bool as Truth}
 use Rattle.lt_tokens.specs.declared.token.Infix.{Infix}
 use Rattle.lt_tokens.specs.declared.token.Infix.TheVariants.{Operator, Fby, Arrow}
 use Rattle.lt_tokens.specs.declared.token.Token.{Token}
@@ -11,13 +8,11 @@ use Rattle.lt_tokens.specs.declared.token.Token.TheVariants as token
 use Rattle.std.proofs.lemmas.Fmt.{digits_decimal, decimal_nonempty}
 use Rattle.lt_tokens.specs.Text as lexer
 use Rattle.lt_tokens.specs.Text.{Front, Begins, greatest, skip, front, is_word, is_digit, Cuts}
-use Rattle.lt_syntax.specs.Tree as tree
-use Rattle.lt_syntax.specs.Tree.{Tm, Tms}
-use Rattle.lt_syntax.specs.Levels.{line, level, left, right}
-use Rattle.lt_syntax.specs.Grammar.{Form, Forms, number, truth, name, paren, minus, negated, binary, choice, sampled, merged, call, nil, cons, IsAt, AreExprs, polarity, tokens, arguments, literal, joined, meaning, meanings}
-use Rattle.lt_syntax.specs.Canonical.{within, value_form, guarded, led, level_of, bare, all_bare, placed, operator, truth_text, clock_text, text, texts}
+use Rattle.lt_syntax.specs.Levels.{line}
+use Rattle.lt_syntax.specs.Grammar.{Form, Forms, number, truth, name, paren, minus, negated, binary, choice, sampled, merged, call, nil, cons, IsAt, polarity, tokens, arguments}
+use Rattle.lt_syntax.specs.Canonical.{operator, truth_text, clock_text, text, texts}
 use Rattle.lt_syntax.proofs.Complete.{table}
-use Rattle.lt_syntax.proofs.Written.{AllPass, IsIdent, GoodValue, GoodLit, Good, AllGood}
+use Rattle.lt_syntax.proofs.Written.{AllPass, IsIdent}
 use Rattle.lt_syntax.proofs.Lexed.{Stops, letter_plain, digit_plain, ident_front, number_front, open_front, close_front, comma_front, minus_front, own, small, span_stops, halts_word}
 
 -- the names and numbers of a form can be read

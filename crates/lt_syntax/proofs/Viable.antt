@@ -1,33 +1,26 @@
 -- Whatever the parser has taken can be led to an end.
-use Rattle.std.proofs.Common.{◌≡◌, ℕ, ◌+◌, ◌≤◌, max, Bool, true, false, List, [], ◌∷◌, ◌++◌, length, map, Option, Result, Ok, Err, nat_le, if◌then◌else◌, refl, sym, ap, ap₂, ◌∙◌, subst, arith, append_assoc, append-nil, leb-true, leb-false}
-use Rattle.lt_base.specs.declared.operators.Bin.TheVariants.{Sub, Eq}
-use Rattle.lt_base.specs.declared.value.Ty.{Ty}
+use Rattle.std.proofs.Common.{◌≡◌, ℕ, ◌+◌, ◌≤◌, max, Bool, true, false, List, [], ◌∷◌, ◌++◌, length, map, refl, sym, ap, ◌∙◌, arith}
+use Rattle.lt_base.specs.declared.operators.Bin.TheVariants.{Eq}
 use Rattle.lt_tokens.specs.declared.token.Infix.TheVariants as meet
 use Rattle.lt_tokens.specs.declared.token.Token.{Token}
 use Rattle.lt_tokens.specs.declared.token.Token.TheVariants as token
-use Rattle.lt_syntax.specs.declared.tree.DeclText.{DeclText}
-use Rattle.lt_syntax.specs.declared.tree.NodeText.{NodeText}
-use Rattle.lt_syntax.specs.declared.section.Section.{Section}
-use Rattle.lt_syntax.specs.declared.section.Section.TheVariants.{Ins, Outs, Locals}
-use Rattle.lt_syntax.specs.Tree.{Tm}
 use Rattle.lt_syntax.specs.Grammar.{Form, IsAt, polarity, tokens, height, meaning}
-use Rattle.lt_syntax.specs.Program.{Group, Node, each, between, optional, ident, clause, group, local, locals, equation, node, NotEmpty, Each, IsGroup, IsPlain, IsEquation, IsNode, declared, decls, node_tree, Program}
-use Rattle.lt_syntax.specs.Machine.{Operand, Frame, Mode, Want, Named, Has, WantClock, Next, Bad, Go, Done, need, hole, go}
-use Rattle.lt_syntax.specs.Parser.{Phase, Idle, Told, WantNode, HasNode, Opened, WantName, HasName, WantType, HasGroup, WantPolarity, WantVariable, HasIns, Returning, HasOuts, HasHead, HasLocals, Body, HasLeft, In, State, Kind, Unexpected, TooDeep, empty_node, add, add_equation, next_group, end_group, checked, move, finish, step_on, step, on, run, start}
-use Rattle.lt_syntax.proofs.Complete.{operand, height_pos}
-use Rattle.lt_syntax.proofs.Zipper.{Begun, Holding, z_want, stack, mode, all_opened, held}
-use Rattle.lt_syntax.proofs.Sound.{AreBegun, Fit, Rest, Ended, Fine, go_fine}
+use Rattle.lt_syntax.specs.Program.{Group, Node, each, between, optional, ident, clause, group, local, equation, node, Each, IsGroup, IsPlain, IsEquation, IsNode, node_tree}
+use Rattle.lt_syntax.specs.Machine.{hole}
+use Rattle.lt_syntax.specs.Parser.{State}
+use Rattle.lt_syntax.proofs.Complete.{height_pos}
+use Rattle.lt_syntax.proofs.Zipper.{Begun, Holding, z_want, stack, all_opened, held}
+use Rattle.lt_syntax.proofs.Sound.{AreBegun, Fit}
 use Rattle.std.specs.Prelude.{codes}
 use Rattle.lt_base.specs.declared.value.Ty.TheVariants as ty
 use Rattle.lt_syntax.specs.Grammar as form
 use Rattle.lt_syntax.specs.Grammar.{literal, left_height}
 use Rattle.lt_syntax.specs.Faults.{Begins}
-use Rattle.lt_syntax.specs.Levels.{line, level, left, right}
-use Rattle.lt_syntax.specs.Machine.{least}
-use Rattle.lt_syntax.proofs.Complete.{left_pos, table, ends_part}
-use Rattle.lt_syntax.proofs.Zipper.{z_minus, z_not, z_paren, z_infix, z_if, z_then, z_else, z_sampling, z_merge, z_first, z_second, z_call, z_named, z_has, z_clock, tallest, frame, opened, commas, Ready, closing, forms, at_lower, hole_le, tallest_snoc, forms_tall, exprs_snoc, arguments_snoc, forms_exprs, completes, room_for}
-use Rattle.lt_syntax.proofs.Sound.{Whole, top_room}
-use Rattle.lt_syntax.proofs.Drafts.{Draft, d_ins, d_outs, d_locals, section, draft_tree, head, with_ins, with_outs, lead, with_locals, GoodDraft, MayClock, ClockFits, name_comma, group_of, Eqs, Spot, s_idle, s_told, s_node, s_name, s_opened, s_want, s_has, s_type, s_group, s_polarity, s_variable, s_ins, s_returning, s_outs, s_head, s_locals, s_body, s_left, s_in, whole_node, body_tree, phase, spot_text, all_done, GoodHead, GoodSpot, each_snoc, between_snoc, each_between, between_comma, not_empty_snoc, each_all_snoc, decls_snoc, map_snoc, locals_some}
+use Rattle.lt_syntax.specs.Levels.{line, level, right}
+use Rattle.lt_syntax.proofs.Complete.{table}
+use Rattle.lt_syntax.proofs.Zipper.{z_minus, z_not, z_paren, z_infix, z_if, z_then, z_else, z_sampling, z_merge, z_first, z_second, z_call, z_named, z_has, z_clock, tallest, Ready, closing, forms, at_lower, hole_le, tallest_snoc, forms_tall, exprs_snoc, arguments_snoc, forms_exprs, completes, room_for}
+use Rattle.lt_syntax.proofs.Sound.{top_room}
+use Rattle.lt_syntax.proofs.Drafts.{Draft, d_ins, d_outs, d_locals, head, with_ins, with_outs, lead, with_locals, GoodDraft, MayClock, ClockFits, group_of, Eqs, Spot, s_idle, s_told, s_node, s_name, s_opened, s_want, s_has, s_type, s_group, s_polarity, s_variable, s_ins, s_returning, s_outs, s_head, s_locals, s_body, s_left, s_in, whole_node, spot_text, GoodHead, GoodSpot, each_snoc, between_snoc, each_between, not_empty_snoc, each_all_snoc, locals_some}
 use Rattle.lt_syntax.proofs.Steps.{Good}
 
 abbrev some_name : List ℕ

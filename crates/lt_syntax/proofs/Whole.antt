@@ -1,17 +1,16 @@
 -- What the parser's answers say of a text.
-use Rattle.std.proofs.Common.{◌≡◌, ℕ, ◌+◌, ◌≤◌, max, Bool, true, false, List, [], ◌∷◌, ◌++◌, length, map, Result, Ok, Err, nat_le, if◌then◌else◌, refl, sym, ap, ap₂, ◌∙◌, subst, arith, append_assoc, append-nil, leb-true, le-leb, le_trans}
+use Rattle.std.proofs.Common.{◌≡◌, ℕ, ◌≤◌, max, true, false, List, [], ◌∷◌, ◌++◌, map, Result, Ok, Err, nat_le, if◌then◌else◌, refl, sym, ap, ap₂, ◌∙◌, subst, arith, append_assoc, append-nil, leb-true, le-leb, le_trans}
 use Rattle.lt_tokens.specs.declared.token.Token.{Token}
 use Rattle.lt_tokens.specs.declared.token.Token.TheVariants as token
 use Rattle.lt_tokens.specs.Text as text
 use Rattle.lt_tokens.specs.Text.{Front, Cuts, front, skip}
 use Rattle.lt_syntax.specs.declared.tree.NodeText.{NodeText}
-use Rattle.lt_syntax.specs.Tree.{Tm}
-use Rattle.lt_syntax.specs.Program.{Node, each, node, NotEmpty, Each, IsEquation, IsNode, node_tree, Program, Spells}
+use Rattle.lt_syntax.specs.Program.{Node, each, node, NotEmpty, Each, IsNode, node_tree, Program, Spells}
 use Rattle.lt_syntax.specs.Faults.{Begins, Breaks, Exceeds}
-use Rattle.lt_syntax.specs.Machine.{Frame, Mode, Want, Named, Has, WantClock, Next, Bad, Go, Done, need, go}
-use Rattle.lt_syntax.specs.Parser.{Phase, Idle, Told, WantNode, HasNode, Opened, WantName, HasName, WantType, HasGroup, WantPolarity, WantVariable, HasIns, Returning, HasOuts, HasHead, HasLocals, Body, HasLeft, In, State, Kind, Unexpected, TooDeep, checked, end_group, move, finish, step_on, step, on, run, start, Ends}
+use Rattle.lt_syntax.specs.Machine.{Want, Named, Has, WantClock, Next, Bad, Go, Done, need, go}
+use Rattle.lt_syntax.specs.Parser.{Phase, Idle, Told, WantNode, HasNode, Opened, WantName, HasName, WantType, HasGroup, WantPolarity, WantVariable, HasIns, Returning, HasOuts, HasHead, HasLocals, Body, HasLeft, In, State, Kind, Unexpected, TooDeep, checked, move, finish, step_on, step, on, run, start, Ends}
 use Rattle.lt_syntax.proofs.Nodes.{behind, ends_behind, program_runs}
-use Rattle.lt_syntax.proofs.Drafts.{Spot, s_idle, s_told, s_node, s_name, s_opened, s_want, s_has, s_type, s_group, s_polarity, s_variable, s_ins, s_returning, s_outs, s_head, s_locals, s_body, s_left, s_in, whole_node, phase, spot_text, all_done, GoodSpot, each_snoc, not_empty_snoc, each_all_snoc, map_snoc}
+use Rattle.lt_syntax.proofs.Drafts.{Spot, s_idle, s_told, whole_node, phase, spot_text, all_done, GoodSpot, each_snoc, not_empty_snoc, each_all_snoc, map_snoc}
 use Rattle.lt_syntax.proofs.Steps.{Good, StepIs, nodes_more, step_good}
 use Rattle.lt_syntax.proofs.Viable.{good_begins}
 

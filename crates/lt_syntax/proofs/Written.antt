@@ -1,7 +1,6 @@
 -- The canonical form stands where it is asked, means its term, and is the lowest.
-use Rattle.std.proofs.Common.{◌≡◌, ℕ, zero, suc, ◌+◌, ◌≤◌, ◌<◌, max, Bool, true, false, List, [], ◌∷◌, ◌++◌, length, Option, Some, None, nat_le, ℤ, pos, negsuc, if◌then◌else◌, refl, sym, ap, ap₂, ◌∙◌, subst, arith, le-leb, leb-true, leb-false}
+use Rattle.std.proofs.Common.{◌≡◌, ℕ, suc, ◌+◌, ◌≤◌, max, Bool, true, false, List, [], ◌∷◌, Some, None, nat_le, pos, negsuc, if◌then◌else◌, refl, ap, ap₂, ◌∙◌, arith, le-leb, leb-true}
 use Rattle.lt_base.specs.declared.operators.Un.TheVariants.{Neg, Not}
-use Rattle.lt_base.specs.declared.operators.Bin.{Bin}
 use Rattle.lt_base.specs.declared.value.Value.{Value}
 use Rattle.lt_base.specs.declared.value.Value.TheVariants.{Int, Bool as Truth}
 use Rattle.lt_tokens.specs.declared.token.Infix.{Infix}

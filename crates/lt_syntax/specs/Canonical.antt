@@ -1,5 +1,5 @@
 -- The canonical text of a tree.
-use Rattle.std.specs.Prelude.{ℕ, ◌++◌, Bool, true, false, List, [], ◌∷◌, map, codes, decimal, nat_le, Option, Some, None, ℤ, pos, negsuc, nat_abs, if◌then◌else◌}
+use Rattle.std.specs.Prelude.{ℕ, ◌++◌, Bool, true, false, List, [], ◌∷◌, codes, decimal, nat_le, Option, Some, None, pos, negsuc, nat_abs, if◌then◌else◌}
 use Rattle.lt_base.specs.declared.operators.Bin.TheVariants.{Add, Sub, Mul, Div, Mod, Eq, Ne, Lt, Le, Gt, Ge, And, Or, Xor, Implies}
 use Rattle.lt_base.specs.declared.operators.Un.TheVariants.{Neg, Not}
 use Rattle.lt_base.specs.declared.value.Ty.{Ty}

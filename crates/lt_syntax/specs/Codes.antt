@@ -1,5 +1,5 @@
 -- How a proof tells two terms apart.
-use Rattle.std.specs.Prelude.{◌≡◌, ℕ, Bool, List}
+use Rattle.std.specs.Prelude.{◌≡◌, ℕ, List}
 use Rattle.std.proofs.Common.{ap}
 use base.Stored.{Gv, gnil, gnum, gcons}
 use Rattle.std.specs.Coded.{Coded, coded_bool, coded_list, coded_ℕ}

@@ -1,7 +1,6 @@
 -- The grammar of expressions. An expression as it is written, with its parentheses, is a form;
 -- where it may stand, its tokens, its height and its tree are read off it.
-use Rattle.std.specs.Prelude.{ℕ, ◌+◌, ◌≤◌, max, Bool, true, false, List, [], ◌∷◌, Option, Some, None, ℤ, pos, neg_ℤ}
-use Rattle.lt_base.specs.declared.operators.Bin.{Bin}
+use Rattle.std.specs.Prelude.{ℕ, ◌+◌, ◌≤◌, max, Bool, true, false, List, ◌∷◌, Option, Some, None, pos, neg_ℤ}
 use Rattle.lt_base.specs.declared.operators.Bin.TheVariants.{Sub}
 use Rattle.lt_base.specs.declared.operators.Un.TheVariants.{Neg, Not}
 use Rattle.lt_base.specs.declared.value.Value.{Value}

@@ -1,11 +1,11 @@
 -- The parser of expressions as a machine that takes one token at a time: a stack of forms that are begun, the newest first, and a mode.
-use Rattle.std.specs.Prelude.{ℕ, ◌+◌, ◌≤◌, max, Bool, true, false, List, [], ◌∷◌, ◌++◌, length, Option, Some, None, nat_le, ℤ, pos, neg_ℤ, if◌then◌else◌}
+use Rattle.std.specs.Prelude.{ℕ, ◌+◌, ◌≤◌, max, Bool, true, false, List, [], ◌∷◌, ◌++◌, length, Option, Some, None, nat_le, pos, neg_ℤ, if◌then◌else◌}
 use Rattle.lt_base.specs.declared.operators.Bin.TheVariants.{Sub}
 use Rattle.lt_base.specs.declared.operators.Un.TheVariants.{Neg, Not}
 use Rattle.lt_base.specs.declared.value.Value.{Value}
 use Rattle.lt_base.specs.declared.value.Value.TheVariants.{Int, Bool as Truth}
 use Rattle.lt_tokens.specs.declared.token.Infix.{Infix}
-use Rattle.lt_tokens.specs.declared.token.Infix.TheVariants.{Operator, Fby, Arrow}
+use Rattle.lt_tokens.specs.declared.token.Infix.TheVariants.{Operator}
 use Rattle.lt_tokens.specs.declared.token.Token.{Token}
 use Rattle.lt_tokens.specs.declared.token.Token.TheVariants as token
 use Rattle.lt_syntax.specs.Tree as tree

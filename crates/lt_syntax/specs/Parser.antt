@@ -1,5 +1,5 @@
 -- The parser of programs as a machine that takes one token at a time.
-use Rattle.std.specs.Prelude.{ℕ, ◌≤◌, Bool, true, false, List, [], ◌∷◌, ◌++◌, Result, Ok, Err, nat_le, if◌then◌else◌}
+use Rattle.std.specs.Prelude.{ℕ, Bool, true, false, List, [], ◌∷◌, ◌++◌, Result, Ok, Err, nat_le, if◌then◌else◌}
 use Rattle.lt_base.specs.declared.operators.Bin.TheVariants.{Eq}
 use Rattle.lt_base.specs.declared.value.Ty.{Ty}
 use Rattle.lt_tokens.specs.declared.token.Infix.TheVariants.{Operator}
@@ -11,7 +11,7 @@ use Rattle.lt_syntax.specs.declared.section.Section.{Section}
 use Rattle.lt_syntax.specs.declared.section.Section.TheVariants.{Ins, Outs, Locals}
 use Rattle.lt_syntax.specs.Tree.{Tm}
 use Rattle.lt_syntax.specs.Program.{declared}
-use Rattle.lt_syntax.specs.Machine.{Operand, Frame, Mode, Want, WantClock, Next, Bad, Go, Done, need, go}
+use Rattle.lt_syntax.specs.Machine.{Frame, Mode, Want, WantClock, Next, Bad, Go, Done, need, go}
 
 -- where the text is
 pub data Phase : Type 0 where

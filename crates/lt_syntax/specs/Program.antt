@@ -9,7 +9,6 @@ use Rattle.lt_tokens.specs.Text as text
 use Rattle.lt_tokens.specs.Text.{Cuts, front, skip}
 use Rattle.lt_syntax.specs.declared.tree.DeclText.{DeclText}
 use Rattle.lt_syntax.specs.declared.tree.NodeText.{NodeText}
-use Rattle.lt_syntax.specs.Tree.{Tm}
 use Rattle.lt_syntax.specs.Grammar.{Form, IsAt, tokens, polarity, height, meaning}
 
 -- names of one type and clock, declared together

@@ -1,10 +1,8 @@
 -- What the values in memory stand for.
-use Rattle.std.specs.Prelude.{ℕ, ◌≤◌, List, [], ◌∷◌, ◌≡◌, map, reverse, Result, Ok, Err}
+use Rattle.std.specs.Prelude.{ℕ, List, [], ◌∷◌, map, reverse}
 use Rattle.lt_syntax.specs.declared.term.Term.{Term}
 use Rattle.lt_syntax.specs.declared.term.Term.TheOpen.{Term-F, Lit, Var, Un, Bin, If, When, Merge, Fby, Follow, Arrow, Call}
 use Rattle.lt_syntax.specs.declared.term.Term.TheFolds.{fold-Term}
-use Rattle.lt_base.specs.declared.memory.Or.{Or}
-use Rattle.lt_base.specs.declared.memory.Or.TheVariants as or
 use Rattle.lt_syntax.specs.declared.frame.Operand as code
 use Rattle.lt_syntax.specs.declared.frame.Frame.{Frame}
 use Rattle.lt_syntax.specs.declared.frame.Frame.TheVariants as frame

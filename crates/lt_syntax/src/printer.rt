@@ -26,7 +26,11 @@ fn number(out: &mut List<u8>, n: u64) -> Result<(), Memory>
 fn truth(out: &mut List<u8>, b: bool) -> Result<(), Memory>
     ensures { OnOk result (out.new ≡ out.old ++ truth_text b) }
 {
-    if b { out.extend(b"true") } else { out.extend(b"false") }
+    if b {
+        out.extend(b"true")
+    } else {
+        out.extend(b"false")
+    }
 }
 
 /// A literal, with `-` before a negative number.

@@ -70,8 +70,8 @@ pub fn parse(alloc: Global, bytes: &[u8]) -> Result<Tree, Or<SyntaxFault>>
 #[cfg(test)]
 mod tests {
     use super::parse;
-    use crate::printer::print;
     use crate::fault::{SyntaxFault, SyntaxKind};
+    use crate::printer::print;
     use lt_base::Or;
     use std::alloc::Global;
 
@@ -112,10 +112,34 @@ mod tests {
     #[test]
     fn canonical(rt: HostRuntime) {
         let a = rt.alloc();
-        assert!(&rt; prints(a, b"node main(x: int) returns (y: int) let y = 0 fby (y + x); tel", b"node main(x: int) returns (y: int)\nlet\n  y = 0 fby y + x;\ntel\n"));
-        assert!(&rt; prints(a, b"node main(x: int) returns (y: int) let y = if (x < 1) then ((x)) else 0 fby (y + 2); tel", b"node main(x: int) returns (y: int)\nlet\n  y = if x < 1 then x else 0 fby y + 2;\ntel\n"));
-        assert!(&rt; prints(a, b"node main(x: int) returns (y: int) let y = (-5) fby x -> x; z = -5 fby x; tel", b"node main(x: int) returns (y: int)\nlet\n  y = (-5) fby x -> x;\n  z = -5 fby x;\ntel\n"));
-        assert!(&rt; prints(a, b"node f() returns (a, b: bool when not c when d) var e: int; let a = merge c (f(007, not true)) (-g); tel", b"node f() returns (a: bool when not c when d; b: bool when not c when d)\nvar\n  e: int;\nlet\n  a = merge c (f(7, not true)) (-g);\ntel\n"));
+        assert!(&rt;
+            prints(
+                a,
+                b"node main(x: int) returns (y: int) let y = 0 fby (y + x); tel",
+                b"node main(x: int) returns (y: int)\nlet\n  y = 0 fby y + x;\ntel\n"
+            )
+        );
+        assert!(&rt;
+            prints(
+                a,
+                b"node main(x: int) returns (y: int) let y = if (x < 1) then ((x)) else 0 fby (y + 2); tel",
+                b"node main(x: int) returns (y: int)\nlet\n  y = if x < 1 then x else 0 fby y + 2;\ntel\n"
+            )
+        );
+        assert!(&rt;
+            prints(
+                a,
+                b"node main(x: int) returns (y: int) let y = (-5) fby x -> x; z = -5 fby x; tel",
+                b"node main(x: int) returns (y: int)\nlet\n  y = (-5) fby x -> x;\n  z = -5 fby x;\ntel\n"
+            )
+        );
+        assert!(&rt;
+            prints(
+                a,
+                b"node f() returns (a, b: bool when not c when d) var e: int; let a = merge c (f(007, not true)) (-g); tel",
+                b"node f() returns (a: bool when not c when d; b: bool when not c when d)\nvar\n  e: int;\nlet\n  a = merge c (f(7, not true)) (-g);\ntel\n"
+            )
+        );
     }
 
     #[test]

@@ -1,5 +1,5 @@
 -- How the bytes of a text are cut into tokens, the longest first.
-use Rattle.std.specs.Prelude.{ℕ, ◌+◌, ◌*◌, ◌-◌, ◌≤◌, ◌≡◌, Bool, true, false, ◌&&◌, ◌||◌, List, [], ◌∷◌, length, drop, take_while, nat_le, ◌==◌, Option, Some, None, if◌then◌else◌}
+use Rattle.std.specs.Prelude.{ℕ, ◌+◌, ◌*◌, ◌-◌, ◌≡◌, Bool, false, ◌&&◌, ◌||◌, List, [], ◌∷◌, length, drop, take_while, nat_le, ◌==◌, Option, Some, None, if◌then◌else◌}
 use Rattle.lt_base.specs.declared.operators.Bin.TheVariants.{Add, Sub, Mul, Eq, Ne, Lt, Le, Gt, Ge, Implies}
 use Rattle.lt_tokens.specs.declared.token.Infix.{Infix}
 use Rattle.lt_tokens.specs.declared.token.Infix.TheVariants.{Operator, Arrow}

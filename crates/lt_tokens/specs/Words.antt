@@ -1,5 +1,5 @@
 -- Which words are keywords.
-use Rattle.std.specs.Prelude.{ℕ, List, codes, bytes_eq, Bool, true, false, Option, Some, None, if◌then◌else◌}
+use Rattle.std.specs.Prelude.{ℕ, List, codes, bytes_eq, true, false, Option, Some, None, if◌then◌else◌}
 use Rattle.lt_base.specs.declared.operators.Bin.TheVariants.{And, Or, Xor, Div, Mod}
 use Rattle.lt_base.specs.declared.value.Ty.TheVariants as ty
 use Rattle.lt_tokens.specs.declared.token.Infix.{Infix}

@@ -1,4 +1,4 @@
-use Rattle.std.proofs.Common.{◌≡◌, subst}
+use Rattle.std.proofs.Common.{subst}
 use Rattle.lt_syntax.specs.Parser as parser
 use Rattle.lt_syntax.specs.Phases.{phase_of, Steps}
 use Rattle.lt_syntax.proofs.Declares.{elsewhere}

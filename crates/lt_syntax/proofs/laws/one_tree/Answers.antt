@@ -1,5 +1,4 @@
 use Rattle.lt_syntax.proofs.Whole as whole
-use Rattle.lt_syntax.proofs.Reading.{only_read}
 use Rattle.lt_syntax.proofs.laws.one_tree.Goals as goal
 
 pub returns : goal.returns

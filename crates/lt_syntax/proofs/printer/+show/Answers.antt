@@ -1,4 +1,4 @@
-use Rattle.std.proofs.Common.{◌≡◌, codes, refl}
+use Rattle.std.proofs.Common.{codes, refl}
 use Rattle.lt_syntax.proofs.Printing.{next_apart, arguments_more, printed_arguments, printed_argument}
 use Rattle.lt_syntax.proofs.printer.+show.Goals as goal
 

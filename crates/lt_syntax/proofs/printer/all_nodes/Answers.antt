@@ -1,4 +1,4 @@
-use Rattle.std.proofs.Common.{◌≡◌, []}
+use Rattle.std.proofs.Common.{[]}
 use Rattle.lt_syntax.specs.Canonical.{canonical, node_text}
 use Rattle.lt_syntax.proofs.Printing.{next, canonical_snoc}
 use Rattle.lt_syntax.proofs.printer.all_nodes.Goals as goal

@@ -1,4 +1,4 @@
-use Rattle.std.proofs.Common.{◌≡◌, ◌++◌, take}
+use Rattle.std.proofs.Common.{◌≡◌, take}
 use Rattle.lt_syntax.specs.Canonical.{canonical}
 use Rattle.lt_syntax.proofs.printer.all_nodes.Given as goal
 

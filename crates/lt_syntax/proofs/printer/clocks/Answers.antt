@@ -1,4 +1,3 @@
-use Rattle.std.proofs.Common.{◌≡◌}
 use Rattle.lt_syntax.specs.Canonical.{clocks_text, clock_text}
 use Rattle.lt_syntax.proofs.Printing.{next, clocks_snoc}
 use Rattle.lt_syntax.proofs.printer.clocks.Goals as goal

@@ -1,4 +1,4 @@
-use Rattle.std.proofs.Common.{◌≡◌, codes, refl}
+use Rattle.std.proofs.Common.{codes, refl}
 use Rattle.lt_syntax.specs.Canonical.{decls_text, decl_text}
 use Rattle.lt_syntax.proofs.Printing.{next_apart, decls_more}
 use Rattle.lt_syntax.proofs.printer.decls.Goals as goal

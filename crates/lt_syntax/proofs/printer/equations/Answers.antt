@@ -1,4 +1,3 @@
-use Rattle.std.proofs.Common.{◌≡◌}
 use Rattle.lt_syntax.specs.Canonical.{equation_lines}
 use Rattle.lt_syntax.specs.Printed.{equation_line}
 use Rattle.lt_syntax.proofs.Printing.{next, equations_snoc}

@@ -1,4 +1,3 @@
-use Rattle.std.proofs.Common.{◌≡◌}
 use Rattle.lt_syntax.specs.Canonical.{local_lines}
 use Rattle.lt_syntax.specs.Printed.{local_line}
 use Rattle.lt_syntax.proofs.Printing.{next, lines_snoc}

@@ -1,7 +1,5 @@
-use Rattle.std.proofs.Common.{◌≡◌, ℕ, ◌≤◌, ◌+◌, ◌-◌, length, drop, take, ap, ◌∙◌, sym, subst, arith}
+use Rattle.std.proofs.Common.{◌≤◌, ◌-◌, length, drop, ap, sym, subst, arith}
 use Rattle.lt_tokens.specs.declared.front.Front.TheVariants as front
-use Rattle.lt_tokens.specs.Text as text
-use Rattle.lt_tokens.specs.Text.{skip}
 use Rattle.lt_syntax.specs.Phases.{state_of}
 use Rattle.lt_syntax.proofs.Reading.{SoFar, goes, over_some, over_none, bad_byte, bad_number}
 use Rattle.lt_syntax.proofs.Loop.{fits_here, found, place, wrong_step, all_of, shorter}

@@ -1,4 +1,4 @@
-use Rattle.std.proofs.Common.{◌≡◌, ◌≤◌, length}
+use Rattle.std.proofs.Common.{◌≤◌, length}
 use Rattle.lt_syntax.specs.Phases.{state_of}
 use Rattle.lt_syntax.proofs.Reading.{SoFar}
 use Rattle.lt_syntax.proofs.read.read.Given as goal

@@ -1,5 +1,3 @@
-use Rattle.std.proofs.Common.{length, take, subst}
-use Rattle.std.specs.Str.{IsUtf8}
 use Rattle.lt_tokens.proofs.Ascii.{ascii_word}
 use Rattle.lt_tokens.proofs.front.read_front.Goals as goal
 
