@@ -17,5 +17,5 @@ pub mod Behaviour
 pub mod Defined
 mod Cuts
 mod Fixtures
-mod Shape
+pub mod Shape
 mod Wrapping
