@@ -5,6 +5,8 @@ mod fault;
 mod inputs;
 mod records;
 mod rows;
+#[cfg(test)]
+mod tests;
 mod values;
 
 pub use fault::{InputFault, InputKind};

@@ -45,7 +45,8 @@ pub fn read_row(
     }
 }
 
-// Reads a row of text.
+// Reads a row of text. Kept a function of its own in the program, where it is the inner loop.
+#[inline(never)]
 fn read_values(
     row: &ByteRecord,
     ins: &[Decl],

@@ -1,12 +1,15 @@
 // What a field reads as.
-ghost use Rattle.std.specs.Prelude.{◌≡◌, ◌≤◌, ◌<◌, ◌^◌};
+ghost use Rattle.std.specs.Prelude.{◌≡◌, ◌≤◌, ◌<◌, ◌-◌, ◌^◌};
 ghost use Rattle.lt_inputs.specs.Fields.{number_of, up_to, int_of, bool_of, value_of};
 
 use lt_base::{Ty, Value};
 
+// With one more digit, no number below this passes an int.
+const PLAIN: u64 = 900_000_000_000_000_000;
+
 /// The number of some digits, up to a bound.
 pub fn number(digits: &[u8], most: u64) -> Option<u64>
-    requires { 9 ≤ most }
+    requires { 2 ^ 63 - 1 ≤ most }
     ensures { result ≡ up_to most (number_of digits.now) }
 {
     if digits.is_empty() {
@@ -18,7 +21,7 @@ pub fn number(digits: &[u8], most: u64) -> Option<u64>
             return None;
         }
         let digit = (*c - b'0') as u64;
-        if (most - digit) / 10 < n {
+        if n >= PLAIN && (most - digit) / 10 < n {
             return None;
         }
         n = n * 10 + digit;
