@@ -5,6 +5,8 @@ pub mod laws;
 mod named;
 mod nodes;
 mod placement;
+#[cfg(test)]
+mod tests;
 
 pub use named::NamedNode;
 pub use nodes::NamedNodes;
