@@ -1,7 +1,8 @@
 -- Lists of edges, each from a node to a node.
-use Rattle.std.specs.Prelude.{◌≡◌, ℕ, ◌<◌, Some, List, slice_get}
+use Rattle.std.specs.Prelude.{◌≡◌, ℕ, ◌<◌, Some, List, length, slice_get}
 use Rattle.std.specs.List.{All, Contains}
 use Rattle.lt_base.specs.Graph.{Walks}
+use Rattle.lt_graph.specs.Tables.{Leads}
 
 -- the edges join nodes below n
 abbrev pub AreWithin : ℕ → List (ℕ × ℕ) → Type 0
@@ -19,3 +20,9 @@ IsCircular edges e = (walk : List ℕ) × Walks (Joined edges) e.1 walk e.0
 pub record IsFirstCircular (edges : List (ℕ × ℕ)) (place : ℕ) : Type 0 where
   pub circular : (e : ℕ × ℕ) × (slice_get edges place ≡ Some e) × IsCircular edges e
   pub first : (k : ℕ) (e : ℕ × ℕ) → k < place → slice_get edges k ≡ Some e → IsCircular edges e → ⊥
+
+-- the table leads from each node to those that edges lead to from it
+pub record HasEdges (nodes : ℕ) (edges : List (ℕ × ℕ)) (table : List (List ℕ)) : Type 0 where
+  pub size : length table ≡ nodes
+  pub joined : (x y : ℕ) → Leads table x y → Joined edges x y
+  pub leads : (x y : ℕ) → Joined edges x y → Leads table x y
