@@ -12,6 +12,8 @@ mod read;
 mod section;
 mod stack;
 mod term;
+#[cfg(test)]
+mod tests;
 mod tree;
 
 pub use fault::{SyntaxFault, SyntaxKind};
