@@ -6,6 +6,7 @@ mod print;
 mod refusal;
 mod status;
 mod top;
+mod words;
 
 pub use refusal::Refusal;
 pub use status::Status;

@@ -13,7 +13,8 @@ use Rattle.lt_arch.specs.State.{executed_of}
 use Rattle.lt_arch.specs.Schedule.{reached}
 use Rattle.lt_run.specs.declared.fault.RunFault.{RunFault}
 use Rattle.lt_run.specs.declared.printed.Printed.{Printed}
-use Rattle.lt_run.specs.Answered.{Verdict, AndThen, OfFile, OfForm}
+use Rattle.lt_answer.specs.Answered.{Verdict, AndThen, OfForm}
+use Rattle.lt_answer.specs.Answered.{OfFile}
 use Rattle.lt_run.specs.Run.{IsTable, Executes, program_verdict, inputs_verdict, schedule_verdict, printed_verdict, run_verdict}
 
 -- at most one fault is right, and then no value is
