@@ -10,7 +10,7 @@ use Rattle.lt_cli.specs.declared.status.Status.{Status}
 use Rattle.lt_cli.specs.declared.status.Status.TheVariants as status
 use Rattle.lt_cli.specs.Blamed.{blame_of}
 use Rattle.lt_cli.specs.Texts.{status_of, refusal_status, line_of, out_text, err_text}
-use Rattle.lt_cli.specs.Words.{Said, command_of}
+use Rattle.lt_words.specs.Reading.{Said, command_of}
 use Rattle.lt_cli.specs.Commands.{text_verdict, command_verdict, asked_verdict, words_verdict}
 use Rattle.lt_cli.specs.Objects.{Objects, world_of}
 use Rattle.lt_cli.specs.Ran.{Ran, Ends, Printed, Reported, OutcomeBlames}

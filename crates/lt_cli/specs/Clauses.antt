@@ -1,12 +1,12 @@
 -- What holds of a call of `ltta`, fact by fact.
-use Rattle.std.specs.Prelude.{◌≡◌, ◌≢◌, ◌<◌, ◌⊎◌, ◌↔◌, ℕ, IsTrue, List, [], ◌∷◌, ◌++◌, Option, None, Ok, Err, codes}
+use Rattle.std.specs.Prelude.{◌≡◌, ◌≢◌, ◌<◌, ◌⊎◌, ◌↔◌, ℕ, IsTrue, List, [], ◌∷◌, ◌++◌, Option, Some, None, Ok, Err, codes}
 use Rattle.lt_answer.specs.Answered.{Verdict}
 use Rattle.lt_cli.specs.declared.refusal.Refusal.{Refusal}
 use Rattle.lt_cli.specs.declared.refusal.Refusal.TheVariants.{Words}
 use Rattle.lt_cli.specs.declared.status.Status.{Status}
 use Rattle.lt_cli.specs.declared.status.Status.TheVariants as status
 use Rattle.lt_cli.specs.Texts.{refusal_status, line_of}
-use Rattle.lt_cli.specs.Words.{command_of}
+use Rattle.lt_words.specs.Reading.{Said, check, meaning, run, plan, command_of}
 use Rattle.lt_cli.specs.Objects.{Objects}
 
 -- the sinks took nothing, and a line
@@ -19,9 +19,17 @@ pub record TookText (text : List ℕ) (old new : Objects) : Type 0 where
   pub out : new.out.taken ≡ old.out.taken ++ text
   pub err : new.err.taken ≡ old.err.taken
 
+-- no command that is built
+abbrev pub AsksNothing : Option Said → Type 0
+AsksNothing None = Unit {0}
+AsksNothing (Some (check program)) = Unit {0}
+AsksNothing (Some (meaning program inputs)) = Unit {0}
+AsksNothing (Some (run program inputs schedule)) = ⊥
+AsksNothing (Some (plan config horizon)) = ⊥
+
 -- the words are wrong exactly where the status says so, and then the usage line was printed
 pub record IsWordsExact (words : List (List ℕ)) (old new : Objects) (ends : Status) : Type 0 where
-  pub exact : (ends ≡ status.Words) ↔ (command_of words ≡ None)
+  pub exact : (ends ≡ status.Words) ↔ AsksNothing (command_of words)
   pub line : ends ≡ status.Words → TookLine (line_of Words) old new
 
 -- a command with this verdict, whose values are shown and whose faults are raised so: each status comes exactly where it is right, with its text or its line

@@ -1,18 +1,18 @@
 // What is printed for the words.
 ghost use Rattle.std.specs.Prelude.{◌<◌, ◌-◌, ◌^◌, map, string_bytes};
+ghost use Rattle.lt_words.specs.Reading.{plan, run as ask_run};
 ghost use Rattle.lt_answer.specs.World.{alone};
 ghost use Rattle.lt_answer.specs.Answered.{Answered};
 ghost use Rattle.lt_cli.specs.Blamed.{blame_of};
 ghost use Rattle.lt_cli.specs.Commands.{command_verdict, words_verdict};
-ghost use Rattle.lt_cli.specs.Words.{check, run as ask_run};
 
 use crate::Refusal;
 use crate::print::outputs_text;
-use crate::words::{Command, read_words};
 use lt_base::{List, Or};
 use lt_io::Files;
-use lt_run::{load_program, run};
-use lt_syntax::print;
+use lt_plan::plan_text;
+use lt_run::{load_config, run};
+use lt_words::{Command, read_words};
 use std::alloc::Global;
 
 /// What is printed for the words, or why they are refused.
@@ -24,34 +24,36 @@ pub fn answer<F: Files>(
     requires { (F.state files.old).faults < 2 ^ 64 - 1 }
     ensures { Answered blame_of (words_verdict (F.state files.old).named (map string_bytes words.now)) (alone (F.state files.old)) (alone (F.state files.new)) result }
 {
-    match read_words(words) {
-        None => Err(Or::Fault(Refusal::Words)),
-        Some(Command::Check { program }) => check_text(alloc, files, program),
+    match read_words(alloc, words)? {
         Some(Command::Run {
             program,
             inputs,
             schedule,
-        }) => run_text(alloc, files, program, inputs, schedule),
+        }) => run_answer(alloc, files, program, inputs, schedule),
+        Some(Command::Plan { config, horizon }) => plan_answer(alloc, files, config, horizon),
+        // No other command is built yet.
+        _ => Err(Or::Fault(Refusal::Words)),
     }
 }
 
-// The canonical text of a program that passes all checks.
-fn check_text<F: Files>(
+// The plan of a setup.
+fn plan_answer<F: Files>(
     alloc: Global,
     files: &mut F,
-    program: &str,
+    config: &str,
+    horizon: Option<u64>,
 ) -> Result<List<u8>, Or<Refusal>>
     requires { (F.state files.old).faults < 2 ^ 64 - 1 }
-    ensures { Answered blame_of (command_verdict (F.state files.old).named (check program.now)) (alone (F.state files.old)) (alone (F.state files.new)) result }
+    ensures { Answered blame_of (command_verdict (F.state files.old).named (plan config.now horizon)) (alone (F.state files.old)) (alone (F.state files.new)) result }
 {
-    match load_program(alloc, files, program) {
-        Ok(checked) => Ok(print(alloc, &checked.tree)?),
+    match load_config(alloc, files, config) {
+        Ok(config) => Ok(plan_text(alloc, &config, horizon)?),
         Err(e) => Err(e.map(Refusal::Load)),
     }
 }
 
 // The outputs of a run.
-fn run_text<F: Files>(
+fn run_answer<F: Files>(
     alloc: Global,
     files: &mut F,
     program: &str,

@@ -2,11 +2,11 @@
 #![tactic(auto)]
 
 mod answer;
+mod config_line;
 mod print;
 mod refusal;
 mod status;
 mod top;
-mod words;
 
 pub use refusal::Refusal;
 pub use status::Status;

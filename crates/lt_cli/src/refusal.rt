@@ -3,9 +3,9 @@ ghost use Rattle.std.specs.Prelude.{◌≡◌, IfOk};
 ghost use Rattle.lt_cli.specs.Texts.{refusal_status, line_of, load_status, load_line, run_status, run_line};
 
 use crate::Status;
+use crate::config_line::config_line;
 use lt_base::{List, Memory};
 use lt_run::{LoadFault, Part, RunFault, What};
-use lt_texts::program_line;
 use std::alloc::Global;
 
 /// Why a command is refused.
@@ -37,7 +37,7 @@ impl Refusal {
     {
         match self {
             Refusal::Words => {
-                List::from_slice(alloc, b"words: usage: ltta check P | run P I S")
+                List::from_slice(alloc, b"words: usage: ltta run P I S | plan C [--horizon H]")
             }
             Refusal::Load(fault) => load_line(alloc, fault),
             Refusal::Run(fault) => run_line(alloc, *fault),
@@ -49,12 +49,7 @@ fn load_status(fault: &LoadFault) -> Status
     ensures { result ≡ load_status fault.now }
 {
     match fault {
-        LoadFault::Program(fault) => {
-            if fault.is_limit() {
-                return Status::Limit;
-            }
-            Status::Program
-        }
+        LoadFault::Config(_) => Status::Setup,
         LoadFault::Limit(_) => Status::Limit,
         LoadFault::Read => Status::Outside,
     }
@@ -64,12 +59,9 @@ fn load_line(alloc: Global, fault: &LoadFault) -> Result<List<u8>, Memory>
     ensures { IfOk result (λ line. line ≡ load_line fault.now) }
 {
     match fault {
-        LoadFault::Program(fault) => program_line(alloc, fault),
-        LoadFault::Limit(What::ProgramBytes) => {
-            List::from_slice(alloc, b"limit: program bytes 1048576")
-        }
-        LoadFault::Limit(What::InputsBytes) => {
-            List::from_slice(alloc, b"limit: inputs bytes 67108864")
+        LoadFault::Config(fault) => config_line(alloc, fault),
+        LoadFault::Limit(What::ConfigBytes) => {
+            List::from_slice(alloc, b"limit: config bytes 262144")
         }
         LoadFault::Read => List::from_slice(alloc, b"fault: read"),
     }

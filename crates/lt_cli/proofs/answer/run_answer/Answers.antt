@@ -4,7 +4,7 @@ use Rattle.lt_cli.specs.declared.refusal.Refusal.TheVariants.{Run}
 use Rattle.lt_cli.specs.Texts.{outputs_text}
 use Rattle.lt_cli.specs.Commands.{printed_text}
 use Rattle.lt_cli.proofs.Texts.{text_shown, text_refused}
-use Rattle.lt_cli.proofs.answer.run_text.Goals as goal
+use Rattle.lt_cli.proofs.answer.run_answer.Goals as goal
 
 pub returns-in_ok-outputs_text-in-Ok : goal.returns-in_ok-outputs_text-in-Ok
 returns-in_ok-outputs_text-in-Ok g c =
