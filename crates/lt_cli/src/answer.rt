@@ -25,11 +25,13 @@ pub fn answer<F: Files>(
     ensures { Answered blame_of (words_verdict (F.state files.old).named (map string_bytes words.now)) (alone (F.state files.old)) (alone (F.state files.new)) result }
 {
     match read_words(alloc, words)? {
-        Some(Command::Run {
-            program,
-            inputs,
-            schedule,
-        }) => run_answer(alloc, files, program, inputs, schedule),
+        Some(
+            Command::Run {
+                program,
+                inputs,
+                schedule,
+            },
+        ) => run_answer(alloc, files, program, inputs, schedule),
         Some(Command::Plan { config, horizon }) => plan_answer(alloc, files, config, horizon),
         // No other command is built yet.
         _ => Err(Or::Fault(Refusal::Words)),

@@ -37,7 +37,10 @@ impl Refusal {
     {
         match self {
             Refusal::Words => {
-                List::from_slice(alloc, b"words: usage: ltta run P I S | plan C [--horizon H]")
+                List::from_slice(
+                    alloc,
+                    b"words: usage: ltta run P I S | plan C [--horizon H]",
+                )
             }
             Refusal::Load(fault) => load_line(alloc, fault),
             Refusal::Run(fault) => run_line(alloc, *fault),

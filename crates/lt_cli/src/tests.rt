@@ -15,7 +15,8 @@ const INPUTS: &str = "instant,x\n0,1\n1,2\n2,3\n";
 
 const SCHEDULE: &str = "time,event,place\n0,act,all\n4,act,all\n8,act,all\n12,end,\n";
 
-const SETUP: &str = "protocol = 'backpressure'\nperiod = [9, 11]\ndelay = [1, 4]\n[nodes]\na = ['x', 'u']\nb = ['v']\n";
+const SETUP: &str =
+    "protocol = 'backpressure'\nperiod = [9, 11]\ndelay = [1, 4]\n[nodes]\na = ['x', 'u']\nb = ['v']\n";
 
 const USAGE: &str = "words: usage: ltta run P I S | plan C [--horizon H]\n";
 
@@ -226,16 +227,36 @@ fn a_failed_call_ends_it(rt: HostRuntime) -> Result<(), Fail> {
 fn plans_end_as_they_should(rt: HostRuntime) -> Result<(), Fail> {
     let alloc = rt.alloc();
     let plan = "least execute 3\nleast send 3\ntimebased cycle 66\nbackpressure cycle 30\n";
-    let bounds = "least execute 3\nleast send 3\ntimebased cycle 66\nbackpressure cycle 30\ntimebased bound 15\nbackpressure bound 33\n";
-    let later = "least execute 3\nleast send 3\ntimebased cycle 66\nbackpressure cycle 30\ntimebased bound 16\nbackpressure bound 34\n";
+    let bounds =
+        "least execute 3\nleast send 3\ntimebased cycle 66\nbackpressure cycle 30\ntimebased bound 15\nbackpressure bound 33\n";
+    let later =
+        "least execute 3\nleast send 3\ntimebased cycle 66\nbackpressure cycle 30\ntimebased bound 16\nbackpressure bound 34\n";
     let no_delay = "protocol = 'backpressure'\nperiod = [9, 11]\n[nodes]\na = ['x']\n";
     let rows = [
         ("plan c", SETUP, Status::Ok, plan, ""),
         ("plan c --horizon 1000", SETUP, Status::Ok, bounds, ""),
         ("plan --horizon=1001 c", SETUP, Status::Ok, later, ""),
-        ("plan c", "", Status::Setup, "", "config 2 Missing: protocol\n"),
-        ("plan c", no_delay, Status::Setup, "", "config 2 Missing: delay\n"),
-        ("plan c", "protocol =", Status::Setup, "", "config 1 NotToml\n"),
+        (
+            "plan c",
+            "",
+            Status::Setup,
+            "",
+            "config 2 Missing: protocol\n",
+        ),
+        (
+            "plan c",
+            no_delay,
+            Status::Setup,
+            "",
+            "config 2 Missing: delay\n",
+        ),
+        (
+            "plan c",
+            "protocol =",
+            Status::Setup,
+            "",
+            "config 1 NotToml\n",
+        ),
         ("plan q", SETUP, Status::Outside, "", "fault: read\n"),
         ("plan c --horizon -1", SETUP, Status::Words, "", USAGE),
         ("plan", SETUP, Status::Words, "", USAGE),

@@ -1,8 +1,7 @@
 -- Loading leaves one refusal, up to its kind.
-use Rattle.std.proofs.Common.{◌≡◌, ◌∙◌, ℕ, List, Option, Result, Ok, Err, sym, ap}
+use Rattle.std.proofs.Common.{◌≡◌, ◌∙◌, ℕ, List, Option, Ok, Err, sym, ap}
 use Rattle.lt_config.specs.declared.config.Config.{Config}
 use Rattle.lt_config.specs.declared.fault.ConfigFault.{ConfigFault}
-use Rattle.lt_config.specs.Reading.{config_of, setup_in}
 use Rattle.lt_verdict.proofs.Decided.{HasOneKind, HasOneOutcome, of_form, of_file, and_then, raised}
 use Rattle.lt_run.specs.declared.fault.What.{What}
 use Rattle.lt_run.specs.declared.fault.What.TheVariants.{ConfigBytes}

@@ -15,4 +15,3 @@ pub returns-in-Err-Fault-clause-answered : goal.returns-in-Err-Fault-clause-answ
 returns-in-Err-Fault-clause-answered g c =
     let read = rw c.in-Err-Fault.field-0-is at c.in-Err-Fault.ensures in
     fetch_failed c.args.what _ _ _ _ (at_limit _ _ _ _ _ _ c.limit-limit.ensures (record { cause = read.cause; keeps = read.keeps; whole = read.whole; missing = read.missing; sound = read.sound }))
-
