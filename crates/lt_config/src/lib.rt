@@ -12,6 +12,8 @@ mod numbers;
 mod pace;
 mod plain;
 mod reading;
+#[cfg(test)]
+mod tests;
 mod timing;
 mod values;
 
