@@ -1,0 +1,18 @@
+-- What the reader of lines keeps.
+use Rattle.std.specs.Prelude.{◌≡◌, ◌≤◌, ◌+◌, ◌-◌, false, List, ℕ, length, take, drop}
+use Rattle.lt_rows.specs.declared.lines.Lines.TheInside.{Inside}
+use Rattle.lt_rows.specs.declared.limits.TheConstants.{LONGEST_LINE, MOST_BYTES, PIECE}
+use Rattle.lt_rows.specs.Lines.{LinesState}
+
+abbrev pub state_of : Inside → LinesState
+state_of l = record { held = take (l.end - l.start) (drop l.start l.piece.items); place = l.place; line = take l.len l.line.items; failed = l.failed }
+
+-- the room is that of a piece and of a line; where no fault was answered, the limit on bytes was not passed
+pub record AreHeld (l : Inside) : Type 0 where
+  pub piece : length l.piece.items ≡ PIECE
+  pub room : length l.line.items ≡ LONGEST_LINE + 1
+  pub order : l.start ≤ l.end
+  pub end : l.end ≤ PIECE
+  pub len : l.len ≤ LONGEST_LINE + 1
+  pub held : l.end - l.start ≤ l.place
+  pub within : l.failed ≡ false → l.place ≤ MOST_BYTES + (l.end - l.start)

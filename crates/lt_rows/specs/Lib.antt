@@ -1,0 +1,7 @@
+pub mod Rows
+pub mod Lines
+pub mod Held
+pub mod Faults
+pub mod Fields
+pub mod Events
+pub mod Texts

@@ -1,0 +1,2 @@
+// The fields of a line.
+ghost use Rattle.std.specs.Prelude.{◌≡◌};
