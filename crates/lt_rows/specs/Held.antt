@@ -7,6 +7,11 @@ use Rattle.lt_rows.specs.Lines.{LinesState}
 abbrev pub state_of : Inside → LinesState
 state_of l = record { held = take (l.end - l.start) (drop l.start l.piece.items); place = l.place; line = take l.len l.line.items; failed = l.failed }
 
+-- no more than a piece is held, and that was read
+pub record Holds (lines : LinesState) : Type 0 where
+  pub few : length lines.held ≤ PIECE
+  pub placed : length lines.held ≤ lines.place
+
 -- the room is that of a piece and of a line; where no fault was answered, the limit on bytes was not passed
 pub record AreHeld (l : Inside) : Type 0 where
   pub piece : length l.piece.items ≡ PIECE

@@ -1,5 +1,5 @@
 -- A file that is read line by line.
-use Rattle.std.specs.Prelude.{◌≡◌, ◌≤◌, ℕ, ◌+◌, ◌-◌, nat_lt, Bool, true, false, IsTrue, List, [], ◌∷◌, ◌++◌, length, drop, Option, Some, None, Result, Ok, Err, MatchResult, IfOk, is_err, if◌then◌else◌}
+use Rattle.std.specs.Prelude.{◌≡◌, ◌≤◌, ℕ, ◌+◌, ◌-◌, nat_lt, Bool, true, false, IsTrue, List, [], ◌∷◌, ◌++◌, length, drop, Option, Some, None, Result, Ok, Err, MatchResult, if◌then◌else◌}
 use Rattle.lt_io.specs.FilesState.{FilesState, left}
 use Rattle.lt_rows.specs.Rows.{Row, lines_of, rows_from}
 use Rattle.lt_rows.specs.declared.limits.TheConstants.{LONGEST_LINE, MOST_BYTES, PIECE}
@@ -13,7 +13,7 @@ pub record LinesState : Type 0 where
   pub place : ℕ
   -- the line that was answered last
   pub line : List ℕ
-  -- whether a fault was answered
+  -- whether a fault was answered, or a call is under way
   pub failed : Bool
 
 -- before anything was read
@@ -35,14 +35,18 @@ rows_ahead lines files = rows_from (answered_to lines) (lines_of (ahead lines fi
 abbrev pub end_ahead : LinesState → FilesState → ℕ
 end_ahead lines files = answered_to lines + length (ahead lines files)
 
--- the next line can be asked for
-pub record CanGoOn (lines : LinesState) (files : FilesState) : Type 0 where
+-- the files stand where these lines are
+pub record IsAt (lines : LinesState) (files : FilesState) : Type 0 where
   pub opened : IsTrue files.is_open
-  pub unfailed : lines.failed ≡ false
   -- the file is at the place up to which was read
   pub place : IsTrue files.told → files.place ≡ lines.place
   -- the bytes before that place end with those that are held
   pub bytes : IsTrue files.told → drop (answered_to lines) files.bytes ≡ ahead lines files
+
+-- the next line can be asked for
+pub record CanGoOn (lines : LinesState) (files : FilesState) : Type 0 where
+  pub at : IsAt lines files
+  pub unfailed : lines.failed ≡ false
 
 -- the line of the first row, the end, or why neither is given: the row that follows, which at the end holds the rest
 -- of the file, holds the first byte past the limit, or its line is too long
@@ -50,12 +54,6 @@ abbrev pub next_line : List Row → (end : ℕ) → Result (Option (List ℕ)) L
 next_line [] end = if nat_lt MOST_BYTES end then Err Bytes else Ok None
 next_line (row ∷ rows) end =
     if nat_lt MOST_BYTES row.ends then Err Bytes else (if nat_lt LONGEST_LINE (length row.line) then Err TooLong else Ok (Some row.line))
-
--- a fault that is no failed call is the right one
-abbrev pub IsFaultOf : Result (Option (List ℕ)) LineFault → LineFault → Type 0
-IsFaultOf next TooLong = next ≡ Err TooLong
-IsFaultOf next Bytes = next ≡ Err Bytes
-IsFaultOf next Read = Unit {0}
 
 -- a line was given, or the end
 abbrev pub given : (more : Bool) (line : List ℕ) → Option (List ℕ)
@@ -72,15 +70,26 @@ abbrev pub IsNearFirst : List Row → (place : ℕ) → Type 0
 IsNearFirst [] place = Unit {0}
 IsNearFirst (row ∷ rows) place = place ≤ row.ends + PIECE
 
--- a call for the next line, where the files tell their bytes
-pub record Advances {A : Type 0} (more : A → Bool) (old new : LinesState) (before after : FilesState) (result : Result A LineFault) : Type 0 where
-  -- the line, the end or the fault is the right one, but where a call failed
-  pub exact : MatchResult result (λ a. next_line (rows_ahead old before) (end_ahead old before) ≡ Ok (given (more a) new.line)) (IsFaultOf (next_line (rows_ahead old before) (end_ahead old before)))
-  pub leaves : IfOk result (λ a. Leaves (more a) (rows_ahead old before) (rows_ahead new after) new.line (answered_to new))
-  pub end : IfOk result (λ a. end_ahead new after ≡ end_ahead old before)
+-- a line is given, or the end, as is right
+pub record Gives (old new : LinesState) (before after : FilesState) (more : Bool) : Type 0 where
+  pub next : next_line (rows_ahead old before) (end_ahead old before) ≡ Ok (given more new.line)
+  pub leaves : Leaves more (rows_ahead old before) (rows_ahead new after) new.line (answered_to new)
+  pub end : end_ahead new after ≡ end_ahead old before
   -- no more is read than a piece past the row
   pub near : IsNearFirst (rows_ahead old before) after.place
   pub bytes : after.bytes ≡ before.bytes
 
-abbrev pub itself : Bool → Bool
-itself b = b
+-- a fault is answered, as is right
+pub record Refuses (old : LinesState) (before after : FilesState) (fault : LineFault) : Type 0 where
+  pub next : next_line (rows_ahead old before) (end_ahead old before) ≡ Err fault
+  pub near : IsNearFirst (rows_ahead old before) after.place
+  pub bytes : after.bytes ≡ before.bytes
+
+abbrev pub RefusesUnlessFailed : (old : LinesState) (before after : FilesState) → LineFault → Type 0
+RefusesUnlessFailed old before after TooLong = Refuses old before after TooLong
+RefusesUnlessFailed old before after Bytes = Refuses old before after Bytes
+RefusesUnlessFailed old before after Read = Unit {0}
+
+-- a call for the next line, where the files tell their bytes
+abbrev pub Advances : (old new : LinesState) (before after : FilesState) → Result Bool LineFault → Type 0
+Advances old new before after result = MatchResult result (Gives old new before after) (RefusesUnlessFailed old before after)

@@ -1,2 +1,0 @@
-// The fields of a line.
-ghost use Rattle.std.specs.Prelude.{◌≡◌};
