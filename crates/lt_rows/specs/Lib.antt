@@ -2,6 +2,7 @@ pub mod Rows
 pub mod Lines
 pub mod Held
 pub mod Taking
+pub mod Lent
 pub mod Faults
 pub mod Fields
 pub mod Events
