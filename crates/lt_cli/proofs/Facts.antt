@@ -5,10 +5,11 @@ use Rattle.lt_run.specs.declared.fault.Part.TheVariants as part
 use Rattle.lt_run.specs.declared.fault.RunFault.{RunFault}
 use Rattle.lt_run.specs.declared.fault.RunFault.TheVariants.{NotBuilt, Read}
 use Rattle.lt_run.specs.declared.printed.Printed.{Printed}
-use Rattle.lt_run.specs.World.{IsCalm}
-use Rattle.lt_run.specs.Answered.{Verdict}
+use Rattle.lt_answer.specs.World.{IsCalm}
+use Rattle.lt_answer.specs.Answered.{Verdict}
 use Rattle.lt_run.specs.Run.{run_verdict}
-use Rattle.lt_run.proofs.OneRefusal.{HasOneFault, one_refusal}
+use Rattle.lt_answer.proofs.Refusals.{HasOneFault}
+use Rattle.lt_run.proofs.OneRefusal.{one_refusal}
 use Rattle.lt_cli.specs.declared.refusal.Refusal.{Refusal}
 use Rattle.lt_cli.specs.declared.refusal.Refusal.TheVariants.{Words, Run}
 use Rattle.lt_cli.specs.declared.status.Status.{Status}

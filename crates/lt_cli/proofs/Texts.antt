@@ -5,8 +5,8 @@ use Rattle.lt_base.specs.declared.memory.Or.{Or}
 use Rattle.lt_base.specs.declared.memory.Or.TheVariants.{Fault, Memory}
 use Rattle.lt_run.specs.declared.fault.RunFault.{RunFault}
 use Rattle.lt_run.specs.declared.printed.Printed.{Printed}
-use Rattle.lt_run.specs.World.{World}
-use Rattle.lt_run.specs.Answered.{Answered, Verdict, RefusesReading}
+use Rattle.lt_answer.specs.World.{World}
+use Rattle.lt_answer.specs.Answered.{Answered, Verdict, RefusesReading}
 use Rattle.lt_run.specs.Blamed.{run_blame}
 use Rattle.lt_cli.specs.declared.refusal.Refusal.{Refusal}
 use Rattle.lt_cli.specs.declared.refusal.Refusal.TheVariants.{Run}

@@ -1,5 +1,5 @@
 -- Whose fault a refusal is.
-use Rattle.lt_run.specs.World.{Blame, Content}
+use Rattle.lt_answer.specs.World.{Blame, Content}
 use Rattle.lt_cli.specs.declared.refusal.Refusal.{Refusal}
 use Rattle.lt_cli.specs.declared.refusal.Refusal.TheVariants.{Words, Run}
 use Rattle.lt_run.specs.Blamed.{run_blame}

@@ -1,7 +1,7 @@
 // What is printed for the words.
 ghost use Rattle.std.specs.Prelude.{◌<◌, ◌-◌, ◌^◌, map, string_bytes};
-ghost use Rattle.lt_run.specs.World.{alone};
-ghost use Rattle.lt_run.specs.Answered.{Answered};
+ghost use Rattle.lt_answer.specs.World.{alone};
+ghost use Rattle.lt_answer.specs.Answered.{Answered};
 ghost use Rattle.lt_run.specs.Run.{run_verdict};
 ghost use Rattle.lt_cli.specs.Blamed.{blame_of};
 ghost use Rattle.lt_cli.specs.Commands.{text_verdict, words_verdict};

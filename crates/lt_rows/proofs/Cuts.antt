@@ -94,7 +94,7 @@ rows_step p s short = elim (leb_tells (suc (line_length s)) (length s)) [
       let size = size_fed s short fed in
       let len : length (take (line_length s) s) ≡ line_length s = length-take-le (line_length s) s (omega (arith, fed)) in
       let held : bytes_held (take (line_length s) s) (lines_of (drop (line_length s + 1) s)) ≡ size_of s =
-          held_short (take (line_length s) s) (lines_of (drop (line_length s + 1) s)) (omega (arith, len, short)) ∙ (λ i. len i + some_lines (drop (line_length s + 1) s) i) ∙ sym size in
+      held_short (take (line_length s) s) (lines_of (drop (line_length s + 1) s)) (omega (arith, len, short)) ∙ (λ i. len i + some_lines (drop (line_length s + 1) s) i) ∙ sym size in
       ap (rows_from p) (lines_fed s fed)
       ∙ rows_cons p (size_of s) (take (line_length s) s) (lines_of (drop (line_length s + 1) s)) held
       ∙ ap (λ (n : ℕ). row_or (take (line_length s) s) (p + size_of s) (rows_from (p + size_of s) (lines_of (drop n s)))) (sym size)
@@ -127,11 +127,12 @@ rows_long p s long = elim (leb_tells (suc (line_length s)) (length s)) [
     row line later large is front =
         let held : bytes_held line later ≡ size_of s = held_long line later large ∙ sym (size_long s long) in
         let blank : is_blank line ≡ false = long_not_blank line (omega (arith, large)) in
-        let rows : List Row = rows_from (p + size_of s) later in
-        (rows,
-         ap (rows_from p) is ∙ rows_cons p (size_of s) line later held
-         ∙ ap (λ (t : Bool). if t then rows else record { line = line; ends = p + size_of s } ∷ rows) blank
-         ∙ ap (λ (l : List ℕ). record { line = l; ends = p + size_of s } ∷ rows) (sym front))
+        let rows : List Row = rows_from (p + size_of s) later in (
+          rows,
+          ap (rows_from p) is ∙ rows_cons p (size_of s) line later held
+              ∙ ap (λ (t : Bool). if t then rows else record { line = line; ends = p + size_of s } ∷ rows) blank
+              ∙ ap (λ (l : List ℕ). record { line = l; ends = p + size_of s } ∷ rows) (sym front),
+        )
 
 -- the first row, if there is one, ends at this place or later
 abbrev pub EndsFrom : ℕ → List Row → Type 0

@@ -191,9 +191,9 @@ line_last old new before after front short held none =
 
 -- What is known after a part was moved.
 module _ (mid new : LinesState) (whole : Bool) (short : length mid.line ≤ 4096) (holds : Holds mid)
-  (long : 4097 ≤ length mid.line + line_length mid.held → (whole ≡ true) × Moves mid new (4097 - length mid.line) (4097 - length mid.line))
-  (fed : length mid.line + line_length mid.held ≤ 4096 → line_length mid.held < length mid.held → (whole ≡ true) × Moves mid new (line_length mid.held) (line_length mid.held + 1))
-  (part : length mid.line + line_length mid.held ≤ 4096 → line_length mid.held ≡ length mid.held → (whole ≡ false) × Moves mid new (length mid.held) (length mid.held)) where
+    (long : 4097 ≤ length mid.line + line_length mid.held → (whole ≡ true) × Moves mid new (4097 - length mid.line) (4097 - length mid.line))
+    (fed : length mid.line + line_length mid.held ≤ 4096 → line_length mid.held < length mid.held → (whole ≡ true) × Moves mid new (line_length mid.held) (line_length mid.held + 1))
+    (part : length mid.line + line_length mid.held ≤ 4096 → line_length mid.held ≡ length mid.held → (whole ≡ false) × Moves mid new (length mid.held) (length mid.held)) where
   most : line_length mid.held ≤ length mid.held
   most = length_most mid.held
 

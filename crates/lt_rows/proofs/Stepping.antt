@@ -44,7 +44,7 @@ module _ (old new : LinesState) (before after : FilesState) (more : Bool) (takes
   step short =
       let small : line_length (ahead old before) ≤ 4096 = omega (arith, line_size, short) in
       let line : take (line_length (ahead old before)) (ahead old before) ≡ new.line =
-          ap (λ (n : ℕ). take n (ahead old before)) (let e : line_length (ahead old before) ≡ min (line_length (ahead old before)) 4097 = omega (arith, small) in e) ∙ sym takes.line in
+      ap (λ (n : ℕ). take n (ahead old before)) (let e : line_length (ahead old before) ≡ min (line_length (ahead old before)) 4097 = omega (arith, small) in e) ∙ sym takes.line in
       rows_step (answered_to old) (ahead old before) small
       ∙ (λ i. if is_blank (line i) then rows_behind i else record { line = line i; ends = sym takes.takes.place i } ∷ rows_behind i)
 

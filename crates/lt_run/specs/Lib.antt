@@ -1,5 +1,3 @@
-pub mod World
-pub mod Answered
 pub mod Blamed
 pub mod Fetched
 pub mod Run

@@ -1,7 +1,7 @@
 use Rattle.std.proofs.Common.{◌∙◌, sym}
 use Rattle.std.specs.String.{string_bytes}
 use Rattle.std.proofs.lemmas.Slice.Eq.{bytes_eq-Decides}
-use Rattle.lt_run.proofs.Stages.{widened}
+use Rattle.lt_answer.proofs.Stages.{widened}
 use Rattle.lt_cli.specs.Commands.{runs}
 use Rattle.lt_cli.proofs.Four.{map-four, cons-four}
 use Rattle.lt_cli.proofs.answer.answer.Goals as goal

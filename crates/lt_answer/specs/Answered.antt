@@ -2,7 +2,7 @@
 use Rattle.std.specs.Prelude.{◌≡◌, ◌<◌, ◌⊎◌, ℕ, IsTrue, List, Option, Some, None, Result, Ok, Err, MatchResult}
 use Rattle.lt_base.specs.declared.memory.Or.{Or}
 use Rattle.lt_base.specs.declared.memory.Or.TheVariants.{Fault, Memory}
-use Rattle.lt_run.specs.World.{World, KeepsWorld, IsCalm, Blame, Reading, Blames}
+use Rattle.lt_answer.specs.World.{World, KeepsWorld, IsCalm, Blame, Reading, Blames}
 
 -- which outcomes are right
 abbrev pub Verdict : Type 0 → Type 0 → Type 1

@@ -4,8 +4,8 @@ use Rattle.lt_base.specs.declared.memory.Or.{Or}
 use Rattle.lt_base.specs.declared.memory.Or.TheVariants.{Fault, Memory}
 use Rattle.lt_io.specs.FilesState.{FilesState}
 use Rattle.lt_io.specs.FabricState.{FabricState}
-use Rattle.lt_run.specs.World.{World, KeepsWorld, IsCalm, Blame, Content, Reading, Linking, Blames, alone}
-use Rattle.lt_run.specs.Answered.{Answered, Verdict, Settles, OrBlames, AndThen}
+use Rattle.lt_answer.specs.World.{World, KeepsWorld, IsCalm, Blame, Content, Reading, Linking, Blames, alone}
+use Rattle.lt_answer.specs.Answered.{Answered, Verdict, Settles, OrBlames, AndThen}
 
 pub keeps_itself : (w : World) → KeepsWorld w w
 keeps_itself w = record {

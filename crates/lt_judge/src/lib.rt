@@ -1,0 +1,9 @@
+//! A schedule file judged row by row, for one node without channels: it is read in pieces and never whole.
+#![tactic(auto)]
+
+mod fault;
+mod judging;
+mod node;
+
+pub use fault::ScheduleFault;
+pub use judging::judge;
