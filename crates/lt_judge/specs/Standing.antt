@@ -10,7 +10,7 @@ use Rattle.lt_arch.specs.Deeds.{deed_of, phase_after}
 use Rattle.lt_arch.specs.Step.{offence_of, after, is_execute}
 use Rattle.lt_arch.specs.Schedule.{after_all}
 use Rattle.lt_arch.specs.Times.{Times, HasTimes}
-use Rattle.lt_rows.specs.declared.limits.TheConstants.{MOST_BYTES}
+use Rattle.lt_rows.specs.Limits.{most_bytes}
 use Rattle.lt_rows.specs.Rows.{Row as FileRow, rows_of}
 use Rattle.lt_rows.specs.Lines.{IsNearFirst}
 use Rattle.lt_rows.specs.Events.{header_fault}
@@ -78,14 +78,14 @@ pub record TakesRow (new : Kept) (s : Shape) (t : Timing) (rows : ℕ) (st : Sta
   pub event : Event
   pub row : FileRow
   pub left_is : left ≡ row ∷ later
-  pub in_limit : row.ends ≤ MOST_BYTES
+  pub in_limit : row.ends ≤ most_bytes
   pub stands : Stands new s t (after s t rows st event)
   pub verdict : judged_from s t rows st number end left ≡ with_event event (judged_from s t rows (after s t rows st event) (number + 1) end later)
 
 -- one row more, or all rows were taken
 abbrev pub GoesOn : (old new : Kept) (s : Shape) (t : Timing) (rows : ℕ) (st : State) (number end : ℕ) (left later : List FileRow) → Bool → Type 0
 GoesOn old new s t rows st number end left later true = TakesRow new s t rows st number end left later
-GoesOn old new s t rows st number end left later false = (new ≡ old) × (left ≡ []) × (end ≤ MOST_BYTES)
+GoesOn old new s t rows st number end left later false = (new ≡ old) × (left ≡ []) × (end ≤ most_bytes)
 
 -- a refusal is that of the first of these rows, which has this number
 abbrev pub IsHere : (number : ℕ) (left : List FileRow) → ScheduleFault → Type 0
@@ -110,13 +110,13 @@ pub record TakesAll (new : Kept) (s : Shape) (t : Timing) (rows : ℕ) (st : Sta
 -- one of the rows behind a header is refused
 pub record RefusesSome (s : Shape) (t : Timing) (rows : ℕ) (st : State) (end : ℕ) (left : List FileRow) (place : ℕ) (fault : ScheduleFault) : Type 0 where
   pub verdict : judged_from s t rows st 1 end left ≡ Err fault
-  pub near : (header : FileRow) → header.ends ≤ MOST_BYTES → IsNearIn (header ∷ left) place fault
+  pub near : (header : FileRow) → header.ends ≤ most_bytes → IsNearIn (header ∷ left) place fault
 
 -- the first row is a header
 pub record HasHeader (left later : List FileRow) : Type 0 where
   pub header : FileRow
   pub left_is : left ≡ header ∷ later
-  pub in_limit : header.ends ≤ MOST_BYTES
+  pub in_limit : header.ends ≤ most_bytes
   pub reads : header_fault header.line ≡ None
 
 -- the first row is none, whatever the setup is

@@ -176,15 +176,15 @@ fn judge_rows<F: Files, L: Ledger>(
     unreachable!()
 }
 
-// Whether the end was taken, where the event of this number is missing.
-fn finish(node: &Node, number: u32) -> Result<(), ScheduleFault>
-    ensures { MatchResult result (λ _. node.now.ended ≡ true) (λ fault. (node.now.ended ≡ false) × (fault ≡ schedule.Offence number arch_offence.NoEnd)) }
+// Whether the end was taken, where the event of this number would follow.
+fn finish(node: &Node, next: u32) -> Result<(), ScheduleFault>
+    ensures { MatchResult result (λ _. node.now.ended ≡ true) (λ fault. (node.now.ended ≡ false) × (fault ≡ schedule.Offence next arch_offence.NoEnd)) }
 {
     if node.has_ended() {
         Ok(())
     } else {
         Err(ScheduleFault::Offence {
-            event: number,
+            event: next,
             offence: Offence::NoEnd,
         })
     }

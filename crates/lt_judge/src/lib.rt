@@ -4,6 +4,8 @@
 mod fault;
 mod judging;
 mod node;
+#[cfg(test)]
+mod tests;
 
 pub use fault::ScheduleFault;
 pub use judging::judge;

@@ -3,7 +3,7 @@ use Rattle.std.specs.Prelude.{◌≡◌, ◌≤◌, ℕ, ◌+◌, ◌-◌, nat_l
 use Rattle.std.specs.List.{position_or_len}
 use Rattle.lt_io.specs.FilesState.{FilesState}
 use Rattle.lt_rows.specs.declared.fault.LineFault.{LineFault}
-use Rattle.lt_rows.specs.declared.limits.TheConstants.{LONGEST_LINE}
+use Rattle.lt_rows.specs.Limits.{longest_line}
 use Rattle.lt_rows.specs.Rows.{is_line_feed}
 use Rattle.lt_rows.specs.Lines.{LinesState, answered_to, ahead, rows_ahead, end_ahead, Leaves, IsNearFirst, RefusesUnlessFailed}
 
@@ -13,11 +13,11 @@ line_length bytes = position_or_len is_line_feed bytes
 
 -- how many bytes are taken with the first line: its line feed, or as many as show that it is too long
 abbrev pub size_of : List ℕ → ℕ
-size_of bytes = if nat_lt LONGEST_LINE (line_length bytes) then LONGEST_LINE + 1 else line_length bytes + (if nat_lt (line_length bytes) (length bytes) then 1 else 0)
+size_of bytes = if nat_lt longest_line (line_length bytes) then longest_line + 1 else line_length bytes + (if nat_lt (line_length bytes) (length bytes) then 1 else 0)
 
 -- the first line, or as much of it as is taken
 abbrev pub front_of : List ℕ → List ℕ
-front_of bytes = take (min (line_length bytes) (LONGEST_LINE + 1)) bytes
+front_of bytes = take (min (line_length bytes) (longest_line + 1)) bytes
 
 -- so many bytes were taken
 pub record TakesBytes (old new : LinesState) (before after : FilesState) (count : ℕ) : Type 0 where
@@ -48,7 +48,7 @@ StepsTo old new before after (Some true) = Leaves true (rows_ahead old before) (
 pub record StepsOn (old new : LinesState) (before after : FilesState) (found : Option Bool) : Type 0 where
   pub to : StepsTo old new before after found
   pub end : end_ahead new after ≡ end_ahead old before
-  pub short : length new.line ≤ LONGEST_LINE
+  pub short : length new.line ≤ longest_line
   pub near : IsNearFirst (rows_ahead old before) after.place
   pub bytes : after.bytes ≡ before.bytes
 
