@@ -111,7 +111,7 @@ long_row (row ∷ later) end is = elim (leb_tells 1073741825 row.ends) [
     | inl v ↦ (row, later, refl, omega (arith, w.1), omega (arith, v.1))
     | inr v ↦
         let none : ◌≡◌ {A = Result (Option (List ℕ)) LineFault} (Ok (Some row.line)) (Err line.TooLong) =
-            sym (ap (λ (t : Bool). if t then Err line.Bytes else (if nat_lt 4096 (length row.line) then Err line.TooLong else Ok (Some row.line))) w.0 ∙ ap (λ (t : Bool). if t then Err line.TooLong else Ok (Some row.line)) v.0) ∙ is in
+        sym (ap (λ (t : Bool). if t then Err line.Bytes else (if nat_lt 4096 (length row.line) then Err line.TooLong else Ok (Some row.line))) w.0 ∙ ap (λ (t : Bool). if t then Err line.TooLong else Ok (Some row.line)) v.0) ∙ is in
         cc
   ]
 ]
@@ -136,16 +136,19 @@ past_row s t rows st number end [] is = elim (leb_tells 1073741825 end) [
   | inr w ↦ let none : ◌≡◌ {A = Result (Option (List ℕ)) LineFault} (Ok None) (Err line.Bytes) = sym (ap (λ (t : Bool). if t then Err line.Bytes else Ok None) w.0) ∙ is in cc
 ]
 past_row s t rows st number end (row ∷ later) is = elim (leb_tells 1073741825 row.ends) [
-  | inl w ↦ (ap (λ (b : Bool). if b then Err Bytes else
-      unless_fault number (row_event s number row.line) (λ e. unless_offence number (offence_of s t st e) (with_event e (judged_from s t rows (after s t rows st e) (number + 1) end later)))) w.0, w.0)
+  | inl w ↦ (
+    ap (λ (b : Bool). if b then Err Bytes else
+        unless_fault number (row_event s number row.line) (λ e. unless_offence number (offence_of s t st e) (with_event e (judged_from s t rows (after s t rows st e) (number + 1) end later)))) w.0,
+    w.0,
+  )
   | inr w ↦ elim (leb_tells 4097 (length row.line)) [
     | inl v ↦
         let none : ◌≡◌ {A = Result (Option (List ℕ)) LineFault} (Err line.TooLong) (Err line.Bytes) =
-            sym (ap (λ (t : Bool). if t then Err line.Bytes else (if nat_lt 4096 (length row.line) then Err line.TooLong else Ok (Some row.line))) w.0 ∙ ap (λ (t : Bool). if t then Err line.TooLong else Ok (Some row.line)) v.0) ∙ is in
+        sym (ap (λ (t : Bool). if t then Err line.Bytes else (if nat_lt 4096 (length row.line) then Err line.TooLong else Ok (Some row.line))) w.0 ∙ ap (λ (t : Bool). if t then Err line.TooLong else Ok (Some row.line)) v.0) ∙ is in
         cc
     | inr v ↦
         let none : ◌≡◌ {A = Result (Option (List ℕ)) LineFault} (Ok (Some row.line)) (Err line.Bytes) =
-            sym (ap (λ (t : Bool). if t then Err line.Bytes else (if nat_lt 4096 (length row.line) then Err line.TooLong else Ok (Some row.line))) w.0 ∙ ap (λ (t : Bool). if t then Err line.TooLong else Ok (Some row.line)) v.0) ∙ is in
+        sym (ap (λ (t : Bool). if t then Err line.Bytes else (if nat_lt 4096 (length row.line) then Err line.TooLong else Ok (Some row.line))) w.0 ∙ ap (λ (t : Bool). if t then Err line.TooLong else Ok (Some row.line)) v.0) ∙ is in
         cc
   ]
 ]
@@ -170,10 +173,13 @@ given_limit left later row end found left_is next = in_limit row later end found
 
 -- the first row, or the end, is past the limit
 pub past_first : (left : List FileRow) (end : ℕ) → next_line left end ≡ Err line.Bytes → IsHere 0 left Bytes × (left ≡ [] → 1073741824 < end)
-past_first [] end is = (tt, λ _. elim (leb_tells 1073741825 end) [
-  | inl w ↦ omega (arith, w.1)
-  | inr w ↦ let none : ◌≡◌ {A = Result (Option (List ℕ)) LineFault} (Ok None) (Err line.Bytes) = sym (ap (λ (t : Bool). if t then Err line.Bytes else Ok None) w.0) ∙ is in cc
-])
+past_first [] end is = (
+  tt,
+  λ _. elim (leb_tells 1073741825 end) [
+    | inl w ↦ omega (arith, w.1)
+    | inr w ↦ let none : ◌≡◌ {A = Result (Option (List ℕ)) LineFault} (Ok None) (Err line.Bytes) = sym (ap (λ (t : Bool). if t then Err line.Bytes else Ok None) w.0) ∙ is in cc
+  ],
+)
 past_first (row ∷ later) end is = (first, λ none. cc)
   where
     first : is_past row ≡ true
@@ -182,11 +188,11 @@ past_first (row ∷ later) end is = (first, λ none. cc)
       | inr w ↦ elim (leb_tells 4097 (length row.line)) [
         | inl v ↦
             let none : ◌≡◌ {A = Result (Option (List ℕ)) LineFault} (Err line.TooLong) (Err line.Bytes) =
-                sym (ap (λ (t : Bool). if t then Err line.Bytes else (if nat_lt 4096 (length row.line) then Err line.TooLong else Ok (Some row.line))) w.0 ∙ ap (λ (t : Bool). if t then Err line.TooLong else Ok (Some row.line)) v.0) ∙ is in
+            sym (ap (λ (t : Bool). if t then Err line.Bytes else (if nat_lt 4096 (length row.line) then Err line.TooLong else Ok (Some row.line))) w.0 ∙ ap (λ (t : Bool). if t then Err line.TooLong else Ok (Some row.line)) v.0) ∙ is in
             cc
         | inr v ↦
             let none : ◌≡◌ {A = Result (Option (List ℕ)) LineFault} (Ok (Some row.line)) (Err line.Bytes) =
-                sym (ap (λ (t : Bool). if t then Err line.Bytes else (if nat_lt 4096 (length row.line) then Err line.TooLong else Ok (Some row.line))) w.0 ∙ ap (λ (t : Bool). if t then Err line.TooLong else Ok (Some row.line)) v.0) ∙ is in
+            sym (ap (λ (t : Bool). if t then Err line.Bytes else (if nat_lt 4096 (length row.line) then Err line.TooLong else Ok (Some row.line))) w.0 ∙ ap (λ (t : Bool). if t then Err line.TooLong else Ok (Some row.line)) v.0) ∙ is in
             cc
       ]
     ]

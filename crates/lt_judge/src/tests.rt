@@ -1,5 +1,6 @@
 // Schedules of one node, over files in memory.
 ghost use Rattle.std.specs.Prelude.{◌≡◌, ◌<◌, ◌-◌, ◌^◌, IfOk};
+ghost use Rattle.lt_io.specs.MemFiles.{mem_files_state};
 ghost use Rattle.lt_judge.specs.Judged.{IsOneNode};
 
 use crate::{ScheduleFault, judge};
@@ -34,7 +35,9 @@ fn plain(alloc: Global) -> Result<(Shape, Timing), Memory>
     Ok((shape, timing))
 }
 
-fn file(alloc: Global, text: &str) -> Result<MemFiles, Memory> {
+fn file(alloc: Global, text: &str) -> Result<MemFiles, Memory>
+    ensures { IfOk result (λ files. (mem_files_state files).faults ≡ 0) }
+{
     let mut files = List::new(alloc);
     files.push(MemFile {
         name: Name::from_str(alloc, "S")?,
@@ -69,9 +72,15 @@ fn schedules(rt: HostRuntime) -> Result<(), Fail> {
         ),
         ("0,end,", Ok(0)),
         ("1000,end,", offence(1, Offence::NodeOverdue(0))),
-        ("5,act,all;5,act,all;6,end,", offence(2, Offence::TooSoon(0))),
+        (
+            "5,act,all;5,act,all;6,end,",
+            offence(2, Offence::TooSoon(0)),
+        ),
         ("0,act,all;4,act,all;8,act,all", offence(4, Offence::NoEnd)),
-        ("0,act,all;4,act,all;8,act,all;12,end,;13,act,all", offence(5, Offence::AfterEnd)),
+        (
+            "0,act,all;4,act,all;8,act,all;12,end,;13,act,all",
+            offence(5, Offence::AfterEnd),
+        ),
         ("4,act,all;3,act,all;4,end,", offence(2, Offence::Backwards)),
         ("0,fly,all", fault(1, RowFault::Kind)),
         ("0,data,all>all", fault(1, RowFault::UnknownPlace)),
@@ -96,10 +105,18 @@ fn headers(rt: HostRuntime) -> Result<(), Fail> {
     let alloc = rt.alloc();
     for (text, name, wanted) in [
         ("time,event\n0,end,\n", "S", fault(0, RowFault::NotCsv)),
-        ("event,time,place\n0,end,\n", "S", fault(0, RowFault::Header)),
+        (
+            "event,time,place\n0,end,\n",
+            "S",
+            fault(0, RowFault::Header),
+        ),
         ("\n", "S", fault(0, RowFault::Header)),
         ("time,event,place\r\n\r\n0,end,\r\n", "S", Ok(0)),
-        ("time,event,place\n0,end,\n", "T", Err(Or::Fault(ScheduleFault::Read))),
+        (
+            "time,event,place\n0,end,\n",
+            "T",
+            Err(Or::Fault(ScheduleFault::Read)),
+        ),
     ] {
         let mut files = file(alloc, text)?;
         let found = judged(alloc, &mut files, name);

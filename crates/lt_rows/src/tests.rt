@@ -1,5 +1,6 @@
 // Lines over long and over broken files, and rows as they read and are written.
 ghost use Rattle.std.specs.Prelude.{◌≡◌, ◌<◌, ◌≤◌, ◌-◌, ◌^◌, length, IfOk};
+ghost use Rattle.lt_io.specs.MemFiles.{mem_files_state};
 ghost use Rattle.lt_rows.specs.Events.{IsEventOf};
 
 use crate::{LineFault, Lines, RowFault, print_event, read_event, read_header};
@@ -66,7 +67,9 @@ fn first<F: Files>(alloc: Global, files: &mut F) -> Result<List<u8>, Memory>
     }
 }
 
-fn in_memory(alloc: Global, text: &[u8]) -> Result<MemFiles, Memory> {
+fn in_memory(alloc: Global, text: &[u8]) -> Result<MemFiles, Memory>
+    ensures { IfOk result (λ files. (mem_files_state files).faults ≡ 0) }
+{
     let mut files = List::new(alloc);
     files.push(MemFile {
         name: Name::from_str(alloc, "lines")?,

@@ -13,7 +13,7 @@ returns-in_err-take_row-clause-judged g c told t st stands =
     let went = c.loop-number.invariant.went told t st stands in
     let refused = c.in_err-take_row.ensures.goes told_now t (after_all c.args.shape.now t c.args.rows st went.events) went.stands in
     let whole = subst (λ (end : ℕ). UnlessFailed (RefusesRow c.args.shape.now t c.args.rows (after_all c.args.shape.now t c.args.rows st went.events) c.loop-number.number end
-        (rows_ahead c.loop-number.lines (g.F.Files.state c.loop-number.files)) (g.F.Files.state c.take_row.new.files).place) c.in_err-take_row.field-0.0) (c.loop-number.invariant.end told) refused in
+    (rows_ahead c.loop-number.lines (g.F.Files.state c.loop-number.files)) (g.F.Files.state c.take_row.new.files).place) c.in_err-take_row.field-0.0) (c.loop-number.invariant.end told) refused in
     rw (err_is _ _ c.from_residual.ensures.1)
     (went_refused c.loop-number.node c.args.shape.now t c.args.rows st c.loop-number.number _ _ _ c.loop-number.auto.number went _ c.in_err-take_row.field-0.0 whole)
 
@@ -23,9 +23,9 @@ returns-then-not-branch-clause-judged g c told t st stands =
     let went = c.loop-number.invariant.went told t st stands in
     let goes = c.in_ok-take_row.ensures.goes told_now t (after_all c.args.shape.now t c.args.rows st went.events) went.stands in
     let over : GoesOn c.loop-number.node c.take_row.new.node c.args.shape.now t c.args.rows (after_all c.args.shape.now t c.args.rows st went.events) c.loop-number.number
-        (end_ahead c.loop-number.lines (g.F.Files.state c.loop-number.files)) (rows_ahead c.loop-number.lines (g.F.Files.state c.loop-number.files)) (rows_ahead c.take_row.new.lines (g.F.Files.state c.take_row.new.files)) false =
-        subst (λ (b : Bool). GoesOn c.loop-number.node c.take_row.new.node c.args.shape.now t c.args.rows (after_all c.args.shape.now t c.args.rows st went.events) c.loop-number.number
-        (end_ahead c.loop-number.lines (g.F.Files.state c.loop-number.files)) (rows_ahead c.loop-number.lines (g.F.Files.state c.loop-number.files)) (rows_ahead c.take_row.new.lines (g.F.Files.state c.take_row.new.files)) b) c.if-not-branch.true goes in
+    (end_ahead c.loop-number.lines (g.F.Files.state c.loop-number.files)) (rows_ahead c.loop-number.lines (g.F.Files.state c.loop-number.files)) (rows_ahead c.take_row.new.lines (g.F.Files.state c.take_row.new.files)) false =
+    subst (λ (b : Bool). GoesOn c.loop-number.node c.take_row.new.node c.args.shape.now t c.args.rows (after_all c.args.shape.now t c.args.rows st went.events) c.loop-number.number
+    (end_ahead c.loop-number.lines (g.F.Files.state c.loop-number.files)) (rows_ahead c.loop-number.lines (g.F.Files.state c.loop-number.files)) (rows_ahead c.take_row.new.lines (g.F.Files.state c.take_row.new.files)) b) c.if-not-branch.true goes in
     let low : end_ahead c.args.lines.now (g.F.Files.state c.args.files.now) ≤ 1073741824 = subst (λ (n : ℕ). n ≤ 1073741824) (c.loop-number.invariant.end told) over.2 in
     went_finished c.loop-number.node c.take_row.new.node c.args.shape.now t c.args.rows st c.loop-number.number _ _ _ _ c.finish.result c.loop-number.auto.number went over.0 over.1 low c.finish.ensures
 
@@ -44,10 +44,10 @@ loop-number-preserved g c =
           let went = c.loop-number.invariant.went told t st stands in
           let goes = c.in_ok-take_row.ensures.goes told_now t (after_all c.args.shape.now t c.args.rows st went.events) went.stands in
           let row : TakesRow c.take_row.new.node c.args.shape.now t c.args.rows (after_all c.args.shape.now t c.args.rows st went.events) c.loop-number.number
-              (end_ahead c.loop-number.lines (g.F.Files.state c.loop-number.files)) (rows_ahead c.loop-number.lines (g.F.Files.state c.loop-number.files)) (rows_ahead c.take_row.new.lines (g.F.Files.state c.take_row.new.files)) =
-              subst (λ (b : Bool). GoesOn c.loop-number.node c.take_row.new.node c.args.shape.now t c.args.rows (after_all c.args.shape.now t c.args.rows st went.events) c.loop-number.number
-              (end_ahead c.loop-number.lines (g.F.Files.state c.loop-number.files)) (rows_ahead c.loop-number.lines (g.F.Files.state c.loop-number.files)) (rows_ahead c.take_row.new.lines (g.F.Files.state c.take_row.new.files)) b) c.if-not-branch.false goes in
+          (end_ahead c.loop-number.lines (g.F.Files.state c.loop-number.files)) (rows_ahead c.loop-number.lines (g.F.Files.state c.loop-number.files)) (rows_ahead c.take_row.new.lines (g.F.Files.state c.take_row.new.files)) =
+          subst (λ (b : Bool). GoesOn c.loop-number.node c.take_row.new.node c.args.shape.now t c.args.rows (after_all c.args.shape.now t c.args.rows st went.events) c.loop-number.number
+          (end_ahead c.loop-number.lines (g.F.Files.state c.loop-number.files)) (rows_ahead c.loop-number.lines (g.F.Files.state c.loop-number.files)) (rows_ahead c.take_row.new.lines (g.F.Files.state c.take_row.new.files)) b) c.if-not-branch.false goes in
           let whole = subst (λ (end : ℕ). TakesRow c.take_row.new.node c.args.shape.now t c.args.rows (after_all c.args.shape.now t c.args.rows st went.events) c.loop-number.number end
-              (rows_ahead c.loop-number.lines (g.F.Files.state c.loop-number.files)) (rows_ahead c.take_row.new.lines (g.F.Files.state c.take_row.new.files))) (c.loop-number.invariant.end told) row in
+          (rows_ahead c.loop-number.lines (g.F.Files.state c.loop-number.files)) (rows_ahead c.take_row.new.lines (g.F.Files.state c.take_row.new.files))) (c.loop-number.invariant.end told) row in
           went_on c.loop-number.node c.take_row.new.node c.args.shape.now t c.args.rows st c.loop-number.number _ _ _ _ c.loop-number.auto.number went whole;
     }

@@ -10,13 +10,13 @@ use Rattle.lt_judge.proofs.judging.take_header.Goals as goal
 pub returns-in-Err-clause-header : goal.returns-in-Err-clause-header
 returns-in-Err-clause-header g c told =
     let gives : Gives c.args.lines.now c.advance.new.self (g.F.Files.state c.args.files.now) (g.F.Files.state c.advance.new.files) true =
-        subst (λ (b : Bool). Gives c.args.lines.now c.advance.new.self (g.F.Files.state c.args.files.now) (g.F.Files.state c.advance.new.files) b) c.in-Ok-true.field-0-test (c.in-Ok-true.ensures.advances told) in
+    subst (λ (b : Bool). Gives c.args.lines.now c.advance.new.self (g.F.Files.state c.args.files.now) (g.F.Files.state c.advance.new.files) b) c.in-Ok-true.field-0-test (c.in-Ok-true.ensures.advances told) in
     rw c.row_fault.ensures (other_header _ _ _ _ _ _ c.in-Err.fault gives.leaves gives.next (ap header_fault (sym c.line.ensures) ∙ c.in-Err.ensures) gives.near)
 
 pub returns-in-Ok-false-clause-header : goal.returns-in-Ok-false-clause-header
 returns-in-Ok-false-clause-header g c told =
     let gives : Gives c.args.lines.now c.advance.new.self (g.F.Files.state c.args.files.now) (g.F.Files.state c.advance.new.files) false =
-        subst (λ (b : Bool). Gives c.args.lines.now c.advance.new.self (g.F.Files.state c.args.files.now) (g.F.Files.state c.advance.new.files) b) c.in-Ok-false.field-0-test (c.in-Ok-false.ensures.advances told) in
+    subst (λ (b : Bool). Gives c.args.lines.now c.advance.new.self (g.F.Files.state c.args.files.now) (g.F.Files.state c.advance.new.files) b) c.in-Ok-false.field-0-test (c.in-Ok-false.ensures.advances told) in
     rw c.row_fault-in-Ok-false.ensures (no_header _ _ _ _ gives.leaves gives.next)
 
 pub returns-in-Err-TooLong-clause-header : goal.returns-in-Err-TooLong-clause-header

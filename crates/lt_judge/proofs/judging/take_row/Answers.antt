@@ -8,7 +8,7 @@ use Rattle.lt_judge.proofs.judging.take_row.Goals as goal
 pub returns-in_err-take_line-in-Ok-true-clause-goes : goal.returns-in_err-take_line-in-Ok-true-clause-goes
 returns-in_err-take_line-in-Ok-true-clause-goes g c told t st stands =
     let gives : Gives c.args.lines.now c.advance.new.self (g.F.Files.state c.args.files.now) (g.F.Files.state c.advance.new.files) true =
-        subst (λ (b : Bool). Gives c.args.lines.now c.advance.new.self (g.F.Files.state c.args.files.now) (g.F.Files.state c.advance.new.files) b) c.in-Ok-true.field-0-test (c.in-Ok-true.ensures.advances told) in
+    subst (λ (b : Bool). Gives c.args.lines.now c.advance.new.self (g.F.Files.state c.args.files.now) (g.F.Files.state c.advance.new.files) b) c.in-Ok-true.field-0-test (c.in-Ok-true.ensures.advances told) in
     let low = given_limit _ _ _ _ _ gives.leaves gives.next in
     rw (err_is _ _ c.from_residual.ensures.1)
     (refuses_line c.args.shape.now t c.args.rows st c.args.number _ _ _ _ gives.leaves low _ _
@@ -18,7 +18,7 @@ returns-in_err-take_line-in-Ok-true-clause-goes g c told t st stands =
 pub returns-in_ok-take_line-in-Ok-true-clause-goes : goal.returns-in_ok-take_line-in-Ok-true-clause-goes
 returns-in_ok-take_line-in-Ok-true-clause-goes g c told t st stands =
     let gives : Gives c.args.lines.now c.advance.new.self (g.F.Files.state c.args.files.now) (g.F.Files.state c.advance.new.files) true =
-        subst (λ (b : Bool). Gives c.args.lines.now c.advance.new.self (g.F.Files.state c.args.files.now) (g.F.Files.state c.advance.new.files) b) c.in-Ok-true.field-0-test (c.in-Ok-true.ensures.advances told) in
+    subst (λ (b : Bool). Gives c.args.lines.now c.advance.new.self (g.F.Files.state c.args.files.now) (g.F.Files.state c.advance.new.files) b) c.in-Ok-true.field-0-test (c.in-Ok-true.ensures.advances told) in
     let low = given_limit _ _ _ _ _ gives.leaves gives.next in
     takes_row c.args.shape.now t c.args.rows st c.args.number _ _ _ _ gives.leaves low _
     (subst (λ (text : List ℕ). TakesLine c.take_line.new.node c.args.shape.now t c.args.rows st c.args.number text) c.line.ensures (c.in_ok-take_line-in-Ok-true.ensures.takes t st stands))
