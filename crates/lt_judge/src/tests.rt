@@ -35,15 +35,21 @@ fn plain(alloc: Global) -> Result<(Shape, Timing), Memory>
     Ok((shape, timing))
 }
 
-fn file(alloc: Global, text: &str) -> Result<MemFiles, Memory>
+fn in_memory(alloc: Global, bytes: List<u8>) -> Result<MemFiles, Memory>
     ensures { IfOk result (λ files. (mem_files_state files).faults ≡ 0) }
 {
     let mut files = List::new(alloc);
     files.push(MemFile {
         name: Name::from_str(alloc, "S")?,
-        bytes: List::from_slice(alloc, text.as_bytes())?,
+        bytes,
     })?;
     Ok(MemFiles::new(files, List::new(alloc)))
+}
+
+fn file(alloc: Global, text: &str) -> Result<MemFiles, Memory>
+    ensures { IfOk result (λ files. (mem_files_state files).faults ≡ 0) }
+{
+    in_memory(alloc, List::from_slice(alloc, text.as_bytes())?)
 }
 
 fn judged<F: Files>(alloc: Global, files: &mut F, name: &str) -> Result<u32, Or<ScheduleFault>>
@@ -122,5 +128,17 @@ fn headers(rt: HostRuntime) -> Result<(), Fail> {
         let found = judged(alloc, &mut files, name);
         assert_eq!(rt; found, wanted, "{text}");
     }
+    Ok(())
+}
+
+#[test]
+fn refused_before_the_rest_is_read(rt: HostRuntime) -> Result<(), Fail> {
+    let alloc = rt.alloc();
+    let mut bytes = List::from_slice(alloc, b"time,event,place\n5,act,all\n5,act,all\n")?;
+    let ten_million = vec![in alloc; b'x'; 10_000_000]?;
+    bytes.extend(ten_million.as_slice())?;
+    let mut files = in_memory(alloc, bytes)?;
+    let found = judged(alloc, &mut files, "S");
+    assert_eq!(rt; found, offence(2, Offence::TooSoon(0)));
     Ok(())
 }
