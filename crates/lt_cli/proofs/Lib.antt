@@ -7,3 +7,4 @@ pub mod Decided
 pub mod Facts
 pub mod Causes
 pub mod Texts
+pub mod Missing

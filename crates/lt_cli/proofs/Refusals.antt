@@ -2,11 +2,12 @@
 use Rattle.std.proofs.Common.{◌≡◌, List, refl}
 use Rattle.std.specs.Prelude.{codes}
 use Rattle.lt_answer.specs.World.{Blame, Content, Reading, Linking}
+use Rattle.lt_rows.specs.declared.fault.RowFault.TheVariants.{Header, Time, Kind, UnknownPlace, NotCsv, TooMany}
 use Rattle.lt_run.specs.declared.fault.Part.TheVariants as part
 use Rattle.lt_run.specs.declared.fault.LoadFault.{LoadFault}
 use Rattle.lt_run.specs.declared.fault.LoadFault.TheVariants as load
 use Rattle.lt_run.specs.declared.fault.RunFault.{RunFault}
-use Rattle.lt_run.specs.declared.fault.RunFault.TheVariants.{NotBuilt, Read}
+use Rattle.lt_run.specs.declared.fault.RunFault.TheVariants.{NotBuilt, Row, Offence, Limit, Read}
 use Rattle.lt_cli.specs.declared.refusal.Refusal.{Refusal}
 use Rattle.lt_cli.specs.declared.refusal.Refusal.TheVariants.{Words, Load, Run}
 use Rattle.lt_cli.specs.declared.status.Status.{Status}
@@ -22,7 +23,14 @@ not_ok (Load (load.Limit what)) is = cc
 not_ok (Load load.Read) is = cc
 not_ok (Run (NotBuilt part.Program)) is = cc
 not_ok (Run (NotBuilt part.Inputs)) is = cc
-not_ok (Run (NotBuilt part.Schedule)) is = cc
+not_ok (Run (Row row Header)) is = cc
+not_ok (Run (Row row Time)) is = cc
+not_ok (Run (Row row Kind)) is = cc
+not_ok (Run (Row row UnknownPlace)) is = cc
+not_ok (Run (Row row NotCsv)) is = cc
+not_ok (Run (Row row TooMany)) is = cc
+not_ok (Run (Offence event offence)) is = cc
+not_ok (Run (Limit what)) is = cc
 not_ok (Run Read) is = cc
 
 -- nor that of a failed write
@@ -33,7 +41,14 @@ not_write (Load (load.Limit what)) is = cc
 not_write (Load load.Read) is = cc
 not_write (Run (NotBuilt part.Program)) is = cc
 not_write (Run (NotBuilt part.Inputs)) is = cc
-not_write (Run (NotBuilt part.Schedule)) is = cc
+not_write (Run (Row row Header)) is = cc
+not_write (Run (Row row Time)) is = cc
+not_write (Run (Row row Kind)) is = cc
+not_write (Run (Row row UnknownPlace)) is = cc
+not_write (Run (Row row NotCsv)) is = cc
+not_write (Run (Row row TooMany)) is = cc
+not_write (Run (Offence event offence)) is = cc
+not_write (Run (Limit what)) is = cc
 not_write (Run Read) is = cc
 
 -- only the words have theirs
@@ -45,7 +60,14 @@ load_not_words load.Read is = cc
 pub run_not_words : (e : RunFault) → refusal_status (Run e) ≡ status.Words → ⊥
 run_not_words (NotBuilt part.Program) is = cc
 run_not_words (NotBuilt part.Inputs) is = cc
-run_not_words (NotBuilt part.Schedule) is = cc
+run_not_words (Row row Header) is = cc
+run_not_words (Row row Time) is = cc
+run_not_words (Row row Kind) is = cc
+run_not_words (Row row UnknownPlace) is = cc
+run_not_words (Row row NotCsv) is = cc
+run_not_words (Row row TooMany) is = cc
+run_not_words (Offence event offence) is = cc
+run_not_words (Limit what) is = cc
 run_not_words Read is = cc
 
 -- a failed call on the files has its own status and line
@@ -56,7 +78,14 @@ outside_blames (Load (load.Limit what)) is = cc
 outside_blames (Load load.Read) is = refl
 outside_blames (Run (NotBuilt part.Program)) is = cc
 outside_blames (Run (NotBuilt part.Inputs)) is = cc
-outside_blames (Run (NotBuilt part.Schedule)) is = cc
+outside_blames (Run (Row row Header)) is = cc
+outside_blames (Run (Row row Time)) is = cc
+outside_blames (Run (Row row Kind)) is = cc
+outside_blames (Run (Row row UnknownPlace)) is = cc
+outside_blames (Run (Row row NotCsv)) is = cc
+outside_blames (Run (Row row TooMany)) is = cc
+outside_blames (Run (Offence event offence)) is = cc
+outside_blames (Run (Limit what)) is = cc
 outside_blames (Run Read) is = refl
 
 pub reading_line : (r : Refusal) → blame_of r ≡ Reading → line_of r ≡ codes "fault: read"
@@ -65,6 +94,9 @@ reading_line (Load (load.Config fault)) is = cc
 reading_line (Load (load.Limit what)) is = cc
 reading_line (Load load.Read) is = refl
 reading_line (Run (NotBuilt part)) is = cc
+reading_line (Run (Row row fault)) is = cc
+reading_line (Run (Offence event offence)) is = cc
+reading_line (Run (Limit what)) is = cc
 reading_line (Run Read) is = refl
 
 -- no command sends messages
@@ -74,6 +106,9 @@ not_linking (Load (load.Config fault)) is = cc
 not_linking (Load (load.Limit what)) is = cc
 not_linking (Load load.Read) is = cc
 not_linking (Run (NotBuilt part)) is = cc
+not_linking (Run (Row row fault)) is = cc
+not_linking (Run (Offence event offence)) is = cc
+not_linking (Run (Limit what)) is = cc
 not_linking (Run Read) is = cc
 
 pub load_reads : (e : LoadFault) → blame_of (Load e) ≡ Reading → e ≡ load.Read
@@ -83,4 +118,7 @@ load_reads load.Read is = refl
 
 pub run_reads : (e : RunFault) → blame_of (Run e) ≡ Reading → e ≡ Read
 run_reads (NotBuilt part) is = cc
+run_reads (Row row fault) is = cc
+run_reads (Offence event offence) is = cc
+run_reads (Limit what) is = cc
 run_reads Read is = refl

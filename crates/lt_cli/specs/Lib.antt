@@ -1,5 +1,6 @@
 pub mod Status
 pub mod Lines
+pub mod ScheduleLines
 pub mod Texts
 pub mod Blamed
 pub mod Objects

@@ -6,12 +6,17 @@ use Rattle.lt_base.specs.declared.value.Value.TheVariants.{Int, Bool as Truth}
 use Rattle.lt_base.specs.declared.value.Cell.{Cell}
 use Rattle.lt_base.specs.declared.value.Cell.TheVariants.{Absent, Here}
 use Rattle.lt_run.specs.declared.fault.Part.TheVariants as part
-use Rattle.lt_run.specs.declared.fault.What.TheVariants.{ConfigBytes}
+use Rattle.lt_run.specs.declared.fault.What.TheVariants.{ConfigBytes, ScheduleBytes}
+use Rattle.lt_run.specs.declared.fault.What.{What}
 use Rattle.lt_run.specs.declared.fault.LoadFault.{LoadFault}
 use Rattle.lt_run.specs.declared.fault.LoadFault.TheVariants as load
 use Rattle.lt_run.specs.declared.fault.RunFault.{RunFault}
-use Rattle.lt_run.specs.declared.fault.RunFault.TheVariants.{NotBuilt, Read}
+use Rattle.lt_run.specs.declared.fault.RunFault.TheVariants.{NotBuilt, Row, Offence, Limit, Read}
+use Rattle.lt_rows.specs.declared.fault.RowFault.{RowFault}
+use Rattle.lt_rows.specs.declared.fault.RowFault.TheVariants.{Header, Time, Kind, UnknownPlace, NotCsv, TooMany}
+use Rattle.lt_small.specs.Schedule.{one_node}
 use Rattle.lt_cli.specs.Lines.{config_line}
+use Rattle.lt_cli.specs.ScheduleLines.{row_line, offence_line}
 use Rattle.lt_cli.specs.declared.refusal.Refusal.{Refusal}
 use Rattle.lt_cli.specs.declared.refusal.Refusal.TheVariants.{Words, Load, Run}
 use Rattle.lt_cli.specs.declared.status.Status.{Status}
@@ -19,15 +24,21 @@ use Rattle.lt_cli.specs.declared.status.Status.TheVariants as status
 
 -- what is printed of a refusal, without its line feed
 
+abbrev pub limit_line : What → List ℕ
+limit_line ConfigBytes = codes "limit: config bytes 262144"
+limit_line ScheduleBytes = codes "limit: schedule bytes 1073741824"
+
 abbrev pub load_line : LoadFault → List ℕ
 load_line (load.Config fault) = config_line fault
-load_line (load.Limit ConfigBytes) = codes "limit: config bytes 262144"
+load_line (load.Limit what) = limit_line what
 load_line load.Read = codes "fault: read"
 
 abbrev pub run_line : RunFault → List ℕ
 run_line (NotBuilt part.Program) = codes "not built: program"
 run_line (NotBuilt part.Inputs) = codes "not built: inputs"
-run_line (NotBuilt part.Schedule) = codes "not built: schedule"
+run_line (Row row fault) = row_line row fault
+run_line (Offence event offence) = offence_line one_node event offence
+run_line (Limit what) = limit_line what
 run_line Read = codes "fault: read"
 
 abbrev pub line_of : Refusal → List ℕ
@@ -42,10 +53,17 @@ load_status (load.Config fault) = status.Setup
 load_status (load.Limit what) = status.Limit
 load_status load.Read = status.Outside
 
+-- a row's
+abbrev pub row_status : RowFault → Status
+row_status TooMany = status.Limit
+row_status _ = status.Schedule
+
 abbrev pub run_status : RunFault → Status
 run_status (NotBuilt part.Program) = status.Program
 run_status (NotBuilt part.Inputs) = status.Inputs
-run_status (NotBuilt part.Schedule) = status.Schedule
+run_status (Row row fault) = row_status fault
+run_status (Offence event offence) = status.Schedule
+run_status (Limit what) = status.Limit
 run_status Read = status.Outside
 
 abbrev pub refusal_status : Refusal → Status

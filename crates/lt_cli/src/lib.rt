@@ -5,6 +5,7 @@ mod answer;
 mod config_line;
 mod print;
 mod refusal;
+mod schedule_line;
 mod status;
 mod top;
 

@@ -1,11 +1,13 @@
 // Why a command is refused.
 ghost use Rattle.std.specs.Prelude.{◌≡◌, IfOk};
-ghost use Rattle.lt_cli.specs.Texts.{refusal_status, line_of, load_status, load_line, run_status, run_line};
+ghost use Rattle.lt_cli.specs.Texts.{refusal_status, line_of, load_status, load_line, run_status, row_status, run_line, limit_line};
 
 use crate::Status;
 use crate::config_line::config_line;
+use crate::schedule_line::{offence_line, row_line};
 use lt_base::{List, Memory};
-use lt_run::{LoadFault, Part, RunFault, What};
+use lt_rows::RowFault;
+use lt_run::{LoadFault, Part, RunFault, What, plain_shape};
 use std::alloc::Global;
 
 /// Why a command is refused.
@@ -63,9 +65,7 @@ fn load_line(alloc: Global, fault: &LoadFault) -> Result<List<u8>, Memory>
 {
     match fault {
         LoadFault::Config(fault) => config_line(alloc, fault),
-        LoadFault::Limit(What::ConfigBytes) => {
-            List::from_slice(alloc, b"limit: config bytes 262144")
-        }
+        LoadFault::Limit(what) => limit_line(alloc, *what),
         LoadFault::Read => List::from_slice(alloc, b"fault: read"),
     }
 }
@@ -76,8 +76,19 @@ fn run_status(fault: RunFault) -> Status
     match fault {
         RunFault::NotBuilt(Part::Program) => Status::Program,
         RunFault::NotBuilt(Part::Inputs) => Status::Inputs,
-        RunFault::NotBuilt(Part::Schedule) => Status::Schedule,
+        RunFault::Row { row: _, fault } => row_status(fault),
+        RunFault::Offence { .. } => Status::Schedule,
+        RunFault::Limit(_) => Status::Limit,
         RunFault::Read => Status::Outside,
+    }
+}
+
+fn row_status(fault: RowFault) -> Status
+    ensures { result ≡ row_status fault }
+{
+    match fault {
+        RowFault::TooMany => Status::Limit,
+        _ => Status::Schedule,
     }
 }
 
@@ -87,7 +98,21 @@ fn run_line(alloc: Global, fault: RunFault) -> Result<List<u8>, Memory>
     match fault {
         RunFault::NotBuilt(Part::Program) => List::from_slice(alloc, b"not built: program"),
         RunFault::NotBuilt(Part::Inputs) => List::from_slice(alloc, b"not built: inputs"),
-        RunFault::NotBuilt(Part::Schedule) => List::from_slice(alloc, b"not built: schedule"),
+        RunFault::Row { row, fault } => row_line(alloc, row, fault),
+        RunFault::Offence { event, offence } => {
+            let shape = plain_shape(alloc)?;
+            offence_line(alloc, &shape, event, offence)
+        }
+        RunFault::Limit(what) => limit_line(alloc, what),
         RunFault::Read => List::from_slice(alloc, b"fault: read"),
+    }
+}
+
+fn limit_line(alloc: Global, what: What) -> Result<List<u8>, Memory>
+    ensures { IfOk result (λ line. line ≡ limit_line what) }
+{
+    match what {
+        What::ConfigBytes => List::from_slice(alloc, b"limit: config bytes 262144"),
+        What::ScheduleBytes => List::from_slice(alloc, b"limit: schedule bytes 1073741824"),
     }
 }

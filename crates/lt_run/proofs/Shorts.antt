@@ -1,7 +1,7 @@
 -- No form has more bytes than are read.
 use Rattle.lt_small.specs.Program.{IsProgram}
 use Rattle.std.proofs.Common.{ℕ, List}
-use Rattle.lt_run.specs.Run.{IsTable, Executes}
+use Rattle.lt_run.specs.Run.{IsTable}
 use Rattle.lt_run.proofs.Forms.{IsShort}
 
 pub program_short : IsShort IsProgram
@@ -9,6 +9,3 @@ program_short bytes small form = form.size
 
 pub table_short : (input : List ℕ) → IsShort (IsTable input)
 table_short input bytes table form = form.1.size
-
-pub schedule_short : (rows : ℕ) → IsShort (Executes rows)
-schedule_short rows bytes executed form = form.1.size

@@ -2,7 +2,7 @@
 use Rattle.lt_run.specs.declared.fault.LoadFault.{LoadFault}
 use Rattle.lt_run.specs.declared.fault.LoadFault.TheVariants as load
 use Rattle.lt_run.specs.declared.fault.RunFault.{RunFault}
-use Rattle.lt_run.specs.declared.fault.RunFault.TheVariants.{NotBuilt, Read}
+use Rattle.lt_run.specs.declared.fault.RunFault.TheVariants.{NotBuilt, Row, Offence, Limit, Read}
 use Rattle.lt_answer.specs.World.{Blame, Content, Reading}
 
 abbrev pub load_blame : LoadFault → Blame
@@ -12,4 +12,7 @@ load_blame load.Read = Reading
 
 abbrev pub run_blame : RunFault → Blame
 run_blame (NotBuilt part) = Content
+run_blame (Row row fault) = Content
+run_blame (Offence event offence) = Content
+run_blame (Limit what) = Content
 run_blame Read = Reading

@@ -1,4 +1,5 @@
 pub mod Blamed
 pub mod Loaded
+pub mod Scheduled
 pub mod Fetched
 pub mod Run

@@ -6,13 +6,14 @@ use Rattle.lt_config.specs.declared.config.Config.{Config}
 use Rattle.lt_config.specs.declared.fault.ConfigFault.{ConfigFault}
 use Rattle.lt_config.specs.Reading.{config_of, setup_in}
 use Rattle.lt_run.specs.declared.fault.What.{What}
-use Rattle.lt_run.specs.declared.fault.What.TheVariants.{ConfigBytes}
+use Rattle.lt_run.specs.declared.fault.What.TheVariants.{ConfigBytes, ScheduleBytes}
 use Rattle.lt_run.specs.declared.fault.LoadFault.{LoadFault}
 use Rattle.lt_run.specs.declared.fault.LoadFault.TheVariants as fault
 
 -- the most bytes of a file
 abbrev pub limit_of : What → ℕ
 limit_of ConfigBytes = 262144
+limit_of ScheduleBytes = 1073741824
 
 -- these are the bytes, and not too many
 pub record IsWithin (most : ℕ) (bytes whole : List ℕ) : Type 0 where

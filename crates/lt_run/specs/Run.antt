@@ -1,19 +1,16 @@
--- A run of one node on three files of the small form.
+-- A run of one node on a program and inputs of the small form, along any schedule.
 use Rattle.std.specs.Prelude.{◌≡◌, ◌≤◌, ℕ, ℤ, List, [], ◌∷◌, length, take, Option, Ok, Err}
 use Rattle.lt_base.specs.declared.value.Cell.{Cell}
 use Rattle.lt_base.specs.Inputs.{InputTable}
 use Rattle.lt_base.specs.Meaning.{stream_of}
-use Rattle.lt_arch.specs.declared.event.Event.{Event}
 use Rattle.lt_small.specs.declared.program.SmallProgram.{SmallProgram}
 use Rattle.lt_small.specs.Program.{IsProgram, function_of}
 use Rattle.lt_small.specs.Inputs.{IsInputs, table_of}
-use Rattle.lt_small.specs.Schedule.{IsSchedule, one_node, plain}
-use Rattle.lt_arch.specs.State.{executed_of}
-use Rattle.lt_arch.specs.Schedule.{reached}
 use Rattle.lt_run.specs.declared.fault.Part.TheVariants as part
 use Rattle.lt_run.specs.declared.fault.RunFault.{RunFault}
 use Rattle.lt_run.specs.declared.fault.RunFault.TheVariants.{NotBuilt, Read}
 use Rattle.lt_run.specs.declared.printed.Printed.{Printed}
+use Rattle.lt_run.specs.Scheduled.{schedule_verdict}
 use Rattle.lt_answer.specs.Answered.{Verdict, AndThen, OfForm}
 use Rattle.lt_answer.specs.Answered.{OfFile}
 
@@ -24,10 +21,6 @@ IsTable input bytes table = (values : List ℤ) × IsInputs input bytes values �
 -- a table of one column of ints, and of not too many rows
 abbrev pub IsColumn : InputTable → Type 0
 IsColumn table = (values : List ℤ) × (length values ≤ 100000) × (table ≡ table_of values)
-
--- the bytes hold a schedule that is admissible for so many input rows, and by which so many instants are executed
-abbrev pub Executes : (rows : ℕ) (bytes : List ℕ) → ℕ → Type 0
-Executes rows bytes executed = (events : List Event) × IsSchedule rows bytes events × (executed ≡ executed_of (reached one_node plain rows events) 0)
 
 -- the first executed entries of the output's stream
 abbrev pub cells_of : SmallProgram → InputTable → (executed : ℕ) → List Cell
@@ -45,10 +38,6 @@ program_verdict file = OfFile Read file (λ bytes. OfForm (IsProgram bytes) (Not
 -- the inputs file
 unfoldable pub inputs_verdict : SmallProgram → Option (List ℕ) → Verdict InputTable RunFault
 inputs_verdict small file = OfFile Read file (λ bytes. OfForm (IsTable small.input bytes) (NotBuilt part.Inputs))
-
--- the schedule file
-unfoldable pub schedule_verdict : (rows : ℕ) → Option (List ℕ) → Verdict ℕ RunFault
-schedule_verdict rows file = OfFile Read file (λ bytes. OfForm (Executes rows bytes) (NotBuilt part.Schedule))
 
 -- no refusal, and this is printed
 abbrev pub printed_verdict : SmallProgram → InputTable → (executed : ℕ) → Verdict Printed RunFault

@@ -1,11 +1,14 @@
 // Why a command is refused.
 
+use lt_arch::Offence;
 use lt_config::ConfigFault;
+use lt_rows::RowFault;
 
 /// A limit on the bytes of a file.
 #[derive(Clone, Copy, Debug, PartialEq, Eq)]
 pub enum What {
     ConfigBytes,
+    ScheduleBytes,
 }
 
 /// Why a command is refused by a file that it reads before it runs.
@@ -19,12 +22,11 @@ pub enum LoadFault {
     Read,
 }
 
-/// One of the files of a run.
+/// A file of a run that is read in a small form so far.
 #[derive(Clone, Copy, Debug, PartialEq, Eq)]
 pub enum Part {
     Program,
     Inputs,
-    Schedule,
 }
 
 /// Why a run is refused.
@@ -32,6 +34,12 @@ pub enum Part {
 pub enum RunFault {
     /// The file is not of the small form that is built so far.
     NotBuilt(Part),
+    /// The schedule's row is no event, its first line no header, or there are too many rows. Rows count from 1, and the header is row 0.
+    Row { row: u32, fault: RowFault },
+    /// The schedule's event is refused. Events count from 1, and a missing end is one past the last.
+    Offence { event: u32, offence: Offence },
+    /// The schedule has more bytes than its limit.
+    Limit(What),
     /// A call on the files failed, and their count of faults rose.
     Read,
 }

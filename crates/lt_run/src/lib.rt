@@ -4,10 +4,13 @@
 mod fault;
 mod loading;
 mod one_node;
+mod plain;
 mod printed;
 mod reading;
+mod scheduling;
 
 pub use fault::{LoadFault, Part, RunFault, What};
 pub use loading::load_config;
 pub use one_node::run;
+pub use plain::plain_shape;
 pub use printed::Printed;

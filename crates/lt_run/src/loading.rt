@@ -18,6 +18,7 @@ impl What {
     {
         match self {
             What::ConfigBytes => 262_144,
+            What::ScheduleBytes => 1_073_741_824,
         }
     }
 }

@@ -1,12 +1,13 @@
-// A run of one node on three files of the small form.
+// A run of one node on a program and inputs of the small form, along any schedule.
 ghost use Rattle.std.specs.Prelude.{◌≡◌, ◌<◌, ◌≤◌, ◌-◌, ◌^◌, length, IfOk};
 ghost use Rattle.lt_small.specs.Program.{IsWellFormed};
 ghost use Rattle.lt_answer.specs.World.{alone};
 ghost use Rattle.lt_answer.specs.Answered.{Answered};
 ghost use Rattle.lt_run.specs.Blamed.{run_blame};
-ghost use Rattle.lt_run.specs.Run.{program_verdict, inputs_verdict, schedule_verdict, run_verdict, Prints, IsColumn};
+ghost use Rattle.lt_run.specs.Run.{program_verdict, inputs_verdict, run_verdict, Prints, IsColumn};
 
 use crate::reading::fetch;
+use crate::scheduling::judge_schedule;
 use crate::{Part, Printed, RunFault};
 use lt_base::{Inputs, List, Memory, Name, Or};
 use lt_io::Files;
@@ -28,7 +29,7 @@ pub fn run<F: Files>(
 {
     let small = read_program(alloc, files, program)?;
     let table = read_inputs(alloc, files, inputs, &small)?;
-    let executed = read_schedule(alloc, files, schedule, table.rows())?;
+    let executed = judge_schedule(alloc, files, schedule, table.rows())?;
     Ok(print(alloc, &small, &table, executed)?)
 }
 
@@ -63,23 +64,6 @@ fn read_inputs<F: Files>(
     match lt_small::read_inputs(alloc, bytes.as_slice(), small.input.as_str())? {
         Some(table) => Ok(table),
         None => Err(Or::Fault(RunFault::NotBuilt(Part::Inputs))),
-    }
-}
-
-fn read_schedule<F: Files>(
-    alloc: Global,
-    files: &mut F,
-    name: &str,
-    rows: u32,
-) -> Result<u32, Or<RunFault>>
-    requires { (F.state files.old).faults < 2 ^ 64 - 1 }
-    ensures answered { Answered run_blame (schedule_verdict rows ((F.state files.old).named name.now)) (alone (F.state files.old)) (alone (F.state files.new)) result }
-    ensures within { IfOk result (λ executed. executed ≤ rows) }
-{
-    let bytes = fetch(alloc, files, name, Part::Schedule)?;
-    match lt_small::read_schedule(bytes.as_slice(), rows) {
-        Some(executed) => Ok(executed),
-        None => Err(Or::Fault(RunFault::NotBuilt(Part::Schedule))),
     }
 }
 

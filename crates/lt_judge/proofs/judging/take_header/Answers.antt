@@ -1,0 +1,30 @@
+use Rattle.std.proofs.Common.{◌≡◌, Bool, true, false, Some, List, ℕ, sym, ap, subst, ◌∙◌}
+use Rattle.lt_rows.specs.declared.fault.LineFault.TheVariants.{TooLong, Bytes}
+use Rattle.lt_rows.specs.Events.{header_fault}
+use Rattle.lt_rows.specs.Lines.{Gives, Refuses, rows_ahead, end_ahead}
+use Rattle.lt_judge.specs.declared.fault.ScheduleFault.{ScheduleFault}
+use Rattle.lt_judge.specs.Standing.{UnlessFailed, LacksHeader}
+use Rattle.lt_judge.proofs.Headers.{other_header, no_header, long_header, past_header}
+use Rattle.lt_judge.proofs.judging.take_header.Goals as goal
+
+pub returns-in-Err-clause-header : goal.returns-in-Err-clause-header
+returns-in-Err-clause-header g c told =
+    let gives : Gives c.args.lines.now c.advance.new.self (g.F.Files.state c.args.files.now) (g.F.Files.state c.advance.new.files) true =
+    subst (λ (b : Bool). Gives c.args.lines.now c.advance.new.self (g.F.Files.state c.args.files.now) (g.F.Files.state c.advance.new.files) b) c.in-Ok-true.field-0-test (c.in-Ok-true.ensures.advances told) in
+    rw c.row_fault.ensures (other_header _ _ _ _ _ _ c.in-Err.fault gives.leaves gives.next (ap header_fault (sym c.line.ensures) ∙ c.in-Err.ensures) gives.near)
+
+pub returns-in-Ok-false-clause-header : goal.returns-in-Ok-false-clause-header
+returns-in-Ok-false-clause-header g c told =
+    let gives : Gives c.args.lines.now c.advance.new.self (g.F.Files.state c.args.files.now) (g.F.Files.state c.advance.new.files) false =
+    subst (λ (b : Bool). Gives c.args.lines.now c.advance.new.self (g.F.Files.state c.args.files.now) (g.F.Files.state c.advance.new.files) b) c.in-Ok-false.field-0-test (c.in-Ok-false.ensures.advances told) in
+    rw c.row_fault-in-Ok-false.ensures (no_header _ _ _ _ gives.leaves gives.next)
+
+pub returns-in-Err-TooLong-clause-header : goal.returns-in-Err-TooLong-clause-header
+returns-in-Err-TooLong-clause-header g c told =
+    let refuses : Refuses c.args.lines.now (g.F.Files.state c.args.files.now) (g.F.Files.state c.advance.new.files) TooLong = rw c.in-Err-TooLong.field-0-is at (c.in-Err-TooLong.ensures.advances told) in
+    rw c.row_fault-in-Err-TooLong.ensures (long_header _ _ _ refuses.next refuses.near)
+
+pub returns-in-Err-Bytes-clause-header : goal.returns-in-Err-Bytes-clause-header
+returns-in-Err-Bytes-clause-header g c told =
+    let refuses : Refuses c.args.lines.now (g.F.Files.state c.args.files.now) (g.F.Files.state c.advance.new.files) Bytes = rw c.in-Err-Bytes.field-0-is at (c.in-Err-Bytes.ensures.advances told) in
+    past_header _ _ _ refuses.next refuses.near

@@ -1,0 +1,44 @@
+// The schedule of a run on one node.
+ghost use Rattle.std.specs.Prelude.{◌≡◌, ◌≤◌, ◌<◌, ◌-◌, ◌^◌, IfOk};
+ghost use Rattle.lt_answer.specs.World.{alone};
+ghost use Rattle.lt_answer.specs.Answered.{Answered};
+ghost use Rattle.lt_run.specs.Blamed.{run_blame};
+ghost use Rattle.lt_run.specs.Scheduled.{run_fault, schedule_verdict};
+
+use crate::plain::{plain_shape, plain_timing};
+use crate::{RunFault, What};
+use lt_base::Or;
+use lt_io::Files;
+use lt_judge::{ScheduleFault, judge};
+use std::alloc::Global;
+
+/// How many instants the node executes along the schedule, with so many rows of inputs.
+pub(crate) fn judge_schedule<F: Files>(
+    alloc: Global,
+    files: &mut F,
+    name: &str,
+    rows: u32,
+) -> Result<u32, Or<RunFault>>
+    requires { (F.state files.old).faults < 2 ^ 64 - 1 }
+    ensures answered { Answered run_blame (schedule_verdict rows ((F.state files.old).named name.now)) (alone (F.state files.old)) (alone (F.state files.new)) result }
+    ensures within { IfOk result (λ executed. executed ≤ rows) }
+{
+    let shape = plain_shape(alloc)?;
+    let timing = plain_timing(alloc)?;
+    match judge(alloc, files, name, &shape, &timing, rows) {
+        Ok(executed) => Ok(executed),
+        Err(e) => Err(e.map(run_fault)),
+    }
+}
+
+// A schedule's fault as a run's.
+fn run_fault(fault: ScheduleFault) -> RunFault
+    ensures { result ≡ run_fault fault }
+{
+    match fault {
+        ScheduleFault::Row { row, fault } => RunFault::Row { row, fault },
+        ScheduleFault::Offence { event, offence } => RunFault::Offence { event, offence },
+        ScheduleFault::Bytes => RunFault::Limit(What::ScheduleBytes),
+        ScheduleFault::Read => RunFault::Read,
+    }
+}
