@@ -264,19 +264,52 @@ fn plans_end_as_they_should(rt: HostRuntime) -> Result<(), Fail> {
 fn schedules_end_as_they_should(rt: HostRuntime) -> Result<(), Fail> {
     let alloc = rt.alloc();
     let rows = [
-        ("time,event,place\n1000,end,\n", "schedule offence at event 1: NodeOverdue all\n"),
-        ("time,event,place\n5,act,all\n5,act,all\n6,end,\n", "schedule offence at event 2: TooSoon all\n"),
-        ("time,event,place\n0,act,all\n4,act,all\n8,act,all\n", "schedule offence at event 4: NoEnd\n"),
-        ("time,event,place\n0,act,all\n4,act,all\n8,act,all\n12,end,\n13,act,all\n", "schedule offence at event 5: AfterEnd\n"),
-        ("time,event,place\n4,act,all\n3,act,all\n4,end,\n", "schedule offence at event 2: Backwards\n"),
-        ("time,event\n0,act,all\n4,act,all\n12,end,\n", "schedule 5 NotCsv at row 0\n"),
-        ("time,event,place\n0,fly,all\n4,act,all\n12,end,\n", "schedule 3 Kind at row 1\n"),
-        ("time,event,place\n0,data,all>all\n4,act,all\n12,end,\n", "schedule 4 UnknownPlace at row 1\n"),
-        ("time,event,place\n1000000000000001,act,all\n", "schedule 2 Time at row 1\n"),
-        ("time,event,node\n0,act,all\n", "schedule 1 Header at row 0\n"),
+        (
+            "time,event,place\n1000,end,\n",
+            "schedule offence at event 1: NodeOverdue all\n",
+        ),
+        (
+            "time,event,place\n5,act,all\n5,act,all\n6,end,\n",
+            "schedule offence at event 2: TooSoon all\n",
+        ),
+        (
+            "time,event,place\n0,act,all\n4,act,all\n8,act,all\n",
+            "schedule offence at event 4: NoEnd\n",
+        ),
+        (
+            "time,event,place\n0,act,all\n4,act,all\n8,act,all\n12,end,\n13,act,all\n",
+            "schedule offence at event 5: AfterEnd\n",
+        ),
+        (
+            "time,event,place\n4,act,all\n3,act,all\n4,end,\n",
+            "schedule offence at event 2: Backwards\n",
+        ),
+        (
+            "time,event\n0,act,all\n4,act,all\n12,end,\n",
+            "schedule 5 NotCsv at row 0\n",
+        ),
+        (
+            "time,event,place\n0,fly,all\n4,act,all\n12,end,\n",
+            "schedule 3 Kind at row 1\n",
+        ),
+        (
+            "time,event,place\n0,data,all>all\n4,act,all\n12,end,\n",
+            "schedule 4 UnknownPlace at row 1\n",
+        ),
+        (
+            "time,event,place\n1000000000000001,act,all\n",
+            "schedule 2 Time at row 1\n",
+        ),
+        (
+            "time,event,node\n0,act,all\n",
+            "schedule 1 Header at row 0\n",
+        ),
     ];
     for (schedule, line) in rows {
-        let texts = Texts { schedule, ..COUNTER };
+        let texts = Texts {
+            schedule,
+            ..COUNTER
+        };
         let ended = call(alloc, "run p i s", texts, NONE)?;
         assert_eq!(rt; ended.status, Status::Schedule, "{line}");
         assert_eq!(rt; ended.out.as_slice(), b"".as_slice(), "{line}");
