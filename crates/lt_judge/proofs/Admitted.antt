@@ -1,5 +1,5 @@
 -- A schedule that is not refused is admissible, and long enough.
-use Rattle.std.proofs.Common.{◌≡◌, ℕ, ◌+◌, ◌≤◌, ◌<◌, nat_lt, min, Bool, true, false, List, [], ◌∷◌, length, Option, Some, None, Result, Ok, Err, is_some, if◌then◌else◌, refl, sym, ap, subst, ◌∙◌, arith}
+use Rattle.std.proofs.Common.{◌≡◌, ℕ, ◌+◌, nat_lt, Bool, true, false, List, [], ◌∷◌, length, Option, Some, None, Result, Ok, Err, is_some, if◌then◌else◌, refl, sym, ap, ◌∙◌, arith}
 use Rattle.lt_arch.specs.declared.event.Event.{Event}
 use Rattle.lt_arch.specs.declared.event.Offence as arch
 use Rattle.lt_arch.specs.declared.event.Offence.TheVariants.{NoEnd}
@@ -8,7 +8,7 @@ use Rattle.lt_arch.specs.declared.timing.Timing.{Timing}
 use Rattle.lt_arch.specs.Readers.{chan_count, is_back_pressure}
 use Rattle.lt_arch.specs.State.{State, start, executed_of}
 use Rattle.lt_arch.specs.Step.{offence_of, after}
-use Rattle.lt_arch.specs.Schedule.{first_offence_from, numbered_or, missing_end, IsAdmissible, EndsAt, EndsOnce, reached}
+use Rattle.lt_arch.specs.Schedule.{first_offence_from, numbered_or, IsAdmissible, reached}
 use Rattle.lt_arch.specs.Shapes.{IsBackPressureShape}
 use Rattle.lt_arch.proofs.Schedules.{admissible-ends}
 use Rattle.lt_timing.specs.Bounds.{bound_of, back_pressure_bound, time_based_bound}
@@ -18,10 +18,10 @@ use Rattle.lt_rows.specs.declared.fault.RowFault.TheVariants.{Header}
 use Rattle.lt_rows.specs.Rows.{Row as FileRow, rows_of}
 use Rattle.lt_rows.specs.Events.{header_fault}
 use Rattle.lt_judge.specs.declared.fault.ScheduleFault.{ScheduleFault}
-use Rattle.lt_judge.specs.declared.fault.ScheduleFault.TheVariants.{Row, Offence, Bytes, Read}
-use Rattle.lt_judge.specs.Verdict.{with_event, at_end, unless_offence, unless_fault, unless_header, row_event, judged_from, judged_rows, verdict}
+use Rattle.lt_judge.specs.declared.fault.ScheduleFault.TheVariants.{Row, Offence, Bytes}
+use Rattle.lt_judge.specs.Verdict.{with_event, unless_offence, unless_fault, unless_header, row_event, judged_from, judged_rows}
 use Rattle.lt_judge.specs.Judged.{IsOneNode, Executes}
-use Rattle.lt_judge.specs.Standing.{Kept, Stands, TakesNamed}
+use Rattle.lt_judge.specs.Standing.{Kept, TakesNamed}
 
 end_by : (st : State) (number : ℕ) (past ended : Bool) (es : List Event) → ended ≡ is_some st.horizon → (if past then Err Bytes else (if ended then Ok [] else Err (Offence number NoEnd))) ≡ Ok es
     → (es ≡ []) × (is_some st.horizon ≡ true)

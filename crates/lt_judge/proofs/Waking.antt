@@ -1,20 +1,19 @@
 -- The controller of a node without channels, and the states that the node stands for.
-use Rattle.std.proofs.Common.{◌≡◌, ◌≢◌, ◌⊎◌, ◌||◌, not, ℕ, zero, suc, ◌+◌, ◌≤◌, ◌<◌, nat_lt, ◌==◌, Bool, true, false, ◌&&◌, List, [], length, Option, Some, None, is_some, if◌then◌else◌, refl, sym, ap, subst, ◌∙◌, arith, inl, inr, set}
+use Rattle.std.proofs.Common.{◌≡◌, ◌⊎◌, ◌||◌, not, ℕ, ◌+◌, ◌<◌, nat_lt, Bool, true, false, ◌&&◌, length, Option, Some, None, is_some, if◌then◌else◌, refl, sym, ap, subst, ◌∙◌, arith, inl, inr, set}
 use Rattle.std.proofs.lemmas.Bool.{false≢true}
 use Rattle.lt_arch.specs.declared.event.Deed.{Deed}
 use Rattle.lt_arch.specs.declared.event.Deed.TheVariants.{Nothing, Execute, Send}
 use Rattle.lt_arch.specs.declared.event.Event.{Event}
-use Rattle.lt_arch.specs.declared.event.Event.TheVariants.{Act, Del, End}
+use Rattle.lt_arch.specs.declared.event.Event.TheVariants.{Act, End}
 use Rattle.lt_arch.specs.declared.shape.Shape.{Shape}
 use Rattle.lt_arch.specs.declared.timing.Timing.{Timing}
 use Rattle.lt_arch.specs.Readers.{chan_count, send_of, execute_of}
-use Rattle.lt_arch.specs.State.{State, NodeState, Phase, Wait, Ready, First, Sending, Executing, executed_of}
-use Rattle.lt_arch.specs.Deeds.{deed_of, deed_at, phase_after, phase_at, all_in, any_in, all_ack, all_below, some_below, data_to, ack_to, is_fresh, more}
-use Rattle.lt_arch.specs.Step.{after, woken, updated, is_execute, sends_on}
-use Rattle.lt_arch.specs.Times.{Times, HasTimes, FollowsEvents, SentOn}
+use Rattle.lt_arch.specs.State.{State, Phase, Wait, Ready}
+use Rattle.lt_arch.specs.Deeds.{deed_of, deed_at, phase_after, all_in, any_in, all_ack, all_below, some_below, data_to, ack_to, is_fresh, more}
+use Rattle.lt_arch.specs.Step.{after, is_execute}
+use Rattle.lt_arch.specs.Times.{Times, HasTimes}
 use Rattle.lt_arch.proofs.Noted.{law}
-use Rattle.lt_judge.specs.Judged.{IsOneNode}
-use Rattle.lt_judge.specs.Standing.{Kept, Stands, Fits, Wakes, deed_in}
+use Rattle.lt_judge.specs.Standing.{Kept, Stands, Wakes, deed_in}
 
 -- only with more rows of inputs an instant is executed
 pub executes_with_more : (ready more : Bool) → deed_of (if ready then Ready else Wait) true false true more ≡ Execute → more ≡ true

@@ -1,7 +1,6 @@
 -- A row that was written reads back.
-use Rattle.std.proofs.Common.{◌≡◌, ◌≢◌, ℕ, suc, ◌+◌, ◌-◌, ◌^◌, ◌≤◌, ◌<◌, nat_lt, nat_le, ◌==◌, ◌&&◌, ◌||◌, Bool, true, false, not, cond, List, [], ◌∷◌, ◌++◌, length, get_or, take, Option, Some, None, Result, Ok, Err, if◌then◌else◌, refl, sym, ap, subst, ◌∙◌, arith, inl, inr, lit<, lit≤}
+use Rattle.std.proofs.Common.{◌≡◌, ◌≢◌, ℕ, suc, ◌-◌, ◌^◌, ◌≤◌, ◌<◌, nat_lt, nat_le, ◌==◌, ◌&&◌, ◌||◌, Bool, true, false, not, cond, List, [], ◌∷◌, ◌++◌, length, get_or, take, Option, Some, None, Ok, if◌then◌else◌, refl, sym, ap, subst, ◌∙◌, arith, inl, inr, lit<, lit≤}
 use Rattle.std.specs.Prelude.{codes}
-use Rattle.std.specs.Bool.{Decides}
 use Rattle.std.specs.Fmt.{decimal}
 use Rattle.std.specs.List.{slice_split, list_all, position, position_or_len, All}
 use Rattle.std.specs.Str.{bytes_eq}
@@ -9,7 +8,7 @@ use Rattle.std.specs.Str.Parse.{digits_value, AllDigits}
 use Rattle.std.proofs.lemmas.List.{append_assoc, length-append, get_or-append_right, append_cancel_left}
 use Rattle.std.proofs.lemmas.List.Splits.{slice_split_at, slice_split_none}
 use Rattle.std.proofs.lemmas.List.Sums.{position_or_len_is, list_all-from_AllPass, AllPass-from_list_all}
-use Rattle.std.proofs.lemmas.List.Elements.{All-from_get_or, All-append, All-cons, All-nil, All-weaker, All-get_or}
+use Rattle.std.proofs.lemmas.List.Elements.{All-from_get_or, All-append, All-cons, All-nil, All-weaker}
 use Rattle.std.proofs.lemmas.Bool.{false≢true}
 use Rattle.std.proofs.lemmas.Bool.Decides.{nat_tests, eqb_tells, leb_tells}
 use Rattle.std.proofs.lemmas.Fmt.{decimal_nonempty, decimal_is_IsNumeral, length-decimal-le}
@@ -23,9 +22,9 @@ use Rattle.lt_arch.specs.declared.shape.Shape.{Shape}
 use Rattle.lt_arch.specs.Names.{is_digit, is_word_byte, is_word_start, is_word, is_identifier}
 use Rattle.lt_arch.specs.Readers.{chan_of, no_chan}
 use Rattle.lt_arch.specs.Ends.{HasEnds}
-use Rattle.lt_rows.specs.Fields.{Fields, is_comma, without_return, three_of, fields_of}
-use Rattle.lt_rows.specs.Events.{event_of, event_at, node_event, chan_event, time_in, is_time, node_name, node_named, chan_named, ends_text, is_of_kind, IsEventOf}
-use Rattle.lt_rows.specs.Texts.{event_text, place_text, kind_text}
+use Rattle.lt_rows.specs.Fields.{is_comma, without_return, three_of, fields_of}
+use Rattle.lt_rows.specs.Events.{event_of, event_at, node_event, chan_event, time_in, node_name, node_named, chan_named, ends_text, is_of_kind, IsEventOf}
+use Rattle.lt_rows.specs.Texts.{event_text, kind_text}
 use Rattle.lt_rows.proofs.Ends.{decides_eq, differs}
 use Rattle.lt_rows.proofs.Commas.{fields_are}
 use Rattle.lt_rows.proofs.Timed.{timed}
