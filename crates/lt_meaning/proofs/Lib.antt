@@ -1,2 +1,9 @@
+pub mod Presence
+pub mod Standing
+pub mod Lifting
+pub mod Running
+pub mod Keeping
+pub mod Instant
+pub mod Answering
 pub mod OneDelay
 pub mod Lengths

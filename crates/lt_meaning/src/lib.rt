@@ -3,7 +3,13 @@
 
 mod delay;
 mod evaluate;
+mod node;
+mod plan;
+mod state;
 mod table;
 
 pub use evaluate::{GREATEST_CELLS, StreamsFault, streams};
+pub use node::{Node, is_present};
+pub use plan::{Action, Delay, Plan, Step};
+pub use state::{State, run};
 pub use table::Table;
