@@ -1,6 +1,8 @@
 pub mod Presence
 pub mod Standing
 pub mod Lifting
+pub mod Outer
+pub mod Growing
 pub mod Running
 pub mod Keeping
 pub mod Instant

@@ -18,7 +18,7 @@ use Rattle.lt_meaning.proofs.Standing.{in_left, in_right, from_left, from_right}
 
 -- ---- how many delays an expression has
 
-two_lengths : (xs ys : List Wait) (n m : ℕ) → length xs ≡ n → length ys ≡ m → length (xs ++ ys) ≡ n + m
+pub two_lengths : (xs ys : List Wait) (n m : ℕ) → length xs ≡ n → length ys ≡ m → length (xs ++ ys) ≡ n + m
 two_lengths xs ys n m h k = length-append xs ys ∙ (λ i. h i + k i)
 
 mutual

@@ -3,12 +3,16 @@
 
 mod delay;
 mod evaluate;
+mod expressions;
+mod lifter;
 mod node;
 mod plan;
 mod state;
 mod table;
 
 pub use evaluate::{GREATEST_CELLS, StreamsFault, streams};
+pub use expressions::lift as lift_expression;
+pub use lifter::{Lifter, Waiting};
 pub use node::{Node, is_present};
 pub use plan::{Action, Delay, Plan, Step};
 pub use state::{State, run};
