@@ -41,7 +41,7 @@ module _ (plans : List Plan) (g : â„•) (s : State) (plan : Plan) (here : plan â‰
     abbrev C : Callee
     C = calls_of k.program.funcs
 
-    abbrev pa : PlanAt k.program.funcs f plans g
+    abbrev pa : PlanAt k.program.funcs k.height f plans g
     pa = k.plan g f st.is
 
     abbrev env : Environment

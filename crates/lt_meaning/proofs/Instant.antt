@@ -78,7 +78,7 @@ pub at_index : {A : Type 0} (xs : List A) (i : ℕ) (x : A) → i < length xs �
 at_index xs i x l h = slice_get-get_or xs i x l ∙ ap Some (sym h)
 
 module _ (plans : List Plan) (k : Planned plans) (g : ℕ) (f : Function) (is : function_of k.program.funcs g ≡ Some f) (plan : Plan) (here : plan ≡ get_or plans g plan) where
-  abbrev planned : PlanAt k.program.funcs f plans g
+  abbrev planned : PlanAt k.program.funcs k.height f plans g
   planned = k.plan g f is
 
   pub plan_is : planned.plan ≡ plan

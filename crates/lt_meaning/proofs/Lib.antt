@@ -3,6 +3,12 @@ pub mod Standing
 pub mod Lifting
 pub mod Outer
 pub mod Growing
+pub mod Sites
+pub mod Known
+pub mod Placing
+pub mod Begun
+pub mod Setting
+pub mod Weights
 pub mod Running
 pub mod Keeping
 pub mod Instant

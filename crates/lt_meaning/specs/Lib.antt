@@ -2,6 +2,7 @@ pub mod Form
 pub mod Plan
 pub mod Lift
 pub mod Taken
+pub mod Fine
 pub mod Planned
 pub mod Stands
 pub mod Streams

@@ -74,7 +74,7 @@ IfCall P (whole e) = Unit {0}
 IfCall P (part g args) = P g (count args)
 
 -- what a plan does is what the function's equations say
-pub record PlanOf (fs : List Function) (f : Function) (plan : Plan) : Type 0 where
+pub record PlanOf (fs : List Function) (height : ℕ → ℕ) (top : ℕ) (f : Function) (plan : Plan) : Type 0 where
   -- what the steps and the delays stand for
   pub items : List Item
   pub waits : List Wait
@@ -88,18 +88,21 @@ pub record PlanOf (fs : List Function) (f : Function) (plan : Plan) : Type 0 whe
   pub in_order : InOrder items
   pub needs : (x : Item) → In items x → StandsFrom x.delays_before (inner_delays x.source x.clock) waits
   pub answering : (x : Item) → In items x → IfCall (Answering fs) x.source
+  pub lower : (x : Item) → In items x → IfCall (λ g n. height g < top) x.source
   pub equations : (x : ℕ) (e : Expression) → right_of f.eqs x ≡ Some e
       → (k : ℕ) × (c : ℕ) × In items (record { cell = x; clock = clock_of f.decls x; delays_before = k; cells_before = c; source = whole e })
 
 -- a plan of that function stands at this number
-pub record PlanAt (fs : List Function) (f : Function) (plans : List Plan) (g : ℕ) : Type 0 where
+pub record PlanAt (fs : List Function) (height : ℕ → ℕ) (f : Function) (plans : List Plan) (g : ℕ) : Type 0 where
   pub plan : Plan
   pub is : slice_get plans g ≡ Some plan
-  pub plan_of : PlanOf fs f plan
+  pub plan_of : PlanOf fs height (height g) f plan
 
 -- plans of all functions of a checked program
 pub record Planned (plans : List Plan) : Type 0 where
   pub program : WholeProgram
   pub good : GoodProgram program
   pub checked : CheckedProgram program
-  pub plan : (g : ℕ) (f : Function) → function_of program.funcs g ≡ Some f → PlanAt program.funcs f plans g
+  -- how many calls nest within a function
+  pub height : ℕ → ℕ
+  pub plan : (g : ℕ) (f : Function) → function_of program.funcs g ≡ Some f → PlanAt program.funcs height f plans g

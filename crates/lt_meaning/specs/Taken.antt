@@ -51,3 +51,7 @@ with_wait x w = record { cells = x.cells; steps = x.steps; waits = x.waits ++ w 
 -- one more step, with a cell of its own
 abbrev pub with_call : Taken → StepForm → Taken
 with_call x t = record { cells = x.cells + 1; steps = x.steps ++ t ∷ []; waits = x.waits }
+
+-- one more step
+abbrev pub with_step : Taken → StepForm → Taken
+with_step x t = record { cells = x.cells; steps = x.steps ++ t ∷ []; waits = x.waits }

@@ -7,6 +7,7 @@ mod expressions;
 mod lifter;
 mod node;
 mod plan;
+mod planning;
 mod state;
 mod table;
 
@@ -15,5 +16,6 @@ pub use expressions::lift as lift_expression;
 pub use lifter::{Lifter, Waiting};
 pub use node::{Node, is_present};
 pub use plan::{Action, Delay, Plan, Step};
+pub use planning::plan_of;
 pub use state::{State, run};
 pub use table::Table;
