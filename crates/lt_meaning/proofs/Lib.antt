@@ -1,4 +1,5 @@
 pub mod Presence
+pub mod Begins
 pub mod Standing
 pub mod Lifting
 pub mod Outer

@@ -100,3 +100,25 @@ Acts plans (runs g fs) env old o o' v = Answers plans g (map (value_in env old) 
 -- a step's cell has what the step stands for, where the clock is present
 abbrev pub Holds : Callee → List Environment → Environment → Item → Type 0
 Holds C past env x = present env x.clock ≡ true → env x.cell ≡ value_of C (expression_of x.source) x.clock past env
+
+-- the function of this number has a plan, and fewer calls nest in it than this
+pub record CanStart (plans : List Plan) (g left : ℕ) : Type 0 where
+  pub planned : Planned plans
+  pub function : Function
+  pub is : function_of planned.program.funcs g ≡ Some function
+  pub low : planned.height g < left
+
+-- it stands before the first instant
+abbrev pub Starts : List Plan → ℕ → ℕ → State → Type 0
+Starts plans g left s = (k : Planned plans) (f : Function) → function_of k.program.funcs g ≡ Some f → k.height g < left → Stands plans k left s g [] []
+
+-- a step's call can begin
+abbrev pub CanStartChild : List Plan → ActionForm → ℕ → Type 0
+CanStartChild plans (sets f) left = Unit {0}
+CanStartChild plans (runs h fs) left = CanStart plans h left
+
+-- it has begun
+abbrev pub ChildStarts : List Plan → ActionForm → ℕ → Option (Box State) → Type 0
+ChildStarts plans (sets f) left o = Unit {0}
+ChildStarts plans (runs h fs) left None = ⊥
+ChildStarts plans (runs h fs) left (Some b) = Starts plans h left b.value

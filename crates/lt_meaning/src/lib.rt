@@ -8,6 +8,7 @@ mod lifter;
 mod node;
 mod plan;
 mod planning;
+mod starting;
 mod state;
 mod table;
 
@@ -17,5 +18,6 @@ pub use lifter::{Lifter, Waiting};
 pub use node::{Node, is_present};
 pub use plan::{Action, Delay, Plan, Step};
 pub use planning::plan_of;
+pub use starting::start;
 pub use state::{State, run};
 pub use table::Table;
