@@ -187,10 +187,10 @@ below j zero = inr (omega arith)
 below zero (suc n) = inl (omega arith)
 below (suc j) (suc n) = elim (below j n) [ inl l ↦ inl (omega (arith, l)) | inr l ↦ inr (omega (arith, l)) ]
 
-set_same : {A : Type 0} (xs : List A) (i : ℕ) (a : A) → i < length xs → slice_get (set xs i a) i ≡ Some a
+pub set_same : {A : Type 0} (xs : List A) (i : ℕ) (a : A) → i < length xs → slice_get (set xs i a) i ≡ Some a
 set_same xs i a l = let n = length-set xs i a in slice_get-get_or (set xs i a) i a (omega (arith, n)) ∙ ap Some (get_or-set_same xs i a a l)
 
-set_other : {A : Type 0} (xs : List A) (i j : ℕ) (a : A) → j ≢ i → slice_get (set xs i a) j ≡ slice_get xs j
+pub set_other : {A : Type 0} (xs : List A) (i j : ℕ) (a : A) → j ≢ i → slice_get (set xs i a) j ≡ slice_get xs j
 set_other xs i j a ne =
     let n = length-set xs i a in
     elim (below j (length xs)) [

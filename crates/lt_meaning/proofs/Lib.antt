@@ -10,6 +10,8 @@ pub mod Placing
 pub mod Begun
 pub mod Setting
 pub mod Weights
+pub mod Columns
+pub mod Tables
 pub mod Running
 pub mod Keeping
 pub mod Instant

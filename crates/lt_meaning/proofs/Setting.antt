@@ -9,7 +9,7 @@ use Rattle.lt_meaning.specs.Plan.{StepForm, sets}
 use Rattle.lt_meaning.specs.Lift.{form_of, whole, step_of}
 use Rattle.lt_meaning.specs.Taken.{Taken, after, with_step}
 
-clock_of_is : (ds : List Decl) (x : ℕ) (d : Decl) → x < length ds → clock_of ds x ≡ (get_or ds x d).clock
+pub clock_of_is : (ds : List Decl) (x : ℕ) (d : Decl) → x < length ds → clock_of ds x ≡ (get_or ds x d).clock
 clock_of_is [] x d h = absurd (omega arith)
 clock_of_is (e ∷ ds) zero d h = refl
 clock_of_is (e ∷ ds) (suc x) d h = clock_of_is ds x d (omega arith)

@@ -5,5 +5,6 @@ pub mod Taken
 pub mod Fine
 pub mod Planned
 pub mod Stands
+pub mod Ready
 pub mod Streams
 pub mod Small
