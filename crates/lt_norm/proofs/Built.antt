@@ -1,5 +1,5 @@
 -- The normal form that the parts make.
-use Rattle.std.proofs.Common.{◌≡◌, ℕ, List, [], ◌∷◌, ◌++◌, length, refl, sym, ap, ◌∙◌, subst}
+use Rattle.std.proofs.Common.{◌≡◌, ℕ, List, [], ◌++◌, sym, ap, ◌∙◌, subst}
 use Rattle.lt_base.specs.declared.function.Decl.{Decl}
 use Rattle.lt_base.specs.declared.program.Whole.{Whole}
 use Rattle.lt_base.specs.Expression.{Expression}
@@ -9,7 +9,7 @@ use Rattle.lt_base.specs.Clocking.{ClockedFunction}
 use Rattle.lt_base.specs.Dependence.{Causal}
 use Rattle.lt_norm.specs.Lift.{normal_form}
 use Rattle.lt_norm.specs.Flat.{FlatFunction}
-use Rattle.lt_norm.specs.NormalForm.{NormalFormOf, new_origins}
+use Rattle.lt_norm.specs.NormalForm.{NormalFormOf}
 use Rattle.lt_norm.specs.Walk.{AllLifted}
 use Rattle.lt_norm.proofs.NormalForms.{normal_good, normal_flat, normal_is}
 

@@ -1,18 +1,16 @@
 -- With its delays lifted a clocked function is clocked, and it is flat.
-use Rattle.std.proofs.Common.{◌≡◌, ℕ, zero, suc, ◌+◌, ◌<◌, ◌≤◌, Bool, true, false, List, [], ◌∷◌, ◌++◌, length, map, All, Option, Some, None, refl, sym, ap, ◌∙◌, subst, arith, ltb-true, ltb-false, length-append}
-use Rattle.std.specs.Prelude.{nat_lt}
+use Rattle.std.proofs.Common.{◌≡◌, ℕ, suc, ◌+◌, ◌<◌, ◌≤◌, Bool, true, false, List, [], ◌∷◌, length, All, ◌∙◌, arith}
 use Rattle.lt_base.specs.declared.value.Value.{Value}
 use Rattle.lt_base.specs.declared.function.Decl.{Decl}
-use Rattle.lt_base.specs.Expression.{Expression, literal, variable, unary, binary, imported, choose, sampled, merged, delayed, follow, arrow, call, Arguments}
-use Rattle.lt_base.specs.Program.{Function, GoodFunction}
-use Rattle.lt_base.specs.Meaning.{ClockPairs, clock_of, right_of, outer}
-use Rattle.lt_base.specs.Clocking.{WellFormed, Clocked, ClockedFunction}
-use Rattle.lt_base.proofs.Lookups.{clock_right}
+use Rattle.lt_base.specs.Expression.{Expression, literal, variable, unary, binary, imported, choose, sampled, merged, delayed, follow, arrow, call}
+use Rattle.lt_base.specs.Program.{Function}
+use Rattle.lt_base.specs.Meaning.{ClockPairs, clock_of, outer}
+use Rattle.lt_base.specs.Clocking.{WellFormed, Clocked}
 use Rattle.lt_norm.specs.Plain.{Simple}
-use Rattle.lt_norm.specs.Lift.{delays, lifted, Delay, fresh, right_delays, right_lifted, right_fresh, equations_fresh, new_decl, lift_function, Stand}
+use Rattle.lt_norm.specs.Lift.{delays, lifted, Delay, fresh, right_delays, right_lifted, right_fresh, equations_fresh, Stand}
 use Rattle.lt_norm.specs.Flat.{Direct, FlatRight}
 use Rattle.lt_norm.proofs.Told.{stand_left, stand_right, stand_next}
-use Rattle.lt_norm.proofs.Stands.{right_length, Rows, rows_append, rows, lift_more, lift_stands, lift_clocks, each_equation}
+use Rattle.lt_norm.proofs.Stands.{right_length, Rows, rows_append}
 
 -- ---- flat
 

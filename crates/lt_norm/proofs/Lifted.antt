@@ -1,29 +1,28 @@
 -- What a function keeps where its delays are lifted: it is good, typed and clocked again, and flat.
-use Rattle.std.proofs.Common.{◌≡◌, ℕ, zero, suc, ◌+◌, ◌-◌, ◌<◌, ◌≤◌, Bool, true, false, cond, List, [], ◌∷◌, ◌++◌, length, map, All, Option, Some, None, refl, sym, ap, ◌∙◌, subst, arith, ltb-true, ltb-false, length-append}
+use Rattle.std.proofs.Common.{◌≡◌, ℕ, zero, suc, ◌+◌, ◌-◌, ◌<◌, ◌≤◌, Bool, true, false, cond, List, [], ◌∷◌, length, map, All, Option, Some, None, refl, sym, ap, ◌∙◌, subst, arith, ltb-true, ltb-false}
 use Rattle.std.specs.Prelude.{nat_lt, nat_eq}
 use Rattle.std.specs.Option.{option_and_then}
-use Rattle.std.proofs.lemmas.List.{length-map}
 use Rattle.std.proofs.lemmas.List.Elements.{All-nil, All-cons, All-append, All-head, All-tail}
 use Rattle.lt_base.specs.declared.value.Ty.{Ty}
 use Rattle.lt_base.specs.declared.value.Ty.TheVariants.{Int as IntTy, Bool as BoolTy}
 use Rattle.lt_base.specs.declared.value.Value.{Value}
 use Rattle.lt_base.specs.declared.function.Decl.{Decl}
 use Rattle.lt_base.specs.Value.{ty_of}
-use Rattle.lt_base.specs.Expression.{Expression, literal, variable, unary, binary, imported, choose, sampled, merged, delayed, follow, arrow, call, Arguments, no_arguments, argument}
-use Rattle.lt_base.specs.Program.{Function, GoodFunction, VarsBelow, ArgumentVarsBelow}
+use Rattle.lt_base.specs.Expression.{Expression, literal, variable, unary, binary, imported, choose, sampled, merged, delayed, follow, arrow, call}
+use Rattle.lt_base.specs.Program.{Function, GoodFunction, VarsBelow}
 use Rattle.lt_base.specs.Meaning.{ClockPairs, clock_of, right_of, outer}
 use Rattle.lt_base.specs.Equations.{lefts, inside, EquationsIn}
 use Rattle.lt_base.specs.Typing.{ty_at, un_type, bin_type, imported_type, shared_type, both_types, under_bool, type_of, TypedFunction}
-use Rattle.lt_base.specs.Clocking.{WellFormed, Clocked, ArgumentsClocked, ClockedFunction}
+use Rattle.lt_base.specs.Clocking.{WellFormed, Clocked, ClockedFunction}
 use Rattle.lt_base.specs.Dependence.{Causal}
 use Rattle.lt_base.specs.Order.{EachClockVar}
-use Rattle.lt_base.proofs.Lookups.{clock_right, ty_left, right_all, left_below, all_found, found, lefts_cons, lefts_two, inside_none, inside_one, inside_most, more_good}
+use Rattle.lt_base.proofs.Lookups.{clock_right, left_below, all_found, found, lefts_cons, lefts_two, inside_none, inside_one, inside_most, more_good}
 use Rattle.lt_norm.specs.Plain.{Simple}
-use Rattle.lt_norm.specs.Lift.{delays, lifted, Delay, fresh, right_delays, right_lifted, right_fresh, equations_lifted, equations_fresh, new_decl, new_equations, lift_function, Stand}
+use Rattle.lt_norm.specs.Lift.{lifted, Delay, fresh, right_delays, right_lifted, equations_lifted, new_decl, new_equations, lift_function, Stand}
 use Rattle.lt_norm.specs.Flat.{Direct, FlatRight, FlatFunction}
 use Rattle.lt_norm.proofs.Stands.{Rows, rows, lift_more, lift_stands, lift_clocks, lift_types, each_equation}
 use Rattle.lt_norm.proofs.Clocks.{lifted_direct, right_flat, Inherited, each_equation_row, well_more, lifted_clocked, right_clocked, AtClock, clock_inherited}
-use Rattle.lt_norm.proofs.Typings.{shared_left, shared_both, right_typed}
+use Rattle.lt_norm.proofs.Typings.{shared_left, right_typed}
 use Rattle.lt_norm.proofs.Ranks.{well_below, lift_causal}
 
 -- ---- facts of every equation and of every declaration
@@ -113,14 +112,14 @@ type_inherited ds = record {
   two = λ o ck a b h. let k = both_one (bin_type o) (type_of [] ds a) (type_of [] ds b) h.2 in ((h.0.0, h.1.0, k.0, h.3), (h.0.1, h.1.1, k.1, h.3));
   outside = λ o ck a b h. let k = both_one imported_type (type_of [] ds a) (type_of [] ds b) h.2 in ((h.0.0, h.1.0, k.0, h.3), (h.0.1, h.1.1, k.1, h.3));
   three = λ ck c a b h.
-    let u = under_one (type_of [] ds c) (both_types shared_type (type_of [] ds a) (type_of [] ds b)) h.2 in
-    let k = both_one shared_type (type_of [] ds a) (type_of [] ds b) u.1 in
-    ((h.0.0, h.1.0, (BoolTy, u.0), h.3), (h.0.1, h.1.1, k.0, h.3), (h.0.2, h.1.2, k.1, h.3));
+      let u = under_one (type_of [] ds c) (both_types shared_type (type_of [] ds a) (type_of [] ds b)) h.2 in
+      let k = both_one shared_type (type_of [] ds a) (type_of [] ds b) u.1 in
+      ((h.0.0, h.1.0, (BoolTy, u.0), h.3), (h.0.1, h.1.1, k.0, h.3), (h.0.2, h.1.2, k.1, h.3));
   up = λ ck e c b h. (h.0, h.1.0, (under_one (ty_at ds c) (type_of [] ds e) h.2).1, outer_bools (λ c. ty_at ds c ≡ Some BoolTy) ck h.3);
   down = λ ck c a b h.
-    let u = under_one (ty_at ds c) (both_types shared_type (type_of [] ds a) (type_of [] ds b)) h.2 in
-    let k = both_one shared_type (type_of [] ds a) (type_of [] ds b) u.1 in
-    ((h.0.0, h.1.1, k.0, (u.0, h.3)), (h.0.1, h.1.2, k.1, (u.0, h.3)));
+      let u = under_one (ty_at ds c) (both_types shared_type (type_of [] ds a) (type_of [] ds b)) h.2 in
+      let k = both_one shared_type (type_of [] ds a) (type_of [] ds b) u.1 in
+      ((h.0.0, h.1.1, k.0, (u.0, h.3)), (h.0.1, h.1.2, k.1, (u.0, h.3)));
   late = λ ck v e h. (h.0, h.1, (both_one shared_type (Some (ty_of v)) (type_of [] ds e) h.2).1, h.3);
 }
 
@@ -236,9 +235,9 @@ module _ (f : Function) (good : GoodFunction f) (typed : TypedFunction [] f) (cl
   pub lift_typed : TypedFunction [] F
   lift_typed = record {
     clocks =
-      All-append (λ d. All (λ p. WasBool p.0) d.clock) f.decls (map new_decl (rows f good))
-      (λ k d l j p m. bool_kept _ (typed.clocks k d l j p m))
-      (row_declarations (λ ck. All (λ p. WasBool p.0) ck) (rows f good) (rows_map RowTyped (λ r. All (λ p. WasBool p.0) r.0) (λ r h. each_clock_all WasBool r.0 (bools_kept r.0 h.1)) (rows f good) typed_rows));
+        All-append (λ d. All (λ p. WasBool p.0) d.clock) f.decls (map new_decl (rows f good))
+        (λ k d l j p m. bool_kept _ (typed.clocks k d l j p m))
+        (row_declarations (λ ck. All (λ p. WasBool p.0) ck) (rows f good) (rows_map RowTyped (λ r. All (λ p. WasBool p.0) r.0) (λ r h. each_clock_all WasBool r.0 (bools_kept r.0 h.1)) (rows f good) typed_rows));
     rights = each_equation f good (λ x e. type_of [] F.decls e ≡ ty_at F.decls x) RowTyped (λ x e d h n l s. let t = ty_there f.decls x d in right_typed f F (lift_types f good) e n (clock_of f.decls x) (simple x e h) (clocked_below f.decls e (clock_of f.decls x) (clocked.rights x e h)) s t.0 (typed.rights x e h ∙ t.1) ∙ sym t.1 ∙ sym (lift_types f good x d)) typed_rows (λ z r l p c t. p.0 ∙ sym t);
   }
 
@@ -248,8 +247,8 @@ module _ (f : Function) (good : GoodFunction f) (typed : TypedFunction [] f) (cl
       let m = lift_more f good in
       let i = good.inputs in
       lefts_two x f.n_in N (length F.decls) (equations_lifted N f.eqs) (new_equations N (rows f good)) i low
-        (lifted_lefts N f.eqs x ∙ good.lefts x)
-        (new_lefts N (length (rows f good)) (rows f good) x refl ∙ ap (λ k. inside N k x) (sym m))
+      (lifted_lefts N f.eqs x ∙ good.lefts x)
+      (new_lefts N (length (rows f good)) (rows f good) x refl ∙ ap (λ k. inside N k x) (sym m))
 
   lift_found : EquationsIn F F.eqs
   lift_found = found F F.eqs (λ x. subst (λ k. k ≤ 1) (sym (lift_lefts x)) (inside_most f.n_in (length F.decls) x)) (λ x l. refl)

@@ -14,12 +14,12 @@ use Rattle.lt_base.specs.Meaning.{ClockPairs, clock_of}
 use Rattle.lt_base.specs.Sizes.{cost}
 use Rattle.lt_base.proofs.Lookups.{all_found, left_below}
 use Rattle.lt_norm.specs.Plain.{plain, plain_equations}
-use Rattle.lt_norm.specs.Lift.{delays, Delay, lifted, fresh, right_delays, right_lifted, right_fresh, equations_delays, equations_lifted, equations_fresh, new_decl, new_equations, normal_form}
-use Rattle.lt_norm.specs.NormalForm.{right_places, equations_places, new_origins}
-use Rattle.lt_norm.specs.Walk.{Adds, LiftedTo, RightTo, AllLifted, NotDelayed}
+use Rattle.lt_norm.specs.Lift.{delays, right_delays, right_lifted, right_fresh, equations_delays, equations_lifted, equations_fresh, new_decl, new_equations, normal_form}
+use Rattle.lt_norm.specs.NormalForm.{right_places, new_origins}
+use Rattle.lt_norm.specs.Walk.{LiftedTo, RightTo, AllLifted, NotDelayed}
 use Rattle.lt_norm.proofs.Stands.{right_length, equations_length}
 use Rattle.lt_norm.proofs.Lifted.{all_equations}
-use Rattle.lt_norm.proofs.NormalForms.{right_count, delay_cost, right_cost, equations_cost}
+use Rattle.lt_norm.proofs.NormalForms.{right_count, right_cost}
 use Rattle.lt_norm.proofs.Steps.{new_equations-append, grown_by}
 
 abbrev Decls : Type 0
@@ -149,16 +149,16 @@ module _ (known : Decls) (origin : List ℕ) where
         ap (equations_fresh known N) (plain_more known qs q) ∙ fresh_more known N before q' ∙ ap (λ l. old ++ l) (sym rows) in
         record {
           decls = t.rows.decls
-          ∙ ap (λ l. l ++ map new_decl (right_fresh (length ds) ck q'.1)) a.decls
-          ∙ append_assoc known (map new_decl old) (map new_decl (right_fresh (length ds) ck q'.1))
-          ∙ ap (λ l. known ++ l) (sym (map-append new_decl old (right_fresh (length ds) ck q'.1)) ∙ ap (map new_decl) (sym fresh_is));
+              ∙ ap (λ l. l ++ map new_decl (right_fresh (length ds) ck q'.1)) a.decls
+              ∙ append_assoc known (map new_decl old) (map new_decl (right_fresh (length ds) ck q'.1))
+              ∙ ap (λ l. known ++ l) (sym (map-append new_decl old (right_fresh (length ds) ck q'.1)) ∙ ap (map new_decl) (sym fresh_is));
           eqs_are = e
-          ∙ (λ i. a.eqs_are i ++ (q.0, (t.form ∙ ap (λ m. right_lifted m q'.1) all_length) i) ∷ [])
-          ∙ sym (ap (equations_lifted N) (plain_more known qs q) ∙ lifted_more N before q');
+              ∙ (λ i. a.eqs_are i ++ (q.0, (t.form ∙ ap (λ m. right_lifted m q'.1) all_length) i) ∷ [])
+              ∙ sym (ap (equations_lifted N) (plain_more known qs q) ∙ lifted_more N before q');
           new_are = t.rows.eqs
-          ∙ (λ i. a.new_are i ++ new_equations ((all_length ∙ ap (λ k. N + k) (sym (equations_length known N before))) i) (right_fresh (length ds) ck q'.1))
-          ∙ sym (new_equations-append N (length old) old (right_fresh (length ds) ck q'.1) refl)
-          ∙ ap (new_equations N) (sym fresh_is);
+              ∙ (λ i. a.new_are i ++ new_equations ((all_length ∙ ap (λ k. N + k) (sym (equations_length known N before))) i) (right_fresh (length ds) ck q'.1))
+              ∙ sym (new_equations-append N (length old) old (right_fresh (length ds) ck q'.1) refl)
+              ∙ ap (new_equations N) (sym fresh_is);
           origins_are = o ∙ ap (λ l. l ++ owned q) a.origins_are ∙ append_assoc origin (new_origins origin known qs) (owned q) ∙ ap (λ l. origin ++ l) (sym (origins_more origin known qs q));
         }
 
@@ -229,4 +229,4 @@ module _ (known : Decls) (origin : List ℕ) (items : Eqs) (i : ℕ) (q : ℕ ×
       let owner : get_or all left' 0 ≡ get_or origin q.0 0 = λ i. get_or (w i) (l' i) 0 in
       let resized_is = h ∙ ap (λ m. take n origins ++ replicate (n - m) (get_or all left' 0)) j ∙ resized known origin (take i items) ds eqs new origins a o q ds' new' r t n k (get_or all left' 0) owner in
       subst (λ qs. AllLifted known origin qs ds' eqs' new' origins') (ap (λ z. take i items ++ z ∷ []) read ∙ sym (take_more items i q inside))
-        (all_more known origin (take i items) ds eqs new origins a q ds' eqs' new' origins' r t pushed_is resized_is)
+      (all_more known origin (take i items) ds eqs new origins a q ds' eqs' new' origins' r t pushed_is resized_is)

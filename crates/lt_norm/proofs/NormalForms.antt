@@ -1,23 +1,23 @@
 -- The normal form is what it should be.
-use Rattle.std.proofs.Common.{◌≡◌, ℕ, zero, suc, ◌+◌, ◌-◌, ◌*◌, ◌<◌, ◌≤◌, true, false, List, [], ◌∷◌, ◌++◌, length, map, Some, refl, sym, ap, ◌∙◌, subst, arith, length-append}
+use Rattle.std.proofs.Common.{◌≡◌, ℕ, zero, suc, ◌+◌, ◌-◌, ◌<◌, ◌≤◌, true, false, List, [], ◌∷◌, ◌++◌, length, map, refl, sym, ap, ◌∙◌, arith, length-append}
 use Rattle.std.specs.List.{sum_by}
-use Rattle.std.proofs.lemmas.List.{length-map, map-append}
+use Rattle.std.specs.Prelude.{replicate, slice_index_or}
+use Rattle.std.proofs.lemmas.List.{length-map, map-append, length-replicate}
 use Rattle.std.proofs.lemmas.List.Sums.{sum_by-cons}
-use Rattle.lt_base.specs.declared.value.Value.{Value}
 use Rattle.lt_base.specs.declared.function.Decl.{Decl}
-use Rattle.lt_base.specs.Expression.{Expression, literal, variable, unary, binary, imported, choose, sampled, merged, delayed, follow, arrow, call, Arguments}
+use Rattle.lt_base.specs.Expression.{Expression, literal, variable, unary, binary, imported, choose, sampled, merged, delayed, follow, arrow, call}
 use Rattle.lt_base.specs.Program.{Function, GoodFunction}
-use Rattle.lt_base.specs.Meaning.{ClockPairs, clock_of, right_of, outer, calls, stream_of}
+use Rattle.lt_base.specs.Meaning.{ClockPairs, clock_of, right_of, outer, calls}
 use Rattle.lt_base.specs.Typing.{TypedFunction}
 use Rattle.lt_base.specs.Clocking.{ClockedFunction}
 use Rattle.lt_base.specs.Dependence.{Causal}
-use Rattle.lt_base.specs.Sizes.{cost, weight_with}
+use Rattle.lt_base.specs.Sizes.{cost}
 use Rattle.lt_base.proofs.Kept.{kept_streams}
-use Rattle.lt_norm.specs.Plain.{kind, blank, first_flag, plain, plain_equations, plain_function}
-use Rattle.lt_norm.specs.Lift.{delays, lifted, Delay, fresh, right_delays, right_fresh, equations_delays, equations_fresh, new_decl, lift_function, normal_form, Stand}
+use Rattle.lt_norm.specs.Plain.{plain, plain_equations, plain_function}
+use Rattle.lt_norm.specs.Lift.{delays, Delay, fresh, right_delays, right_fresh, equations_fresh, new_decl, normal_form, Stand}
 use Rattle.lt_norm.specs.Flat.{Direct, FlatFunction}
 use Rattle.lt_norm.specs.NormalForm.{places, right_places, equations_places, new_origins, DelaysAlone, NormalFormOf}
-use Rattle.lt_norm.proofs.Stands.{right_length, Rows, rows, lift_more, lift_stands, lift_keeps, lift_clocks}
+use Rattle.lt_norm.proofs.Stands.{right_length, Rows, rows, lift_more, lift_stands, lift_keeps}
 use Rattle.lt_norm.proofs.Lifted.{lift_good, lift_typed, lift_clocked, lift_flat, causal_again, direct_rows}
 use Rattle.lt_norm.proofs.Plains.{plain_is_good, plain_is_clocked, plain_is_simple, plain_is_typed, plain_is_causal, plain_keeps}
 
@@ -127,6 +127,17 @@ equations_cost ds (q ∷ qs) =
     let s = sum_by-cons (λ (e : ℕ × Expression). cost 1 (λ _. 0) e.1) q qs in
     omega (arith, l, s, right_cost q.1 (clock_of ds q.0), equations_cost ds qs)
 
+new_origins_length : (origin : List ℕ) (ds : List Decl) (qs : List (ℕ × Expression)) → length (new_origins origin ds qs) ≡ length (equations_places ds qs)
+new_origins_length origin ds [] = refl
+new_origins_length origin ds (q ∷ qs) =
+    let ps = right_places (clock_of ds q.0) q.1 in
+    let o = slice_index_or origin q.0 0 in
+    let l = length-append (replicate (length ps) o) (new_origins origin ds qs) in
+    let m = length-append ps (equations_places ds qs) in
+    let k = length-replicate (length ps) o in
+    let h = new_origins_length origin ds qs in
+    omega (arith, l, m, k, h)
+
 -- ---- a lifted delay is alone
 
 stands_alone : (F : Function) (n : ℕ) (rs : List Delay) → Stand F n rs → Rows (λ r. Direct r.2) rs → (i x : ℕ) → x ≡ n + i → i < length rs → DelaysAlone F x
@@ -189,6 +200,7 @@ module _ (f : Function) (good : GoodFunction f) (typed : TypedFunction [] f) (cl
     causal = normal_causal;
     flat = normal_flat;
     origins = refl;
+    each = λ e. let l = length-append origin (new_origins origin f.decls f.eqs) in let k = new_origins_length origin f.decls f.eqs in omega (arith, l, k, e, grown);
     size = grown;
     within = let c = equations_cost f.decls f.eqs in omega (arith, grown, c);
   }

@@ -1,26 +1,25 @@
 -- What a function keeps with flags and delays in place of `->` and of every `fby` without a literal.
-use Rattle.std.proofs.Common.{◌≡◌, ℕ, zero, suc, ◌+◌, ◌<◌, ◌≤◌, Bool, true, false, cond, List, [], ◌∷◌, length, map, All, Option, Some, None, refl, sym, ap, ◌∙◌, subst, arith}
+use Rattle.std.proofs.Common.{◌≡◌, ℕ, zero, suc, ◌+◌, ◌<◌, Bool, true, false, cond, List, [], ◌∷◌, length, All, Option, Some, None, refl, sym, ap, ◌∙◌, subst, arith}
 use Rattle.std.specs.Prelude.{nat_eq, if◌then◌else◌}
 use Rattle.std.specs.Option.{option_and_then}
 use Rattle.std.proofs.lemmas.List.Elements.{All-nil, All-cons, All-head, All-tail}
 use Rattle.lt_base.specs.declared.value.Ty.{Ty}
 use Rattle.lt_base.specs.declared.value.Ty.TheVariants.{Int as IntTy, Bool as BoolTy}
-use Rattle.lt_base.specs.declared.value.Value.{Value}
 use Rattle.lt_base.specs.declared.operators.Un.{Un}
 use Rattle.lt_base.specs.declared.operators.Un.TheVariants.{Neg, Not}
 use Rattle.lt_base.specs.declared.operators.Bin.{Bin}
 use Rattle.lt_base.specs.declared.operators.Bin.TheVariants.{Add, Sub, Mul, Div, Mod, Eq, Ne, Lt, Le, Gt, Ge, And, Or, Xor, Implies}
 use Rattle.lt_base.specs.declared.function.Decl.{Decl}
 use Rattle.lt_base.specs.Value.{ty_of}
-use Rattle.lt_base.specs.Expression.{Expression, literal, variable, unary, binary, imported, choose, sampled, merged, delayed, follow, arrow, call, Arguments}
+use Rattle.lt_base.specs.Expression.{Expression, literal, variable, unary, binary, imported, choose, sampled, merged, delayed, follow, arrow, call}
 use Rattle.lt_base.specs.Program.{Function, GoodFunction, VarsBelow}
-use Rattle.lt_base.specs.Meaning.{ClockPairs, Environment, Row, Callee, clock_of, right_of, outer, present, value_of}
+use Rattle.lt_base.specs.Meaning.{ClockPairs, Environment, Callee, clock_of, right_of, outer, present}
 use Rattle.lt_base.specs.Typing.{ty_at, un_type, bin_type, ints_type, truths_type, imported_type, shared_type, both_types, under_bool, type_of, TypedFunction}
 use Rattle.lt_base.specs.Clocking.{Clocked, ClockedFunction}
 use Rattle.lt_base.specs.Dependence.{Causal}
-use Rattle.lt_base.specs.Order.{EachRead, EachClockVar, Ranked}
+use Rattle.lt_base.specs.Order.{EachRead, EachClockVar}
 use Rattle.lt_base.specs.Equations.{lefts}
-use Rattle.lt_base.specs.Kept.{Retold, Keeps}
+use Rattle.lt_base.specs.Kept.{Keeps}
 use Rattle.lt_base.specs.Tells.{Tells}
 use Rattle.lt_base.proofs.Solution.{and_left}
 use Rattle.lt_base.proofs.Tells.{at_each_map, TellsAt, tells_same, tells_unary, tells_binary, tells_imported, tells_choose, tells_merged, tells_delayed, tells_follow, tells_arrow}
@@ -310,8 +309,8 @@ module _ (f : Function) where
   plain_is_typed good typed = record {
     clocks = typed.clocks;
     rights = plain_each (λ x e. type_of [] f.decls e ≡ ty_at f.decls x) (λ x e h.
-      let t = typed_at f.decls x (left_below f good x e h) in
-      plain_typed f.decls e t.0 (typed.rights x e h ∙ t.1) ∙ sym t.1);
+        let t = typed_at f.decls x (left_below f good x e h) in
+        plain_typed f.decls e t.0 (typed.rights x e h ∙ t.1) ∙ sym t.1);
   }
 
   pub plain_is_causal : Causal f → Causal p

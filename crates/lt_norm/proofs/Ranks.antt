@@ -1,5 +1,5 @@
 -- With its delays lifted a causal function is causal.
-use Rattle.std.proofs.Common.{◌≡◌, ℕ, zero, suc, ◌+◌, ◌<◌, ◌≤◌, Bool, true, false, List, [], ◌∷◌, ◌++◌, length, map, All, Option, Some, None, refl, sym, ap, ◌∙◌, subst, arith}
+use Rattle.std.proofs.Common.{◌≡◌, ℕ, suc, ◌+◌, ◌<◌, ◌≤◌, true, false, List, [], ◌∷◌, length, Some, sym, ap, ◌∙◌, subst, arith}
 use Rattle.std.specs.Prelude.{nat_lt, nat_le, if◌then◌else◌}
 use Rattle.std.proofs.lemmas.Bool.Decides.{nat_tests}
 use Rattle.lt_base.specs.declared.function.Decl.{Decl}
@@ -9,9 +9,9 @@ use Rattle.lt_base.specs.Meaning.{ClockPairs, clock_of, right_of, outer}
 use Rattle.lt_base.specs.Clocking.{WellFormed, ClockedFunction}
 use Rattle.lt_base.specs.Dependence.{Causal}
 use Rattle.lt_base.specs.Order.{EachRead, EachArgumentRead, EachClockVar, Ranked, Ordered}
-use Rattle.lt_base.proofs.Reading.{each_map, each_clock_map}
+use Rattle.lt_base.proofs.Reading.{each_clock_map}
 use Rattle.lt_base.proofs.Order.{place_of, ordered, causal_from_ranks}
-use Rattle.lt_base.proofs.Lookups.{right_all, left_below}
+use Rattle.lt_base.proofs.Lookups.{right_all}
 use Rattle.lt_norm.specs.Plain.{Simple}
 use Rattle.lt_norm.specs.Lift.{delays, lifted, Delay, fresh, right_lifted, right_fresh, lift_function, Stand}
 use Rattle.lt_norm.proofs.Told.{stand_left, stand_next}

@@ -1,18 +1,17 @@
 -- Lifting delays keeps the variables of a function and their streams.
-use Rattle.std.proofs.Common.{◌≡◌, ℕ, zero, suc, ◌+◌, ◌<◌, ◌≤◌, Bool, true, false, List, [], ◌∷◌, ◌++◌, length, map, Option, Some, None, refl, sym, ap, ◌∙◌, subst, arith, length-append, eqb-true, ltb-true, ltb-false}
+use Rattle.std.proofs.Common.{◌≡◌, ℕ, suc, ◌+◌, ◌<◌, ◌≤◌, Bool, true, false, List, [], ◌∷◌, ◌++◌, length, map, Option, Some, None, refl, sym, ap, ◌∙◌, subst, arith, length-append, eqb-true, ltb-true, ltb-false}
 use Rattle.std.proofs.lemmas.List.{length-map}
 use Rattle.std.specs.Prelude.{nat_eq, nat_lt, if◌then◌else◌}
-use Rattle.lt_base.specs.declared.value.Value.{Value}
 use Rattle.lt_base.specs.declared.function.Decl.{Decl}
 use Rattle.lt_base.specs.Value.{ty_of}
 use Rattle.lt_base.specs.Expression.{Expression, literal, variable, unary, binary, imported, choose, sampled, merged, delayed, follow, arrow, call}
 use Rattle.lt_base.specs.Program.{Function, GoodFunction}
 use Rattle.lt_base.specs.Meaning.{ClockPairs, Callee, clock_of, right_of}
 use Rattle.lt_base.specs.Typing.{ty_at}
-use Rattle.lt_base.specs.Kept.{Retold, Keeps}
+use Rattle.lt_base.specs.Kept.{Keeps}
 use Rattle.std.proofs.lemmas.Bool.Decides.{nat_tests}
 use Rattle.lt_base.proofs.Lookups.{not_same, same_self, clock_left, clock_right, ty_left, ty_right, right_left, right_right, beyond}
-use Rattle.lt_norm.specs.Lift.{delays, lifted, Delay, fresh, right_delays, right_lifted, right_fresh, equations_delays, equations_lifted, equations_fresh, new_decl, new_equations, lift_function, Stand}
+use Rattle.lt_norm.specs.Lift.{Delay, right_delays, right_lifted, right_fresh, equations_delays, equations_lifted, equations_fresh, new_decl, new_equations, lift_function, Stand}
 use Rattle.lt_norm.proofs.Told.{two, fresh_length, stand_left, stand_right, told_right}
 
 pub right_length : (n : ℕ) (ck : ClockPairs) (e : Expression) → length (right_fresh n ck e) ≡ right_delays e
@@ -181,10 +180,10 @@ module _ (f : Function) (good : GoodFunction f) where
     inputs = λ x d h. right_right (equations_lifted (length f.decls) f.eqs) (new_equations (length f.decls) rows) x (lifted_none (length f.decls) f.eqs x h) ∙ new_none (length f.decls) rows x d;
     clocks = lift_clocks;
     rights = λ x e d h.
-      let b = lift_begins x e h in
-      record {
-        form = right_lifted b.from e;
-        stands = right_left (equations_lifted (length f.decls) f.eqs) (new_equations (length f.decls) rows) x _ b.stands;
-        tells = λ es rs s. told_right callee F es rs s e b.from (clock_of f.decls x) b.rest;
-      };
+        let b = lift_begins x e h in
+        record {
+          form = right_lifted b.from e;
+          stands = right_left (equations_lifted (length f.decls) f.eqs) (new_equations (length f.decls) rows) x _ b.stands;
+          tells = λ es rs s. told_right callee F es rs s e b.from (clock_of f.decls x) b.rest;
+        };
   }

@@ -1,14 +1,13 @@
 -- The walk over an expression, case by case.
-use Rattle.std.proofs.Common.{◌≡◌, ℕ, zero, suc, ◌+◌, ◌<◌, ◌≤◌, Bool, true, false, List, [], ◌∷◌, ◌++◌, length, map, refl, sym, ap, ◌∙◌, subst, arith, length-append}
+use Rattle.std.proofs.Common.{◌≡◌, ℕ, zero, suc, ◌+◌, Bool, true, false, List, [], ◌∷◌, ◌++◌, length, map, refl, sym, ap, ◌∙◌, subst, arith, length-append}
 use Rattle.std.proofs.lemmas.List.{length-map, map-append, append_assoc, append-nil}
 use Rattle.lt_base.specs.declared.value.Value.{Value}
 use Rattle.lt_base.specs.declared.operators.Un.{Un}
 use Rattle.lt_base.specs.declared.operators.Bin.{Bin}
 use Rattle.lt_base.specs.declared.operators.Imp.{Imp}
 use Rattle.lt_base.specs.declared.function.Decl.{Decl}
-use Rattle.lt_base.specs.Expression.{Expression, literal, variable, unary, binary, imported, choose, sampled, merged, delayed, follow, arrow, call, Arguments}
+use Rattle.lt_base.specs.Expression.{Expression, literal, variable, unary, binary, imported, choose, sampled, merged, delayed, call, Arguments}
 use Rattle.lt_base.specs.Meaning.{ClockPairs, outer}
-use Rattle.lt_norm.specs.Plain.{first_flag}
 use Rattle.lt_norm.specs.Lift.{delays, Delay, lifted, fresh, new_decl, new_equations}
 use Rattle.lt_norm.specs.Walk.{Adds, LiftedTo}
 use Rattle.lt_norm.proofs.Told.{fresh_length}
@@ -34,13 +33,13 @@ adds_none ds es = record { decls = sym (append-nil ds); eqs = sym (append-nil es
 pub adds_two : (xs ys : List Delay) (ds ds1 ds2 : Decls) (es es1 es2 : Eqs) → Adds xs ds es ds1 es1 → Adds ys ds1 es1 ds2 es2 → Adds (xs ++ ys) ds es ds2 es2
 adds_two xs ys ds ds1 ds2 es es1 es2 a b = record {
   decls = b.decls
-  ∙ ap (λ l. l ++ map new_decl ys) a.decls
-  ∙ append_assoc ds (map new_decl xs) (map new_decl ys)
-  ∙ ap (λ l. ds ++ l) (sym (map-append new_decl xs ys));
+      ∙ ap (λ l. l ++ map new_decl ys) a.decls
+      ∙ append_assoc ds (map new_decl xs) (map new_decl ys)
+      ∙ ap (λ l. ds ++ l) (sym (map-append new_decl xs ys));
   eqs = b.eqs
-  ∙ (λ i. a.eqs i ++ new_equations (grown_by xs ds es ds1 es1 a i) ys)
-  ∙ append_assoc es (new_equations (length ds) xs) (new_equations (length ds + length xs) ys)
-  ∙ ap (λ l. es ++ l) (sym (new_equations-append (length ds) (length xs) xs ys refl));
+      ∙ (λ i. a.eqs i ++ new_equations (grown_by xs ds es ds1 es1 a i) ys)
+      ∙ append_assoc es (new_equations (length ds) xs) (new_equations (length ds + length xs) ys)
+      ∙ ap (λ l. es ++ l) (sym (new_equations-append (length ds) (length xs) xs ys refl));
 }
 
 pub lift_length : (ck : ClockPairs) (e : Expression) (ds : Decls) (es : Eqs) (ds' : Decls) (es' : Eqs) (e' : Expression) → LiftedTo ck e ds es ds' es' e' → length ds' ≡ length ds + delays e

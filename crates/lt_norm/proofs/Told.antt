@@ -1,14 +1,13 @@
 -- The lifted form tells what the expression tells.
-use Rattle.std.proofs.Common.{◌≡◌, ℕ, zero, suc, ◌+◌, ◌<◌, ◌≤◌, Bool, true, false, List, [], ◌∷◌, ◌++◌, length, Option, Some, None, refl, sym, ap, ◌∙◌, subst, arith, length-append}
-use Rattle.lt_base.specs.declared.value.Value.{Value}
-use Rattle.lt_base.specs.Expression.{Expression, literal, variable, unary, binary, imported, choose, sampled, merged, delayed, follow, arrow, call, Arguments}
+use Rattle.std.proofs.Common.{◌≡◌, ℕ, suc, ◌+◌, true, false, List, [], ◌∷◌, ◌++◌, length, refl, subst, arith, length-append}
+use Rattle.lt_base.specs.Expression.{Expression, literal, variable, unary, binary, imported, choose, sampled, merged, delayed, follow, arrow, call}
 use Rattle.lt_base.specs.Program.{Function}
 use Rattle.lt_base.specs.Meaning.{ClockPairs, Environment, Row, Callee, present, outer}
 use Rattle.lt_base.specs.Solution.{Solves}
 use Rattle.lt_base.specs.Tells.{Tells}
 use Rattle.lt_base.proofs.Solution.{and_left}
 use Rattle.lt_base.proofs.Tells.{at_each_map, TellsAt, tells_same, tells_unary, tells_binary, tells_imported, tells_choose, tells_merged, tells_delayed, tells_lifted}
-use Rattle.lt_norm.specs.Lift.{delays, lifted, Delay, fresh, on_right, right_delays, right_lifted, right_fresh, Stand}
+use Rattle.lt_norm.specs.Lift.{delays, lifted, Delay, fresh, right_lifted, right_fresh, Stand}
 
 -- ---- as many variables as delays
 

@@ -1,9 +1,9 @@
 -- Each delay inside an expression becomes the equation of a variable of its own, on the clock of its place.
-use Rattle.std.specs.Prelude.{◌≡◌, ℕ, zero, suc, ◌+◌, ◌<◌, true, false, Some, List, [], ◌∷◌, ◌++◌, length, map}
+use Rattle.std.specs.Prelude.{◌≡◌, ℕ, suc, ◌+◌, ◌<◌, true, false, Some, List, [], ◌∷◌, ◌++◌, length, map}
 use Rattle.lt_base.specs.declared.value.Value.{Value}
 use Rattle.lt_base.specs.declared.function.Decl.{Decl}
 use Rattle.lt_base.specs.Value.{ty_of}
-use Rattle.lt_base.specs.Expression.{Expression, literal, variable, unary, binary, imported, choose, sampled, merged, delayed, follow, arrow, call, Arguments}
+use Rattle.lt_base.specs.Expression.{Expression, literal, variable, unary, binary, imported, choose, sampled, merged, delayed, follow, arrow, call}
 use Rattle.lt_base.specs.Program.{Function}
 use Rattle.lt_base.specs.Meaning.{ClockPairs, clock_of, right_of, outer}
 use Rattle.lt_base.specs.Typing.{ty_at}

@@ -2,15 +2,14 @@
 use Rattle.std.specs.Prelude.{◌≡◌, ℕ, ◌+◌, ◌<◌, ◌≤◌, true, false, Some, List, [], ◌∷◌, ◌++◌, length, map, replicate, slice_index_or}
 use Rattle.lt_base.specs.declared.value.Value.{Value}
 use Rattle.lt_base.specs.declared.function.Decl.{Decl}
-use Rattle.lt_base.specs.Expression.{Expression, literal, variable, unary, binary, imported, choose, sampled, merged, delayed, follow, arrow, call, Arguments}
-use Rattle.lt_base.specs.Program.{Function, GoodFunction}
+use Rattle.lt_base.specs.Expression.{Expression, literal, variable, unary, binary, imported, choose, sampled, merged, delayed, follow, arrow, call}
+use Rattle.lt_base.specs.Program.{Function}
 use Rattle.lt_base.specs.Meaning.{ClockPairs, clock_of, right_of, outer, stream_of}
 use Rattle.lt_base.specs.Typing.{TypedFunction}
 use Rattle.lt_base.specs.Clocking.{ClockedFunction}
 use Rattle.lt_base.specs.Dependence.{Causal}
 use Rattle.lt_base.specs.Sizes.{weight_with}
-use Rattle.lt_norm.specs.Flat.{Direct, FlatFunction, Originated}
-use Rattle.lt_norm.specs.Lift.{normal_form}
+use Rattle.lt_norm.specs.Flat.{Direct, FlatFunction}
 
 -- the clocks of the places of the delays in an expression at a clock, inner ones first: one for each `fby` with a literal and each
 -- `->`, and two for each other `fby`, its flag before its sides and its delay after them
@@ -73,6 +72,7 @@ pub record NormalFormOf (f : Function) (origin : List ℕ) (F : Function) (origi
   pub flat : FlatFunction F
   -- a variable of f keeps its origin, and a lifted one has that of the variable in whose equation it stood
   pub origins : origin' ≡ origin ++ new_origins origin f.decls f.eqs
+  pub each : length origin ≡ length f.decls → length origin' ≡ length F.decls
   -- one variable is added for each lifted delay, no more than the delays of the weight
   pub size : length F.decls ≡ length f.decls + length (equations_places f.decls f.eqs)
   pub within : length F.decls ≤ weight_with (λ _. 0) f

@@ -1,9 +1,9 @@
 -- What the steps of lifting do to the declarations and equations made so far.
-use Rattle.std.specs.Prelude.{◌≡◌, ℕ, ◌+◌, List, [], ◌∷◌, ◌++◌, length, map}
+use Rattle.std.specs.Prelude.{◌≡◌, ℕ, List, ◌++◌, length, map}
 use Rattle.lt_base.specs.declared.function.Decl.{Decl}
-use Rattle.lt_base.specs.Expression.{Expression, literal, variable, unary, binary, imported, choose, sampled, merged, delayed, follow, arrow, call}
+use Rattle.lt_base.specs.Expression.{Expression, delayed}
 use Rattle.lt_base.specs.Meaning.{ClockPairs}
-use Rattle.lt_norm.specs.Plain.{plain, plain_equations}
+use Rattle.lt_norm.specs.Plain.{plain_equations}
 use Rattle.lt_norm.specs.Lift.{Delay, lifted, fresh, new_decl, new_equations, right_lifted, right_fresh, equations_lifted, equations_fresh}
 use Rattle.lt_norm.specs.NormalForm.{new_origins}
 

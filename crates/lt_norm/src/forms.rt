@@ -46,15 +46,14 @@ pub(crate) fn imported(alloc: Global, op: Imp, a: Expr, b: Expr) -> Result<Expr,
 pub(crate) fn choose(alloc: Global, c: Expr, a: Expr, b: Expr) -> Result<Expr, Memory>
     ensures { IfOk result (λ r. shape r ≡ choose (shape c) (shape a) (shape b)) }
 {
-    Ok(Expr::If(Box::new(alloc, c)?, Box::new(alloc, a)?, Box::new(alloc, b)?))
+    Ok(Expr::If(
+        Box::new(alloc, c)?,
+        Box::new(alloc, a)?,
+        Box::new(alloc, b)?,
+    ))
 }
 
-pub(crate) fn sampled(
-    alloc: Global,
-    a: Expr,
-    variable: u32,
-    polarity: bool,
-) -> Result<Expr, Memory>
+pub(crate) fn sampled(alloc: Global, a: Expr, variable: u32, polarity: bool) -> Result<Expr, Memory>
     ensures { IfOk result (λ r. shape r ≡ sampled (shape a) variable polarity) }
 {
     Ok(Expr::When(Box::new(alloc, a)?, variable, polarity))
@@ -63,11 +62,7 @@ pub(crate) fn sampled(
 pub(crate) fn merged(alloc: Global, variable: u32, a: Expr, b: Expr) -> Result<Expr, Memory>
     ensures { IfOk result (λ r. shape r ≡ merged variable (shape a) (shape b)) }
 {
-    Ok(Expr::Merge(
-        variable,
-        Box::new(alloc, a)?,
-        Box::new(alloc, b)?,
-    ))
+    Ok(Expr::Merge(variable, Box::new(alloc, a)?, Box::new(alloc, b)?))
 }
 
 pub(crate) fn delayed(alloc: Global, first: Value, a: Expr) -> Result<Expr, Memory>

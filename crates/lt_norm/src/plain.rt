@@ -6,7 +6,7 @@ ghost use Rattle.lt_norm.specs.Plain.{blank, first_flag, kind, plain};
 
 use crate::forms::{binary, choose, delayed, imported, merged, sampled, unary};
 use crate::kinds::{blank, kind};
-use lt_base::{Expr, List, Decl, Memory, Value, Ty};
+use lt_base::{Decl, Expr, List, Memory, Ty, Value};
 use std::alloc::Global;
 
 // `true fby false`

@@ -1,4 +1,4 @@
-use Rattle.std.proofs.Common.{◌≡◌, sym, arith, length}
+use Rattle.std.proofs.Common.{◌≡◌, arith, length}
 use Rattle.lt_base.specs.Expression.{shape}
 use Rattle.lt_norm.proofs.Loop.{room_at, turned}
 use Rattle.lt_norm.proofs.equations.lift_equations.Goals as goal

@@ -1,5 +1,4 @@
-use Rattle.std.proofs.Common.{◌≡◌, ◌∙◌, ap}
-use Rattle.lt_base.specs.Program.{Function}
+use Rattle.std.proofs.Common.{◌∙◌, ap}
 use Rattle.lt_norm.specs.Flat.{Originated}
 use Rattle.lt_norm.proofs.Loop.{lefts_inside}
 use Rattle.lt_norm.proofs.Built.{made_good, made_flat, made_form, made_keeps}
