@@ -3,3 +3,4 @@ pub mod Lift
 pub mod Flat
 pub mod NormalForm
 pub mod Walk
+pub mod Fixtures
