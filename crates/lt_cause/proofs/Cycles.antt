@@ -1,13 +1,13 @@
 -- Between the table and the function, and the least cycle.
-use Rattle.std.proofs.Common.{◌≡◌, ℕ, suc, ◌<◌, ◌≤◌, ◌⊎◌, inl, inr, true, List, [], ◌∷◌, ◌+◌, below_more, length, get_or, Some, refl, sym, ap, ◌∙◌, subst, arith}
-use Rattle.std.specs.List.{slice_get}
+use Rattle.std.proofs.Common.{◌≡◌, ℕ, suc, ◌<◌, ◌≤◌, inl, inr, true, List, [], ◌∷◌, ◌+◌, below_more, length, get_or, sym, ap, subst, arith}
 use Rattle.std.proofs.lemmas.List.{get_or_past}
 use Rattle.std.proofs.lemmas.Option.{get_or_from_slice_get}
 use Rattle.std.proofs.lemmas.Bool.Decides.{leb_tells}
-use Rattle.lt_base.specs.Program.{Function, GoodFunction}
-use Rattle.lt_base.specs.Dependence.{has, dependencies, Depends, Causal}
+use Rattle.lt_base.specs.Program.{Function}
+use Rattle.lt_base.specs.Dependence.{has, Depends}
 use Rattle.lt_base.specs.Graph.{Walks, ClosedWalk}
-use Rattle.lt_cause.specs.Tables.{next, Leads, Sorts, HasClosedWalk, Circles}
+use Rattle.lt_graph.specs.Tables.{Leads}
+use Rattle.lt_cause.specs.Tables.{Sorts, HasClosedWalk, Circles}
 use Rattle.lt_cause.specs.Orders.{IsLeastCycle, HasDependencies}
 use Rattle.std.specs.Prelude.{Result, Err}
 use Rattle.lt_base.specs.declared.memory.Or.{Or}

@@ -1,12 +1,12 @@
 -- The functions of the tests are good ones.
-use Rattle.std.proofs.Common.{◌≡◌, ℕ, zero, suc, ◌<◌, ◌≤◌, ◌+◌, cond, List, [], ◌∷◌, length, get_or, All, refl, sym, ap, ◌∙◌, subst, arith}
+use Rattle.std.proofs.Common.{◌≡◌, ℕ, ◌<◌, ◌≤◌, ◌+◌, cond, List, [], ◌∷◌, All, sym, subst, arith}
 use Rattle.std.specs.Prelude.{nat_eq, nat_le, nat_lt, ◌&&◌, if◌then◌else◌}
 use Rattle.std.proofs.lemmas.List.Elements.{All-nil, All-cons}
 use Rattle.std.proofs.lemmas.Bool.Decides.{nat_tests}
 use Rattle.lt_base.specs.declared.function.Decl.{Decl}
 use Rattle.lt_base.specs.Expression.{Expression}
 use Rattle.lt_base.specs.Meaning.{ClockPairs}
-use Rattle.lt_base.specs.Program.{Function, GoodFunction, VarsBelow}
+use Rattle.lt_base.specs.Program.{GoodFunction, VarsBelow}
 
 no_pairs : (n : ℕ) (ck : ClockPairs) → ck ≡ [] → All (λ p. p.0 < n) ck
 no_pairs n ck e = subst (All (λ p. p.0 < n)) (sym e) (All-nil (λ p. p.0 < n))

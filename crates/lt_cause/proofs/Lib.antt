@@ -4,5 +4,6 @@ mod Round
 mod Table
 mod Picked
 mod Cycles
+mod Turns
 pub mod Places
 mod Fixture

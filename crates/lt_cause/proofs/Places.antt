@@ -1,15 +1,15 @@
 -- An order of the equations gives places to the variables, so the function is causal.
-use Rattle.std.proofs.Common.{◌≡◌, ℕ, zero, suc, ◌<◌, ◌≤◌, ◌+◌, ◌⊎◌, inl, inr, Bool, true, false, cond, List, [], ◌∷◌, ◌++◌, length, take, get_or, Option, Some, None, refl, sym, ap, ◌∙◌, subst, arith, eqb-true, lt-ltb}
+use Rattle.std.proofs.Common.{◌≡◌, ℕ, zero, suc, ◌<◌, ◌≤◌, ◌+◌, inl, inr, Bool, true, false, cond, List, [], ◌∷◌, ◌++◌, length, take, get_or, Option, Some, None, refl, sym, ap, ◌∙◌, subst, arith, eqb-true, lt-ltb}
 use Rattle.std.specs.Prelude.{nat_eq, nat_lt, if◌then◌else◌}
 use Rattle.std.specs.List.{slice_get, position_or_len}
 use Rattle.std.proofs.lemmas.List.{get_or-take, length-take}
 use Rattle.std.proofs.lemmas.List.Sums.{fails_before_first, passes_at_first}
-use Rattle.std.proofs.lemmas.Option.{slice_get-get_or, get_or_from_slice_get, slice_get_within, same_Some}
-use Rattle.std.proofs.lemmas.Bool.Decides.{leb_tells, eqb_tells, nat_tests}
+use Rattle.std.proofs.lemmas.Option.{slice_get-get_or, slice_get_within}
+use Rattle.std.proofs.lemmas.Bool.Decides.{leb_tells, nat_tests}
 use Rattle.lt_base.specs.Expression.{Expression}
-use Rattle.lt_base.specs.Program.{Function, GoodFunction}
+use Rattle.lt_base.specs.Program.{Function}
 use Rattle.lt_base.specs.Meaning.{clock_of, right_of}
-use Rattle.lt_base.specs.Order.{Ranked, Ordered}
+use Rattle.lt_base.specs.Order.{Ordered}
 use Rattle.lt_base.specs.Dependence.{has, reads, clock_vars, dependencies_of, Depends, Causal}
 use Rattle.lt_base.proofs.Lookups.{same_self}
 use Rattle.lt_base.proofs.Reading.{has_front, has_back, each_from, each_clock_from}
@@ -17,7 +17,7 @@ use Rattle.lt_base.proofs.Order.{causal_from_ranks}
 use Rattle.lt_cause.specs.Tables.{count}
 use Rattle.lt_cause.specs.Orders.{IsOrder, is_left, place_by, place_in}
 use Rattle.lt_cause.proofs.Walks.{one, count_cons, has_counted}
-use Rattle.lt_cause.proofs.Search.{has_place}
+use Rattle.lt_graph.proofs.Reaches.{has_place}
 
 -- ---- a list that has each number below n once is n long
 

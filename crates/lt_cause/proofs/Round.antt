@@ -1,15 +1,15 @@
 -- What the search for a closed walk keeps.
-use Rattle.std.proofs.Common.{◌≡◌, ℕ, zero, suc, ◌<◌, ◌≤◌, ◌+◌, ◌-◌, ◌⊎◌, inl, inr, Bool, true, false, cond, List, [], ◌∷◌, ◌++◌, length, map, get_or, set, Some, refl, sym, ap, ◌∙◌, subst, arith, eqb-true}
-use Rattle.std.specs.Prelude.{◌||◌, nat_eq, replicate, if◌then◌else◌}
+use Rattle.std.proofs.Common.{◌≡◌, ℕ, zero, suc, ◌<◌, ◌≤◌, ◌+◌, ◌-◌, inl, inr, Bool, true, false, cond, List, [], ◌∷◌, ◌++◌, length, map, get_or, set, Some, refl, sym, ap, ◌∙◌, subst, arith, eqb-true}
+use Rattle.std.specs.Prelude.{nat_eq, replicate, if◌then◌else◌}
 use Rattle.std.specs.List.{slice_get, sum_by, sum}
-use Rattle.std.proofs.lemmas.List.{get_or_default, get_or-set_same, get_or-set_other, length-set, length-map, length-replicate, get_or-replicate, get_or-map, get_or_past, length_push}
+use Rattle.std.proofs.lemmas.List.{get_or_default, get_or-set_same, get_or-set_other, length-set, length-map, length-replicate, get_or-replicate, get_or-map, get_or_past}
 use Rattle.std.proofs.lemmas.List.Sums.{sum_by-set}
 use Rattle.std.proofs.lemmas.Bool.Decides.{leb_tells, eqb_tells}
-use Rattle.lt_base.specs.Dependence.{has}
 use Rattle.lt_base.specs.Graph.{Walks, ClosedWalk}
-use Rattle.lt_cause.specs.Tables.{next, Leads, count, Circles}
-use Rattle.lt_cause.proofs.Walks.{one, one_self, count_push, has_counted, counted_has, Along, Trail, along_push, trail_none, trail_push, trail_pop}
-use Rattle.lt_cause.proofs.Search.{has_place, positive}
+use Rattle.lt_graph.specs.Tables.{next, Leads}
+use Rattle.lt_cause.specs.Tables.{count, Circles}
+use Rattle.lt_cause.proofs.Walks.{one, one_self, count_push, Along, Trail, along_push, trail_push, trail_pop}
+use Rattle.lt_graph.proofs.Reaches.{has_place}
 
 -- whether a number was seen
 abbrev pub known : List Bool → ℕ → Bool

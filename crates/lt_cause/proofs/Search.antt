@@ -1,19 +1,20 @@
 -- What the search for an order keeps.
-use Rattle.std.proofs.Common.{◌≡◌, ℕ, zero, suc, ◌<◌, ◌≤◌, ◌+◌, ◌-◌, ◌⊎◌, inl, inr, Bool, true, false, cond, List, [], ◌∷◌, ◌++◌, length, take, get_or, set, Some, refl, sym, ap, ◌∙◌, subst, arith, eqb-true, ltb-true, ltb-false, map, below_more}
+use Rattle.std.proofs.Common.{◌≡◌, ℕ, zero, suc, ◌<◌, ◌≤◌, ◌+◌, ◌-◌, inl, inr, Bool, true, false, cond, List, [], ◌∷◌, ◌++◌, length, take, get_or, set, Some, refl, sym, ap, ◌∙◌, subst, arith, eqb-true, ltb-true, ltb-false, map, below_more}
 use Rattle.std.specs.Prelude.{◌||◌, replicate, nat_eq, nat_lt, if◌then◌else◌}
 use Rattle.std.specs.List.{slice_get, sum_by, sum}
-use Rattle.std.proofs.lemmas.List.{get_or_default, get_or-replicate, length-replicate, length-map, get_or-map, get_or-set_same, get_or-set_other, length-set, get_or_past, take_at, take-append-le, length-append, get_or_append_left, get_or_push, length_push}
+use Rattle.std.proofs.lemmas.List.{get_or_default, get_or-replicate, length-replicate, length-map, get_or-map, get_or-set_same, get_or-set_other, length-set, get_or_past, take_at, take-append-le, get_or_append_left, get_or_push, length_push}
 use Rattle.std.proofs.lemmas.List.Sums.{sum_by-set}
 use Rattle.std.proofs.lemmas.Option.{slice_get_within, get_or_from_slice_get, slice_get-get_or}
 use Rattle.std.proofs.lemmas.Bool.Decides.{leb_tells, eqb_tells}
 use Rattle.lt_base.proofs.Lookups.{same_self}
 use Rattle.lt_base.proofs.Reading.{or_right}
 use Rattle.lt_base.specs.Dependence.{has}
-use Rattle.lt_base.specs.Graph.{ClosedWalk}
 use Rattle.lt_cause.specs.declared.sorting.Mark.{Mark}
 use Rattle.lt_cause.specs.declared.sorting.Mark.TheVariants.{New, Open, Done}
-use Rattle.lt_cause.specs.Tables.{next, Leads, IsTable, count, Sorts, HasClosedWalk}
-use Rattle.lt_cause.proofs.Walks.{one, one_self, count_push, has_counted, counted_has, Along, Trail, along_push, trail_none, trail_push, trail_pop, comes_back}
+use Rattle.lt_graph.specs.Tables.{next, Leads}
+use Rattle.lt_cause.specs.Tables.{count, Sorts, HasClosedWalk}
+use Rattle.lt_graph.proofs.Reaches.{has_place}
+use Rattle.lt_cause.proofs.Walks.{one, one_self, count_push, has_counted, Along, Trail, along_push, trail_none, trail_push, trail_pop, comes_back}
 
 -- the mark of a number
 abbrev pub mark : List Mark → ℕ → Mark
@@ -77,15 +78,6 @@ positive (suc n) h = omega arith
 
 pub mark_read : (marks : List Mark) (y : ℕ) (k : Mark) → y < length marks → k ≡ get_or marks y k → mark marks y ≡ k
 mark_read marks y k l e = get_or_default marks y New k l ∙ sym e
-
--- a number in a list stands at a place of it
-pub has_place : (y : ℕ) (xs : List ℕ) → has y xs ≡ true → (j : ℕ) × (j < length xs) × (get_or xs j 0 ≡ y)
-has_place y [] h = absurd (cc)
-has_place y (x ∷ xs) h = go (nat_eq y x) refl h (has_place y xs)
-  where
-    go : (b : Bool) → nat_eq y x ≡ b → (b || has y xs) ≡ true → (has y xs ≡ true → (j : ℕ) × (j < length xs) × (get_or xs j 0 ≡ y)) → (j : ℕ) × (j < length (x ∷ xs)) × (get_or (x ∷ xs) j 0 ≡ y)
-    go true e h later = (0, omega arith, sym (eqb-true y x e))
-    go false e h later = let r = later h in (suc r.0, (let l = r.1 in omega (arith, l)), r.2)
 
 module _ (g : List (List ℕ)) (marks : List Mark) (rest path order : List ℕ) (s : Sorting g marks rest path order) where
   -- ---- the number at the end of the path

@@ -1,12 +1,11 @@
 -- The tables of a function: what its variables depend on, and the numbers of their equations.
-use Rattle.std.proofs.Common.{◌≡◌, ℕ, zero, suc, ◌<◌, ◌≤◌, ◌+◌, ◌-◌, ◌⊎◌, inl, inr, Bool, true, false, cond, List, [], ◌∷◌, ◌++◌, length, map, take, reverse, get_or, set, Option, Some, None, All, refl, sym, ap, ◌∙◌, subst, arith, eqb-true}
+use Rattle.std.proofs.Common.{◌≡◌, ℕ, zero, suc, ◌<◌, ◌≤◌, ◌+◌, ◌-◌, inl, inr, Bool, true, false, cond, List, [], ◌∷◌, ◌++◌, length, map, take, reverse, get_or, set, Option, Some, None, All, refl, sym, ap, ◌∙◌, subst, arith, eqb-true}
 use Rattle.std.specs.Prelude.{nat_eq, if◌then◌else◌}
-use Rattle.std.specs.Option.{MatchOption}
-use Rattle.std.specs.List.{slice_get, count_by}
+use Rattle.std.specs.List.{slice_get}
 use Rattle.std.proofs.lemmas.List.{take_more, take_all, append_assoc, get_or-reverse, length-reverse, get_or-set_same, get_or-set_other, map_more}
 use Rattle.std.proofs.lemmas.List.Sums.{sum_by-take-le}
 use Rattle.std.proofs.lemmas.Option.{slice_get_read, slice_get_within, get_or_from_slice_get}
-use Rattle.std.proofs.lemmas.Bool.Decides.{leb_tells, eqb_tells}
+use Rattle.std.proofs.lemmas.Bool.Decides.{eqb_tells}
 use Rattle.lt_base.specs.declared.function.Decl.{Decl}
 use Rattle.lt_base.specs.declared.expression.Expr.{Expr}
 use Rattle.lt_base.specs.Expression.{Expression, literal, variable, unary, binary, imported, choose, sampled, merged, delayed, follow, arrow, call, Arguments, no_arguments, argument, shape, arguments_of}
@@ -14,11 +13,11 @@ use Rattle.lt_base.specs.Program.{Function, GoodFunction, VarsBelow, ArgumentVar
 use Rattle.lt_base.specs.Meaning.{ClockPairs, clock_of, right_of}
 use Rattle.lt_base.specs.Equations.{lefts, inside, EquationsIn}
 use Rattle.lt_base.specs.Order.{EachRead, EachArgumentRead, EachClockVar}
-use Rattle.lt_base.specs.Dependence.{has, reads, arguments_reads, clock_vars, dependencies_of, dependencies, Depends}
+use Rattle.lt_base.specs.Dependence.{has, reads, arguments_reads, clock_vars, dependencies_of, Depends}
 use Rattle.lt_base.proofs.Lookups.{same_self, right_left, right_right, no_right, lefts_append, lefts_cons, inside_most, all_found, left_below}
 use Rattle.lt_base.proofs.Reading.{each_at, each_clock_at, has_cases}
-use Rattle.lt_cause.specs.Tables.{next, Leads, IsTable}
-use Rattle.lt_cause.specs.Orders.{HasDependencies, NumberOf, HasNumbers}
+use Rattle.lt_graph.specs.Tables.{IsTable}
+use Rattle.lt_cause.specs.Orders.{HasDependencies, NumberOf}
 
 pub clock_of_is : (ds : List Decl) (x : ℕ) (d : Decl) → x < length ds → clock_of ds x ≡ (get_or ds x d).clock
 clock_of_is [] x d l = absurd (omega arith)

@@ -1,5 +1,5 @@
 -- The order of a function's equations, and the cycle that refuses one.
-use Rattle.std.specs.Prelude.{◌≡◌, ℕ, suc, Bool, ◌<◌, ◌≤◌, true, false, nat_eq, nat_lt, is_some, Option, Some, None, List, [], ◌∷◌, length, take, slice_get, slice_index, slice_index_or, MatchOption, if◌then◌else◌}
+use Rattle.std.specs.Prelude.{◌≡◌, ℕ, suc, Bool, ◌<◌, ◌≤◌, true, false, nat_eq, nat_lt, Option, Some, None, List, length, take, slice_get, slice_index, slice_index_or, MatchOption, if◌then◌else◌}
 use Rattle.std.specs.List.{position_or_len}
 use Rattle.lt_base.specs.Expression.{Expression}
 use Rattle.lt_base.specs.Program.{Function}
@@ -7,7 +7,8 @@ use Rattle.lt_base.specs.Meaning.{right_of}
 use Rattle.lt_base.specs.Equations.{lefts}
 use Rattle.lt_base.specs.Dependence.{has, dependencies, Depends}
 use Rattle.lt_base.specs.Graph.{ClosedWalk}
-use Rattle.lt_cause.specs.Tables.{count, next}
+use Rattle.lt_graph.specs.Tables.{next}
+use Rattle.lt_cause.specs.Tables.{count}
 
 -- the number of each equation once, and each after those of the variables that its own variable depends on
 pub record IsOrder (f : Function) (order : List ℕ) : Type 0 where

@@ -1,20 +1,8 @@
--- Tables of what each number leads to.
-use Rattle.std.specs.Prelude.{◌≡◌, ℕ, ◌<◌, ◌≤◌, true, nat_eq, nat_lt, Some, List, [], ◌∷◌, length, take, slice_get, slice_index_or, if◌then◌else◌}
+-- Orders and closed walks of numbers.
+use Rattle.std.specs.Prelude.{◌≡◌, ℕ, ◌≤◌, true, nat_eq, nat_lt, Some, List, take, slice_get, if◌then◌else◌}
 use Rattle.std.specs.List.{count_by}
 use Rattle.lt_base.specs.Dependence.{has}
 use Rattle.lt_base.specs.Graph.{ClosedWalk}
-
--- what a number leads to
-abbrev pub next : List (List ℕ) → ℕ → List ℕ
-next g x = slice_index_or g x []
-
--- x leads to y
-abbrev pub Leads : List (List ℕ) → ℕ → ℕ → Type 0
-Leads g x y = has y (next g x) ≡ true
-
--- the numbers of the table lead to numbers of the table
-abbrev pub IsTable : List (List ℕ) → Type 0
-IsTable g = (x y : ℕ) → Leads g x y → y < length g
 
 -- how often a number stands in a list
 abbrev pub count : ℕ → List ℕ → ℕ

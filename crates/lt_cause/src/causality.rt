@@ -7,10 +7,11 @@ ghost use Rattle.lt_base.specs.Dependence.{Depends, Causal};
 ghost use Rattle.lt_cause.specs.Tables.{Sorts};
 ghost use Rattle.lt_cause.specs.Orders.{IsOrder, IsLeastCycle, place_in};
 
-use crate::circling::circle;
+use crate::circling::{circle, returns};
 use crate::dependence::{dependencies, equation_numbers};
 use crate::sorting::sorted;
 use lt_base::{Func, List, Memory, Or};
+use lt_graph::components;
 use std::alloc::Global;
 
 /// The numbers of a function's equations, each after those of the variables that its own variable depends on.
@@ -58,7 +59,11 @@ pub fn causal(alloc: Global, f: &Func) -> Result<Order, Or<Cycle>>
         let eqs = equations_in(alloc, f, &order)?;
         return Ok(Order { eqs });
     }
+    let names = components(alloc, &table)?;
     for variable in 0..table.len() as u32 {
+        if !returns(&table, &names, variable) {
+            continue;
+        }
         if let Some(walk) = circle(alloc, &table, variable)? {
             return Err(Or::Fault(Cycle {
                 vars: List::of(walk),

@@ -1,12 +1,29 @@
 // Closed walks from a number.
 
-ghost use Rattle.std.specs.Prelude.{◌≡◌, ◌<◌, ◌^◌, ◌∷◌, ℕ, false, List as Items, IfOk, MatchOption, length, replicate};
+ghost use Rattle.std.specs.Prelude.{◌≡◌, ◌<◌, ◌^◌, ◌∷◌, ℕ, false, List as Items, IfOk, MatchBool, MatchOption, length, replicate};
 ghost use Rattle.lt_base.specs.Graph.{ClosedWalk};
-ghost use Rattle.lt_cause.specs.Tables.{Leads, IsTable, Circles};
+ghost use Rattle.lt_graph.specs.Reach.{AreComponents};
+ghost use Rattle.lt_graph.specs.Tables.{Leads, IsTable};
+ghost use Rattle.lt_cause.specs.Tables.{Circles};
 
-use crate::sorting::{degrees, leads_to};
 use lt_base::{List, Memory};
+use lt_graph::{degrees, leads_to};
 use std::alloc::Global;
+
+/// Whether a number leads to one of its own component, so that a closed walk leads from it.
+pub fn returns(table: &List<List<u32>>, names: &Vec<usize>, number: u32) -> bool
+    requires names { AreComponents (Leads table.now) (length table.now) names.now.items }
+    requires table { IsTable table.now }
+    requires number { number < length table.now }
+    ensures { MatchBool result ((walk : Items ℕ) × ClosedWalk (Leads table.now) (number ∷ walk)) ((walk : Items ℕ) → ClosedWalk (Leads table.now) (number ∷ walk) → ⊥) }
+{
+    for next in table.as_slice()[number as usize].as_slice() {
+        if names[*next as usize] == names[number as usize] {
+            return true;
+        }
+    }
+    false
+}
 
 fn unseen(alloc: Global, size: usize) -> Result<Vec<bool>, Memory>
     ensures { IfOk result (λ r. r.items ≡ replicate size false) }
@@ -36,7 +53,7 @@ pub fn circle(
     while let Some(x) = path.pop() {
         let left = rest[x as usize];
         if left > 0 {
-            let y = leads_to(table, x, left - 1);
+            let y = leads_to(table, x as usize, left - 1);
             rest[x as usize] = left - 1;
             path.push(x)?;
             if y == start {

@@ -4,7 +4,7 @@ ghost use Rattle.std.specs.Prelude.{◌≡◌, ◌<◌, ◌++◌, ◌^◌, IfOk,
 ghost use Rattle.lt_base.specs.Expression.{shape};
 ghost use Rattle.lt_base.specs.Meaning.{clock_of};
 ghost use Rattle.lt_base.specs.Dependence.{reads, clock_vars};
-ghost use Rattle.lt_cause.specs.Tables.{IsTable};
+ghost use Rattle.lt_graph.specs.Tables.{IsTable};
 ghost use Rattle.lt_cause.specs.Orders.{HasDependencies, HasNumbers};
 
 use lt_base::{Clock, Decl, Equation, Expr, Func, List, Memory};

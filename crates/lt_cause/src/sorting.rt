@@ -1,9 +1,11 @@
 // Numbers in an order in which each comes after those that it leads to.
 
 ghost use Rattle.std.specs.Prelude.{◌≡◌, ◌<◌, ◌^◌, IfOk, MatchOption, length, map, replicate, slice_index};
-ghost use Rattle.lt_cause.specs.Tables.{next, Leads, IsTable, Sorts, HasClosedWalk};
+ghost use Rattle.lt_graph.specs.Tables.{next, Leads, IsTable};
+ghost use Rattle.lt_cause.specs.Tables.{Sorts, HasClosedWalk};
 
 use lt_base::{List, Memory};
+use lt_graph::{degrees, leads_to};
 use std::alloc::Global;
 
 /// How far the search has come with a number.
@@ -12,26 +14,6 @@ pub enum Mark {
     New,
     Open,
     Done,
-}
-
-/// For each number, how many others it leads to.
-pub fn degrees(alloc: Global, table: &List<List<u32>>) -> Result<Vec<usize>, Memory>
-    ensures { IfOk result (λ r. r.items ≡ map length table.now) }
-{
-    let mut rest = Vec::with_capacity(alloc, table.len())?;
-    for list in table.as_slice() {
-        rest.push(list.len())?;
-    }
-    Ok(rest)
-}
-
-/// What stands at a place of a number's list.
-pub fn leads_to(table: &List<List<u32>>, number: u32, place: usize) -> u32
-    requires number { number < length table.now }
-    requires place { place < length (next table.now number) }
-    ensures { result ≡ slice_index (next table.now number) place }
-{
-    table.as_slice()[number as usize].as_slice()[place]
 }
 
 fn new_marks(alloc: Global, size: usize) -> Result<Vec<Mark>, Memory>
@@ -68,7 +50,7 @@ pub fn sorted(alloc: Global, table: &List<List<u32>>) -> Result<Option<Vec<u32>>
                 marks[x as usize] = Mark::Done;
                 order.push(x)?;
             } else {
-                let y = leads_to(table, x, left - 1);
+                let y = leads_to(table, x as usize, left - 1);
                 match marks[y as usize] {
                     Mark::New => {
                         marks[y as usize] = Mark::Open;

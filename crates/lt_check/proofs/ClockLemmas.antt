@@ -1,14 +1,12 @@
 -- Clocks as lists of steps, and the table of links.
-use Rattle.std.proofs.Common.{◌≡◌, ◌≢◌, ℕ, zero, suc, ◌+◌, ◌<◌, ◌≤◌, ◌⊎◌, inl, inr, Bool, true, false, List, [], ◌∷◌, ◌++◌, length, get_or, take, drop, reverse, Option, Some, None, refl, sym, ap, ◌∙◌, subst, arith, Bor, below_more, add-one}
+use Rattle.std.proofs.Common.{◌≡◌, ◌≢◌, ℕ, zero, suc, ◌+◌, ◌<◌, ◌≤◌, Bool, true, false, List, [], ◌∷◌, ◌++◌, length, get_or, take, reverse, Some, None, refl, sym, ap, ◌∙◌, subst, arith, Bor, below_more}
 use Rattle.std.specs.Prelude.{MatchBool}
-use Rattle.std.specs.Option.{option_map, unwrap_or}
 use Rattle.std.specs.Slice.{IsItemAt}
-use Rattle.std.proofs.lemmas.List.{take_all, take_more, reverse-append, reverse-reverse, length-append, get_or_append_left, get_or_push}
-use Rattle.std.proofs.lemmas.Option.{slice_get_past}
+use Rattle.std.proofs.lemmas.List.{take_all, take_more, reverse-append, reverse-reverse, get_or_append_left, get_or_push}
 use Rattle.lt_base.specs.declared.function.Decl.{Decl}
 use Rattle.lt_base.specs.Meaning.{ClockPairs, clock_of}
 use Rattle.lt_base.specs.Clocking.{WellFormed}
-use Rattle.lt_check.specs.Innermost.{innermost, clock_to, Linked, TellsLinks}
+use Rattle.lt_check.specs.Innermost.{innermost, Linked}
 use Rattle.lt_check.proofs.Found.{clock_of_is}
 
 pub clock_past : (ds : List Decl) (x : ℕ) → length ds ≤ x → clock_of ds x ≡ []

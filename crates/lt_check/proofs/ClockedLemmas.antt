@@ -1,6 +1,6 @@
 -- Clocked functions, by their declarations and equations, and the first fault.
-use Rattle.std.proofs.Common.{◌≡◌, ◌≢◌, ℕ, ◌<◌, ◌⊎◌, inl, inr, List, [], length, get_or, All, take, Option, Some, None, refl, sym, ap, ◌∙◌, subst, arith, ltb-true, ltb-false, Bool, true, false}
-use Rattle.std.specs.Prelude.{Result, Ok, Err, MatchResult, IsErrAnd, OnOk, nat_lt, MatchBool}
+use Rattle.std.proofs.Common.{◌≡◌, ℕ, ◌<◌, ◌⊎◌, inl, inr, List, length, All, take, Option, Some, None, refl, sym, ap, ◌∙◌, subst, ltb-true, ltb-false, Bool, true, false}
+use Rattle.std.specs.Prelude.{Result, Ok, Err, MatchResult, IsErrAnd, OnOk, nat_lt}
 use Rattle.std.specs.Bool.{Decides}
 use Rattle.std.specs.Option.{MatchOption}
 use Rattle.std.specs.List.{slice_get}
@@ -10,12 +10,12 @@ use Rattle.lt_base.specs.Or.{ForFault}
 use Rattle.lt_base.specs.declared.function.Decl.{Decl}
 use Rattle.lt_base.specs.Expression.{Expression}
 use Rattle.lt_base.specs.Program.{Function, WholeProgram, GoodFunction, VarsBelow}
-use Rattle.lt_base.specs.Meaning.{clock_of, right_of, function_of}
+use Rattle.lt_base.specs.Meaning.{clock_of, function_of}
 use Rattle.lt_base.specs.Clocking.{WellFormed, Clocked, ClockedFunction, ClockedProgram}
 use Rattle.lt_base.proofs.Lookups.{right_all, function_all}
 use Rattle.lt_check.specs.declared.clocking.ClockFault.{ClockFault}
-use Rattle.lt_check.specs.Places.{Place, declaration, equation, FirstIn, FirstDeclaration}
-use Rattle.lt_check.specs.Innermost.{innermost, is_at, clock_to}
+use Rattle.lt_check.specs.Places.{Place, declaration, equation, FirstDeclaration}
+use Rattle.lt_check.specs.Innermost.{innermost, is_at}
 use Rattle.lt_check.specs.ClockFaults.{GoodClock, IsAtItsClock, SaysClocks, IsClockFaultIn, IsFirstClockFault}
 use Rattle.lt_check.proofs.Found.{equation_found, function_of_is, all_front, right_inside}
 use Rattle.lt_check.proofs.Places.{compare, kept_not_first, one_place}

@@ -5,3 +5,4 @@ mod TypeLemmas
 mod ClockLemmas
 mod AtLemmas
 mod ClockedLemmas
+pub mod Fixture

@@ -9,3 +9,6 @@ mod typing;
 
 pub use clocking::{ClockFault, clocks};
 pub use typing::{TypeFault, types};
+
+#[cfg(test)]
+mod tests;

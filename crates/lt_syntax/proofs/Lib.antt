@@ -8,12 +8,5 @@ pub mod Steps
 pub mod Viable
 pub mod Whole
 pub mod Reading
-pub mod Written
 pub mod Declares
 pub mod Loop
-pub mod Lexed
-pub mod Texts
-pub mod Goods
-pub mod Canon
-pub mod Spelled
-pub mod Printing

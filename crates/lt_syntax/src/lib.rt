@@ -1,4 +1,4 @@
-//! The concrete syntax: text to tree and back.
+//! The concrete syntax: from text to tree.
 #![tactic(auto)]
 
 mod expression;
@@ -6,16 +6,17 @@ mod fault;
 mod frame;
 mod header;
 pub mod laws;
-mod printer;
 mod program;
 mod read;
 mod section;
 mod stack;
 mod term;
+#[cfg(test)]
+mod tests;
 mod tree;
 
 pub use fault::{SyntaxFault, SyntaxKind};
-pub use printer::print;
 pub use program::{Tree, parse};
+pub use stack::{left, level, right};
 pub use term::Term;
 pub use tree::{DeclText, EqText, NodeText};

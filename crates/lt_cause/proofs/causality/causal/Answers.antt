@@ -1,10 +1,9 @@
-use Rattle.std.proofs.Common.{◌≡◌, ◌∙◌, ◌<◌, ◌+◌, ◌∷◌, ℕ, List, sym, ap, subst, arith, length}
+use Rattle.std.proofs.Common.{◌≡◌, ◌∙◌, ◌<◌, ◌+◌, ◌∷◌, ℕ, List, sym, subst, arith, length}
 use Rattle.std.proofs.lemmas.Option.{MatchOption-at_some, MatchOption-at_none}
 use Rattle.lt_base.specs.Graph.{ClosedWalk}
-use Rattle.lt_base.specs.Dependence.{Depends}
-use Rattle.lt_cause.specs.Tables.{Leads, HasClosedWalk, Circles}
+use Rattle.lt_graph.specs.Tables.{Leads}
+use Rattle.lt_cause.specs.Tables.{HasClosedWalk, Circles}
 use Rattle.lt_cause.specs.Orders.{IsLeastCycle, HasDependencies}
-use Rattle.lt_cause.specs.declared.causality.Cycle.{Cycle}
 use Rattle.lt_cause.proofs.Cycles.{least_cycle, none_below_more, same_vars, some_starts, NoneBelow}
 use Rattle.lt_cause.proofs.Places.{ordered, order_causal}
 use Rattle.lt_cause.proofs.causality.causal.Goals as goal

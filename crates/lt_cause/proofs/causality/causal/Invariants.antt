@@ -1,6 +1,6 @@
 use Rattle.std.proofs.Common.{◌<◌, ◌∷◌, ℕ, List}
 use Rattle.lt_base.specs.Graph.{ClosedWalk}
-use Rattle.lt_cause.specs.Tables.{Leads}
+use Rattle.lt_graph.specs.Tables.{Leads}
 use Rattle.lt_cause.proofs.causality.causal.Given as goal
 
 abbrev pub invariant-loop-variable : goal.invariant-loop-variable

@@ -1,10 +1,11 @@
-use Rattle.std.proofs.Common.{◌≡◌, ◌∙◌, sym, ap, subst, get_or, set, length, arith, ◌<◌, ◌-◌, ◌+◌, List, ℕ, [], ◌++◌, ◌∷◌, Bool, true, false}
+use Rattle.std.proofs.Common.{◌≡◌, ◌∙◌, sym, ap, subst, set, length, arith, ◌<◌, ◌-◌, ◌+◌, List, ℕ, [], ◌++◌, ◌∷◌, true, false}
 use Rattle.std.specs.List.{sum_by, sum}
 use Rattle.std.proofs.lemmas.List.{length_push, nil_from_length}
 use Rattle.std.proofs.lemmas.Option.{MatchOption-at_none}
-use Rattle.lt_cause.specs.Tables.{Leads, Circles}
+use Rattle.lt_graph.specs.Tables.{Leads}
+use Rattle.lt_cause.specs.Tables.{Circles}
 use Rattle.lt_cause.proofs.Search.{leads_at}
-use Rattle.lt_cause.proofs.Round.{Circling, known, unseen, x_inside, rest_is, place_in, leave, look, meet, seen_fewer, rest_shorter, closes, known_read, begins, ends}
+use Rattle.lt_cause.proofs.Round.{Circling, known, unseen, x_inside, rest_is, place_in, leave, look, meet, seen_fewer, rest_shorter, closes, known_read, ends}
 use Rattle.lt_cause.proofs.circling.circle.Goals as goal
 
 pub index-left-requires : goal.index-left-requires

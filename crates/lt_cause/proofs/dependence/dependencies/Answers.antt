@@ -3,7 +3,7 @@ use Rattle.std.proofs.lemmas.List.{length-set, take_all}
 use Rattle.lt_base.specs.Program.{Function, GoodFunction}
 use Rattle.lt_base.specs.Meaning.{clock_of, right_of}
 use Rattle.lt_base.specs.Dependence.{reads, clock_vars, dependencies_of}
-use Rattle.lt_cause.specs.Tables.{IsTable}
+use Rattle.lt_graph.specs.Tables.{IsTable}
 use Rattle.lt_cause.specs.Orders.{HasDependencies}
 use Rattle.lt_cause.proofs.Table.{equation_read, left_inside, dependencies_more, table_inside}
 use Rattle.lt_cause.proofs.dependence.dependencies.Goals as goal

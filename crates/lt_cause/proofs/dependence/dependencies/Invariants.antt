@@ -1,4 +1,4 @@
-use Rattle.std.proofs.Common.{◌≡◌, ◌<◌, ℕ, [], length, get_or, take}
+use Rattle.std.proofs.Common.{◌≡◌, ℕ, [], length, get_or, take}
 use Rattle.std.specs.Prelude.{replicate}
 use Rattle.lt_base.specs.Meaning.{clock_of, right_of}
 use Rattle.lt_base.specs.Dependence.{dependencies_of}

@@ -1,4 +1,4 @@
-use Rattle.std.proofs.Common.{◌≡◌, ◌∙◌, sym, ap, subst, arith, length, Some, get_or, ℕ, ◌<◌}
+use Rattle.std.proofs.Common.{◌∙◌, ap, subst, arith, length, Some, ◌<◌}
 use Rattle.std.proofs.lemmas.List.{length-set}
 use Rattle.lt_base.specs.Program.{Function, GoodFunction}
 use Rattle.lt_cause.proofs.Table.{equation_read, left_inside, numbers_more}

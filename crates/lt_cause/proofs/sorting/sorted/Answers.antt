@@ -1,10 +1,8 @@
-use Rattle.std.proofs.Common.{◌≡◌, ◌∙◌, sym, ap, subst, get_or, set, length, arith, ◌<◌, ◌-◌, ◌+◌, List, ℕ, [], ◌++◌, ◌∷◌, refl}
-use Rattle.std.specs.List.{sum_by, sum}
-use Rattle.lt_cause.specs.declared.sorting.Mark.{Mark}
+use Rattle.std.proofs.Common.{◌≡◌, ◌∙◌, sym, ap, subst, get_or, set, length, arith, ◌<◌, ◌-◌, List, ℕ, [], ◌++◌, ◌∷◌}
 use Rattle.lt_cause.specs.declared.sorting.Mark.TheVariants.{New, Open, Done}
-use Rattle.lt_cause.specs.Tables.{next, Leads, IsTable}
+use Rattle.lt_graph.specs.Tables.{next, Leads}
 use Rattle.lt_cause.proofs.Walks.{Along}
-use Rattle.lt_cause.proofs.Search.{Sorting, mark, weight, top_inside, rest_read, mark_read, positive, place_inside, leads_at, finish, finish_kept, finish_started, finish_shorter, closes, pass, pass_shorter, along_more, add, done_kept, add_started, add_shorter, sorts}
+use Rattle.lt_cause.proofs.Search.{Sorting, mark, top_inside, rest_read, mark_read, positive, place_inside, leads_at, finish, finish_kept, finish_started, finish_shorter, closes, pass, pass_shorter, along_more, add, done_kept, add_started, add_shorter, sorts}
 use Rattle.lt_cause.proofs.sorting.sorted.Goals as goal
 
 pub index-left-requires : goal.index-left-requires

@@ -1,13 +1,8 @@
-use Rattle.std.proofs.Common.{◌≡◌, ◌∙◌, sym, ap, subst, All, take}
+use Rattle.std.proofs.Common.{◌∙◌, ap, subst, All, take}
 use Rattle.std.proofs.lemmas.List.{take_all}
 use Rattle.std.proofs.lemmas.List.Elements.{All-more}
-use Rattle.lt_base.specs.declared.memory.Or.{Or}
-use Rattle.lt_base.specs.declared.memory.Or.TheVariants.{Fault, Memory}
-use Rattle.lt_base.specs.Or.{ForFault}
-use Rattle.lt_base.specs.Program.{WholeProgram, Function}
+use Rattle.lt_base.specs.Program.{WholeProgram}
 use Rattle.lt_base.specs.Clocking.{ClockedFunction}
-use Rattle.lt_check.specs.declared.clocking.ClockFault.{ClockFault}
-use Rattle.lt_check.specs.ClockFaults.{IsClockFaultIn, IsFirstClockFault}
 use Rattle.lt_check.proofs.Found.{item_read}
 use Rattle.lt_check.proofs.ClockedLemmas.{first_fault, clocks_told, or_handed_on}
 use Rattle.lt_check.proofs.clocking.clocks.Goals as goal

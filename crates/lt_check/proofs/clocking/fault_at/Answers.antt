@@ -1,7 +1,7 @@
 use Rattle.std.proofs.Common.{◌≡◌, ◌∙◌, sym, ap, arith, length}
 use Rattle.lt_base.specs.declared.function.Decl.{Decl}
 use Rattle.lt_base.specs.Program.{Function}
-use Rattle.lt_base.specs.Meaning.{ClockPairs, clock_of}
+use Rattle.lt_base.specs.Meaning.{clock_of}
 use Rattle.lt_check.proofs.Found.{clock_read}
 use Rattle.lt_check.proofs.clocking.fault_at.Goals as goal
 

@@ -1,10 +1,10 @@
-use Rattle.std.proofs.Common.{◌≡◌, ◌∙◌, sym, ap, subst, All, take, length}
+use Rattle.std.proofs.Common.{◌∙◌, ap, subst, All, take}
 use Rattle.std.proofs.lemmas.List.{take_all}
 use Rattle.std.proofs.lemmas.List.Elements.{All-more}
 use Rattle.std.proofs.lemmas.Option.{MatchOption-at_some, MatchOption-at_none}
 use Rattle.lt_base.specs.Expression.{shape}
 use Rattle.lt_base.specs.Program.{Function, GoodFunction}
-use Rattle.lt_check.specs.ClockFaults.{GoodClock, IsAtItsClock}
+use Rattle.lt_check.specs.ClockFaults.{IsAtItsClock}
 use Rattle.lt_check.proofs.Found.{item_read, left_inside}
 use Rattle.lt_check.proofs.ClockedLemmas.{clocked_from, declaration_fault, passes_test, test_fault}
 use Rattle.lt_check.proofs.clocking.function_clocks.Goals as goal

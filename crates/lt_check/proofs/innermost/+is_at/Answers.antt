@@ -1,10 +1,10 @@
-use Rattle.std.proofs.Common.{◌≡◌, ◌∙◌, Bool, true, false, sym, ap, map, length}
+use Rattle.std.proofs.Common.{◌≡◌, ◌∙◌, true, false, sym, ap, map}
 use Rattle.std.specs.Prelude.{◌&&◌}
 use Rattle.lt_base.specs.declared.expression.Expr.{Expr}
 use Rattle.lt_base.specs.Expression.{shape, arguments_of}
 use Rattle.lt_base.specs.Meaning.{function_of}
 use Rattle.lt_check.specs.Innermost.{is_at, arguments_at, answers_on_base}
-use Rattle.lt_check.proofs.AtLemmas.{call_at, rest_at, at_goes, at_fails, at_ends, on_base_told, and_false}
+use Rattle.lt_check.proofs.AtLemmas.{call_at, rest_at, at_fails, at_ends, on_base_told, and_false}
 use Rattle.lt_check.proofs.innermost.+is_at.Goals as goal
 
 pub returns-then-not-is_at : goal.returns-then-not-is_at

@@ -1,4 +1,4 @@
-use Rattle.std.proofs.Common.{◌≡◌, ◌∙◌, sym, ap, reverse}
+use Rattle.std.proofs.Common.{◌∙◌, sym, ap, reverse}
 use Rattle.std.proofs.lemmas.Slice.Eq.{slice_eq-Decides}
 use Rattle.std.proofs.lemmas.Bool.Decides.{Decides-like}
 use Rattle.lt_check.proofs.ClockLemmas.{same_reversed}

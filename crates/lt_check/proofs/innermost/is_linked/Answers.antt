@@ -1,4 +1,4 @@
-use Rattle.std.proofs.Common.{◌≡◌, ◌+◌, ◌-◌, ◌∙◌, sym, ap, arith, length, reverse, Some, subst}
+use Rattle.std.proofs.Common.{◌≡◌, ◌+◌, ◌-◌, ◌∙◌, ap, arith, length, reverse}
 use Rattle.lt_check.proofs.ClockLemmas.{clock_found, linked_by}
 use Rattle.lt_check.proofs.AtLemmas.{last_there}
 use Rattle.lt_check.proofs.innermost.is_linked.Goals as goal

@@ -1,4 +1,4 @@
-use Rattle.std.proofs.Common.{◌≡◌, ◌<◌, length}
+use Rattle.std.proofs.Common.{◌<◌, length}
 use Rattle.lt_base.specs.Meaning.{clock_of}
 use Rattle.lt_base.specs.Clocking.{WellFormed}
 use Rattle.lt_check.proofs.innermost.is_well_formed.Given as goal

@@ -1,4 +1,4 @@
-use Rattle.std.proofs.Common.{◌≡◌, ◌+◌, ◌∙◌, ◌<◌, ℕ, false, sym, ap, arith, length, subst, refl, get_or}
+use Rattle.std.proofs.Common.{◌+◌, ◌∙◌, ◌<◌, ℕ, false, sym, ap, length, subst, refl, get_or}
 use Rattle.std.specs.Prelude.{MatchBool}
 use Rattle.std.proofs.lemmas.List.{length_push}
 use Rattle.lt_base.specs.Meaning.{clock_of}

@@ -1,0 +1,5 @@
+pub mod Relations
+pub mod Reaches
+pub mod Searching
+pub mod Standing
+pub mod Edges

@@ -1,0 +1,4 @@
+pub mod Tables
+pub mod Reach
+pub mod Search
+pub mod Edges

@@ -1,0 +1,37 @@
+use crate::{components, first_circular};
+use lt_base::List;
+use std::test::Fail;
+
+#[test]
+fn circular_edges(rt: HostRuntime) -> Result<(), Fail> {
+    let alloc = rt.alloc();
+    // 0 -> 1 -> 2 -> 0, and out to 3
+    let ring = [(2, 3), (0, 1), (1, 2), (2, 0)];
+    assert_eq!(rt; first_circular(alloc, 4, &ring)?, Some(1));
+    // two ways from 0 to 3, and back from none
+    let ways = [(0, 1), (0, 2), (1, 3), (2, 3)];
+    assert_eq!(rt; first_circular(alloc, 4, &ways)?, None);
+    // a node that leads to itself, behind one that only leads there
+    assert_eq!(rt; first_circular(alloc, 2, &[(0, 1), (1, 1)])?, Some(1));
+    // two rings, and an edge between them on neither
+    let rings = [(1, 2), (0, 1), (1, 0), (2, 3), (3, 2)];
+    assert_eq!(rt; first_circular(alloc, 4, &rings)?, Some(1));
+    Ok(())
+}
+
+// 0 -> 1 -> 0, and on to 2
+#[test]
+fn names_of_components(rt: HostRuntime) -> Result<(), Fail> {
+    let alloc = rt.alloc();
+    let mut first = List::new(alloc);
+    first.push(1)?;
+    let mut second = List::new(alloc);
+    second.push(0)?;
+    second.push(2)?;
+    let table = List::of(vec![in alloc; first, second, List::new(alloc)]?);
+    let names = components(alloc, &table)?;
+    assert_eq!(rt; names.len(), 3);
+    assert_eq!(rt; names[0], names[1]);
+    assert_ne!(rt; names[0], names[2]);
+    Ok(())
+}

@@ -1,0 +1,10 @@
+//! The canonical text of a program's tree.
+#![tactic(auto)]
+
+pub mod laws;
+mod printer;
+
+pub use printer::print;
+
+#[cfg(test)]
+mod tests;

@@ -1,5 +1,0 @@
-use Rattle.lt_syntax.proofs.Spelled as spelled
-use Rattle.lt_syntax.proofs.laws.canonical_spells.Goals as goal
-
-pub returns : goal.returns
-returns c = λ bytes t s. spelled.canonical_spells bytes t s

@@ -1,6 +1,0 @@
-use Rattle.std.proofs.Common.{◌≡◌, ◌++◌, take}
-use Rattle.lt_syntax.specs.Canonical.{local_lines}
-use Rattle.lt_syntax.proofs.printer.lines.Given as goal
-
-abbrev pub invariant-lines : goal.invariant-lines
-invariant-lines l = l.out ≡ l.initial.out ++ local_lines (take l.d-index l.ds)

@@ -1,0 +1,13 @@
+//! The words of the command line, as `clap` reads them.
+#![tactic(auto)]
+
+mod arguments;
+mod command;
+mod commands;
+mod numbers;
+mod reading;
+#[cfg(test)]
+mod tests;
+
+pub use command::Command;
+pub use reading::read_words;
