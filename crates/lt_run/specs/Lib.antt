@@ -1,3 +1,4 @@
 pub mod Blamed
+pub mod Loaded
 pub mod Fetched
 pub mod Run
