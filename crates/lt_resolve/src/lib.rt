@@ -12,6 +12,8 @@ mod names;
 mod program;
 mod scope;
 mod tables;
+#[cfg(test)]
+mod tests;
 
 pub use fault::{NameFault, NameKind};
 pub use program::resolve;
