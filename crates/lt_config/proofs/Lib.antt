@@ -1,0 +1,10 @@
+pub mod Finds
+pub mod Tables
+pub mod Below
+pub mod Strays
+pub mod NoFault
+pub mod Ranges
+pub mod GoodNodes
+pub mod Ascending
+pub mod Pairs
+pub mod Told

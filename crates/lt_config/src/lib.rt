@@ -1,0 +1,24 @@
+//! The setup file: which protocol, which bounds of time, which nodes.
+#![tactic(auto)]
+
+mod config;
+mod fault;
+mod judge;
+mod keys;
+mod limits;
+mod names;
+mod nodes;
+mod numbers;
+mod pace;
+mod plain;
+mod reading;
+#[cfg(test)]
+mod tests;
+mod timing;
+mod values;
+
+pub use config::Config;
+pub use fault::{ConfigFault, ConfigKind};
+pub use limits::MOST_NODES;
+pub use pace::Pace;
+pub use reading::read_config;

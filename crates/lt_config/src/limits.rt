@@ -1,0 +1,4 @@
+// The limits of a setup.
+
+/// How many nodes a setup may have.
+pub const MOST_NODES: usize = 32;

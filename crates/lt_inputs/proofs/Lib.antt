@@ -1,0 +1,7 @@
+pub mod Left
+pub mod Digits
+pub mod Header
+pub mod TextLemmas
+pub mod RowSteps
+pub mod TableSteps
+pub mod TableFacts

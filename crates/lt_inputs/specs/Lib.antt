@@ -1,0 +1,4 @@
+pub mod Fields
+pub mod Inputs
+pub mod Records
+pub mod Told

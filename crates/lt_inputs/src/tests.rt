@@ -1,0 +1,138 @@
+// Small files, with what they read as.
+ghost use Rattle.std.specs.Prelude.{◌≡◌, [], IfOk};
+
+use crate::fault::{InputFault, InputKind};
+use crate::inputs::read_inputs;
+use lt_base::{Clock, Decl, Func, Inputs, List, Memory, Name, Or, Ty, Value};
+use std::alloc::Global;
+use std::test::Fail;
+
+fn input(alloc: Global, name: &str, ty: Ty) -> Result<Decl, Memory>
+    ensures { IfOk result (λ d. d.clock ≡ []) }
+{
+    Ok(Decl {
+        name: Name::from_str(alloc, name)?,
+        ty,
+        clock: Clock::base(alloc),
+    })
+}
+
+// A function of the inputs `x: int` and `c: bool`, and of nothing else.
+fn function(alloc: Global) -> Result<Func, Memory>
+    ensures { IfOk result (λ f. f.n_in ≡ 2) }
+{
+    let x = input(alloc, "x", Ty::Int)?;
+    let c = input(alloc, "c", Ty::Bool)?;
+    let decls = List::of(vec![in alloc; x, c]?);
+    Ok(Func::new(
+        Name::from_str(alloc, "main")?,
+        decls,
+        2,
+        List::new(alloc),
+        List::new(alloc),
+    ))
+}
+
+// The only row of a table.
+fn only_row(table: &Inputs) -> Option<(Value, Value)>
+    requires { table.now.width ≡ 2 }
+{
+    if table.rows() == 1 {
+        Some((table.value(0, 0), table.value(0, 1)))
+    } else {
+        None
+    }
+}
+
+// Texts of one row, with its int and its truth value.
+const ROWS: [(&[u8], i64, bool); 10] = [
+    (b"instant,x,c\n0,7,true\n", 7, true),
+    // No line feed at the end.
+    (b"instant,x,c\n0,7,true", 7, true),
+    (b"instant,x,c\r\n0,-7,false\r\n", -7, false),
+    // Blank lines are no rows.
+    (b"\n\ninstant,x,c\n\r\n\n0,7,false\n\n\n", 7, false),
+    // Quotes, and a byte order mark.
+    (b"\"instant\",\"x\",c\n\"0\",\"42\",\"true\"\n", 42, true),
+    (b"\xef\xbb\xbfinstant,x,c\n0,42,true\n", 42, true),
+    // Leading zeros.
+    (
+        b"instant,x,c\n000,-00000000000000000000012,true\n",
+        -12,
+        true,
+    ),
+    (b"instant,x,c\n0,-0,true\n", 0, true),
+    // The greatest int, and the least.
+    (b"instant,x,c\n0,9223372036854775807,true\n", i64::MAX, true),
+    (
+        b"instant,x,c\n0,-9223372036854775808,true\n",
+        i64::MIN,
+        true,
+    ),
+];
+
+#[test]
+fn reads_rows(rt: HostRuntime) -> Result<(), Fail> {
+    let main = function(rt.alloc())?;
+    for (text, int, truth) in ROWS {
+        let row = match read_inputs(rt.alloc(), text, &main) {
+            Ok(table) => only_row(&table),
+            Err(_) => None,
+        };
+        assert!(rt; row == Some((Value::Int(int), Value::Bool(truth))));
+    }
+    Ok(())
+}
+
+// Texts with the row and the kind of their first fault.
+const FAULTS: [(&[u8], u32, InputKind); 22] = [
+    // No header.
+    (b"", 0, InputKind::Header),
+    (b"\n\n", 0, InputKind::Header),
+    // Another header.
+    (b"instant,c,x\n", 0, InputKind::Header),
+    (b"instant,x\n", 0, InputKind::Header),
+    (b"instant,x,c,d\n", 0, InputKind::Header),
+    (b"Instant,x,c\n", 0, InputKind::Header),
+    (b"instant, x,c\n", 0, InputKind::Header),
+    (b"instant,x,\xff\n", 0, InputKind::NotCsv),
+    // Another number of fields.
+    (b"instant,x,c\n0,1,true\n1,1\n", 2, InputKind::NotCsv),
+    (b"instant,x,c\n0,1,true,true\n", 1, InputKind::NotCsv),
+    // No text, also where the instant is another.
+    (b"instant,x,c\n0,1,tru\xc3\n", 1, InputKind::NotCsv),
+    (b"instant,x,c\n5,\xc3\x28,true\n", 1, InputKind::NotCsv),
+    // Another instant.
+    (b"instant,x,c\n1,1,true\n", 1, InputKind::Instant),
+    (b"instant,x,c\n0,1,true\n0,1,true\n", 2, InputKind::Instant),
+    (b"instant,x,c\n+0,1,true\n", 1, InputKind::Instant),
+    (b"instant,x,c\n,?,?\n", 1, InputKind::Instant),
+    // No values.
+    (b"instant,x,c\n0,,true\n", 1, InputKind::Value),
+    (b"instant,x,c\n0,1,True\n", 1, InputKind::Value),
+    (b"instant,x,c\n0,+1,true\n", 1, InputKind::Value),
+    (b"instant,x,c\n0,true,1\n", 1, InputKind::Value),
+    (
+        b"instant,x,c\n0,9223372036854775808,true\n",
+        1,
+        InputKind::Value,
+    ),
+    (
+        b"instant,x,c\n0,-9223372036854775809,true\n",
+        1,
+        InputKind::Value,
+    ),
+];
+
+#[test]
+fn refuses_the_first_fault(rt: HostRuntime) -> Result<(), Fail> {
+    let main = function(rt.alloc())?;
+    for (text, row, kind) in FAULTS {
+        let fault = match read_inputs(rt.alloc(), text, &main) {
+            Ok(_) => None,
+            Err(fault) => Some(fault),
+        };
+        assert!(rt; fault == Some(Or::Fault(InputFault { row, kind })));
+    }
+    Ok(())
+}

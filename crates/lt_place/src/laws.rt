@@ -1,0 +1,9 @@
+// What the types keep, in other words.
+ghost use Rattle.std.specs.Prelude.{◌≢◌, AllPairs};
+ghost use Rattle.lt_place.specs.Names.{names_of};
+ghost use Rattle.lt_place.specs.declared.nodes.NamedNodes.{NamedNodes};
+
+/// The names of two nodes of a setup differ.
+pub fn names_differ()
+    ensures { (named : NamedNodes) → AllPairs (λ a b. a ≢ b) (names_of named.nodes) }
+{}

@@ -1,0 +1,9 @@
+//! What a setup allows: the least countdowns, the cycles, and how many instants a horizon leaves at least.
+#![tactic(auto)]
+
+mod numbers;
+#[cfg(test)]
+mod tests;
+mod text;
+
+pub use text::plan_text;

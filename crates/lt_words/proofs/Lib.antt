@@ -1,0 +1,4 @@
+pub mod Digits
+pub mod Four
+pub mod Simple
+pub mod Telling

@@ -1,0 +1,5 @@
+pub mod Numbers
+pub mod Local
+pub mod Commands
+pub mod Reading
+pub mod Told

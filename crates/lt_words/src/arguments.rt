@@ -1,0 +1,46 @@
+// Arguments, and how a command takes them.
+ghost use Rattle.std.specs.Prelude.{◌≡◌, false, IfOk};
+ghost use Rattle.clap.specs.Words.{app_of, rule_of, with_rule, with_subcommand};
+ghost use Rattle.lt_words.specs.Local.{IsLocal};
+ghost use Rattle.lt_words.specs.Commands.{text_rule, number_rule};
+
+use clap::builder::ValueParser;
+use clap::{Arg, Command};
+use lt_base::Memory;
+use std::alloc::Global;
+
+/// A text that a command needs.
+pub fn text<'a>(alloc: Global, id: &'a str) -> Arg<'a>
+    ensures rule { rule_of result ≡ text_rule id.entry.now }
+    ensures local { result.global ≡ false }
+{
+    Arg::new(alloc, id).required(true)
+}
+
+/// An option `--ID` whose value is a whole number up to a bound.
+pub fn number<'a>(alloc: Global, id: &'a str, most: u64) -> Arg<'a>
+    ensures rule { rule_of result ≡ number_rule id.entry.now most }
+    ensures local { result.global ≡ false }
+{
+    Arg::new(alloc, id)
+        .long(id)
+        .value_parser(ValueParser::Unsigned(0, most))
+}
+
+/// A command that takes one more argument.
+pub fn with_argument<'a>(command: Command<'a>, argument: Arg<'a>) -> Result<Command<'a>, Memory>
+    requires { argument.global ≡ false }
+    ensures app { IfOk result (λ c. app_of c ≡ with_rule (app_of command.entry) (rule_of argument.entry)) }
+    ensures local { IfOk result (λ c. IsLocal command.entry → IsLocal c) }
+{
+    Ok(command.arg(argument)?)
+}
+
+/// A command that has one more command below it.
+pub fn with_command<'a>(command: Command<'a>, below: Command<'a>) -> Result<Command<'a>, Memory>
+    requires { IsLocal below }
+    ensures app { IfOk result (λ c. app_of c ≡ with_subcommand (app_of command.entry) (app_of below.entry).top) }
+    ensures local { IfOk result (λ c. IsLocal command.entry → IsLocal c) }
+{
+    Ok(command.subcommand(below)?)
+}

@@ -1,0 +1,26 @@
+// Commands.
+
+/// A command of the program, with the values that its words give. Files are named as in the words.
+#[derive(Drop)]
+pub enum Command<'a> {
+    /// Check a program, and print it in its canonical form.
+    Check {
+        program: &'a str,
+    },
+    /// Print what a program's outputs are for these inputs.
+    Meaning {
+        program: &'a str,
+        inputs: &'a str,
+    },
+    /// Run a program on these inputs by this schedule.
+    Run {
+        program: &'a str,
+        inputs: &'a str,
+        schedule: &'a str,
+    },
+    /// Print the least countdowns and the cycles of a setup, and the bounds for a horizon in ticks.
+    Plan {
+        config: &'a str,
+        horizon: Option<u64>,
+    },
+}

@@ -1,0 +1,35 @@
+// Numbers in the words.
+ghost use Rattle.std.specs.Prelude.{◌≡◌, ◌≤◌, ◌<◌, ◌^◌};
+ghost use Rattle.lt_words.specs.Numbers.{number_of, up_to, number_text};
+
+// The number that some digits are, up to a bound.
+fn number(bytes: &[u8], most: u64) -> Option<u64>
+    requires digit { 9 ≤ most }
+    ensures { result ≡ up_to most (number_of bytes.now) }
+{
+    if bytes.is_empty() {
+        return None;
+    }
+    let mut number = 0u64;
+    for byte in bytes {
+        if *byte < b'0' || b'9' < *byte {
+            return None;
+        }
+        let digit = (*byte - b'0') as u64;
+        if (most - digit) / 10 < number {
+            return None;
+        }
+        number = number * 10 + digit;
+    }
+    Some(number)
+}
+
+/// The number that a text is to the parser of whole numbers, which takes a plus; 0 where it is none.
+pub fn number_text(text: &str) -> u64
+    ensures { result ≡ number_text text.now }
+{
+    match text.as_bytes() {
+        [b'+', rest @ ..] => number(rest, u64::MAX).unwrap_or(0),
+        bytes => number(bytes, u64::MAX).unwrap_or(0),
+    }
+}
