@@ -1,0 +1,17 @@
+pub mod Maps
+pub mod Lists
+pub mod Numbers
+pub mod Repeats
+pub mod Told
+pub mod Pairs
+pub mod Terms
+pub mod Located
+pub mod Order
+pub mod Sites
+pub mod Edges
+pub mod Distinct
+pub mod Below
+pub mod Good
+pub mod Rights
+pub mod Programs
+pub mod Resolved

@@ -1,0 +1,33 @@
+-- Names that stand a second time.
+use Rattle.std.proofs.Common.{◌≡◌, Bool, true, false, List, [], ◌∷◌, ◌++◌, Some, refl, sym, ap, ◌∙◌, if◌then◌else◌}
+use Rattle.std.specs.Option.{option_or}
+use Rattle.std.proofs.lemmas.List.{append_assoc, append-nil, map-append}
+use Rattle.lt_syntax.specs.declared.tree.DeclText.{DeclText}
+use Rattle.lt_syntax.specs.declared.tree.NodeText.{NodeText}
+use Rattle.lt_resolve.specs.Names.{Name, among, repeated}
+use Rattle.lt_resolve.specs.Scopes.{names_of, variables}
+
+pub repeated_append : (before xs ys : List Name) → repeated before (xs ++ ys) ≡ option_or (repeated before xs) (repeated (before ++ xs) ys)
+repeated_append before [] ys = ap (λ b. repeated b ys) (sym (append-nil before))
+repeated_append before (x ∷ xs) ys = go (repeated_append (before ++ x ∷ []) xs ys) (among before x)
+  where
+    go : repeated (before ++ x ∷ []) (xs ++ ys) ≡ option_or (repeated (before ++ x ∷ []) xs) (repeated ((before ++ x ∷ []) ++ xs) ys) → (b : Bool) → (if b then Some x else repeated (before ++ x ∷ []) (xs ++ ys)) ≡ option_or (if b then Some x else repeated (before ++ x ∷ []) xs) (repeated (before ++ x ∷ xs) ys)
+    go ih true = refl
+    go ih false = ih ∙ ap (λ b. option_or (repeated (before ++ x ∷ []) xs) (repeated b ys)) (append_assoc before (x ∷ []) xs)
+
+pub variables_are : (n : NodeText) → variables n ≡ names_of n.ins ++ (names_of n.outs ++ names_of n.locals)
+variables_are n =
+    map-append (λ (d : DeclText). d.name) n.ins (n.outs ++ n.locals)
+    ∙ ap (λ l. names_of n.ins ++ l) (map-append (λ (d : DeclText). d.name) n.outs n.locals)
+
+-- the variables of a function, declared in three parts
+pub repeated_variables : (n : NodeText) (v0 v1 v2 : List Name) → v0 ≡ [] → v1 ≡ v0 ++ names_of n.ins → v2 ≡ v1 ++ names_of n.outs
+    → repeated [] (variables n) ≡ option_or (repeated v0 (names_of n.ins)) (option_or (repeated v1 (names_of n.outs)) (repeated v2 (names_of n.locals)))
+repeated_variables n v0 v1 v2 e0 e1 e2 =
+    ap (repeated []) (variables_are n)
+    ∙ repeated_append [] (names_of n.ins) (names_of n.outs ++ names_of n.locals)
+    ∙ (λ i. option_or (repeated (sym e0 i) (names_of n.ins)) (repeated (sym one i) (names_of n.outs ++ names_of n.locals)))
+    ∙ ap (option_or (repeated v0 (names_of n.ins))) (repeated_append v1 (names_of n.outs) (names_of n.locals) ∙ ap (λ b. option_or (repeated v1 (names_of n.outs)) (repeated b (names_of n.locals))) (sym e2))
+  where
+    one : v1 ≡ [] ++ names_of n.ins
+    one = e1 ∙ ap (λ v. v ++ names_of n.ins) e0

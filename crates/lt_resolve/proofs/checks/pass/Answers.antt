@@ -1,0 +1,34 @@
+use Rattle.std.proofs.Common.{◌≡◌, suc, ◌-◌, Option, List, refl}
+use Rattle.lt_syntax.specs.declared.tree.NodeText.{NodeText}
+use Rattle.lt_resolve.specs.declared.checks.Check.{Check}
+use Rattle.lt_resolve.specs.declared.checks.Check.TheVariants.{Unknown, NoEquation, TwoEquations, EquationForInput, Variables, Inputs, Outputs}
+use Rattle.lt_resolve.specs.Scopes.{functions}
+use Rattle.lt_resolve.specs.Faults.{Occurrence, first_in, First, number}
+use Rattle.lt_resolve.specs.Checks.{found, kind_of, IsWhole}
+use Rattle.lt_resolve.proofs.Order.{passes, shows_as}
+use Rattle.lt_resolve.proofs.checks.pass.Goals as goal
+
+whole_first : (check : Check) → IsWhole check → (t : List NodeText) (o : Option Occurrence) → o ≡ first_in (λ _. found check (functions t)) 0 t → First t (kind_of check) o
+whole_first Unknown w t o h = h
+whole_first NoEquation w t o h = h
+whole_first TwoEquations w t o h = h
+whole_first EquationForInput w t o h = h
+whole_first Variables w t o h = absurd w
+whole_first Inputs w t o h = absurd w
+whole_first Outputs w t o h = absurd w
+
+next_number : (check : Check) → number (kind_of check) ≡ suc (number (kind_of check) - 1)
+next_number Unknown = refl
+next_number NoEquation = refl
+next_number TwoEquations = refl
+next_number EquationForInput = refl
+next_number Variables = refl
+next_number Inputs = refl
+next_number Outputs = refl
+
+pub returns : goal.returns
+returns c =
+    let t = c.args.tables.now in
+    let kind = kind_of c.args.check in
+    rw (next_number c.args.check)
+    (passes t (number kind - 1) kind (next_number c.args.check) c.requires.cleared c.check_all.result (shows_as kind _ _ (whole_first c.args.check c.requires.whole t) c.check_all.result c.check_all.ensures))

@@ -1,0 +1,20 @@
+use Rattle.std.proofs.Common.{List, sym, subst}
+use Rattle.lt_syntax.specs.declared.tree.NodeText.{NodeText}
+use Rattle.lt_syntax.specs.Program.{IsSpelled}
+use Rattle.lt_resolve.specs.Told.{Cleared}
+use Rattle.lt_resolve.specs.Named.{Named}
+use Rattle.lt_resolve.proofs.Order.{all_cleared}
+use Rattle.lt_resolve.proofs.Rights.{right_tree}
+use Rattle.lt_resolve.proofs.Resolved.{is_resolved}
+use Rattle.lt_resolve.proofs.program.resolve.Goals as goal
+
+pub program-requires : goal.program-requires
+program-requires c =
+    let t = c.in_ok-tables.tables in
+    right_tree t (subst IsSpelled (sym c.in_ok-tables.ensures.tree) c.kept.ensures) (all_cleared t c.in_ok-check_limits.ensures)
+
+pub returns : goal.returns
+returns c =
+    let t = c.args.t.now in
+    let same = c.in_ok-tables.ensures.tree in
+    is_resolved t c.in_ok-program.field-0 c.kept.ensures (all_cleared t (subst (λ (u : List NodeText). Cleared u 10) same c.in_ok-check_limits.ensures)) (subst (λ (u : List NodeText). Named u c.in_ok-program.field-0) same c.in_ok-program.ensures)

@@ -1,0 +1,25 @@
+use Rattle.std.proofs.Common.{◌≡◌, sym, ap, ◌∙◌}
+use Rattle.lt_syntax.specs.declared.tree.DeclText.{DeclText}
+use Rattle.lt_resolve.specs.Names.{Name, if_missing, first_some}
+use Rattle.lt_resolve.specs.Scopes.{names_of}
+use Rattle.lt_resolve.proofs.Lists.{some_map, some_none}
+use Rattle.lt_resolve.proofs.Told.{tells_at, tells_as}
+use Rattle.lt_resolve.proofs.scope.all_among.Goals as goal
+
+pub returns-in_err-check : goal.returns-in_err-check
+returns-in_err-check c =
+    let ds = c.as_slice-decl-items.result.now in
+    let missing = λ (x : Name). if_missing c.args.names.now x in
+    let same : first_some (if_missing c.args.names.now) (names_of c.args.decls.now) ≡ first_some (λ d. if_missing c.args.names.now d.name) ds =
+    ap (λ l. first_some (if_missing c.args.names.now) (names_of l)) (sym c.as_slice-decl-items.ensures) ∙ some_map missing (λ (d : DeclText). d.name) ds in
+    tells_as _ _ _ same
+    (tells_at (λ d. if_missing c.args.names.now d.name) ds c.decls.decl-index c.decl-item.result c.in_err-check.field-0.0 _ c.decls-test.true c.decl-item.is c.decls.invariant c.from_residual.ensures.1
+    (rw (← c.as_str.ensures) c.in_err-check.ensures))
+
+pub returns : goal.returns
+returns c =
+    let ds = c.as_slice-decl-items.result.now in
+    let missing = λ (x : Name). if_missing c.args.names.now x in
+    ap (λ l. first_some (if_missing c.args.names.now) (names_of l)) (sym c.as_slice-decl-items.ensures)
+    ∙ some_map missing (λ (d : DeclText). d.name) ds
+    ∙ some_none (λ d. if_missing c.args.names.now d.name) ds c.decls.decl-index c.decls-test.false c.decls.invariant

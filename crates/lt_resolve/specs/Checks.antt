@@ -1,0 +1,52 @@
+-- What is looked for in one function after another.
+use Rattle.std.specs.Prelude.{◌≡◌, ℕ, Option, List, length, codes}
+use Rattle.lt_base.specs.declared.memory.Or.{Or}
+use Rattle.lt_base.specs.declared.memory.Or.TheVariants.{Fault, Memory}
+use Rattle.std.specs.Borrow.{Bor}
+use Rattle.lt_syntax.specs.declared.tree.NodeText.{NodeText}
+use Rattle.lt_resolve.specs.declared.fault.NameKind.{NameKind}
+use Rattle.lt_resolve.specs.declared.fault.NameKind.TheVariants as kind
+use Rattle.lt_resolve.specs.declared.fault.NameFault.{NameFault}
+use Rattle.lt_resolve.specs.declared.checks.Check.{Check}
+use Rattle.lt_resolve.specs.declared.checks.Check.TheVariants.{Unknown, NoEquation, TwoEquations, EquationForInput, Variables, Inputs, Outputs}
+use Rattle.lt_resolve.specs.Names.{Name}
+use Rattle.lt_resolve.specs.Uses.{Site}
+use Rattle.lt_resolve.specs.Faults.{unknown_in, no_equation_in, two_equations_in, input_equation_in, above, size}
+
+-- what a check finds in a function
+abbrev pub found : Check → List Name → NodeText → Option Name
+found Unknown funcs n = unknown_in funcs n
+found NoEquation funcs n = no_equation_in n
+found TwoEquations funcs n = two_equations_in n
+found EquationForInput funcs n = input_equation_in n
+found Variables funcs n = above 4096 (size n) (codes "variables")
+found Inputs funcs n = above 64 (length n.ins) (codes "inputs")
+found Outputs funcs n = above 64 (length n.outs) (codes "outputs")
+
+-- the kind of fault that it shows
+abbrev pub kind_of : Check → NameKind
+kind_of Unknown = kind.Unknown
+kind_of NoEquation = kind.NoEquation
+kind_of TwoEquations = kind.TwoEquations
+kind_of EquationForInput = kind.EquationForInput
+kind_of Variables = kind.Limit
+kind_of Inputs = kind.Limit
+kind_of Outputs = kind.Limit
+
+-- the check is of a kind of its own
+abbrev pub IsWhole : Check → Type 0
+IsWhole Variables = ⊥
+IsWhole Inputs = ⊥
+IsWhole Outputs = ⊥
+IsWhole _ = Unit {0}
+
+-- the name's fault, or memory was wanting
+abbrev pub Locates : NameKind → ℕ → Or (Bor Name) → Or NameFault → Type 0
+Locates kind i (Fault x) (Fault f) = (f.kind ≡ kind) × (f.func ≡ i) × (f.name ≡ x.now)
+Locates kind i Memory (Fault f) = ⊥
+Locates kind i e Memory = Unit {0}
+
+-- the fault of a call, or memory was wanting
+abbrev pub ShowsSite : NameKind → Site → Or NameFault → Type 0
+ShowsSite kind s (Fault f) = (f.kind ≡ kind) × (f.func ≡ s.caller) × (f.name ≡ s.name)
+ShowsSite kind s Memory = Unit {0}

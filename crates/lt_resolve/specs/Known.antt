@@ -1,0 +1,48 @@
+-- Terms all of whose names have numbers.
+use Rattle.std.specs.Prelude.{◌≡◌, ℕ, true, is_some, Option, Some, None, List}
+use Rattle.lt_base.specs.declared.operators.Imp.{Imp}
+use Rattle.lt_base.specs.Expression.{Expression, imported, call, Arguments, no_arguments, argument}
+use Rattle.lt_syntax.specs.Tree.{Tm, Lit, Var, Unary, Binary, Choice, Sampled, Merged, Delayed, Followed, Arrow, Call, Tms, Nil, Cons}
+use Rattle.lt_resolve.specs.Names.{Name, number_of}
+use Rattle.lt_resolve.specs.Named.{operator_of}
+use Rattle.lt_resolve.specs.Uses.{count}
+
+-- the name has a number
+abbrev pub HasNumber : List Name → Name → Type 0
+HasNumber names x = is_some (number_of names x) ≡ true
+
+-- a function is called, or an imported operator with its two arguments
+abbrev pub IsCallable : Option ℕ → Option Imp → ℕ → Type 0
+IsCallable (Some g) o n = Unit {0}
+IsCallable None (Some o) n = n ≡ 2
+IsCallable None None n = ⊥
+
+-- each name in a term is declared, and each imported operator has two arguments
+abbrev mutual
+  pub IsKnown : List Name → List Name → Tm → Type 0
+  IsKnown vars funcs (Lit v) = Unit {0}
+  IsKnown vars funcs (Var x) = HasNumber vars x
+  IsKnown vars funcs (Unary o a) = IsKnown vars funcs a
+  IsKnown vars funcs (Binary o a b) = IsKnown vars funcs a × IsKnown vars funcs b
+  IsKnown vars funcs (Choice c a b) = IsKnown vars funcs c × IsKnown vars funcs a × IsKnown vars funcs b
+  IsKnown vars funcs (Sampled a c t) = IsKnown vars funcs a × HasNumber vars c
+  IsKnown vars funcs (Merged c a b) = HasNumber vars c × IsKnown vars funcs a × IsKnown vars funcs b
+  IsKnown vars funcs (Delayed v a) = IsKnown vars funcs a
+  IsKnown vars funcs (Followed a b) = IsKnown vars funcs a × IsKnown vars funcs b
+  IsKnown vars funcs (Arrow a b) = IsKnown vars funcs a × IsKnown vars funcs b
+  IsKnown vars funcs (Call f args) = IsCallable (number_of funcs f) (operator_of f) (count args) × AreKnown vars funcs args
+
+  pub AreKnown : List Name → List Name → Tms → Type 0
+  AreKnown vars funcs Nil = Unit {0}
+  AreKnown vars funcs (Cons a args) = IsKnown vars funcs a × AreKnown vars funcs args
+
+-- the expression is the operator on these arguments
+abbrev pub IsOperation : Imp → Arguments → Expression → Type 0
+IsOperation o es (imported p d e) = (p ≡ o) × (es ≡ argument d (argument e no_arguments))
+IsOperation o es _ = ⊥
+
+-- the expression calls what the name stands for on these arguments
+abbrev pub IsCalled : List Name → Name → Arguments → Expression → Type 0
+IsCalled funcs f es (call g ds) = (number_of funcs f ≡ Some g) × (ds ≡ es)
+IsCalled funcs f es (imported o d e) = (number_of funcs f ≡ None) × (operator_of f ≡ Some o) × (es ≡ argument d (argument e no_arguments))
+IsCalled funcs f es _ = ⊥

@@ -1,0 +1,10 @@
+pub mod Names
+pub mod Scopes
+pub mod Named
+pub mod Uses
+pub mod Known
+pub mod Faults
+pub mod Right
+pub mod Told
+pub mod Checks
+pub mod Resolves

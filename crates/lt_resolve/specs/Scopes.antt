@@ -1,0 +1,25 @@
+-- What a tree declares.
+use Rattle.std.specs.Prelude.{◌++◌, List, map}
+use Rattle.lt_syntax.specs.declared.tree.DeclText.{DeclText}
+use Rattle.lt_syntax.specs.declared.tree.NodeText.{NodeText}
+use Rattle.lt_resolve.specs.Names.{Name}
+
+-- a function's declarations in the order of their numbers: inputs, then outputs, then locals
+abbrev pub declarations : NodeText → List DeclText
+declarations n = n.ins ++ (n.outs ++ n.locals)
+
+-- the declared names
+abbrev pub names_of : List DeclText → List Name
+names_of ds = map (λ d. d.name) ds
+
+-- the variables of a function
+abbrev pub variables : NodeText → List Name
+variables n = names_of (declarations n)
+
+-- the variables on the left of a function's equations
+abbrev pub lefts : NodeText → List Name
+lefts n = map (λ q. q.0) n.eqs
+
+-- the functions of a tree
+abbrev pub functions : List NodeText → List Name
+functions t = map (λ n. n.name) t

@@ -1,0 +1,236 @@
+// The calls of a tree, and their faults.
+ghost use Rattle.std.specs.Prelude.{◌≡◌, ◌++◌, ◌<◌, ◌^◌, IfOk, OnOk, length, map};
+ghost use Rattle.std.specs.List.{All};
+ghost use Rattle.lt_syntax.specs.Tree.{tms};
+ghost use Rattle.lt_syntax.specs.Views.{tm_of};
+ghost use Rattle.lt_graph.specs.Edges.{AreWithin};
+ghost use Rattle.lt_resolve.specs.Scopes.{functions};
+ghost use Rattle.lt_resolve.specs.Uses.{sites_in, argument_sites, equation_sites, edges};
+ghost use Rattle.lt_resolve.specs.Faults.{First, sites, wanted, answered};
+ghost use Rattle.lt_resolve.specs.Told.{Shows, Cleared, Passes};
+ghost use Rattle.lt_resolve.specs.Checks.{Locates, ShowsSite};
+
+use crate::fault::{NameFault, NameKind};
+use crate::names::Names;
+use crate::tables::{Tables, located};
+use lt_base::{List, Memory, Or};
+use lt_graph::first_circular;
+use lt_syntax::{EqText, Term};
+use std::alloc::Global;
+use std::marker::Model;
+
+/// A call: the function in which it stands, the called name with the function's number, and how many arguments it has.
+#[derive(Drop)]
+pub struct Call<'a> {
+    caller: u32,
+    name: &'a str,
+    callee: Option<u32>,
+    arguments: usize,
+}
+
+impl<'a> Model for Call<'a> {
+    ghost use Rattle.lt_resolve.specs.Uses.{Site};
+
+    ghost Value = { Site };
+
+    ghost view = { λ c. record { caller = c.caller; name = c.name.now; callee = c.callee; arguments = c.arguments } };
+}
+
+impl<'a> Call<'a> {
+    /// The call's fault of this kind.
+    fn fault(&self, alloc: Global, kind: NameKind) -> Or<NameFault>
+        ensures { ShowsSite kind self.now result }
+    {
+        located(alloc, kind, self.caller as usize, Or::Fault(self.name))
+    }
+}
+
+/// Appends the calls in a term, in text order.
+#[cycle(collect)]
+fn collect<'a>(
+    functions: &Names,
+    caller: u32,
+    term: &'a Term,
+    calls: &mut Vec<Call<'a>>,
+) -> Result<(), Memory>
+    requires { length functions.now < 2 ^ 32 }
+    ensures { OnOk result (calls.new.items ≡ calls.old.items ++ sites_in functions.now caller (tm_of term.now)) }
+{
+    match term {
+        Term::Lit(_) => Ok(()),
+        Term::Var(_) => Ok(()),
+        Term::Un(_, a) => collect(functions, caller, a, calls),
+        Term::Bin(_, a, b) => {
+            collect(functions, caller, a, calls)?;
+            collect(functions, caller, b, calls)
+        }
+        Term::If(c, a, b) => {
+            collect(functions, caller, c, calls)?;
+            collect(functions, caller, a, calls)?;
+            collect(functions, caller, b, calls)
+        }
+        Term::When(a, _, _) => collect(functions, caller, a, calls),
+        Term::Merge(_, a, b) => {
+            collect(functions, caller, a, calls)?;
+            collect(functions, caller, b, calls)
+        }
+        Term::Fby(_, a) => collect(functions, caller, a, calls),
+        Term::Follow(a, b) => {
+            collect(functions, caller, a, calls)?;
+            collect(functions, caller, b, calls)
+        }
+        Term::Arrow(a, b) => {
+            collect(functions, caller, a, calls)?;
+            collect(functions, caller, b, calls)
+        }
+        Term::Call(f, args) => {
+            let name = f.as_str();
+            calls.push(Call {
+                caller,
+                name,
+                callee: functions.short_number(name),
+                arguments: args.len(),
+            })?;
+            collect_arguments(functions, caller, args, calls)
+        }
+    }
+}
+
+#[cycle(collect)]
+fn collect_arguments<'a>(
+    functions: &Names,
+    caller: u32,
+    args: &'a [Term],
+    calls: &mut Vec<Call<'a>>,
+) -> Result<(), Memory>
+    requires { length functions.now < 2 ^ 32 }
+    ensures { OnOk result (calls.new.items ≡ calls.old.items ++ argument_sites functions.now caller (tms (map tm_of args.now))) }
+{
+    'arguments: for a in args {
+        collect(functions, caller, a, calls)?;
+    }
+    Ok(())
+}
+
+/// Appends the calls in equations.
+fn collect_equations<'a>(
+    functions: &Names,
+    caller: u32,
+    eqs: &'a List<EqText>,
+    calls: &mut Vec<Call<'a>>,
+) -> Result<(), Memory>
+    requires { length functions.now < 2 ^ 32 }
+    ensures { OnOk result (calls.new.items ≡ calls.old.items ++ equation_sites functions.now caller eqs.now) }
+{
+    'eqs: for eq in eqs.as_slice() {
+        collect(functions, caller, eq.right(), calls)?;
+    }
+    Ok(())
+}
+
+/// All calls of the tree, in text order.
+pub fn calls_of<'a>(alloc: Global, tables: &Tables<'a>) -> Result<Vec<Call<'a>>, Memory>
+    requires { length tables.now < 2 ^ 32 }
+    ensures { IfOk result (λ calls. calls.items ≡ sites tables.now) }
+{
+    let mut calls = Vec::new(alloc);
+    'scopes: for (i, scope) in tables.scopes().iter().enumerate() {
+        collect_equations(tables.functions(), i as u32, &scope.node().eqs, &mut calls)?;
+    }
+    Ok(calls)
+}
+
+/// How many arguments a call has to have.
+fn wanted(tables: &Tables, callee: Option<u32>) -> usize
+    ensures { result ≡ wanted tables.now callee }
+{
+    match callee {
+        Some(g) => match tables.scopes().get(g as usize) {
+            Some(scope) => scope.node().ins.len(),
+            None => 0,
+        },
+        None => 2,
+    }
+}
+
+/// How many outputs what is called has.
+fn answered(tables: &Tables, callee: Option<u32>) -> usize
+    ensures { result ≡ answered tables.now callee }
+{
+    match callee {
+        Some(g) => match tables.scopes().get(g as usize) {
+            Some(scope) => scope.node().outs.len(),
+            None => 0,
+        },
+        None => 1,
+    }
+}
+
+/// Refuses the first call with a wrong number of arguments.
+fn right_counts(alloc: Global, tables: &Tables, calls: &[Call]) -> Result<(), Or<NameFault>>
+    requires { calls.now ≡ sites tables.now }
+    ensures { Shows NameKind.WrongCount (First tables.now NameKind.WrongCount) result }
+{
+    'calls: for call in calls {
+        if call.arguments != wanted(tables, call.callee) {
+            return Err(call.fault(alloc, NameKind::WrongCount));
+        }
+    }
+    Ok(())
+}
+
+/// Refuses the first call of a function with other than one output.
+fn one_output(alloc: Global, tables: &Tables, calls: &[Call]) -> Result<(), Or<NameFault>>
+    requires { calls.now ≡ sites tables.now }
+    ensures { Shows NameKind.NotOneOutput (First tables.now NameKind.NotOneOutput) result }
+{
+    'calls: for call in calls {
+        if answered(tables, call.callee) != 1 {
+            return Err(call.fault(alloc, NameKind::NotOneOutput));
+        }
+    }
+    Ok(())
+}
+
+/// The calls of functions, each from the calling to the called one.
+fn edges_of(alloc: Global, calls: &[Call]) -> Result<Vec<(u32, u32)>, Memory>
+    ensures { IfOk result (λ list. list.items ≡ edges calls.now) }
+{
+    let mut list = Vec::with_capacity(alloc, calls.len())?;
+    'calls: for call in calls {
+        if let Some(callee) = call.callee {
+            list.push((call.caller, callee))?;
+        }
+    }
+    Ok(list)
+}
+
+/// Refuses the first call that lies on a closed walk of calls.
+fn no_recursion(alloc: Global, tables: &Tables, calls: &[Call]) -> Result<(), Or<NameFault>>
+    requires calls { calls.now ≡ sites tables.now }
+    requires within { AreWithin (length tables.now) (edges calls.now) }
+    ensures { Shows NameKind.Recursive (First tables.now NameKind.Recursive) result }
+{
+    let edges = edges_of(alloc, calls)?;
+    let scopes = tables.scopes();
+    match first_circular(alloc, scopes.len(), &edges)? {
+        None => Ok(()),
+        Some(place) => {
+            let (caller, callee) = edges[place];
+            let name = scopes[callee as usize].node().name.as_str();
+            Err(located(alloc, NameKind::Recursive, caller as usize, Or::Fault(name)))
+        }
+    }
+}
+
+/// Refuses the first fault of calls.
+pub fn check_calls(alloc: Global, tables: &Tables) -> Result<(), Or<NameFault>>
+    requires room { length tables.now < 2 ^ 32 }
+    requires cleared { Cleared tables.now 6 }
+    ensures { Passes tables.now 9 result }
+{
+    let calls = calls_of(alloc, tables)?;
+    right_counts(alloc, tables, &calls)?;
+    one_output(alloc, tables, &calls)?;
+    no_recursion(alloc, tables, &calls)
+}

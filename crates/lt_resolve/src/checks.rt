@@ -1,0 +1,136 @@
+// The faults that are looked for in one function after another.
+ghost use Rattle.std.specs.Prelude.{◌≡◌, ◌<◌, ◌^◌, ◌-◌, length};
+ghost use Rattle.lt_resolve.specs.Scopes.{functions};
+ghost use Rattle.lt_resolve.specs.Faults.{first_in, above, number, no_main, functions_limit};
+ghost use Rattle.lt_resolve.specs.Told.{Tells, Shows, Cleared, Passes};
+ghost use Rattle.lt_resolve.specs.Checks.{found, kind_of, IsWhole};
+
+use crate::fault::{NameFault, NameKind};
+use crate::names::Names;
+use crate::scope::Scope;
+use crate::tables::{Tables, located};
+use lt_base::Or;
+use std::alloc::Global;
+
+/// What is looked for in a function.
+#[derive(Clone, Copy)]
+enum Check {
+    Unknown,
+    NoEquation,
+    TwoEquations,
+    EquationForInput,
+    Variables,
+    Inputs,
+    Outputs,
+}
+
+fn kind_of(check: Check) -> NameKind
+    ensures { result ≡ kind_of check }
+{
+    match check {
+        Check::Unknown => NameKind::Unknown,
+        Check::NoEquation => NameKind::NoEquation,
+        Check::TwoEquations => NameKind::TwoEquations,
+        Check::EquationForInput => NameKind::EquationForInput,
+        Check::Variables | Check::Inputs | Check::Outputs => NameKind::Limit,
+    }
+}
+
+/// Refuses a quantity above its limit, by its word.
+fn within<'a>(limit: u64, quantity: u64, word: &'a str) -> Result<(), Or<&'a str>>
+    ensures { Tells (above limit quantity word.now) result }
+{
+    if quantity > limit {
+        Err(Or::Fault(word))
+    } else {
+        Ok(())
+    }
+}
+
+/// Refuses what the check finds in a function.
+fn check_one<'a>(
+    alloc: Global,
+    check: Check,
+    functions: &Names,
+    scope: &Scope<'a>,
+) -> Result<(), Or<&'a str>>
+    ensures { Tells (found check functions.now scope.now) result }
+{
+    match check {
+        Check::Unknown => scope.unknown(functions),
+        Check::NoEquation => scope.no_equation(alloc),
+        Check::TwoEquations => scope.two_equations(alloc),
+        Check::EquationForInput => scope.input_equation(),
+        Check::Variables => within(4096, scope.size(), "variables"),
+        Check::Inputs => within(64, scope.node().ins.len() as u64, "inputs"),
+        Check::Outputs => within(64, scope.node().outs.len() as u64, "outputs"),
+    }
+}
+
+/// Refuses what the check finds first.
+fn check_all(alloc: Global, check: Check, tables: &Tables) -> Result<(), Or<NameFault>>
+    requires { length tables.now < 2 ^ 32 }
+    ensures { Shows (kind_of check) (λ o. o ≡ first_in (λ _. found check (functions tables.now)) 0 tables.now) result }
+{
+    'scopes: for (i, scope) in tables.scopes().iter().enumerate() {
+        match check_one(alloc, check, tables.functions(), scope) {
+            Ok(()) => {}
+            Err(error) => return Err(located(alloc, kind_of(check), i, error)),
+        }
+    }
+    Ok(())
+}
+
+/// Refuses the first fault of the check's kind.
+fn pass(alloc: Global, check: Check, tables: &Tables) -> Result<(), Or<NameFault>>
+    requires room { length tables.now < 2 ^ 32 }
+    requires whole { IsWhole check }
+    requires cleared { Cleared tables.now (number (kind_of check) - 1) }
+    ensures { Passes tables.now (number (kind_of check)) result }
+{
+    check_all(alloc, check, tables)
+}
+
+/// Refuses a tree without a function `main`.
+fn has_main(alloc: Global, tables: &Tables) -> Result<(), Or<NameFault>>
+    ensures { Shows NameKind.NoMain (λ o. o ≡ no_main (functions tables.now)) result }
+{
+    match tables.functions().check("main") {
+        Ok(()) => Ok(()),
+        Err(error) => Err(located(alloc, NameKind::NoMain, 0, error)),
+    }
+}
+
+/// Refuses the first fault among those of single functions, and a tree without `main`.
+pub fn check_functions(alloc: Global, tables: &Tables) -> Result<(), Or<NameFault>>
+    requires room { length tables.now < 2 ^ 32 }
+    requires cleared { Cleared tables.now 1 }
+    ensures { Passes tables.now 6 result }
+{
+    pass(alloc, Check::Unknown, tables)?;
+    pass(alloc, Check::NoEquation, tables)?;
+    pass(alloc, Check::TwoEquations, tables)?;
+    pass(alloc, Check::EquationForInput, tables)?;
+    has_main(alloc, tables)
+}
+
+fn few_functions(alloc: Global, tables: &Tables) -> Result<(), Or<NameFault>>
+    ensures { Shows NameKind.Limit (λ o. o ≡ functions_limit tables.now) result }
+{
+    match within(64, tables.scopes().len() as u64, "functions") {
+        Ok(()) => Ok(()),
+        Err(error) => Err(located(alloc, NameKind::Limit, 0, error)),
+    }
+}
+
+/// Refuses a quantity that passes its limit.
+pub fn check_limits(alloc: Global, tables: &Tables) -> Result<(), Or<NameFault>>
+    requires room { length tables.now < 2 ^ 32 }
+    requires cleared { Cleared tables.now 9 }
+    ensures { Passes tables.now 10 result }
+{
+    few_functions(alloc, tables)?;
+    check_all(alloc, Check::Variables, tables)?;
+    check_all(alloc, Check::Inputs, tables)?;
+    check_all(alloc, Check::Outputs, tables)
+}

@@ -1,0 +1,19 @@
+//! Names to numbers: from a syntax tree to a program.
+#![tactic(auto)]
+
+mod calls;
+mod checks;
+mod delays;
+mod expression;
+mod fault;
+mod function;
+mod known;
+mod names;
+mod program;
+mod scope;
+mod tables;
+#[cfg(test)]
+mod tests;
+
+pub use fault::{NameFault, NameKind};
+pub use program::resolve;

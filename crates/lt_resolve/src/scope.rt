@@ -1,0 +1,206 @@
+// A function of the tree with the table of its variables.
+ghost use Rattle.std.specs.Prelude.{◌≡◌, ◌++◌, ◌∷◌, [], ◌^◌, ◌-◌, min, ℕ, List, IfOk, OnOk, length, map};
+ghost use Rattle.lt_resolve.specs.Names.{among, if_missing, if_among, repeated, first_some};
+ghost use Rattle.lt_resolve.specs.Scopes.{names_of, variables, lefts};
+ghost use Rattle.lt_resolve.specs.Faults.{unknown_clock, unknown_declared, unknown_equation, unknown_in, no_equation_in, two_equations_in, input_equation_in, size};
+ghost use Rattle.lt_resolve.specs.Told.{Tells};
+
+use crate::delays::all_delays;
+use crate::known::known;
+use crate::names::Names;
+use lt_base::{List, Memory, Name, Or};
+use lt_syntax::{DeclText, EqText, NodeText};
+use std::alloc::Global;
+use std::marker::Model;
+
+/// A function of the tree, with the table of its variables.
+#[derive(Drop)]
+pub struct Scope<'a> {
+    node: &'a NodeText,
+    variables: Names<'a>,
+}
+
+impl<'a> Model for Scope<'a> {
+    ghost use Rattle.std.specs.Prelude.{◌≡◌};
+    ghost use Rattle.lt_syntax.specs.declared.tree.NodeText.{NodeText};
+    ghost use Rattle.lt_syntax.specs.contracts.tree.NodeText.{the_row};
+    ghost use Rattle.lt_resolve.specs.Scopes as scopes;
+
+    ghost Value = { NodeText };
+
+    ghost coded = { the_row.coded };
+
+    ghost view = { λ s. s.node.now };
+
+    ghost invariant = { λ s. s.variables ≡ scopes.variables s.node.now };
+}
+
+/// Appends declared names; refuses one that is there.
+fn declare<'a>(names: &mut Names<'a>, decls: &'a List<DeclText>) -> Result<(), Or<&'a str>>
+    ensures told { Tells (repeated names.old (names_of decls.now)) result }
+    ensures ok { OnOk result (names.new ≡ names.old ++ names_of decls.now) }
+{
+    'decls: for decl in decls.as_slice() {
+        let name = decl.name.as_str();
+        if !names.insert(name)? {
+            return Err(Or::Fault(name));
+        }
+    }
+    Ok(())
+}
+
+/// The left sides of equations, each once.
+fn table_of_lefts<'a>(alloc: Global, eqs: &'a List<EqText>) -> Result<Names<'a>, Memory>
+    ensures { IfOk result (λ names. (x : List ℕ) → among names x ≡ among (map (λ q. q.0) eqs.now) x) }
+{
+    let mut names = Names::new(alloc);
+    'eqs: for eq in eqs.as_slice() {
+        names.insert(eq.left().as_str())?;
+    }
+    Ok(names)
+}
+
+/// Refuses the first declared name that is not in the table.
+fn all_among<'t>(names: &Names, decls: &'t List<DeclText>) -> Result<(), Or<&'t str>>
+    ensures { Tells (first_some (if_missing names.now) (names_of decls.now)) result }
+{
+    'decls: for decl in decls.as_slice() {
+        names.check(decl.name.as_str())?;
+    }
+    Ok(())
+}
+
+fn clock_known<'t>(variables: &Names, clock: &'t List<(Name, bool)>) -> Result<(), Or<&'t str>>
+    ensures { Tells (unknown_clock variables.now clock.now) result }
+{
+    'pairs: for pair in clock.as_slice() {
+        variables.check(pair.0.as_str())?;
+    }
+    Ok(())
+}
+
+fn clocks_known<'t>(variables: &Names, decls: &'t List<DeclText>) -> Result<(), Or<&'t str>>
+    ensures { Tells (unknown_declared variables.now decls.now) result }
+{
+    'decls: for decl in decls.as_slice() {
+        clock_known(variables, &decl.clock)?;
+    }
+    Ok(())
+}
+
+fn equation_known<'t>(
+    variables: &Names,
+    functions: &Names,
+    eq: &'t EqText,
+) -> Result<(), Or<&'t str>>
+    ensures { Tells (unknown_equation variables.now functions.now eq.now) result }
+{
+    variables.check(eq.left().as_str())?;
+    known(variables, functions, eq.right())
+}
+
+fn equations_known<'t>(
+    variables: &Names,
+    functions: &Names,
+    eqs: &'t List<EqText>,
+) -> Result<(), Or<&'t str>>
+    ensures { Tells (first_some (unknown_equation variables.now functions.now) eqs.now) result }
+{
+    'eqs: for eq in eqs.as_slice() {
+        equation_known(variables, functions, eq)?;
+    }
+    Ok(())
+}
+
+impl<'a> Scope<'a> {
+    /// The function with its variables; refuses a variable that was declared before.
+    pub fn of(alloc: Global, node: &'a NodeText) -> Result<Scope<'a>, Or<&'a str>>
+        ensures told { Tells (repeated [] (variables node.now)) result }
+        ensures ok { IfOk result (λ s. s ≡ node.now) }
+    {
+        let mut variables = Names::new(alloc);
+        declare(&mut variables, &node.ins)?;
+        declare(&mut variables, &node.outs)?;
+        declare(&mut variables, &node.locals)?;
+        Ok(Scope { node, variables })
+    }
+
+    pub fn node(&self) -> &'a NodeText
+        ensures { result.now ≡ self.now }
+    {
+        self.node
+    }
+
+    pub fn variables(&self) -> &Names<'a>
+        ensures { result.now ≡ variables self.now }
+    {
+        &self.variables
+    }
+
+    /// Refuses the first name in it that is not declared.
+    pub fn unknown(&self, functions: &Names) -> Result<(), Or<&'a str>>
+        ensures { Tells (unknown_in functions.now self.now) result }
+    {
+        clocks_known(&self.variables, &self.node.ins)?;
+        clocks_known(&self.variables, &self.node.outs)?;
+        clocks_known(&self.variables, &self.node.locals)?;
+        equations_known(&self.variables, functions, &self.node.eqs)
+    }
+
+    /// Refuses the first output or local without an equation.
+    pub fn no_equation(&self, alloc: Global) -> Result<(), Or<&'a str>>
+        ensures { Tells (no_equation_in self.now) result }
+    {
+        let lefts = table_of_lefts(alloc, &self.node.eqs)?;
+        all_among(&lefts, &self.node.outs)?;
+        all_among(&lefts, &self.node.locals)
+    }
+
+    /// Refuses the first second equation of a variable.
+    pub fn two_equations(&self, alloc: Global) -> Result<(), Or<&'a str>>
+        ensures { Tells (two_equations_in self.now) result }
+    {
+        let mut names = Names::new(alloc);
+        'eqs: for eq in self.node.eqs.as_slice() {
+            let name = eq.left().as_str();
+            if !names.insert(name)? {
+                return Err(Or::Fault(name));
+            }
+        }
+        Ok(())
+    }
+
+    fn is_input(&self, name: &str) -> bool
+        ensures { result ≡ among (names_of self.now.ins) name.now }
+    {
+        match self.variables.number(name) {
+            Some(i) => i < self.node.ins.len(),
+            None => false,
+        }
+    }
+
+    /// Refuses the first equation of an input.
+    pub fn input_equation(&self) -> Result<(), Or<&'a str>>
+        ensures { Tells (input_equation_in self.now) result }
+    {
+        'eqs: for eq in self.node.eqs.as_slice() {
+            let name = eq.left().as_str();
+            if self.is_input(name) {
+                return Err(Or::Fault(name));
+            }
+        }
+        Ok(())
+    }
+
+    /// The number of its variables and delays, cut at the greatest number.
+    pub fn size(&self) -> u64
+        ensures { result ≡ min (size self.now) (2 ^ 64 - 1) }
+    {
+        let ins = self.node.ins.len() as u64;
+        let outs = self.node.outs.len() as u64;
+        let locals = self.node.locals.len() as u64;
+        ins.saturating_add(outs)
+            .saturating_add(locals)
+            .saturating_add(all_delays(&self.node.eqs))
+    }
+}

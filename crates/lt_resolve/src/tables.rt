@@ -1,0 +1,107 @@
+// The functions of a tree with the tables of their names.
+ghost use Rattle.std.specs.Prelude.{◌≡◌, ◌++◌, ◌∷◌, [], ◌<◌, ◌^◌, IfOk, OnOk, length};
+ghost use Rattle.std.specs.Option.{option_or};
+ghost use Rattle.lt_resolve.specs.Names.{if_among, repeated};
+ghost use Rattle.lt_resolve.specs.Scopes.{variables, functions};
+ghost use Rattle.lt_resolve.specs.Faults.{First};
+ghost use Rattle.lt_resolve.specs.Told.{Tells, Shows};
+ghost use Rattle.lt_resolve.specs.Checks.{Locates};
+
+use crate::fault::{NameFault, NameKind};
+use crate::names::Names;
+use crate::scope::Scope;
+use lt_base::{Name, Or};
+use lt_syntax::{NodeText, Tree};
+use std::alloc::Global;
+use std::marker::Model;
+
+/// The functions of a tree, with the tables of their names.
+#[derive(Drop)]
+pub struct Tables<'a> {
+    functions: Names<'a>,
+    scopes: Vec<Scope<'a>>,
+}
+
+impl<'a> Model for Tables<'a> {
+    ghost use Rattle.std.specs.Prelude.{◌≡◌, List};
+    ghost use Rattle.std.specs.Coded.{coded_list};
+    ghost use Rattle.lt_syntax.specs.declared.tree.NodeText.{NodeText};
+    ghost use Rattle.lt_syntax.specs.contracts.tree.NodeText.{the_row};
+    ghost use Rattle.lt_resolve.specs.Scopes as declared;
+
+    ghost Value = { List NodeText };
+
+    ghost coded = { coded_list the_row.coded };
+
+    ghost view = { λ t. t.scopes.items };
+
+    ghost invariant = { λ t. t.functions ≡ declared.functions t.scopes.items };
+}
+
+/// The fault of this kind at a name that stands in the function of this number.
+pub fn located(alloc: Global, kind: NameKind, function: usize, error: Or<&str>) -> Or<NameFault>
+    requires { function < 2 ^ 32 }
+    ensures { Locates kind function error.entry result }
+{
+    match error {
+        Or::Fault(name) => match Name::from_str(alloc, name) {
+            Ok(name) => Or::Fault(NameFault {
+                kind,
+                func: function as u32,
+                name,
+            }),
+            Err(_) => Or::Memory,
+        },
+        Or::Memory => Or::Memory,
+    }
+}
+
+/// The function with its variables, behind those of these names; refuses a name that is one of them, and a second
+/// variable of a name.
+fn next<'a>(
+    alloc: Global,
+    functions: &mut Names<'a>,
+    node: &'a NodeText,
+) -> Result<Scope<'a>, Or<&'a str>>
+    ensures told { Tells (option_or (if_among functions.old node.now.name) (repeated [] (variables node.now))) result }
+    ensures scope { IfOk result (λ s. s ≡ node.now) }
+    ensures names { OnOk result (functions.new ≡ functions.old ++ node.now.name ∷ []) }
+{
+    let name = node.name.as_str();
+    if !functions.insert(name)? {
+        return Err(Or::Fault(name));
+    }
+    Scope::of(alloc, node)
+}
+
+impl<'a> Tables<'a> {
+    /// The tables of a tree; refuses a second function, or a second variable of a function, of one name.
+    pub fn of(alloc: Global, t: &'a Tree) -> Result<Tables<'a>, Or<NameFault>>
+        requires { length t.now < 2 ^ 32 }
+        ensures shown { Shows NameKind.Twice (First t.now NameKind.Twice) result }
+        ensures tree { IfOk result (λ tables. tables ≡ t.now) }
+    {
+        let nodes = t.nodes.as_slice();
+        let mut functions = Names::new(alloc);
+        let mut scopes = Vec::with_capacity(alloc, nodes.len())?;
+        'nodes: for (i, node) in nodes.iter().enumerate() {
+            match next(alloc, &mut functions, node) {
+                Ok(scope) => scopes.push(scope)?,
+                Err(error) => return Err(located(alloc, NameKind::Twice, i, error)),
+            }
+        }
+        Ok(Tables { functions, scopes })
+    }
+
+    pub fn functions(&self) -> &Names<'a>
+        ensures { result.now ≡ functions self.now }
+    {
+        &self.functions
+    }
+
+    pub fn scopes(&self) -> &[Scope<'a>]
+        ensures { result.now ≡ self.now }
+    {
+        self.scopes.as_slice()
+    }
+}

@@ -1,0 +1,176 @@
+use crate::{NameKind, resolve};
+use lt_base::Or;
+use lt_syntax::parse;
+use std::alloc::{AllocError, Global};
+use std::test::Fail;
+
+fn number(kind: NameKind) -> u32 {
+    match kind {
+        NameKind::Twice => 1,
+        NameKind::Unknown => 2,
+        NameKind::NoEquation => 3,
+        NameKind::TwoEquations => 4,
+        NameKind::EquationForInput => 5,
+        NameKind::NoMain => 6,
+        NameKind::WrongCount => 7,
+        NameKind::NotOneOutput => 8,
+        NameKind::Recursive => 9,
+        NameKind::Limit => 10,
+    }
+}
+
+/// Whether the text's fault has this number, function and name; the number 0 stands for a program.
+fn answers(alloc: Global, text: &str, kind: u32, func: u32, name: &str) -> bool {
+    let Ok(tree) = parse(alloc, text.as_bytes()) else {
+        return false;
+    };
+    if tree.nodes.len() > 1000 {
+        return false;
+    }
+    match resolve(alloc, &tree) {
+        Ok(_) => kind == 0,
+        Err(Or::Fault(fault)) => {
+            number(fault.kind) == kind && fault.func == func && fault.name.as_str() == name
+        }
+        Err(Or::Memory) => false,
+    }
+}
+
+#[test]
+fn one_function(rt: HostRuntime) {
+    let alloc = rt.alloc();
+    let rows = [
+        (
+            "node main(x: int) returns (y: int) let y = 0 fby (y + x); tel",
+            0,
+            "",
+        ),
+        (
+            "node main(x, x: int) returns (y: int) let y = x; tel",
+            1,
+            "x",
+        ),
+        ("node main(x: int) returns (y: int) let y = z; tel", 2, "z"),
+        (
+            "node main(x: int) returns (y: int when c) let y = f(z); tel",
+            2,
+            "c",
+        ),
+        (
+            "node main(x: int) returns (y: int) let y = f(z); tel",
+            2,
+            "f",
+        ),
+        ("node main(x: int) returns (y: int) let tel", 3, "y"),
+        (
+            "node main(x: int) returns (y: int) let y = x; y = x; tel",
+            4,
+            "y",
+        ),
+        (
+            "node main(x: int) returns (y: int) let y = x; x = y; x = y; tel",
+            4,
+            "x",
+        ),
+        (
+            "node main(x: int) returns (y: int) let y = x; x = y; tel",
+            5,
+            "x",
+        ),
+        ("node f(x: int) returns (y: int) let y = x; tel", 6, "main"),
+        (
+            "node main(x: int) returns (y: int) let y = min(x); tel",
+            7,
+            "min",
+        ),
+        (
+            "node main(x: int) returns (y: int) let y = min(x, 1); tel",
+            0,
+            "",
+        ),
+    ];
+    for (text, kind, name) in rows {
+        assert!(rt; answers(alloc, text, kind, 0, name), "{text}");
+    }
+}
+
+#[test]
+fn calls(rt: HostRuntime) {
+    let alloc = rt.alloc();
+    let rows = [
+        (
+            "node f(a: int) returns (b: int) let b = a; tel node main(x: int) returns (y: int) let y = f(x); tel",
+            0,
+            0,
+            "",
+        ),
+        (
+            "node f(a: int) returns (b: int) let b = a; tel node main(x: int) returns (y: int) let y = f(x, x); tel",
+            7,
+            1,
+            "f",
+        ),
+        (
+            "node f(a: int) returns (b, c: int) let b = a; c = a; tel node main(x: int) returns (y: int) let y = f(x); tel",
+            8,
+            1,
+            "f",
+        ),
+        (
+            "node f(a: int) returns (b: int) let b = f(a); tel node main(x: int) returns (y: int) let y = x; tel",
+            9,
+            0,
+            "f",
+        ),
+        (
+            "node main(x: int) returns (y: int) let y = f(x); tel node f(a: int) returns (b: int) let b = g(a); tel node g(a: int) returns (b: int) let b = f(a); tel",
+            9,
+            1,
+            "g",
+        ),
+        (
+            "node min(a: int) returns (b: int) let b = a; tel node main(x: int) returns (y: int) let y = min(x); tel",
+            0,
+            0,
+            "",
+        ),
+        (
+            "node f(a: int) returns (b: int) let b = a; tel node f(a: int) returns (b: int) let b = a; tel",
+            1,
+            1,
+            "f",
+        ),
+    ];
+    for (text, kind, func, name) in rows {
+        assert!(rt; answers(alloc, text, kind, func, name), "{text}");
+    }
+}
+
+/// A text that repeats a part, with a number behind each.
+fn repeated(alloc: Global, part: &str, times: u32, rest: &str) -> Result<String, AllocError> {
+    let mut text = String::new(alloc);
+    for i in 0..times {
+        write!(text, "{part}{i}{rest}")?;
+    }
+    Ok(text)
+}
+
+#[test]
+fn limits(rt: HostRuntime) -> Result<(), Fail> {
+    let alloc = rt.alloc();
+    let nodes = repeated(
+        alloc,
+        "node f",
+        64,
+        "(a: int) returns (b: int) let b = a; tel ",
+    )?;
+    let more = format!(in alloc; "{nodes}node main(x: int) returns (y: int) let y = x; tel")?;
+    assert!(rt; answers(alloc, more.as_str(), 10, 0, "functions"));
+    let names = repeated(alloc, ", x", 64, "")?;
+    let inputs = format!(in alloc; "node main(x{names}: int) returns (y: int) let y = x; tel")?;
+    assert!(rt; answers(alloc, inputs.as_str(), 10, 0, "inputs"));
+    let lefts = repeated(alloc, " x", 64, " = 1;")?;
+    let outputs = format!(in alloc; "node main() returns (y{names}: int) let y = 1;{lefts} tel")?;
+    assert!(rt; answers(alloc, outputs.as_str(), 10, 0, "outputs"));
+    Ok(())
+}
