@@ -15,7 +15,8 @@ use Rattle.lt_cli.proofs.Refusals.{load_not_words, run_not_words}
 -- the status of the words comes with no command
 asks_nothing : (named : List ℕ → Option (List ℕ)) (said : Option Said) (outcome : Result (List ℕ) Refusal) → asked_verdict named said outcome → status_of outcome ≡ status.Words → AsksNothing said
 asks_nothing named None outcome right is = tt
-asks_nothing named (Some (check program)) outcome right is = tt
+asks_nothing named (Some (check program)) (Ok text) right is = cc
+asks_nothing named (Some (check program)) (Err r) right is = load_not_words right.0 (sym (ap refusal_status right.2) ∙ is)
 asks_nothing named (Some (meaning program inputs)) outcome right is = tt
 asks_nothing named (Some (run program inputs schedule)) (Ok text) right is = cc
 asks_nothing named (Some (run program inputs schedule)) (Err r) right is = run_not_words right.0 (sym (ap refusal_status right.2) ∙ is)
@@ -25,7 +26,7 @@ asks_nothing named (Some (plan config horizon)) (Err r) right is = load_not_word
 -- words that say no command are refused
 refused_words : (named : List ℕ → Option (List ℕ)) (said : Option Said) (outcome : Result (List ℕ) Refusal) → asked_verdict named said outcome → AsksNothing said → outcome ≡ Err Words
 refused_words named None outcome right none = right
-refused_words named (Some (check program)) outcome right none = right
+refused_words named (Some (check program)) outcome right none = absurd none
 refused_words named (Some (meaning program inputs)) outcome right none = right
 refused_words named (Some (run program inputs schedule)) outcome right none = absurd none
 refused_words named (Some (plan config horizon)) outcome right none = absurd none

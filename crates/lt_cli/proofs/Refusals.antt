@@ -1,6 +1,7 @@
 -- Refusals, and their statuses.
-use Rattle.std.proofs.Common.{◌≡◌, List, refl}
-use Rattle.std.specs.Prelude.{codes}
+use Rattle.std.proofs.Common.{◌≡◌, List, Bool, true, false, refl}
+use Rattle.std.specs.Prelude.{codes, if◌then◌else◌}
+use Rattle.lt_front.specs.Limits.{is_limit}
 use Rattle.lt_answer.specs.World.{Blame, Content, Reading, Linking}
 use Rattle.lt_rows.specs.declared.fault.RowFault.TheVariants.{Header, Time, Kind, UnknownPlace, NotCsv, TooMany}
 use Rattle.lt_run.specs.declared.fault.Part.TheVariants as part
@@ -15,9 +16,14 @@ use Rattle.lt_cli.specs.declared.status.Status.TheVariants as status
 use Rattle.lt_cli.specs.Blamed.{blame_of}
 use Rattle.lt_cli.specs.Texts.{refusal_status, line_of}
 
+program_or_limit : (b : Bool) (code : Status) → (status.Limit ≡ code → ⊥) → (status.Program ≡ code → ⊥) → (if b then status.Limit else status.Program) ≡ code → ⊥
+program_or_limit true code p q is = p is
+program_or_limit false code p q is = q is
+
 -- no refusal has the status of success
 pub not_ok : (r : Refusal) → refusal_status r ≡ status.Ok → ⊥
 not_ok Words is = cc
+not_ok (Load (load.Program fault)) is = program_or_limit (is_limit fault) status.Ok (λ h. cc) (λ h. cc) is
 not_ok (Load (load.Config fault)) is = cc
 not_ok (Load (load.Limit what)) is = cc
 not_ok (Load load.Read) is = cc
@@ -36,6 +42,7 @@ not_ok (Run Read) is = cc
 -- nor that of a failed write
 pub not_write : (r : Refusal) → refusal_status r ≡ status.Write → ⊥
 not_write Words is = cc
+not_write (Load (load.Program fault)) is = program_or_limit (is_limit fault) status.Write (λ h. cc) (λ h. cc) is
 not_write (Load (load.Config fault)) is = cc
 not_write (Load (load.Limit what)) is = cc
 not_write (Load load.Read) is = cc
@@ -53,6 +60,7 @@ not_write (Run Read) is = cc
 
 -- only the words have theirs
 pub load_not_words : (e : LoadFault) → refusal_status (Load e) ≡ status.Words → ⊥
+load_not_words (load.Program fault) is = program_or_limit (is_limit fault) status.Words (λ h. cc) (λ h. cc) is
 load_not_words (load.Config fault) is = cc
 load_not_words (load.Limit what) is = cc
 load_not_words load.Read is = cc
@@ -73,6 +81,7 @@ run_not_words Read is = cc
 -- a failed call on the files has its own status and line
 pub outside_blames : (r : Refusal) → refusal_status r ≡ status.Outside → blame_of r ≡ Reading
 outside_blames Words is = cc
+outside_blames (Load (load.Program fault)) is = absurd (program_or_limit (is_limit fault) status.Outside (λ h. cc) (λ h. cc) is)
 outside_blames (Load (load.Config fault)) is = cc
 outside_blames (Load (load.Limit what)) is = cc
 outside_blames (Load load.Read) is = refl
@@ -90,6 +99,7 @@ outside_blames (Run Read) is = refl
 
 pub reading_line : (r : Refusal) → blame_of r ≡ Reading → line_of r ≡ codes "fault: read"
 reading_line Words is = cc
+reading_line (Load (load.Program fault)) is = cc
 reading_line (Load (load.Config fault)) is = cc
 reading_line (Load (load.Limit what)) is = cc
 reading_line (Load load.Read) is = refl
@@ -102,6 +112,7 @@ reading_line (Run Read) is = refl
 -- no command sends messages
 pub not_linking : (r : Refusal) → blame_of r ≡ Linking → ⊥
 not_linking Words is = cc
+not_linking (Load (load.Program fault)) is = cc
 not_linking (Load (load.Config fault)) is = cc
 not_linking (Load (load.Limit what)) is = cc
 not_linking (Load load.Read) is = cc
@@ -112,6 +123,7 @@ not_linking (Run (Limit what)) is = cc
 not_linking (Run Read) is = cc
 
 pub load_reads : (e : LoadFault) → blame_of (Load e) ≡ Reading → e ≡ load.Read
+load_reads (load.Program fault) is = cc
 load_reads (load.Config fault) is = cc
 load_reads (load.Limit what) is = cc
 load_reads load.Read is = refl

@@ -22,7 +22,7 @@ pub record TookText (text : List ℕ) (old new : Objects) : Type 0 where
 -- no command that is built
 abbrev pub AsksNothing : Option Said → Type 0
 AsksNothing None = Unit {0}
-AsksNothing (Some (check program)) = Unit {0}
+AsksNothing (Some (check program)) = ⊥
 AsksNothing (Some (meaning program inputs)) = Unit {0}
 AsksNothing (Some (run program inputs schedule)) = ⊥
 AsksNothing (Some (plan config horizon)) = ⊥

@@ -1,11 +1,13 @@
 -- What is right to print for the words and the bytes of the files.
 use Rattle.std.specs.Prelude.{◌≡◌, ℕ, List, Option, Some, None, Ok, Err}
+use Rattle.lt_print.specs.Canonical.{canonical}
+use Rattle.lt_front.specs.Checked.{CheckedText}
 use Rattle.lt_plan.specs.Text.{plan_of}
 use Rattle.lt_words.specs.Reading.{Said, check, meaning, run, plan, command_of}
 use Rattle.lt_answer.specs.Answered.{Verdict}
 use Rattle.lt_verdict.specs.Rules.{Raised, Shown}
 use Rattle.lt_run.specs.declared.printed.Printed.{Printed}
-use Rattle.lt_run.specs.Loaded.{config_verdict}
+use Rattle.lt_run.specs.Loaded.{program_verdict, config_verdict}
 use Rattle.lt_run.specs.Run.{run_verdict}
 use Rattle.lt_cli.specs.declared.refusal.Refusal.{Refusal}
 use Rattle.lt_cli.specs.declared.refusal.Refusal.TheVariants.{Words, Load, Run}
@@ -15,13 +17,17 @@ use Rattle.lt_cli.specs.Texts.{outputs_text}
 abbrev pub text_verdict : {T E : Type 0} → (E → Refusal) → (T → List ℕ) → Verdict T E → Verdict (List ℕ) Refusal
 text_verdict raise shown V = Raised raise (Shown shown V)
 
+-- a program in its canonical form
+abbrev pub checked_text : CheckedText → List ℕ
+checked_text checked = canonical checked.tree
+
 -- the outputs of a run
 abbrev pub printed_text : Printed → List ℕ
 printed_text printed = outputs_text printed.names printed.cells
 
--- a command on these files; `check` and `meaning` are not built yet, and are no command
+-- a command on these files; `meaning` is not built yet, and is no command
 abbrev pub command_verdict : (named : List ℕ → Option (List ℕ)) → Said → Verdict (List ℕ) Refusal
-command_verdict named (check program) outcome = outcome ≡ Err Words
+command_verdict named (check program) outcome = text_verdict Load checked_text (program_verdict (named program)) outcome
 command_verdict named (meaning program inputs) outcome = outcome ≡ Err Words
 command_verdict named (run program inputs schedule) outcome = text_verdict Run printed_text (run_verdict named program inputs schedule) outcome
 command_verdict named (plan config horizon) outcome = text_verdict Load (λ setup. plan_of setup horizon) (config_verdict (named config)) outcome

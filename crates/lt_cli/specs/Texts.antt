@@ -1,12 +1,12 @@
 -- What is printed: the lines of refusals, and the text of outputs.
-use Rattle.std.specs.Prelude.{ℕ, true, false, List, [], ◌++◌, ◌∷◌, codes, zip, Result, Ok, Err}
+use Rattle.std.specs.Prelude.{ℕ, true, false, List, [], ◌++◌, ◌∷◌, codes, zip, Result, Ok, Err, if◌then◌else◌}
 use Rattle.std.specs.List.{flat_map}
 use Rattle.std.specs.Fmt.{signed_decimal}
 use Rattle.lt_base.specs.declared.value.Value.TheVariants.{Int, Bool as Truth}
 use Rattle.lt_base.specs.declared.value.Cell.{Cell}
 use Rattle.lt_base.specs.declared.value.Cell.TheVariants.{Absent, Here}
 use Rattle.lt_run.specs.declared.fault.Part.TheVariants as part
-use Rattle.lt_run.specs.declared.fault.What.TheVariants.{ConfigBytes, ScheduleBytes}
+use Rattle.lt_run.specs.declared.fault.What.TheVariants.{ProgramBytes, ConfigBytes, ScheduleBytes}
 use Rattle.lt_run.specs.declared.fault.What.{What}
 use Rattle.lt_run.specs.declared.fault.LoadFault.{LoadFault}
 use Rattle.lt_run.specs.declared.fault.LoadFault.TheVariants as load
@@ -15,6 +15,8 @@ use Rattle.lt_run.specs.declared.fault.RunFault.TheVariants.{NotBuilt, Row, Offe
 use Rattle.lt_rows.specs.declared.fault.RowFault.{RowFault}
 use Rattle.lt_rows.specs.declared.fault.RowFault.TheVariants.{Header, Time, Kind, UnknownPlace, NotCsv, TooMany}
 use Rattle.lt_small.specs.Schedule.{one_node}
+use Rattle.lt_front.specs.Limits.{is_limit}
+use Rattle.lt_texts.specs.Lines.{program_line}
 use Rattle.lt_cli.specs.Lines.{config_line}
 use Rattle.lt_cli.specs.ScheduleLines.{row_line, offence_line}
 use Rattle.lt_cli.specs.declared.refusal.Refusal.{Refusal}
@@ -25,10 +27,12 @@ use Rattle.lt_cli.specs.declared.status.Status.TheVariants as status
 -- what is printed of a refusal, without its line feed
 
 abbrev pub limit_line : What → List ℕ
+limit_line ProgramBytes = codes "limit: program bytes 1048576"
 limit_line ConfigBytes = codes "limit: config bytes 262144"
 limit_line ScheduleBytes = codes "limit: schedule bytes 1073741824"
 
 abbrev pub load_line : LoadFault → List ℕ
+load_line (load.Program fault) = program_line fault
 load_line (load.Config fault) = config_line fault
 load_line (load.Limit what) = limit_line what
 load_line load.Read = codes "fault: read"
@@ -42,13 +46,14 @@ run_line (Limit what) = limit_line what
 run_line Read = codes "fault: read"
 
 abbrev pub line_of : Refusal → List ℕ
-line_of Words = codes "words: usage: ltta run P I S | plan C [--horizon H]"
+line_of Words = codes "words: usage: ltta check P | run P I S | plan C [--horizon H]"
 line_of (Load fault) = load_line fault
 line_of (Run fault) = run_line fault
 
 -- the status of a refusal
 
 abbrev pub load_status : LoadFault → Status
+load_status (load.Program fault) = if is_limit fault then status.Limit else status.Program
 load_status (load.Config fault) = status.Setup
 load_status (load.Limit what) = status.Limit
 load_status load.Read = status.Outside

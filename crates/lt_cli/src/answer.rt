@@ -1,6 +1,6 @@
 // What is printed for the words.
 ghost use Rattle.std.specs.Prelude.{◌<◌, ◌-◌, ◌^◌, map, string_bytes};
-ghost use Rattle.lt_words.specs.Reading.{plan, run as ask_run};
+ghost use Rattle.lt_words.specs.Reading.{check, plan, run as ask_run};
 ghost use Rattle.lt_answer.specs.World.{alone};
 ghost use Rattle.lt_answer.specs.Answered.{Answered};
 ghost use Rattle.lt_cli.specs.Blamed.{blame_of};
@@ -11,7 +11,8 @@ use crate::print::outputs_text;
 use lt_base::{List, Or};
 use lt_io::Files;
 use lt_plan::plan_text;
-use lt_run::{load_config, run};
+use lt_print::print;
+use lt_run::{load_config, load_program, run};
 use lt_words::{Command, read_words};
 use std::alloc::Global;
 
@@ -25,6 +26,7 @@ pub fn answer<F: Files>(
     ensures { Answered blame_of (words_verdict (F.state files.old).named (map string_bytes words.now)) (alone (F.state files.old)) (alone (F.state files.new)) result }
 {
     match read_words(alloc, words)? {
+        Some(Command::Check { program }) => check_answer(alloc, files, program),
         Some(
             Command::Run {
                 program,
@@ -35,6 +37,21 @@ pub fn answer<F: Files>(
         Some(Command::Plan { config, horizon }) => plan_answer(alloc, files, config, horizon),
         // No other command is built yet.
         _ => Err(Or::Fault(Refusal::Words)),
+    }
+}
+
+// The canonical text of a program that passes all checks.
+fn check_answer<F: Files>(
+    alloc: Global,
+    files: &mut F,
+    program: &str,
+) -> Result<List<u8>, Or<Refusal>>
+    requires { (F.state files.old).faults < 2 ^ 64 - 1 }
+    ensures { Answered blame_of (command_verdict (F.state files.old).named (check program.now)) (alone (F.state files.old)) (alone (F.state files.new)) result }
+{
+    match load_program(alloc, files, program) {
+        Ok(checked) => Ok(print(alloc, &checked.tree)?),
+        Err(e) => Err(e.map(Refusal::Load)),
     }
 }
 

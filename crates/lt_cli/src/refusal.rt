@@ -8,6 +8,7 @@ use crate::schedule_line::{offence_line, row_line};
 use lt_base::{List, Memory};
 use lt_rows::RowFault;
 use lt_run::{LoadFault, Part, RunFault, What, plain_shape};
+use lt_texts::program_line;
 use std::alloc::Global;
 
 /// Why a command is refused.
@@ -41,7 +42,7 @@ impl Refusal {
             Refusal::Words => {
                 List::from_slice(
                     alloc,
-                    b"words: usage: ltta run P I S | plan C [--horizon H]",
+                    b"words: usage: ltta check P | run P I S | plan C [--horizon H]",
                 )
             }
             Refusal::Load(fault) => load_line(alloc, fault),
@@ -54,6 +55,12 @@ fn load_status(fault: &LoadFault) -> Status
     ensures { result ≡ load_status fault.now }
 {
     match fault {
+        LoadFault::Program(fault) => {
+            if fault.is_limit() {
+                return Status::Limit;
+            }
+            Status::Program
+        }
         LoadFault::Config(_) => Status::Setup,
         LoadFault::Limit(_) => Status::Limit,
         LoadFault::Read => Status::Outside,
@@ -64,6 +71,7 @@ fn load_line(alloc: Global, fault: &LoadFault) -> Result<List<u8>, Memory>
     ensures { IfOk result (λ line. line ≡ load_line fault.now) }
 {
     match fault {
+        LoadFault::Program(fault) => program_line(alloc, fault),
         LoadFault::Config(fault) => config_line(alloc, fault),
         LoadFault::Limit(what) => limit_line(alloc, *what),
         LoadFault::Read => List::from_slice(alloc, b"fault: read"),
@@ -112,6 +120,7 @@ fn limit_line(alloc: Global, what: What) -> Result<List<u8>, Memory>
     ensures { IfOk result (λ line. line ≡ limit_line what) }
 {
     match what {
+        What::ProgramBytes => List::from_slice(alloc, b"limit: program bytes 1048576"),
         What::ConfigBytes => List::from_slice(alloc, b"limit: config bytes 262144"),
         What::ScheduleBytes => List::from_slice(alloc, b"limit: schedule bytes 1073741824"),
     }

@@ -3,15 +3,15 @@ ghost use Rattle.std.specs.Prelude.{◌≡◌, ◌≢◌, ◌<◌, ◌-◌, ◌^
 ghost use Rattle.lt_run.specs.declared.fault.LoadFault.TheVariants as load;
 ghost use Rattle.lt_run.specs.declared.fault.RunFault.TheVariants as running;
 ghost use Rattle.lt_plan.specs.Text.{plan_of};
-ghost use Rattle.lt_run.specs.Loaded.{config_verdict};
+ghost use Rattle.lt_run.specs.Loaded.{program_verdict, config_verdict};
 ghost use Rattle.lt_run.specs.Run.{run_verdict};
-ghost use Rattle.lt_words.specs.Reading.{command_of, plan, run};
+ghost use Rattle.lt_words.specs.Reading.{command_of, check, plan, run};
 ghost use Rattle.lt_cli.specs.Clauses.{IsWordsExact, IsExact, IsOutsideCaused, IsWriteCaused, IsMissingExact};
 ghost use Rattle.lt_cli.specs.Objects.{Objects, IsQuiet, Tells};
 ghost use Rattle.lt_cli.specs.Ran.{Ran};
 ghost use Rattle.lt_cli.specs.Texts.{refusal_status, line_of};
 ghost use Rattle.lt_cli.specs.Written.{Written};
-ghost use Rattle.lt_cli.specs.Commands.{printed_text, words_verdict};
+ghost use Rattle.lt_cli.specs.Commands.{checked_text, printed_text, words_verdict};
 
 use crate::answer::answer;
 use crate::{Refusal, Status};
@@ -40,6 +40,10 @@ pub fn ltta<F: Files, W: Fabric, O: Sink, E: Sink>(
     ensures words { let old : Objects = record { files = F.state files.old; fabric = W.state fabric.old; out = O.state out.old; err = E.state err.old } in
         let new : Objects = record { files = F.state files.new; fabric = W.state fabric.new; out = O.state out.new; err = E.state err.new } in
         Tells old → IsQuiet old new → result ≢ Status.Memory → IsWordsExact (map string_bytes words.now) old new result }
+    ensures check { let old : Objects = record { files = F.state files.old; fabric = W.state fabric.old; out = O.state out.old; err = E.state err.old } in
+        let new : Objects = record { files = F.state files.new; fabric = W.state fabric.new; out = O.state out.new; err = E.state err.new } in
+        (program : Items ℕ) → command_of (map string_bytes words.now) ≡ Some (check program) → Tells old → IsQuiet old new → result ≢ Status.Memory
+        → IsExact Refusal.Load checked_text (program_verdict (old.files.named program)) old new result }
     ensures plan { let old : Objects = record { files = F.state files.old; fabric = W.state fabric.old; out = O.state out.old; err = E.state err.old } in
         let new : Objects = record { files = F.state files.new; fabric = W.state fabric.new; out = O.state out.new; err = E.state err.new } in
         (config : Items ℕ) (horizon : Maybe ℕ) → command_of (map string_bytes words.now) ≡ Some (plan config horizon) → Tells old → IsQuiet old new → result ≢ Status.Memory
@@ -56,6 +60,10 @@ pub fn ltta<F: Files, W: Fabric, O: Sink, E: Sink>(
     ensures write { let old : Objects = record { files = F.state files.old; fabric = W.state fabric.old; out = O.state out.old; err = E.state err.old } in
         let new : Objects = record { files = F.state files.new; fabric = W.state fabric.new; out = O.state out.new; err = E.state err.new } in
         result ≡ Status.Write → IsWriteCaused old new }
+    ensures check_missing { let old : Objects = record { files = F.state files.old; fabric = W.state fabric.old; out = O.state out.old; err = E.state err.old } in
+        let new : Objects = record { files = F.state files.new; fabric = W.state fabric.new; out = O.state out.new; err = E.state err.new } in
+        (program : Items ℕ) → command_of (map string_bytes words.now) ≡ Some (check program) → IsTrue old.files.sound → result ≢ Status.Memory
+        → IsMissingExact load.Read (program_verdict (old.files.named program)) old new }
     ensures plan_missing { let old : Objects = record { files = F.state files.old; fabric = W.state fabric.old; out = O.state out.old; err = E.state err.old } in
         let new : Objects = record { files = F.state files.new; fabric = W.state fabric.new; out = O.state out.new; err = E.state err.new } in
         (config : Items ℕ) (horizon : Maybe ℕ) → command_of (map string_bytes words.now) ≡ Some (plan config horizon) → IsTrue old.files.sound → result ≢ Status.Memory

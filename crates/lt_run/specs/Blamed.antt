@@ -6,6 +6,7 @@ use Rattle.lt_run.specs.declared.fault.RunFault.TheVariants.{NotBuilt, Row, Offe
 use Rattle.lt_answer.specs.World.{Blame, Content, Reading}
 
 abbrev pub load_blame : LoadFault → Blame
+load_blame (load.Program fault) = Content
 load_blame (load.Config fault) = Content
 load_blame (load.Limit what) = Content
 load_blame load.Read = Reading

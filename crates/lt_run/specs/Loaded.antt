@@ -2,16 +2,19 @@
 use Rattle.std.specs.Prelude.{◌≡◌, ◌≤◌, ℕ, List, length, Option, Ok, Err}
 use Rattle.lt_answer.specs.Answered.{Verdict, AndThen, OfForm, OfFile}
 use Rattle.lt_verdict.specs.Rules.{Raised}
+use Rattle.lt_front.specs.Checked.{CheckedText}
+use Rattle.lt_front.specs.Front.{front_verdict}
 use Rattle.lt_config.specs.declared.config.Config.{Config}
 use Rattle.lt_config.specs.declared.fault.ConfigFault.{ConfigFault}
 use Rattle.lt_config.specs.Reading.{config_of, setup_in}
 use Rattle.lt_run.specs.declared.fault.What.{What}
-use Rattle.lt_run.specs.declared.fault.What.TheVariants.{ConfigBytes, ScheduleBytes}
+use Rattle.lt_run.specs.declared.fault.What.TheVariants.{ProgramBytes, ConfigBytes, ScheduleBytes}
 use Rattle.lt_run.specs.declared.fault.LoadFault.{LoadFault}
 use Rattle.lt_run.specs.declared.fault.LoadFault.TheVariants as fault
 
 -- the most bytes of a file
 abbrev pub limit_of : What → ℕ
+limit_of ProgramBytes = 1048576
 limit_of ConfigBytes = 262144
 limit_of ScheduleBytes = 1073741824
 
@@ -23,6 +26,10 @@ pub record IsWithin (most : ℕ) (bytes whole : List ℕ) : Type 0 where
 -- the bytes of a file, that they are too many, or that the file is missing
 unfoldable pub whole_verdict : What → Option (List ℕ) → Verdict (List ℕ) LoadFault
 whole_verdict what file = OfFile fault.Read file (λ bytes. OfForm (IsWithin (limit_of what) bytes) (fault.Limit what))
+
+-- the program of a file, through all checks
+abbrev pub program_verdict : Option (List ℕ) → Verdict CheckedText LoadFault
+program_verdict file = AndThen (whole_verdict ProgramBytes file) (λ bytes. Raised (λ e. fault.Program e) (front_verdict bytes))
 
 -- the setup of some bytes
 abbrev pub setup_verdict : List ℕ → Verdict Config ConfigFault

@@ -2,11 +2,13 @@
 
 use lt_arch::Offence;
 use lt_config::ConfigFault;
+use lt_front::ProgramFault;
 use lt_rows::RowFault;
 
 /// A limit on the bytes of a file.
 #[derive(Clone, Copy, Debug, PartialEq, Eq)]
 pub enum What {
+    ProgramBytes,
     ConfigBytes,
     ScheduleBytes,
 }
@@ -14,6 +16,8 @@ pub enum What {
 /// Why a command is refused by a file that it reads before it runs.
 #[derive(Drop)]
 pub enum LoadFault {
+    /// The program is at fault.
+    Program(ProgramFault),
     /// The setup is at fault.
     Config(ConfigFault),
     /// A file has more bytes than its limit.

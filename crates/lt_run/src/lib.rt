@@ -10,7 +10,7 @@ mod reading;
 mod scheduling;
 
 pub use fault::{LoadFault, Part, RunFault, What};
-pub use loading::load_config;
+pub use loading::{load_config, load_program};
 pub use one_node::run;
 pub use plain::plain_shape;
 pub use printed::Printed;

@@ -3,11 +3,12 @@ ghost use Rattle.std.specs.Prelude.{◌≡◌, ◌≤◌, ◌<◌, ◌-◌, ◌^
 ghost use Rattle.lt_answer.specs.World.{alone};
 ghost use Rattle.lt_answer.specs.Answered.{Answered};
 ghost use Rattle.lt_run.specs.Blamed.{load_blame};
-ghost use Rattle.lt_run.specs.Loaded.{limit_of, whole_verdict, config_verdict};
+ghost use Rattle.lt_run.specs.Loaded.{limit_of, whole_verdict, program_verdict, config_verdict};
 
 use crate::{LoadFault, What};
 use lt_base::{List, Or};
 use lt_config::{Config, read_config};
+use lt_front::{Checked, front};
 use lt_io::{Files, Whole, read_file};
 use std::alloc::Global;
 
@@ -17,6 +18,7 @@ impl What {
         ensures { result ≡ limit_of self }
     {
         match self {
+            What::ProgramBytes => 1_048_576,
             What::ConfigBytes => 262_144,
             What::ScheduleBytes => 1_073_741_824,
         }
@@ -46,6 +48,22 @@ pub(crate) fn fetch_within<F: Files>(
         Ok(Whole::TooLong) => Err(Or::Fault(LoadFault::Limit(what))),
         Err(Or::Fault(_)) => Err(Or::Fault(LoadFault::Read)),
         Err(Or::Memory) => Err(Or::Memory),
+    }
+}
+
+/// Reads a program's file, and the program through all checks.
+pub fn load_program<F: Files>(
+    alloc: Global,
+    files: &mut F,
+    name: &str,
+) -> Result<Checked, Or<LoadFault>>
+    requires { (F.state files.old).faults < 2 ^ 64 - 1 }
+    ensures { Answered load_blame (program_verdict ((F.state files.old).named name.now)) (alone (F.state files.old)) (alone (F.state files.new)) result }
+{
+    let bytes = fetch_within(alloc, files, name, What::ProgramBytes)?;
+    match front(alloc, bytes.as_slice()) {
+        Ok(checked) => Ok(checked),
+        Err(e) => Err(e.map(LoadFault::Program)),
     }
 }
 
