@@ -1,45 +1,45 @@
 -- Why a call of `ltta` ends as it does.
-use Rattle.std.proofs.Common.{◌≡◌, ◌≢◌, ◌<◌, ℕ, List, ◌++◌, Result, Ok, Err, IsTrue, refl, sym, ◌∙◌, ap, append-nil, inl, inr}
-use Rattle.lt_run.specs.declared.fault.Part.TheVariants as part
-use Rattle.lt_run.specs.declared.fault.RunFault.{RunFault}
-use Rattle.lt_run.specs.declared.fault.RunFault.TheVariants.{NotBuilt, Read}
-use Rattle.lt_run.specs.declared.printed.Printed.{Printed}
-use Rattle.lt_run.specs.World.{IsCalm, Reading}
-use Rattle.lt_run.specs.Answered.{Verdict, RefusesReading}
-use Rattle.lt_run.specs.Run.{run_verdict}
-use Rattle.lt_run.proofs.OneRefusal.{HasOneFault, one_refusal}
+use Rattle.std.proofs.Common.{◌≡◌, ◌≢◌, ◌<◌, ℕ, List, Option, Some, ◌++◌, ◌∷◌, [], Result, Ok, Err, IsTrue, refl, sym, ◌∙◌, ap, subst, append-nil, inl, inr}
+use Rattle.std.specs.Prelude.{codes}
+use Rattle.lt_answer.specs.Answered.{Verdict}
+use Rattle.lt_verdict.proofs.Decided.{HasOneKind}
+use Rattle.lt_answer.specs.World.{IsCalm, Blame, Content, Reading, Linking, Blames}
+use Rattle.lt_answer.specs.Answered.{RefusesReading}
 use Rattle.lt_cli.specs.declared.refusal.Refusal.{Refusal}
-use Rattle.lt_cli.specs.declared.refusal.Refusal.TheVariants.{Words, Run}
 use Rattle.lt_cli.specs.declared.status.Status.{Status}
 use Rattle.lt_cli.specs.declared.status.Status.TheVariants as status
 use Rattle.lt_cli.specs.Blamed.{blame_of}
-use Rattle.lt_cli.specs.Texts.{status_of, out_text, err_text}
-use Rattle.lt_cli.specs.Words.{AskRun}
-use Rattle.lt_cli.specs.Commands.{text_verdict, words_verdict}
+use Rattle.lt_cli.specs.Texts.{status_of, refusal_status, line_of, out_text, err_text}
+use Rattle.lt_words.specs.Reading.{Said, command_of}
+use Rattle.lt_cli.specs.Commands.{text_verdict, command_verdict, asked_verdict, words_verdict}
 use Rattle.lt_cli.specs.Objects.{Objects, world_of}
-use Rattle.lt_cli.specs.Ran.{Ran, Ends, Printed as IsPrinted, Reported, OutcomeBlames}
+use Rattle.lt_cli.specs.Ran.{Ran, Ends, Printed, Reported, OutcomeBlames}
 use Rattle.lt_cli.specs.Ran.{printed, unprinted, both_whole, out_broke, err_broke, both_short}
 use Rattle.lt_cli.specs.Clauses.{IsMissingExact, IsOutsideCaused, IsWriteCaused}
-use Rattle.lt_cli.proofs.Facts.{run_right, fault_outcome}
+use Rattle.lt_cli.proofs.Refusals.{not_write, outside_blames, reading_line, not_linking}
+use Rattle.lt_cli.proofs.Exact.{fault_status}
 
 -- a failed read
-read_outcome : (outcome : Result (List ℕ) Refusal) → status_of outcome ≡ status.Outside → outcome ≡ Err (Run Read)
-read_outcome (Ok text) is = cc
-read_outcome (Err Words) is = cc
-read_outcome (Err (Run (NotBuilt part.Program))) is = cc
-read_outcome (Err (Run (NotBuilt part.Inputs))) is = cc
-read_outcome (Err (Run (NotBuilt part.Schedule))) is = cc
-read_outcome (Err (Run Read)) is = refl
 
-outside_printed : (V : Verdict (List ℕ) Refusal) (old new : Objects) (ends : Status) (p : IsPrinted V old new ends) → Reported p.outcome old new ends → ends ≡ status.Outside → IsOutsideCaused old new
+rose_by : (old new : Objects) (r : Refusal) → blame_of r ≡ Reading → OutcomeBlames old new (Err r) → old.files.faults < new.files.faults
+rose_by old new r is cause = (subst (Blames (world_of old) (world_of new)) is cause).0
+
+outside_fault : (outcome : Result (List ℕ) Refusal) → status_of outcome ≡ status.Outside → (r : Refusal) × (outcome ≡ Err r) × (blame_of r ≡ Reading)
+outside_fault (Ok text) is = cc
+outside_fault (Err r) is = (r, refl, outside_blames r is)
+
+outside_printed : (V : Verdict (List ℕ) Refusal) (old new : Objects) (ends : Status) (p : Printed V old new ends) → Reported p.outcome old new ends → ends ≡ status.Outside → IsOutsideCaused old new
 outside_printed V old new ends p (both_whole is out err) at =
-    let here : p.outcome ≡ Err (Run Read) = read_outcome p.outcome (sym is ∙ at) in
-    let blamed : OutcomeBlames old new (Err (Run Read)) = rw here at p.cause in
+    let fault = outside_fault p.outcome (sym is ∙ at) in
+    let here : p.outcome ≡ Err fault.0 = fault.1 in
     record {
-      rose = blamed.0;
+      rose = rose_by old new fault.0 fault.2 (subst (OutcomeBlames old new) here p.cause);
       line = λ told_out told_err. record {
         out = out.taken told_out ∙ ap (λ (o : Result (List ℕ) Refusal). old.out.taken ++ out_text o) here ∙ append-nil old.out.taken;
-        err = err.taken told_err ∙ ap (λ (o : Result (List ℕ) Refusal). old.err.taken ++ err_text o) here;
+        err =
+            err.taken told_err
+            ∙ ap (λ (o : Result (List ℕ) Refusal). old.err.taken ++ err_text o) here
+            ∙ ap (λ (l : List ℕ). old.err.taken ++ (l ++ 10 ∷ [])) (reading_line fault.0 fault.2);
       };
     }
 outside_printed V old new ends p (out_broke is out err) at = cc
@@ -54,13 +54,10 @@ pub outside_caused : (V : Verdict (List ℕ) Refusal) (old new : Objects) (ends 
 outside_caused V old new ends ran at = outside_ends V old new ends ran.outcome at
 
 -- a failed write
+
 no_write : (outcome : Result (List ℕ) Refusal) → status_of outcome ≡ status.Write → ⊥
 no_write (Ok text) is = cc
-no_write (Err Words) is = cc
-no_write (Err (Run (NotBuilt part.Program))) is = cc
-no_write (Err (Run (NotBuilt part.Inputs))) is = cc
-no_write (Err (Run (NotBuilt part.Schedule))) is = cc
-no_write (Err (Run Read)) is = cc
+no_write (Err r) is = not_write r is
 
 write_reported : (old new : Objects) (ends : Status) (outcome : Result (List ℕ) Refusal) → Reported outcome old new ends → ends ≡ status.Write → IsWriteCaused old new
 write_reported old new ends outcome (both_whole is out err) at = absurd (no_write outcome (sym is ∙ at))
@@ -75,30 +72,30 @@ write_ends V old new ends (unprinted p) at = let none = sym p.no_memory ∙ at i
 pub write_caused : (V : Verdict (List ℕ) Refusal) (old new : Objects) (ends : Status) → Ran V old new ends → ends ≡ status.Write → IsWriteCaused old new
 write_caused V old new ends ran at = write_ends V old new ends ran.outcome at
 
--- the fault of a failed read
-read_fault : (refusal : Refusal) → blame_of refusal ≡ Reading → refusal ≡ Run Read
-read_fault Words is = cc
-read_fault (Run (NotBuilt part)) is = cc
-read_fault (Run Read) is = refl
+-- a missing file
 
-rose_outcome : (V : Verdict Printed RunFault) (old new : Objects) (outcome : Result (List ℕ) Refusal) → HasOneFault V → OutcomeBlames old new outcome → (IsCalm (world_of old) (world_of new) → text_verdict V outcome) → V (Err Read) → old.files.faults < new.files.faults
-rose_outcome V old new (Ok text) one cause right is = let here = fault_outcome V (Ok text) Read one (right cause) is in cc
-rose_outcome V old new (Err Words) one cause right is = absurd (right cause)
-rose_outcome V old new (Err (Run (NotBuilt part))) one cause right is = let here = one.one_fault (NotBuilt part) Read (right cause) is in cc
-rose_outcome V old new (Err (Run Read)) one cause right is = cause.0
+module _ {T E : Type 0} (raise : E → Refusal) (shown : T → List ℕ) (V : Verdict T E) (one : HasOneKind (λ e. refusal_status (raise e)) V) (missing : E)
+    (is_read : refusal_status (raise missing) ≡ status.Outside) (reads : (e : E) → blame_of (raise e) ≡ Reading → e ≡ missing) (old new : Objects) where
+  -- a refusal with this blame, where the missing file is right
+  blamed_rose : (r : Refusal) (whose : Blame) → blame_of r ≡ whose → Blames (world_of old) (world_of new) whose → (IsCalm (world_of old) (world_of new) → refusal_status r ≡ status.Outside) → old.files.faults < new.files.faults
+  blamed_rose r Content is blamed right = let reading = outside_blames r (right blamed) in let wrong : Content ≡ Reading = sym is ∙ reading in cc
+  blamed_rose r Reading is blamed right = blamed.0
+  blamed_rose r Linking is blamed right = absurd (not_linking r is)
 
-rose_ends : (words : List (List ℕ)) (p i s : List ℕ) (old new : Objects) (ends : Status) → AskRun words p i s → IsTrue old.files.told → ends ≢ status.Memory → Ends (words_verdict old.files.named words) old new ends
-    → run_verdict old.files.named p i s (Err Read) → old.files.faults < new.files.faults
-rose_ends words p i s old new ends asked told enough (printed q) is =
-    rose_outcome (run_verdict old.files.named p i s) old new q.outcome (one_refusal old.files.named p i s) q.cause (λ calm. run_right old.files.named words p i s q.outcome asked (q.right told calm)) is
-rose_ends words p i s old new ends asked told enough (unprinted q) is = absurd (enough q.no_memory)
+  outcome_rose : (outcome : Result (List ℕ) Refusal) → OutcomeBlames old new outcome → (IsCalm (world_of old) (world_of new) → text_verdict raise shown V outcome) → V (Err missing) → old.files.faults < new.files.faults
+  outcome_rose (Ok text) cause right is = let wrong : status.Ok ≡ status.Outside = fault_status raise shown V one (Ok text) missing (right cause) is ∙ is_read in cc
+  outcome_rose (Err r) cause right is = blamed_rose r (blame_of r) refl cause (λ calm. fault_status raise shown V one (Err r) missing (right calm) is ∙ is_read)
 
-pub missing_exact : (words : List (List ℕ)) (p i s : List ℕ) (old new : Objects) (ends : Status) → AskRun words p i s → IsTrue old.files.told → IsTrue old.files.sound → ends ≢ status.Memory
-    → Ran (words_verdict old.files.named words) old new ends → IsMissingExact p i s old new
-missing_exact words p i s old new ends asked told sound enough ran = (
-  λ rose. reads (ran.sound told sound rose),
-  λ is. rose_ends words p i s old new ends asked told enough ran.outcome is,
-)
-  where
-    reads : RefusesReading blame_of (words_verdict old.files.named words) → run_verdict old.files.named p i s (Err Read)
-    reads reading = run_right old.files.named words p i s (Err (Run Read)) asked (rw (read_fault reading.0 reading.1) at reading.2)
+  ends_rose : (ends : Status) → ends ≢ status.Memory → IsTrue old.files.told → Ends (text_verdict raise shown V) old new ends → V (Err missing) → old.files.faults < new.files.faults
+  ends_rose ends enough told (printed p) is = outcome_rose p.outcome p.cause (p.right told) is
+  ends_rose ends enough told (unprinted p) is = absurd (enough p.no_memory)
+
+  refused_missing : RefusesReading blame_of (text_verdict raise shown V) → V (Err missing)
+  refused_missing (r, blamed, right) = subst (λ e. V (Err e)) (reads right.0 (sym (ap blame_of right.2) ∙ blamed)) right.1
+
+  pub missing_exact : (ends : Status) → IsTrue old.files.told → IsTrue old.files.sound → ends ≢ status.Memory → Ran (text_verdict raise shown V) old new ends → IsMissingExact missing V old new
+  missing_exact ends told sound enough ran = (λ rose. refused_missing (ran.sound told sound rose), λ is. ends_rose ends enough told ran.outcome is)
+
+-- the verdict of the command that the words say
+pub asked_ran : (words : List (List ℕ)) (said : Said) (old new : Objects) (ends : Status) → command_of words ≡ Some said → Ran (words_verdict old.files.named words) old new ends → Ran (command_verdict old.files.named said) old new ends
+asked_ran words said old new ends is ran = subst (λ (s : Option Said). Ran (asked_verdict old.files.named s) old new ends) is ran

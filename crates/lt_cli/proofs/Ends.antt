@@ -2,8 +2,9 @@
 use Rattle.std.proofs.Common.{ℕ, List, [], ◌∷◌, ◌++◌, Ok, Err, refl, sym, append-nil}
 use Rattle.lt_base.specs.declared.memory.Or.TheVariants.{Fault, Memory}
 use Rattle.lt_io.specs.SinkState.{SinkState, KeepsSink}
-use Rattle.lt_run.specs.World.{World}
-use Rattle.lt_run.specs.Answered.{Answered, Verdict}
+use Rattle.lt_answer.specs.World.{World}
+use Rattle.lt_answer.specs.Answered.{Verdict}
+use Rattle.lt_answer.specs.Answered.{Answered}
 use Rattle.lt_cli.specs.declared.refusal.Refusal.{Refusal}
 use Rattle.lt_cli.specs.declared.status.Status.{Status}
 use Rattle.lt_cli.specs.declared.status.Status.TheVariants as status

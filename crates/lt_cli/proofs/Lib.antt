@@ -1,6 +1,9 @@
 pub mod Lines
-pub mod Four
 pub mod Ends
-pub mod Texts
+pub mod Gave
+pub mod Refusals
+pub mod Exact
+pub mod Decided
 pub mod Facts
 pub mod Causes
+pub mod Texts

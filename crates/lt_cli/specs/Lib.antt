@@ -1,6 +1,6 @@
 pub mod Status
+pub mod Lines
 pub mod Texts
-pub mod Words
 pub mod Blamed
 pub mod Objects
 pub mod Ran

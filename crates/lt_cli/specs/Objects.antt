@@ -3,7 +3,7 @@ use Rattle.std.specs.Prelude.{◌≡◌, IsTrue}
 use Rattle.lt_io.specs.FilesState.{FilesState}
 use Rattle.lt_io.specs.FabricState.{FabricState}
 use Rattle.lt_io.specs.SinkState.{SinkState, KeepsSink}
-use Rattle.lt_run.specs.World.{World, KeepsWorld}
+use Rattle.lt_answer.specs.World.{World, KeepsWorld}
 
 pub record Objects : Type 0 where
   pub files : FilesState

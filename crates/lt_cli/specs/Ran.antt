@@ -2,8 +2,9 @@
 use Rattle.std.specs.Prelude.{◌≡◌, ◌<◌, ℕ, IsTrue, List, [], ◌++◌, Result, Ok, Err}
 use Rattle.lt_io.specs.SinkState.{SinkState}
 use Rattle.lt_io.specs.Transfer.{IsFront}
-use Rattle.lt_run.specs.World.{IsCalm, Blames}
-use Rattle.lt_run.specs.Answered.{Verdict, RefusesReading}
+use Rattle.lt_answer.specs.World.{IsCalm, Blames}
+use Rattle.lt_answer.specs.Answered.{Verdict}
+use Rattle.lt_answer.specs.Answered.{RefusesReading}
 use Rattle.lt_cli.specs.declared.refusal.Refusal.{Refusal}
 use Rattle.lt_cli.specs.declared.status.Status.{Status}
 use Rattle.lt_cli.specs.declared.status.Status.TheVariants.{Write, Memory}

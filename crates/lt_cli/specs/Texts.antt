@@ -6,27 +6,52 @@ use Rattle.lt_base.specs.declared.value.Value.TheVariants.{Int, Bool as Truth}
 use Rattle.lt_base.specs.declared.value.Cell.{Cell}
 use Rattle.lt_base.specs.declared.value.Cell.TheVariants.{Absent, Here}
 use Rattle.lt_run.specs.declared.fault.Part.TheVariants as part
+use Rattle.lt_run.specs.declared.fault.What.TheVariants.{ConfigBytes}
+use Rattle.lt_run.specs.declared.fault.LoadFault.{LoadFault}
+use Rattle.lt_run.specs.declared.fault.LoadFault.TheVariants as load
+use Rattle.lt_run.specs.declared.fault.RunFault.{RunFault}
 use Rattle.lt_run.specs.declared.fault.RunFault.TheVariants.{NotBuilt, Read}
+use Rattle.lt_cli.specs.Lines.{config_line}
 use Rattle.lt_cli.specs.declared.refusal.Refusal.{Refusal}
-use Rattle.lt_cli.specs.declared.refusal.Refusal.TheVariants.{Words, Run}
+use Rattle.lt_cli.specs.declared.refusal.Refusal.TheVariants.{Words, Load, Run}
 use Rattle.lt_cli.specs.declared.status.Status.{Status}
 use Rattle.lt_cli.specs.declared.status.Status.TheVariants as status
 
 -- what is printed of a refusal, without its line feed
+
+abbrev pub load_line : LoadFault → List ℕ
+load_line (load.Config fault) = config_line fault
+load_line (load.Limit ConfigBytes) = codes "limit: config bytes 262144"
+load_line load.Read = codes "fault: read"
+
+abbrev pub run_line : RunFault → List ℕ
+run_line (NotBuilt part.Program) = codes "not built: program"
+run_line (NotBuilt part.Inputs) = codes "not built: inputs"
+run_line (NotBuilt part.Schedule) = codes "not built: schedule"
+run_line Read = codes "fault: read"
+
 abbrev pub line_of : Refusal → List ℕ
-line_of Words = codes "words: usage: ltta run P I S"
-line_of (Run (NotBuilt part.Program)) = codes "not built: program"
-line_of (Run (NotBuilt part.Inputs)) = codes "not built: inputs"
-line_of (Run (NotBuilt part.Schedule)) = codes "not built: schedule"
-line_of (Run Read) = codes "fault: read"
+line_of Words = codes "words: usage: ltta run P I S | plan C [--horizon H]"
+line_of (Load fault) = load_line fault
+line_of (Run fault) = run_line fault
 
 -- the status of a refusal
+
+abbrev pub load_status : LoadFault → Status
+load_status (load.Config fault) = status.Setup
+load_status (load.Limit what) = status.Limit
+load_status load.Read = status.Outside
+
+abbrev pub run_status : RunFault → Status
+run_status (NotBuilt part.Program) = status.Program
+run_status (NotBuilt part.Inputs) = status.Inputs
+run_status (NotBuilt part.Schedule) = status.Schedule
+run_status Read = status.Outside
+
 abbrev pub refusal_status : Refusal → Status
 refusal_status Words = status.Words
-refusal_status (Run (NotBuilt part.Program)) = status.Program
-refusal_status (Run (NotBuilt part.Inputs)) = status.Inputs
-refusal_status (Run (NotBuilt part.Schedule)) = status.Schedule
-refusal_status (Run Read) = status.Outside
+refusal_status (Load fault) = load_status fault
+refusal_status (Run fault) = run_status fault
 
 -- the status of a text, or of a refusal
 abbrev pub status_of : Result (List ℕ) Refusal → Status

@@ -1,16 +1,18 @@
 // What is printed for the words.
 ghost use Rattle.std.specs.Prelude.{◌<◌, ◌-◌, ◌^◌, map, string_bytes};
-ghost use Rattle.lt_run.specs.World.{alone};
-ghost use Rattle.lt_run.specs.Answered.{Answered};
-ghost use Rattle.lt_run.specs.Run.{run_verdict};
+ghost use Rattle.lt_words.specs.Reading.{plan, run as ask_run};
+ghost use Rattle.lt_answer.specs.World.{alone};
+ghost use Rattle.lt_answer.specs.Answered.{Answered};
 ghost use Rattle.lt_cli.specs.Blamed.{blame_of};
-ghost use Rattle.lt_cli.specs.Commands.{text_verdict, words_verdict};
+ghost use Rattle.lt_cli.specs.Commands.{command_verdict, words_verdict};
 
 use crate::Refusal;
 use crate::print::outputs_text;
 use lt_base::{List, Or};
 use lt_io::Files;
-use lt_run::run;
+use lt_plan::plan_text;
+use lt_run::{load_config, run};
+use lt_words::{Command, read_words};
 use std::alloc::Global;
 
 /// What is printed for the words, or why they are refused.
@@ -22,19 +24,38 @@ pub fn answer<F: Files>(
     requires { (F.state files.old).faults < 2 ^ 64 - 1 }
     ensures { Answered blame_of (words_verdict (F.state files.old).named (map string_bytes words.now)) (alone (F.state files.old)) (alone (F.state files.new)) result }
 {
-    match words {
-        [word, program, inputs, schedule] if word.as_str() == "run" => run_text(
-            alloc,
-            files,
-            program.as_str(),
-            inputs.as_str(),
-            schedule.as_str(),
-        ),
+    match read_words(alloc, words)? {
+        Some(
+            Command::Run {
+                program,
+                inputs,
+                schedule,
+            },
+        ) => run_answer(alloc, files, program, inputs, schedule),
+        Some(Command::Plan { config, horizon }) => plan_answer(alloc, files, config, horizon),
+        // No other command is built yet.
         _ => Err(Or::Fault(Refusal::Words)),
     }
 }
 
-fn run_text<F: Files>(
+// The plan of a setup.
+fn plan_answer<F: Files>(
+    alloc: Global,
+    files: &mut F,
+    config: &str,
+    horizon: Option<u64>,
+) -> Result<List<u8>, Or<Refusal>>
+    requires { (F.state files.old).faults < 2 ^ 64 - 1 }
+    ensures { Answered blame_of (command_verdict (F.state files.old).named (plan config.now horizon)) (alone (F.state files.old)) (alone (F.state files.new)) result }
+{
+    match load_config(alloc, files, config) {
+        Ok(config) => Ok(plan_text(alloc, &config, horizon)?),
+        Err(e) => Err(e.map(Refusal::Load)),
+    }
+}
+
+// The outputs of a run.
+fn run_answer<F: Files>(
     alloc: Global,
     files: &mut F,
     program: &str,
@@ -42,7 +63,7 @@ fn run_text<F: Files>(
     schedule: &str,
 ) -> Result<List<u8>, Or<Refusal>>
     requires { (F.state files.old).faults < 2 ^ 64 - 1 }
-    ensures { Answered blame_of (text_verdict (run_verdict (F.state files.old).named program.now inputs.now schedule.now))
+    ensures { Answered blame_of (command_verdict (F.state files.old).named (ask_run program.now inputs.now schedule.now))
         (alone (F.state files.old)) (alone (F.state files.new)) result }
 {
     match run(alloc, files, program, inputs, schedule) {

@@ -2,6 +2,7 @@
 #![tactic(auto)]
 
 mod answer;
+mod config_line;
 mod print;
 mod refusal;
 mod status;

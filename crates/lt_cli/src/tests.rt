@@ -15,7 +15,10 @@ const INPUTS: &str = "instant,x\n0,1\n1,2\n2,3\n";
 
 const SCHEDULE: &str = "time,event,place\n0,act,all\n4,act,all\n8,act,all\n12,end,\n";
 
-const USAGE: &str = "words: usage: ltta run P I S\n";
+const SETUP: &str =
+    "protocol = 'backpressure'\nperiod = [9, 11]\ndelay = [1, 4]\n[nodes]\na = ['x', 'u']\nb = ['v']\n";
+
+const USAGE: &str = "words: usage: ltta run P I S | plan C [--horizon H]\n";
 
 #[derive(Drop)]
 struct Ended {
@@ -38,18 +41,20 @@ const NONE: Faults = Faults {
     err: 0,
 };
 
-// The contents of the files `p`, `i` and `s`.
+// The contents of the files `p`, `i`, `s` and `c`.
 #[derive(Clone, Copy)]
 struct Texts<'a> {
     program: &'a str,
     inputs: &'a str,
     schedule: &'a str,
+    setup: &'a str,
 }
 
 const COUNTER: Texts = Texts {
     program: PROGRAM,
     inputs: INPUTS,
     schedule: SCHEDULE,
+    setup: SETUP,
 };
 
 fn listed(alloc: Global, call: u64) -> Result<List<u64>, Memory>
@@ -86,6 +91,7 @@ fn files(alloc: Global, texts: Texts, fails: u64) -> Result<MemFiles, Memory>
     files.push(file(alloc, "p", texts.program)?)?;
     files.push(file(alloc, "i", texts.inputs)?)?;
     files.push(file(alloc, "s", texts.schedule)?)?;
+    files.push(file(alloc, "c", texts.setup)?)?;
     Ok(MemFiles::new(files, listed(alloc, fails)?))
 }
 
@@ -214,5 +220,53 @@ fn a_failed_call_ends_it(rt: HostRuntime) -> Result<(), Fail> {
     let ended = call(alloc, "run", COUNTER, Faults { err: 1, ..NONE })?;
     assert_eq!(rt; ended.status, Status::Write);
     assert_eq!(rt; ended.err.as_slice(), b"".as_slice());
+    Ok(())
+}
+
+#[test]
+fn plans_end_as_they_should(rt: HostRuntime) -> Result<(), Fail> {
+    let alloc = rt.alloc();
+    let plan = "least execute 3\nleast send 3\ntimebased cycle 66\nbackpressure cycle 30\n";
+    let bounds =
+        "least execute 3\nleast send 3\ntimebased cycle 66\nbackpressure cycle 30\ntimebased bound 15\nbackpressure bound 33\n";
+    let later =
+        "least execute 3\nleast send 3\ntimebased cycle 66\nbackpressure cycle 30\ntimebased bound 16\nbackpressure bound 34\n";
+    let no_delay = "protocol = 'backpressure'\nperiod = [9, 11]\n[nodes]\na = ['x']\n";
+    let rows = [
+        ("plan c", SETUP, Status::Ok, plan, ""),
+        ("plan c --horizon 1000", SETUP, Status::Ok, bounds, ""),
+        ("plan --horizon=1001 c", SETUP, Status::Ok, later, ""),
+        (
+            "plan c",
+            "",
+            Status::Setup,
+            "",
+            "config 2 Missing: protocol\n",
+        ),
+        (
+            "plan c",
+            no_delay,
+            Status::Setup,
+            "",
+            "config 2 Missing: delay\n",
+        ),
+        (
+            "plan c",
+            "protocol =",
+            Status::Setup,
+            "",
+            "config 1 NotToml\n",
+        ),
+        ("plan q", SETUP, Status::Outside, "", "fault: read\n"),
+        ("plan c --horizon -1", SETUP, Status::Words, "", USAGE),
+        ("plan", SETUP, Status::Words, "", USAGE),
+    ];
+    for (line, setup, status, out, err) in rows {
+        let texts = Texts { setup, ..COUNTER };
+        let ended = call(alloc, line, texts, NONE)?;
+        assert_eq!(rt; ended.status, status, "{line}");
+        assert_eq!(rt; ended.out.as_slice(), out.as_bytes(), "{line}");
+        assert_eq!(rt; ended.err.as_slice(), err.as_bytes(), "{line}");
+    }
     Ok(())
 }

@@ -1,16 +1,21 @@
 // The top call.
-ghost use Rattle.std.specs.Prelude.{◌≡◌, ◌≢◌, ◌<◌, ◌-◌, ◌^◌, ◌++◌, ◌∷◌, [], ℕ, List as Items, IsTrue, map, string_bytes};
-ghost use Rattle.lt_cli.specs.Words.{AskRun};
-ghost use Rattle.lt_cli.specs.Clauses.{IsWordsExact, IsRunExact, IsOutsideCaused, IsWriteCaused, IsMissingExact};
+ghost use Rattle.std.specs.Prelude.{◌≡◌, ◌≢◌, ◌<◌, ◌-◌, ◌^◌, ◌++◌, ◌∷◌, [], ℕ, IfOk, List as Items, Option as Maybe, IsTrue, Some, map, string_bytes};
+ghost use Rattle.lt_run.specs.declared.fault.LoadFault.TheVariants as load;
+ghost use Rattle.lt_run.specs.declared.fault.RunFault.TheVariants as running;
+ghost use Rattle.lt_plan.specs.Text.{plan_of};
+ghost use Rattle.lt_run.specs.Loaded.{config_verdict};
+ghost use Rattle.lt_run.specs.Run.{run_verdict};
+ghost use Rattle.lt_words.specs.Reading.{command_of, plan, run};
+ghost use Rattle.lt_cli.specs.Clauses.{IsWordsExact, IsExact, IsOutsideCaused, IsWriteCaused, IsMissingExact};
 ghost use Rattle.lt_cli.specs.Objects.{Objects, IsQuiet, Tells};
 ghost use Rattle.lt_cli.specs.Ran.{Ran};
 ghost use Rattle.lt_cli.specs.Texts.{refusal_status, line_of};
 ghost use Rattle.lt_cli.specs.Written.{Written};
-ghost use Rattle.lt_cli.specs.Commands.{words_verdict};
+ghost use Rattle.lt_cli.specs.Commands.{printed_text, words_verdict};
 
 use crate::answer::answer;
 use crate::{Refusal, Status};
-use lt_base::{List, Or};
+use lt_base::{List, Memory, Or};
 use lt_io::{Fabric, Files, Sink, SinkErr, write_all};
 use std::alloc::Global;
 
@@ -35,10 +40,14 @@ pub fn ltta<F: Files, W: Fabric, O: Sink, E: Sink>(
     ensures words { let old : Objects = record { files = F.state files.old; fabric = W.state fabric.old; out = O.state out.old; err = E.state err.old } in
         let new : Objects = record { files = F.state files.new; fabric = W.state fabric.new; out = O.state out.new; err = E.state err.new } in
         Tells old → IsQuiet old new → result ≢ Status.Memory → IsWordsExact (map string_bytes words.now) old new result }
+    ensures plan { let old : Objects = record { files = F.state files.old; fabric = W.state fabric.old; out = O.state out.old; err = E.state err.old } in
+        let new : Objects = record { files = F.state files.new; fabric = W.state fabric.new; out = O.state out.new; err = E.state err.new } in
+        (config : Items ℕ) (horizon : Maybe ℕ) → command_of (map string_bytes words.now) ≡ Some (plan config horizon) → Tells old → IsQuiet old new → result ≢ Status.Memory
+        → IsExact Refusal.Load (λ setup. plan_of setup horizon) (config_verdict (old.files.named config)) old new result }
     ensures run { let old : Objects = record { files = F.state files.old; fabric = W.state fabric.old; out = O.state out.old; err = E.state err.old } in
         let new : Objects = record { files = F.state files.new; fabric = W.state fabric.new; out = O.state out.new; err = E.state err.new } in
-        (program inputs schedule : Items ℕ) → AskRun (map string_bytes words.now) program inputs schedule
-        → Tells old → IsQuiet old new → result ≢ Status.Memory → IsRunExact program inputs schedule old new result }
+        (program inputs schedule : Items ℕ) → command_of (map string_bytes words.now) ≡ Some (run program inputs schedule) → Tells old → IsQuiet old new → result ≢ Status.Memory
+        → IsExact Refusal.Run printed_text (run_verdict old.files.named program inputs schedule) old new result }
 
     // What a status says of the outside.
     ensures outside { let old : Objects = record { files = F.state files.old; fabric = W.state fabric.old; out = O.state out.old; err = E.state err.old } in
@@ -47,10 +56,14 @@ pub fn ltta<F: Files, W: Fabric, O: Sink, E: Sink>(
     ensures write { let old : Objects = record { files = F.state files.old; fabric = W.state fabric.old; out = O.state out.old; err = E.state err.old } in
         let new : Objects = record { files = F.state files.new; fabric = W.state fabric.new; out = O.state out.new; err = E.state err.new } in
         result ≡ Status.Write → IsWriteCaused old new }
-    ensures missing { let old : Objects = record { files = F.state files.old; fabric = W.state fabric.old; out = O.state out.old; err = E.state err.old } in
+    ensures plan_missing { let old : Objects = record { files = F.state files.old; fabric = W.state fabric.old; out = O.state out.old; err = E.state err.old } in
         let new : Objects = record { files = F.state files.new; fabric = W.state fabric.new; out = O.state out.new; err = E.state err.new } in
-        (program inputs schedule : Items ℕ) → AskRun (map string_bytes words.now) program inputs schedule
-        → IsTrue old.files.sound → result ≢ Status.Memory → IsMissingExact program inputs schedule old new }
+        (config : Items ℕ) (horizon : Maybe ℕ) → command_of (map string_bytes words.now) ≡ Some (plan config horizon) → IsTrue old.files.sound → result ≢ Status.Memory
+        → IsMissingExact load.Read (config_verdict (old.files.named config)) old new }
+    ensures run_missing { let old : Objects = record { files = F.state files.old; fabric = W.state fabric.old; out = O.state out.old; err = E.state err.old } in
+        let new : Objects = record { files = F.state files.new; fabric = W.state fabric.new; out = O.state out.new; err = E.state err.new } in
+        (program inputs schedule : Items ℕ) → command_of (map string_bytes words.now) ≡ Some (run program inputs schedule) → IsTrue old.files.sound → result ≢ Status.Memory
+        → IsMissingExact running.Read (run_verdict old.files.named program inputs schedule) old new }
 
     // All of it: what was to be printed, how far it was, and whose count rose.
     ensures ran { let old : Objects = record { files = F.state files.old; fabric = W.state fabric.old; out = O.state out.old; err = E.state err.old } in
@@ -78,7 +91,7 @@ fn perform<F: Files, W: Fabric, O: Sink, E: Sink>(
 {
     match answer(alloc, words, files) {
         Ok(text) => print(out, &text),
-        Err(Or::Fault(refusal)) => refuse(alloc, err, refusal),
+        Err(Or::Fault(refusal)) => refuse(alloc, err, &refusal),
         Err(Or::Memory) => Status::Memory,
     }
 }
@@ -94,16 +107,25 @@ fn print<O: Sink>(out: &mut O, text: &List<u8>) -> Status
     }
 }
 
-fn refuse<E: Sink>(alloc: Global, err: &mut E, refusal: Refusal) -> Status
+fn refuse<E: Sink>(alloc: Global, err: &mut E, refusal: &Refusal) -> Status
     requires { (E.state err.old).faults < 2 ^ 64 - 1 }
-    ensures { Written (refusal_status refusal) (line_of refusal ++ 10 ∷ []) (E.state err.old) (E.state err.new) result }
+    ensures { Written (refusal_status refusal.now) (line_of refusal.now ++ 10 ∷ []) (E.state err.old) (E.state err.new) result }
 {
-    let Ok(line) = format!(in alloc; "{refusal}\n") else {
+    let Ok(line) = whole_line(alloc, refusal) else {
         return Status::Memory;
     };
-    match write_all(err, line.as_bytes()) {
+    match write_all(err, line.as_slice()) {
         Ok(()) => refusal.status(),
         Err(SinkErr::Failed) => Status::Write,
         Err(SinkErr::Memory) => Status::Memory,
     }
+}
+
+// The refusal's line with its line feed.
+fn whole_line(alloc: Global, refusal: &Refusal) -> Result<List<u8>, Memory>
+    ensures { IfOk result (λ line. line ≡ line_of refusal.now ++ 10 ∷ []) }
+{
+    let mut line = refusal.line(alloc)?;
+    line.extend(b"\n")?;
+    Ok(line)
 }

@@ -1,2 +1,10 @@
+pub mod Form
+pub mod Plan
+pub mod Lift
+pub mod Taken
+pub mod Fine
+pub mod Planned
+pub mod Stands
+pub mod Ready
 pub mod Streams
 pub mod Small

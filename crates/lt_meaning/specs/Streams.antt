@@ -1,11 +1,14 @@
 -- A program's streams as a table.
-use Rattle.std.specs.Prelude.{◌≡◌, ℕ, ◌*◌, ◌<◌, Option, Some, List, [], length, map, MatchOption, slice_index_or}
+use Rattle.std.specs.Prelude.{◌≡◌, ℕ, ◌*◌, ◌^◌, ◌<◌, Option, Some, List, [], length, map, MatchOption, slice_index_or}
+use Rattle.std.specs.List.{All}
+use Rattle.lt_base.specs.declared.value.Ty.{Ty}
 use Rattle.lt_base.specs.declared.value.Value.{Value}
 use Rattle.lt_base.specs.declared.value.Cell.{Cell}
 use Rattle.lt_base.specs.Program.{Function, WholeProgram}
 use Rattle.lt_base.specs.Inputs.{InputTable}
-use Rattle.lt_base.specs.Meaning.{function_of, stream_of}
-use Rattle.lt_base.specs.Typing.{input_types, AllFit}
+use Rattle.lt_base.specs.Meaning.{function_of, clock_of, stream_of}
+use Rattle.lt_base.specs.Typing.{ty_at, input_types, AllFit}
+use Rattle.lt_base.specs.Behaviour.{CellFits}
 use Rattle.lt_base.specs.Sizes.{program_weight}
 
 -- a table has the stream of each variable of a function on these rows, by the variable's number
@@ -21,6 +24,14 @@ main_of p = function_of p.funcs p.main
 abbrev pub HasMainStreams : WholeProgram → List (List Value) → List (List Cell) → Type 0
 HasMainStreams p rows table = MatchOption (main_of p) ⊥ (λ f. HasStreams p.funcs f rows table)
 
+-- each variable's cells in a table have its type: a value wherever the variable is on the base clock
+abbrev pub HasTypes : Function → List (List Cell) → Type 0
+HasTypes f table = (x : ℕ) (t : Ty) → ty_at f.decls x ≡ Some t → All (CellFits (clock_of f.decls x) t) (slice_index_or table x [])
+
+-- so have the cells of main's variables
+abbrev pub HasMainTypes : WholeProgram → List (List Cell) → Type 0
+HasMainTypes p table = MatchOption (main_of p) ⊥ (λ f. HasTypes f table)
+
 -- how many cells count against the limit: the weight of main for each row
 abbrev pub cell_count : WholeProgram → List (List Value) → ℕ
 cell_count p rows = program_weight p * length rows
@@ -33,3 +44,12 @@ pub record InputsFit (f : Function) (inputs : InputTable) : Type 0 where
 -- the inputs fit main
 abbrev pub InputsFitMain : WholeProgram → InputTable → Type 0
 InputsFitMain p inputs = MatchOption (main_of p) ⊥ (λ f. InputsFit f inputs)
+
+-- variables and equations are numbered in 32 bits
+pub record NumbersFit (f : Function) : Type 0 where
+  pub variables : length f.decls < 2 ^ 32
+  pub equations : length f.eqs < 2 ^ 32
+
+-- so they are in every function of a program
+abbrev pub HasRoom : WholeProgram → Type 0
+HasRoom p = All NumbersFit p.funcs

@@ -3,7 +3,16 @@
 
 mod delay;
 mod evaluate;
+mod expressions;
+mod lifter;
+mod node;
+mod plan;
+mod planning;
+mod program;
+mod starting;
+mod state;
 mod table;
 
 pub use evaluate::{GREATEST_CELLS, StreamsFault, streams};
+pub use program::streams as program_streams;
 pub use table::Table;

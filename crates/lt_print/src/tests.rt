@@ -51,11 +51,16 @@ fn canonical(rt: HostRuntime) {
     );
 }
 
-// The program of a cruise controller, in its canonical text.
+// A cruise controller.
 const CRUISE: &[u8] =
-    b"node limit(v: int) returns (r: int)\nlet\n  r = max(0, min(v, 100));\ntel\nnode main(speed: int; button: bool) returns (on: bool; gap: int when act; throttle: int)\nvar\n  was: bool;\n  act: bool;\n  seen: int;\n  target: int when act;\n  cmd: int;\nlet\n  was = false fby button;\n  on = (false fby on) xor (button and not was);\n  act = false fby on;\n  seen = 0 fby speed;\n  target = 60;\n  gap = target - (seen when act);\n  cmd = merge act (limit(gap + (0 fby gap))) 0;\n  throttle = 0 fby cmd;\ntel\n";
+    b"node limit(v: int) returns (r: int)\nlet\n  r = max(0, min(v, 100));\ntel\nnode main(speed: int; button: bool)\nreturns (on: bool; gap: int when act; throttle: int)\nvar\n  was: bool;\n  act: bool;\n  seen: int;\n  target: int when act;\n  cmd: int;\nlet\n  was = false fby button;\n  on = (false fby on) xor (button and not was);\n  act = false fby on;\n  seen = 0 fby speed;\n  target = 60;\n  gap = target - (seen when act);\n  cmd = merge act (limit(gap + (0 fby gap))) 0;\n  throttle = 0 fby cmd;\ntel\n";
+
+// The same without the line before `returns` and two pairs of parentheses: `and` binds tighter than `xor`, and `when` than `-`.
+const CANONICAL: &[u8] =
+    b"node limit(v: int) returns (r: int)\nlet\n  r = max(0, min(v, 100));\ntel\nnode main(speed: int; button: bool) returns (on: bool; gap: int when act; throttle: int)\nvar\n  was: bool;\n  act: bool;\n  seen: int;\n  target: int when act;\n  cmd: int;\nlet\n  was = false fby button;\n  on = (false fby on) xor button and not was;\n  act = false fby on;\n  seen = 0 fby speed;\n  target = 60;\n  gap = target - seen when act;\n  cmd = merge act (limit(gap + (0 fby gap))) 0;\n  throttle = 0 fby cmd;\ntel\n";
 
 #[test]
 fn cruise_controller(rt: HostRuntime) {
-    assert!(&rt; prints(rt.alloc(), CRUISE, CRUISE));
+    assert!(&rt; prints(rt.alloc(), CRUISE, CANONICAL));
+    assert!(&rt; prints(rt.alloc(), CANONICAL, CANONICAL));
 }

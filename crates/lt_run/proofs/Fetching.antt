@@ -12,11 +12,11 @@ use Rattle.lt_io.specs.Counts.{OrCounted}
 use Rattle.lt_io.specs.Transfer.{whole_of}
 use Rattle.lt_run.specs.declared.fault.Part.{Part}
 use Rattle.lt_run.specs.declared.fault.RunFault.TheVariants.{NotBuilt, Read}
-use Rattle.lt_run.specs.World.{KeepsWorld, alone}
-use Rattle.lt_run.specs.Answered.{Answered, RefusesReading}
+use Rattle.lt_answer.specs.World.{KeepsWorld, alone}
+use Rattle.lt_answer.specs.Answered.{Answered, RefusesReading}
 use Rattle.lt_run.specs.Blamed.{run_blame}
 use Rattle.lt_run.specs.Fetched.{bytes_verdict}
-use Rattle.lt_run.proofs.Stages.{keeps_itself}
+use Rattle.lt_answer.proofs.Stages.{keeps_itself}
 
 -- what reading a whole file says
 pub record IsRead (old new : FilesState) (name : List ℕ) (result : Result Whole (Or Failed)) : Type 0 where

@@ -6,8 +6,9 @@ use Rattle.lt_base.specs.declared.memory.Or.TheVariants.{Fault, Memory}
 use Rattle.lt_run.specs.declared.fault.Part.{Part}
 use Rattle.lt_run.specs.declared.fault.RunFault.{RunFault}
 use Rattle.lt_run.specs.declared.fault.RunFault.TheVariants.{NotBuilt, Read}
-use Rattle.lt_run.specs.World.{World}
-use Rattle.lt_run.specs.Answered.{Answered, Verdict, OfFile, OfForm, RefusesReading}
+use Rattle.lt_answer.specs.World.{World}
+use Rattle.lt_answer.specs.Answered.{Verdict, OfForm}
+use Rattle.lt_answer.specs.Answered.{Answered, OfFile, RefusesReading}
 use Rattle.lt_run.specs.Blamed.{run_blame}
 use Rattle.lt_run.specs.Fetched.{bytes_verdict}
 

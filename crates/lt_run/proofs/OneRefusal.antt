@@ -1,8 +1,7 @@
 -- Which verdicts leave one refusal.
-use Rattle.std.proofs.Common.{◌≡◌, ℕ, List, Option, Some, None, Result, Ok, Err, refl, sym, ap, ◌∙◌, subst, inl, inr}
+use Rattle.std.proofs.Common.{◌≡◌, ℕ, List, Option, Some, None, Result, Ok, Err, sym, ap, ◌∙◌, subst, inl, inr}
 use Rattle.lt_base.specs.Inputs.{InputTable}
 use Rattle.lt_small.specs.declared.program.SmallProgram.{SmallProgram}
-use Rattle.lt_small.specs.Program.{IsProgram}
 use Rattle.lt_small.specs.Inputs.{table_of}
 use Rattle.lt_small.specs.Schedule.{one_node, plain}
 use Rattle.lt_small.proofs.OnePrograms.{one_program}
@@ -11,9 +10,8 @@ use Rattle.lt_small.proofs.Events.{one_schedule}
 use Rattle.lt_arch.specs.declared.event.Event.{Event}
 use Rattle.lt_arch.specs.State.{executed_of}
 use Rattle.lt_arch.specs.Schedule.{reached}
-use Rattle.lt_run.specs.declared.fault.RunFault.{RunFault}
-use Rattle.lt_run.specs.declared.printed.Printed.{Printed}
-use Rattle.lt_run.specs.Answered.{Verdict, AndThen, OfFile, OfForm}
+use Rattle.lt_answer.specs.Answered.{Verdict, AndThen, OfForm}
+use Rattle.lt_answer.specs.Answered.{OfFile}
 use Rattle.lt_run.specs.Run.{IsTable, Executes, program_verdict, inputs_verdict, schedule_verdict, printed_verdict, run_verdict}
 
 -- at most one fault is right, and then no value is

@@ -3,7 +3,8 @@ use Rattle.std.specs.Prelude.{◌≡◌, ◌≤◌, ℕ, List, length, Option}
 use Rattle.lt_run.specs.declared.fault.Part.{Part}
 use Rattle.lt_run.specs.declared.fault.RunFault.{RunFault}
 use Rattle.lt_run.specs.declared.fault.RunFault.TheVariants.{NotBuilt, Read}
-use Rattle.lt_run.specs.Answered.{Verdict, OfFile, OfForm}
+use Rattle.lt_answer.specs.Answered.{Verdict, OfForm}
+use Rattle.lt_answer.specs.Answered.{OfFile}
 
 -- these are the bytes, and not too many
 pub record IsWhole (bytes whole : List ℕ) : Type 0 where

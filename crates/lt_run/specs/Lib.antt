@@ -1,5 +1,4 @@
-pub mod World
-pub mod Answered
 pub mod Blamed
+pub mod Loaded
 pub mod Fetched
 pub mod Run

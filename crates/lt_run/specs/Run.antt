@@ -14,7 +14,8 @@ use Rattle.lt_run.specs.declared.fault.Part.TheVariants as part
 use Rattle.lt_run.specs.declared.fault.RunFault.{RunFault}
 use Rattle.lt_run.specs.declared.fault.RunFault.TheVariants.{NotBuilt, Read}
 use Rattle.lt_run.specs.declared.printed.Printed.{Printed}
-use Rattle.lt_run.specs.Answered.{Verdict, AndThen, OfFile, OfForm}
+use Rattle.lt_answer.specs.Answered.{Verdict, AndThen, OfForm}
+use Rattle.lt_answer.specs.Answered.{OfFile}
 
 -- the bytes hold this table of inputs
 abbrev pub IsTable : (input bytes : List ℕ) → InputTable → Type 0

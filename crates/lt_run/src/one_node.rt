@@ -1,8 +1,8 @@
 // A run of one node on three files of the small form.
 ghost use Rattle.std.specs.Prelude.{◌≡◌, ◌<◌, ◌≤◌, ◌-◌, ◌^◌, length, IfOk};
 ghost use Rattle.lt_small.specs.Program.{IsWellFormed};
-ghost use Rattle.lt_run.specs.World.{alone};
-ghost use Rattle.lt_run.specs.Answered.{Answered};
+ghost use Rattle.lt_answer.specs.World.{alone};
+ghost use Rattle.lt_answer.specs.Answered.{Answered};
 ghost use Rattle.lt_run.specs.Blamed.{run_blame};
 ghost use Rattle.lt_run.specs.Run.{program_verdict, inputs_verdict, schedule_verdict, run_verdict, Prints, IsColumn};
 

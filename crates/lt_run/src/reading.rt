@@ -1,7 +1,7 @@
 // Files that are read whole.
 ghost use Rattle.std.specs.Prelude.{◌<◌, ◌-◌, ◌^◌};
-ghost use Rattle.lt_run.specs.World.{alone};
-ghost use Rattle.lt_run.specs.Answered.{Answered};
+ghost use Rattle.lt_answer.specs.World.{alone};
+ghost use Rattle.lt_answer.specs.Answered.{Answered};
 ghost use Rattle.lt_run.specs.Blamed.{run_blame};
 ghost use Rattle.lt_run.specs.Fetched.{bytes_verdict};
 

@@ -1,4 +1,4 @@
-//! `ltta run P I S`: see the README.
+//! `ltta`: see the README.
 #![tactic(auto)]
 
 use lt_base::List;

@@ -1,12 +1,31 @@
-use Rattle.lt_cli.proofs.Facts.{gave, words_exact, run_exact}
-use Rattle.lt_cli.proofs.Causes.{outside_caused, write_caused, missing_exact}
+use Rattle.std.proofs.Common.{refl, map}
+use Rattle.std.specs.Prelude.{string_bytes}
+use Rattle.lt_run.specs.declared.fault.LoadFault.TheVariants as load
+use Rattle.lt_run.specs.declared.fault.RunFault.TheVariants as running
+use Rattle.lt_run.specs.Loaded.{config_verdict}
+use Rattle.lt_run.specs.Run.{run_verdict}
+use Rattle.lt_cli.specs.declared.refusal.Refusal.TheVariants.{Load, Run}
+use Rattle.lt_cli.specs.Commands.{printed_text}
+use Rattle.lt_words.specs.Reading.{plan, run}
+use Rattle.lt_plan.specs.Text.{plan_of}
+use Rattle.lt_cli.proofs.Gave.{gave}
+use Rattle.lt_cli.proofs.Facts.{words_exact, asked_gave}
+use Rattle.lt_cli.proofs.Exact.{exact}
+use Rattle.lt_cli.proofs.Causes.{outside_caused, write_caused, missing_exact, asked_ran}
+use Rattle.lt_cli.proofs.Decided.{plan_decided, run_decided}
+use Rattle.lt_cli.proofs.Refusals.{load_reads, run_reads}
 use Rattle.lt_cli.proofs.top.ltta.Goals as goal
 
 pub returns-clause-words : goal.returns-clause-words
 returns-clause-words g c tells quiet enough = words_exact _ _ _ _ (gave _ _ _ _ c.perform.ensures tells quiet enough)
 
+pub returns-clause-plan : goal.returns-clause-plan
+returns-clause-plan g c config horizon asked tells quiet enough =
+    exact _ _ _ (plan_decided _) _ _ _ (asked_gave (map string_bytes c.args.words.now) (plan config horizon) _ _ _ asked (gave _ _ _ _ c.perform.ensures tells quiet enough))
+
 pub returns-clause-run : goal.returns-clause-run
-returns-clause-run g c program inputs schedule asked tells quiet enough = run_exact _ _ _ _ _ _ _ asked (gave _ _ _ _ c.perform.ensures tells quiet enough)
+returns-clause-run g c program inputs schedule asked tells quiet enough =
+    exact _ _ _ (run_decided (g.F.Files.state c.args.files.now).named program inputs schedule) _ _ _ (asked_gave (map string_bytes c.args.words.now) (run program inputs schedule) _ _ _ asked (gave _ _ _ _ c.perform.ensures tells quiet enough))
 
 pub returns-clause-outside : goal.returns-clause-outside
 returns-clause-outside g c at = outside_caused _ _ _ _ c.perform.ensures at
@@ -14,6 +33,10 @@ returns-clause-outside g c at = outside_caused _ _ _ _ c.perform.ensures at
 pub returns-clause-write : goal.returns-clause-write
 returns-clause-write g c at = write_caused _ _ _ _ c.perform.ensures at
 
-pub returns-clause-missing : goal.returns-clause-missing
-returns-clause-missing g c program inputs schedule asked sound enough =
-    missing_exact _ _ _ _ _ _ _ asked (g.met.F.Files.sound_tells c.args.files.now sound) sound enough c.perform.ensures
+pub returns-clause-plan_missing : goal.returns-clause-plan_missing
+returns-clause-plan_missing g c config horizon asked sound enough =
+    missing_exact Load (λ setup. plan_of setup horizon) (config_verdict ((g.F.Files.state c.args.files.now).named config)) (plan_decided ((g.F.Files.state c.args.files.now).named config)) load.Read refl load_reads _ _ _ (g.met.F.Files.sound_tells c.args.files.now sound) sound enough (asked_ran (map string_bytes c.args.words.now) (plan config horizon) _ _ _ asked c.perform.ensures)
+
+pub returns-clause-run_missing : goal.returns-clause-run_missing
+returns-clause-run_missing g c program inputs schedule asked sound enough =
+    missing_exact Run printed_text (run_verdict (g.F.Files.state c.args.files.now).named program inputs schedule) (run_decided (g.F.Files.state c.args.files.now).named program inputs schedule) running.Read refl run_reads _ _ _ (g.met.F.Files.sound_tells c.args.files.now sound) sound enough (asked_ran (map string_bytes c.args.words.now) (run program inputs schedule) _ _ _ asked c.perform.ensures)

@@ -1,4 +1,4 @@
-use Rattle.lt_run.proofs.Stages.{beside}
+use Rattle.lt_answer.proofs.Stages.{beside}
 use Rattle.lt_cli.proofs.Ends.{ran_whole, ran_refused, ran_short}
 use Rattle.lt_cli.proofs.top.perform.Goals as goal
 

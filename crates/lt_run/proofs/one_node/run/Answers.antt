@@ -1,6 +1,6 @@
 use Rattle.std.proofs.Common.{◌∙◌, length}
 use Rattle.lt_run.specs.Run.{inputs_verdict, schedule_verdict}
-use Rattle.lt_run.proofs.Stages.{settles, goes_on, renamed}
+use Rattle.lt_answer.proofs.Stages.{settles, goes_on, renamed}
 use Rattle.lt_run.proofs.one_node.run.Goals as goal
 
 pub returns : goal.returns

@@ -1,0 +1,4 @@
+pub mod Checked
+pub mod Causality
+pub mod Front
+pub mod Limits

@@ -1,0 +1,151 @@
+use Rattle.std.proofs.Common.{◌≡◌, ◌∙◌, ◌++◌, ◌∷◌, ◌+◌, [], true, false, map, take, get_or, length, refl, sym, ap, subst, arith, add-one}
+use Rattle.std.proofs.Math.Seq.{take-suc}
+use Rattle.std.proofs.lemmas.List.{take_all, map-append}
+use Rattle.lt_base.specs.declared.value.Value.TheVariants.{Bool as Truth}
+use Rattle.lt_base.specs.declared.expression.Expr.{Expr}
+use Rattle.lt_base.specs.Expression.{Expression, shape, unary, binary, imported, choose, sampled, merged, delayed, follow, arrow, call, arguments_of}
+use Rattle.lt_base.proofs.Shape.{shape-Call}
+use Rattle.lt_meaning.specs.declared.node.Node.{Node}
+use Rattle.lt_meaning.specs.Form.{Form, form, one, two, named, joined}
+use Rattle.lt_meaning.specs.Lift.{forms_of}
+use Rattle.lt_meaning.specs.Taken.{Taken, taken, after, after_arguments}
+use Rattle.lt_meaning.proofs.Growing.{Lifts, one_lifts, two_lifts, choose_lifts, sampled_lifts, delayed_lifts, follow_lifts, arrow_lifts, call_lifts, argument_lifts, no_arguments_lift}
+use Rattle.lt_meaning.proofs.expressions.+lifting.Goals as goal
+
+pub lift-returns-in_ok-a-in-Un : goal.lift-returns-in_ok-a-in-Un
+lift-returns-in_ok-a-in-Un t c =
+    let a = shape c.deref.result.now in
+    let is : shape c.args.e.now ≡ unary c.in-Un.o a = ap shape c.in-Un.is ∙ (λ i. unary c.in-Un.o (shape (sym c.deref.ensures i))) in
+    let l = one_lifts (taken c.args.to.now) (taken c.lift.new.to) (unary c.in-Un.o a) a c.args.clock.now (one c.in-Un.o) c.in_ok-a-in-Un.a c.unary.result (λ k c. refl) (λ z. refl) c.in_ok-a-in-Un.ensures.form c.in_ok-a-in-Un.ensures.grown c.unary.ensures in
+    let whole = subst (λ (e : Expression). Lifts (taken c.args.to.now) e c.args.clock.now c.unary.result (taken c.lift.new.to)) (sym is) l in
+    record { form = whole.form; grown = whole.grown }
+
+pub lift-returns-in_ok-b-in-Bin : goal.lift-returns-in_ok-b-in-Bin
+lift-returns-in_ok-b-in-Bin t c =
+    let o = c.in-Bin.o in
+    let ck = c.args.clock.now in
+    let a = shape c.deref-in-Bin.result.now in
+    let b = shape c.deref-in-Bin-2.result.now in
+    let is : shape c.args.e.now ≡ binary o a b = ap shape c.in-Bin.is ∙ (λ i. binary o (shape (sym c.deref-in-Bin.ensures i)) (shape (sym c.deref-in-Bin-2.ensures i))) in
+    let l = two_lifts (taken c.args.to.now) (taken c.lift-in-Bin.new.to) (taken c.lift-in-Bin-2.new.to) (binary o a b) a b ck ck ck (two o) c.in_ok-a-in-Bin.a c.in_ok-b-in-Bin.b c.binary.result (λ k c. refl) refl
+    c.in_ok-a-in-Bin.ensures.form c.in_ok-a-in-Bin.ensures.grown c.in_ok-b-in-Bin.ensures.form c.in_ok-b-in-Bin.ensures.grown c.binary.ensures in
+    let whole = subst (λ (e : Expression). Lifts (taken c.args.to.now) e ck c.binary.result (taken c.lift-in-Bin-2.new.to)) (sym is) l in
+    record { form = whole.form; grown = whole.grown }
+
+pub lift-returns-in_ok-b-in-Imported : goal.lift-returns-in_ok-b-in-Imported
+lift-returns-in_ok-b-in-Imported t c =
+    let o = c.in-Imported.o in
+    let ck = c.args.clock.now in
+    let a = shape c.deref-in-Imported.result.now in
+    let b = shape c.deref-in-Imported-2.result.now in
+    let is : shape c.args.e.now ≡ imported o a b = ap shape c.in-Imported.is ∙ (λ i. imported o (shape (sym c.deref-in-Imported.ensures i)) (shape (sym c.deref-in-Imported-2.ensures i))) in
+    let l = two_lifts (taken c.args.to.now) (taken c.lift-in-Imported.new.to) (taken c.lift-in-Imported-2.new.to) (imported o a b) a b ck ck ck (named o) c.in_ok-a-in-Imported.a c.in_ok-b-in-Imported.b c.imported.result (λ k c. refl) refl
+    c.in_ok-a-in-Imported.ensures.form c.in_ok-a-in-Imported.ensures.grown c.in_ok-b-in-Imported.ensures.form c.in_ok-b-in-Imported.ensures.grown c.imported.ensures in
+    let whole = subst (λ (e : Expression). Lifts (taken c.args.to.now) e ck c.imported.result (taken c.lift-in-Imported-2.new.to)) (sym is) l in
+    record { form = whole.form; grown = whole.grown }
+
+pub lift-returns-in_ok-b-in-If : goal.lift-returns-in_ok-b-in-If
+lift-returns-in_ok-b-in-If t c =
+    let ck = c.args.clock.now in
+    let d = shape c.deref-in-If.result.now in
+    let a = shape c.deref-in-If-2.result.now in
+    let b = shape c.deref-in-If-3.result.now in
+    let is : shape c.args.e.now ≡ choose d a b = ap shape c.in-If.is ∙ (λ i. choose (shape (sym c.deref-in-If.ensures i)) (shape (sym c.deref-in-If-2.ensures i)) (shape (sym c.deref-in-If-3.ensures i))) in
+    let l = choose_lifts (taken c.args.to.now) (taken c.lift-in-If.new.to) (taken c.lift-in-If-2.new.to) (taken c.lift-in-If-3.new.to) d a b ck c.in_ok-c-in-If.c c.in_ok-a-in-If.a c.in_ok-b-in-If.b c.choose.result
+    c.in_ok-c-in-If.ensures.form c.in_ok-c-in-If.ensures.grown c.in_ok-a-in-If.ensures.form c.in_ok-a-in-If.ensures.grown c.in_ok-b-in-If.ensures.form c.in_ok-b-in-If.ensures.grown c.choose.ensures in
+    let whole = subst (λ (e : Expression). Lifts (taken c.args.to.now) e ck c.choose.result (taken c.lift-in-If-3.new.to)) (sym is) l in
+    record { form = whole.form; grown = whole.grown }
+
+pub lift-returns-in_ok-before-in-When : goal.lift-returns-in_ok-before-in-When
+lift-returns-in_ok-before-in-When t c =
+    let ck = c.args.clock.now in
+    let e = shape c.deref-in-When.result.now in
+    let is : shape c.args.e.now ≡ sampled e c.in-When.field-1 c.in-When.field-2 = ap shape c.in-When.is ∙ (λ i. sampled (shape (sym c.deref-in-When.ensures i)) c.in-When.field-1 c.in-When.field-2) in
+    let l = sampled_lifts (taken c.args.to.now) (taken c.lift-in-When.new.to) e c.in-When.field-1 c.in-When.field-2 ck c.in_ok-before-in-When.before c.lift-in-When.result c.in_ok-before-in-When.ensures c.lift-in-When.ensures.form c.lift-in-When.ensures.grown in
+    let whole = subst (λ (e : Expression). Lifts (taken c.args.to.now) e ck c.lift-in-When.result (taken c.lift-in-When.new.to)) (sym is) l in
+    record { form = whole.form; grown = whole.grown }
+
+pub lift-returns-in_ok-b-in-Merge : goal.lift-returns-in_ok-b-in-Merge
+lift-returns-in_ok-b-in-Merge t c =
+    let x = c.in-Merge.c in
+    let ck = c.args.clock.now in
+    let a = shape c.deref-in-Merge.result.now in
+    let b = shape c.deref-in-Merge-2.result.now in
+    let yes : c.in_ok-yes-in-Merge.yes ≡ (x, true) ∷ ck = c.in_ok-yes-in-Merge.ensures ∙ ap (λ k. (x, true) ∷ k) c.in_ok-copy-in-Merge.ensures in
+    let no : c.in_ok-no-in-Merge.no ≡ (x, false) ∷ ck = c.in_ok-no-in-Merge.ensures ∙ ap (λ k. (x, false) ∷ k) c.in_ok-copy-in-Merge-2.ensures in
+    let is : shape c.args.e.now ≡ merged x a b = ap shape c.in-Merge.is ∙ (λ i. merged x (shape (sym c.deref-in-Merge.ensures i)) (shape (sym c.deref-in-Merge-2.ensures i))) in
+    let l = two_lifts (taken c.args.to.now) (taken c.lift-in-Merge.new.to) (taken c.lift-in-Merge-2.new.to) (merged x a b) a b ck ((x, true) ∷ ck) ((x, false) ∷ ck) (joined x) c.in_ok-a-in-Merge.a c.in_ok-b-in-Merge.b c.merge.result (λ k c. refl) refl
+    c.in_ok-a-in-Merge.ensures.form (c.in_ok-a-in-Merge.ensures.grown ∙ ap (λ k. after (taken c.args.to.now) a k) yes)
+    c.in_ok-b-in-Merge.ensures.form (c.in_ok-b-in-Merge.ensures.grown ∙ ap (λ k. after (taken c.lift-in-Merge.new.to) b k) no) c.merge.ensures in
+    let whole = subst (λ (e : Expression). Lifts (taken c.args.to.now) e ck c.merge.result (taken c.lift-in-Merge-2.new.to)) (sym is) l in
+    record { form = whole.form; grown = whole.grown }
+
+pub lift-returns-in-Fby : goal.lift-returns-in-Fby
+lift-returns-in-Fby t c =
+    let ck = c.args.clock.now in
+    let e = shape c.deref-in-Fby.result.now in
+    let is : shape c.args.e.now ≡ delayed c.in-Fby.v e = ap shape c.in-Fby.is ∙ (λ i. delayed c.in-Fby.v (shape (sym c.deref-in-Fby.ensures i))) in
+    let l = delayed_lifts (taken c.args.to.now) (taken c.wait.new.to) c.in-Fby.v e ck c.wait.result c.wait.ensures.form c.wait.ensures.grown in
+    let whole = subst (λ (e : Expression). Lifts (taken c.args.to.now) e ck c.wait.result (taken c.wait.new.to)) (sym is) l in
+    record { form = whole.form; grown = whole.grown }
+
+pub lift-returns-in_ok-kept-in-Follow : goal.lift-returns-in_ok-kept-in-Follow
+lift-returns-in_ok-kept-in-Follow t c =
+    let ck = c.args.clock.now in
+    let a = shape c.deref-in-Follow.result.now in
+    let b = shape c.deref-in-Follow-2.result.now in
+    let is : shape c.args.e.now ≡ follow a b = ap shape c.in-Follow.is ∙ (λ i. follow (shape (sym c.deref-in-Follow.ensures i)) (shape (sym c.deref-in-Follow-2.ensures i))) in
+    let l = follow_lifts (taken c.args.to.now) (taken c.lift-in-Follow.new.to) (taken c.wait-in-Follow.new.to) (taken c.wait-in-Follow-2.new.to) a b ck c.in_ok-a-in-Follow.a c.in_ok-begins-in-Follow.begins c.in_ok-kept-in-Follow.kept c.choose-in-Follow.result
+    c.in_ok-a-in-Follow.ensures.form c.in_ok-a-in-Follow.ensures.grown c.in_ok-begins-in-Follow.ensures.form c.in_ok-begins-in-Follow.ensures.grown c.in_ok-kept-in-Follow.ensures.form c.in_ok-kept-in-Follow.ensures.grown c.choose-in-Follow.ensures in
+    let whole = subst (λ (e : Expression). Lifts (taken c.args.to.now) e ck c.choose-in-Follow.result (taken c.wait-in-Follow-2.new.to)) (sym is) l in
+    record { form = whole.form; grown = whole.grown }
+
+pub lift-returns-in_ok-begins-in-Arrow : goal.lift-returns-in_ok-begins-in-Arrow
+lift-returns-in_ok-begins-in-Arrow t c =
+    let ck = c.args.clock.now in
+    let a = shape c.deref-in-Arrow.result.now in
+    let b = shape c.deref-in-Arrow-2.result.now in
+    let is : shape c.args.e.now ≡ arrow a b = ap shape c.in-Arrow.is ∙ (λ i. arrow (shape (sym c.deref-in-Arrow.ensures i)) (shape (sym c.deref-in-Arrow-2.ensures i))) in
+    let l = arrow_lifts (taken c.args.to.now) (taken c.lift-in-Arrow.new.to) (taken c.lift-in-Arrow-2.new.to) (taken c.wait-in-Arrow.new.to) a b ck c.in_ok-a-in-Arrow.a c.in_ok-b-in-Arrow.b c.in_ok-begins-in-Arrow.begins c.choose-in-Arrow.result
+    c.in_ok-a-in-Arrow.ensures.form c.in_ok-a-in-Arrow.ensures.grown c.in_ok-b-in-Arrow.ensures.form c.in_ok-b-in-Arrow.ensures.grown c.in_ok-begins-in-Arrow.ensures.form c.in_ok-begins-in-Arrow.ensures.grown c.choose-in-Arrow.ensures in
+    let whole = subst (λ (e : Expression). Lifts (taken c.args.to.now) e ck c.choose-in-Arrow.result (taken c.wait-in-Arrow.new.to)) (sym is) l in
+    record { form = whole.form; grown = whole.grown }
+
+pub lift-returns-in_ok-args-in-Call : goal.lift-returns-in_ok-args-in-Call
+lift-returns-in_ok-args-in-Call t c =
+    let ck = c.args.clock.now in
+    let args = arguments_of (map shape c.in-Call.args.items) in
+    let is : shape c.args.e.now ≡ call c.in-Call.g args = ap shape c.in-Call.is ∙ shape-Call c.in-Call.g c.in-Call.args in
+    let l = call_lifts (taken c.args.to.now) (taken c.lift_all.new.to) (taken c.call.new.to) c.in-Call.g args ck (map form c.in_ok-args-in-Call.args.items) c.call.result
+    c.in_ok-args-in-Call.ensures.forms c.in_ok-args-in-Call.ensures.grown c.call.ensures.form c.call.ensures.grown in
+    let whole = subst (λ (e : Expression). Lifts (taken c.args.to.now) e ck c.call.result (taken c.call.new.to)) (sym is) l in
+    record { form = whole.form; grown = whole.grown }
+
+pub lift_all-loop-a-init : goal.lift_all-loop-a-init
+lift_all-loop-a-init t c = record { forms = ap (map form) c.in_ok-nodes.ensures.items; grown = no_arguments_lift (taken c.args.to.now) c.args.clock.now }
+
+pub lift_all-loop-a-preserved : goal.lift_all-loop-a-preserved
+lift_all-loop-a-preserved t c =
+    let x = taken c.args.to.now in
+    let ck = c.args.clock.now in
+    let items = c.deref-a-items.result.now in
+    let i = c.loop-a.a-index in
+    let a : Expr = c.a-item.result in
+    let es = map shape (take i items) in
+    let l = argument_lifts x (taken c.loop-a.to) (taken c.lift.new.to) es (shape a) ck (map form c.loop-a.nodes.items) (form c.in_ok-lift.field-0) c.loop-a.invariant.forms c.loop-a.invariant.grown c.in_ok-lift.ensures.form c.in_ok-lift.ensures.grown in
+    let more : es ++ shape a ∷ [] ≡ map shape (take (i + 1) items) =
+    sym (ap (map shape) (ap (λ n. take n items) (add-one i) ∙ take-suc items i a c.loop-a-test.true ∙ ap (λ e. take i items ++ e ∷ []) (sym c.a-item.is)) ∙ map-append shape (take i items) (a ∷ [])) in
+    record {
+      forms = ap (map form) c.in_ok-push.ensures.items ∙ map-append form c.loop-a.nodes.items (c.in_ok-lift.field-0 ∷ []) ∙ l.0 ∙ ap (λ es. forms_of (length x.waits) x.cells (arguments_of es)) more;
+      grown = l.1 ∙ ap (λ es. after_arguments x (arguments_of es) ck) more;
+    }
+
+pub lift_all-returns : goal.lift_all-returns
+lift_all-returns t c =
+    let x = taken c.args.to.now in
+    let items = c.deref-a-items.result.now in
+    let all = take_all c.loop-a.a-index items c.loop-a-test.false ∙ c.deref-a-items.ensures.value in
+    record {
+      forms = c.loop-a.invariant.forms ∙ ap (λ l. forms_of (length x.waits) x.cells (arguments_of (map shape l))) all;
+      grown = c.loop-a.invariant.grown ∙ ap (λ l. after_arguments x (arguments_of (map shape l)) c.args.clock.now) all;
+    }

@@ -1,0 +1,186 @@
+// How an expression is lifted.
+
+ghost use Rattle.std.specs.Prelude.{◌≡◌, ℕ, ◌+◌, true, false, List as Items, Option as Maybe, IfOk, OnOk, length, map};
+ghost use denote.Bor.{Bor};
+ghost use Rattle.lt_base.specs.declared.expression.Expr.{Expr as Tree};
+ghost use Rattle.lt_base.specs.Expression.{shape, arguments_of};
+ghost use Rattle.lt_base.specs.Meaning.{outer as outer_pairs};
+ghost use Rattle.lt_meaning.specs.Form.{form, at as at_cell, kept as at_delay, one, two, named, either, joined};
+ghost use Rattle.lt_meaning.specs.Plan.{runs};
+ghost use Rattle.lt_meaning.specs.Lift.{form_of, forms_of};
+ghost use Rattle.lt_meaning.specs.Taken.{taken, after, after_arguments, with_wait, with_call, right_form};
+
+use crate::lifter::{Lifter, Waiting};
+use crate::node::Node;
+use crate::plan::{Action, Step};
+use lt_base::{Bin, Clock, Expr, Imp, List, Memory, Un, Value};
+use std::alloc::Global;
+
+/// Lifts an expression at a clock: each delay gets a number, and each call a cell and a step.
+#[cycle(lifting)]
+pub fn lift<'a>(to: &mut Lifter<'a>, e: &'a Expr, clock: &Clock) -> Result<Node, Memory>
+    ensures form { IfOk result (λ node. form node ≡ form_of (length (taken to.old).waits) (taken to.old).cells (shape e.now)) }
+    ensures grown { OnOk result (taken to.new ≡ after (taken to.old) (shape e.now) clock.now) }
+{
+    match e {
+        Expr::Lit(v) => Ok(Node::Literal(*v)),
+        Expr::Var(x) => Ok(Node::Cell(*x as usize)),
+        Expr::Un(o, a) => {
+            let a = lift(to, a, clock)?;
+            unary(to.alloc, *o, a)
+        }
+        Expr::Bin(o, a, b) => {
+            let a = lift(to, a, clock)?;
+            let b = lift(to, b, clock)?;
+            binary(to.alloc, *o, a, b)
+        }
+        Expr::Imported(o, a, b) => {
+            let a = lift(to, a, clock)?;
+            let b = lift(to, b, clock)?;
+            imported(to.alloc, *o, a, b)
+        }
+        Expr::If(c, a, b) => {
+            let c = lift(to, c, clock)?;
+            let a = lift(to, a, clock)?;
+            let b = lift(to, b, clock)?;
+            choose(to.alloc, c, a, b)
+        }
+        Expr::When(e, _, _) => {
+            let before = outer(to.alloc, clock)?;
+            lift(to, e, &before)
+        }
+        Expr::Merge(c, a, b) => {
+            let yes = clock.copy()?.deeper(*c, true)?;
+            let a = lift(to, a, &yes)?;
+            let no = clock.copy()?.deeper(*c, false)?;
+            let b = lift(to, b, &no)?;
+            merge(to.alloc, *c, a, b)
+        }
+        Expr::Fby(v, right) => wait(to, clock, *v, Some(right)),
+        Expr::Follow(a, b) => {
+            let a = lift(to, a, clock)?;
+            let begins = wait(to, clock, Value::Bool(true), None)?;
+            let kept = wait(to, clock, Value::Bool(true), Some(b))?;
+            choose(to.alloc, begins, a, kept)
+        }
+        Expr::Arrow(a, b) => {
+            let a = lift(to, a, clock)?;
+            let b = lift(to, b, clock)?;
+            let begins = wait(to, clock, Value::Bool(true), None)?;
+            choose(to.alloc, begins, a, b)
+        }
+        Expr::Call(g, args) => {
+            let args = lift_all(to, args, clock)?;
+            call(to, clock, *g as usize, args)
+        }
+    }
+}
+
+// Lifts the arguments of a call.
+#[cycle(lifting)]
+fn lift_all<'a>(
+    to: &mut Lifter<'a>,
+    args: &'a Vec<Expr>,
+    clock: &Clock,
+) -> Result<Vec<Node>, Memory>
+    ensures forms { IfOk result (λ nodes. map form nodes.items ≡ forms_of (length (taken to.old).waits) (taken to.old).cells (arguments_of (map shape args.now.items))) }
+    ensures grown { OnOk result (taken to.new ≡ after_arguments (taken to.old) (arguments_of (map shape args.now.items)) clock.now) }
+{
+    let mut nodes = Vec::with_capacity(to.alloc, args.len())?;
+    for a in args {
+        nodes.push(lift(to, a, clock)?)?;
+    }
+    Ok(nodes)
+}
+
+// A delay that waits.
+fn wait<'a>(
+    to: &mut Lifter<'a>,
+    clock: &Clock,
+    first: Value,
+    right: Option<&'a Expr>,
+) -> Result<Node, Memory>
+    ensures form { IfOk result (λ node. form node ≡ at_delay (length (taken to.old).waits)) }
+    ensures grown { OnOk result (taken to.new ≡ with_wait (taken to.old) (record { clock = clock.now; first = first; right = right_form right.entry })) }
+{
+    let number = to.waiting.len();
+    let clock = clock.copy()?;
+    to.waiting.push(Waiting {
+        clock,
+        first,
+        right,
+    })?;
+    Ok(Node::Kept(number))
+}
+
+// A call with a cell and a step.
+fn call(
+    to: &mut Lifter<'_>,
+    clock: &Clock,
+    function: usize,
+    args: Vec<Node>,
+) -> Result<Node, Memory>
+    ensures form { IfOk result (λ node. form node ≡ at_cell (taken to.old).cells) }
+    ensures grown { OnOk result (taken to.new ≡ with_call (taken to.old) (record { cell = (taken to.old).cells; clock = clock.now; action = runs function (map form args.items) })) }
+{
+    let cell = to.cells.len();
+    to.cells.push(None)?;
+    let clock = clock.copy()?;
+    to.steps.push(Step {
+        cell,
+        clock,
+        action: Action::Run(function, args),
+    })?;
+    Ok(Node::Cell(cell))
+}
+
+// The clock before the innermost pair.
+fn outer(alloc: Global, clock: &Clock) -> Result<Clock, Memory>
+    ensures { IfOk result (λ before. before ≡ outer_pairs clock.now) }
+{
+    let steps = clock.steps.as_slice();
+    if steps.is_empty() {
+        return Ok(Clock::base(alloc));
+    }
+    let front = List::from_slice(alloc, &steps[..steps.len() - 1])?;
+    Ok(Clock { steps: front })
+}
+
+fn unary(alloc: Global, o: Un, a: Node) -> Result<Node, Memory>
+    ensures { IfOk result (λ node. form node ≡ one o (form a)) }
+{
+    Ok(Node::Unary(o, Box::new(alloc, a)?))
+}
+
+fn binary(alloc: Global, o: Bin, a: Node, b: Node) -> Result<Node, Memory>
+    ensures { IfOk result (λ node. form node ≡ two o (form a) (form b)) }
+{
+    let a = Box::new(alloc, a)?;
+    let b = Box::new(alloc, b)?;
+    Ok(Node::Binary(o, a, b))
+}
+
+fn imported(alloc: Global, o: Imp, a: Node, b: Node) -> Result<Node, Memory>
+    ensures { IfOk result (λ node. form node ≡ named o (form a) (form b)) }
+{
+    let a = Box::new(alloc, a)?;
+    let b = Box::new(alloc, b)?;
+    Ok(Node::Imported(o, a, b))
+}
+
+fn choose(alloc: Global, c: Node, a: Node, b: Node) -> Result<Node, Memory>
+    ensures { IfOk result (λ node. form node ≡ either (form c) (form a) (form b)) }
+{
+    let c = Box::new(alloc, c)?;
+    let a = Box::new(alloc, a)?;
+    let b = Box::new(alloc, b)?;
+    Ok(Node::Choose(c, a, b))
+}
+
+fn merge(alloc: Global, c: u32, a: Node, b: Node) -> Result<Node, Memory>
+    ensures { IfOk result (λ node. form node ≡ joined c (form a) (form b)) }
+{
+    let a = Box::new(alloc, a)?;
+    let b = Box::new(alloc, b)?;
+    Ok(Node::Merge(c as usize, a, b))
+}

@@ -1,0 +1,148 @@
+// The plan of a function.
+
+ghost use Rattle.std.specs.Prelude.{◌≡◌, ℕ, ◌<◌, ◌∷◌, [], List as Items, Some, IfOk, OnOk, length, slice_get};
+ghost use Rattle.lt_base.specs.declared.memory.Or.TheVariants.{Memory as OrMemory};
+ghost use Rattle.lt_base.specs.Expression.{Expression};
+ghost use Rattle.lt_base.specs.Program.{Function};
+ghost use Rattle.lt_base.specs.Meaning.{clock_of};
+ghost use Rattle.lt_base.specs.Dependence.{Causal};
+ghost use Rattle.lt_base.specs.Order.{Ordered};
+ghost use Rattle.lt_cause.specs.Orders.{IsOrder, place_in};
+ghost use Rattle.lt_meaning.specs.Form.{form};
+ghost use Rattle.lt_meaning.specs.Plan.{sets, delay_form};
+ghost use Rattle.lt_meaning.specs.Lift.{Wait, form_of, whole, step_of};
+ghost use Rattle.lt_meaning.specs.Taken.{taken, after, with_step, right_form};
+ghost use Rattle.lt_meaning.specs.Fine.{Passes};
+ghost use Rattle.lt_meaning.specs.Planned.{PlanOf};
+ghost use Rattle.lt_meaning.specs.Streams.{NumbersFit};
+
+use crate::expressions::lift;
+use crate::lifter::Lifter;
+use crate::node::Node;
+use crate::plan::{Action, Delay, Plan, Step};
+use lt_base::{Clock, Decl, Equation, Expr, Func, List, Memory, Or, Value};
+use lt_cause::{Order, causal};
+use std::alloc::Global;
+
+/// The plan of a function. Its steps are those of the equations, in their order, each after the calls in it, and then
+/// the calls in right sides of delays.
+pub fn plan_of(alloc: Global, f: &Func) -> Result<Plan, Memory>
+    requires causal { Causal f.now }
+    requires numbers { NumbersFit f.now }
+    ensures { (fs : Items Function) (height : ℕ → ℕ) (top : ℕ) → Passes fs height top f.now → IfOk result (λ plan. PlanOf fs height top f.now plan) }
+{
+    f.kept();
+    let order = order_of(alloc, f)?;
+    let mut to = start(alloc, f)?;
+    for k in order.eqs.as_slice() {
+        set(&mut to, &f.decls, &f.eqs.as_slice()[*k as usize])?;
+    }
+    let mut delays = Vec::new(alloc);
+    while delays.len() < to.waiting.len() {
+        let delay = next_delay(&mut to, delays.len())?;
+        delays.push(delay)?;
+    }
+    Ok(Plan {
+        inputs: f.n_in as usize,
+        cells: to.cells.len(),
+        output: first_output(f),
+        steps: to.steps,
+        delays,
+    })
+}
+
+// The order of the equations.
+fn order_of(alloc: Global, f: &Func) -> Result<Order, Memory>
+    requires causal { Causal f.now }
+    requires numbers { NumbersFit f.now }
+    ensures order { IfOk result (λ order. IsOrder f.now order.eqs) }
+    ensures places { IfOk result (λ order. Ordered f.now (place_in f.now order.eqs)) }
+{
+    match causal(alloc, f) {
+        Ok(order) => Ok(order),
+        Err(Or::Memory) => Err(Memory),
+        Err(Or::Fault(_)) => unreachable!(),
+    }
+}
+
+// The cells of the variables.
+fn start<'a>(alloc: Global, f: &Func) -> Result<Lifter<'a>, Memory>
+    ensures { IfOk result (λ to. taken to ≡ record { cells = length f.now.decls; steps = []; waits = [] }) }
+{
+    let mut cells = Vec::with_capacity(alloc, f.variables())?;
+    for _variable in 0..f.variables() {
+        cells.push(None)?;
+    }
+    Ok(Lifter {
+        alloc,
+        cells,
+        steps: Vec::new(alloc),
+        waiting: Vec::new(alloc),
+    })
+}
+
+// The step of an equation, after those of the calls in it.
+fn set<'a>(to: &mut Lifter<'a>, decls: &List<Decl>, equation: &'a Equation) -> Result<(), Memory>
+    requires { equation.now.0 < length decls.now }
+    ensures { OnOk result (taken to.new ≡ with_step (after (taken to.old) equation.now.1 (clock_of decls.now equation.now.0))
+        (step_of (record { cell = equation.now.0; clock = clock_of decls.now equation.now.0; delays_before = length (taken to.old).waits; cells_before = (taken to.old).cells; source = whole equation.now.1 }))) }
+{
+    let clock = &decls.as_slice()[equation.left() as usize].clock;
+    let node = lift(to, equation.right(), clock)?;
+    push_step(to, equation.left() as usize, clock, node)
+}
+
+fn push_step(to: &mut Lifter<'_>, cell: usize, clock: &Clock, node: Node) -> Result<(), Memory>
+    ensures { OnOk result (taken to.new ≡ with_step (taken to.old) (record { cell = cell; clock = clock.now; action = sets (form node) })) }
+{
+    let clock = clock.copy()?;
+    to.steps.push(Step {
+        cell,
+        clock,
+        action: Action::Set(node),
+    })?;
+    Ok(())
+}
+
+// The delay of this number, whose right side is lifted now.
+fn next_delay(to: &mut Lifter<'_>, number: usize) -> Result<Delay, Memory>
+    requires { number < length (taken to.old).waits }
+    ensures delay { (w : Wait) → slice_get (taken to.old).waits number ≡ Some w
+        → IfOk result (λ d. delay_form d ≡ record { clock = w.clock; first = w.first; right = form_of (length (taken to.old).waits) (taken to.old).cells w.right }) }
+    ensures grown { (w : Wait) → slice_get (taken to.old).waits number ≡ Some w → OnOk result (taken to.new ≡ after (taken to.old) w.right w.clock) }
+{
+    let waiting = &to.waiting[number];
+    let first = waiting.first;
+    let right = waiting.right;
+    let clock = waiting.clock.copy()?;
+    let right = lift_right(to, right, &clock)?;
+    Ok(Delay {
+        clock,
+        first,
+        right,
+    })
+}
+
+fn lift_right<'a>(
+    to: &mut Lifter<'a>,
+    right: Option<&'a Expr>,
+    clock: &Clock,
+) -> Result<Node, Memory>
+    ensures form { IfOk result (λ node. form node ≡ form_of (length (taken to.old).waits) (taken to.old).cells (right_form right.entry)) }
+    ensures grown { OnOk result (taken to.new ≡ after (taken to.old) (right_form right.entry) clock.now) }
+{
+    match right {
+        Some(e) => lift(to, e, clock),
+        None => Ok(Node::Literal(Value::Bool(false))),
+    }
+}
+
+// The cell of the first output, if there is one.
+fn first_output(f: &Func) -> usize
+    ensures { (y : ℕ) (ys : Items ℕ) → f.now.outs ≡ y ∷ ys → result ≡ y }
+{
+    match f.outs.as_slice().first() {
+        Some(y) => *y as usize,
+        None => 0,
+    }
+}

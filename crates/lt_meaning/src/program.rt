@@ -1,0 +1,140 @@
+// The streams of a program.
+
+ghost use Rattle.std.specs.Prelude.{◌≡◌, ◌<◌, ◌≤◌, ◌*◌, ◌-◌, ◌^◌, ℕ, [], Some, MatchResult, IfOk, OnOk, true, false, List as Items, length, min, slice_get, slice_index_or};
+ghost use Rattle.lt_base.specs.Or.{ForFault};
+ghost use Rattle.lt_base.specs.Inputs.{entry_at};
+ghost use Rattle.lt_base.specs.Meaning.{entry, cell as cell_of};
+ghost use Rattle.lt_base.specs.Sizes.{program_weight, cut};
+ghost use Rattle.lt_base.specs.Checked.{CheckedProgram};
+ghost use Rattle.lt_meaning.specs.Ready.{ArePlans, Shows};
+ghost use Rattle.lt_meaning.specs.Streams.{HasMainStreams, HasMainTypes, cell_count, InputsFitMain, HasRoom};
+
+use crate::Table;
+use crate::evaluate::{GREATEST_CELLS, StreamsFault};
+use crate::node::is_present;
+use crate::plan::Plan;
+use crate::planning::plan_of;
+use crate::starting::start;
+use crate::state::run;
+use lt_base::{Cell, Clock, Decl, Inputs, List, Memory, Or, Program, Value, sizes};
+use std::alloc::Global;
+
+/// The streams of all variables of `main`, for as many instants as there are rows of inputs.
+pub fn streams(alloc: Global, p: &Program, inputs: &Inputs) -> Result<Table, Or<StreamsFault>>
+    requires checked { CheckedProgram p.now }
+    requires fit { InputsFitMain p.now inputs.now }
+    requires room { HasRoom p.now }
+    ensures value { IfOk result (λ table. HasMainStreams p.now inputs.now.rows table) }
+    ensures types { IfOk result (λ table. HasMainTypes p.now table) }
+    ensures limit { MatchResult result
+        (λ _. cell_count p.now inputs.now.rows ≤ GREATEST_CELLS)
+        (λ e. ForFault e (λ _. GREATEST_CELLS < cell_count p.now inputs.now.rows)) }
+{
+    p.kept();
+    let too_many = is_too_many(alloc, p, inputs)?;
+    if too_many {
+        return Err(Or::Fault(StreamsFault::TooMany));
+    }
+    let plans = plans_of(alloc, p)?;
+    let table = table_of(alloc, p, plans.as_slice(), inputs)?;
+    Ok(table)
+}
+
+// Whether the weight of `main` times the number of rows is above the limit.
+fn is_too_many(alloc: Global, p: &Program, inputs: &Inputs) -> Result<bool, Memory>
+    requires { CheckedProgram p.now }
+    ensures more { IfOk result (λ b. b ≡ true → GREATEST_CELLS < cell_count p.now inputs.now.rows) }
+    ensures most { IfOk result (λ b. b ≡ false → cell_count p.now inputs.now.rows ≤ GREATEST_CELLS) }
+{
+    let weight = sizes(alloc, p)?.weight;
+    Ok(weight.saturating_mul(u64::from(inputs.rows())) > GREATEST_CELLS)
+}
+
+// A plan for each function.
+fn plans_of(alloc: Global, p: &Program) -> Result<Vec<Plan>, Memory>
+    requires checked { CheckedProgram p.now }
+    requires room { HasRoom p.now }
+    ensures { IfOk result (λ plans. ArePlans p.now plans.items) }
+{
+    p.kept();
+    let mut plans = Vec::with_capacity(alloc, p.funcs.len())?;
+    for f in p.funcs.as_slice() {
+        plans.push(plan_of(alloc, f)?)?;
+    }
+    Ok(plans)
+}
+
+// The streams of main's variables.
+fn table_of(alloc: Global, p: &Program, plans: &[Plan], inputs: &Inputs) -> Result<Table, Memory>
+    requires plans { ArePlans p.now plans.now }
+    requires fit { InputsFitMain p.now inputs.now }
+    ensures { IfOk result (λ table. HasMainStreams p.now inputs.now.rows table) }
+{
+    p.kept();
+    let number = p.main as usize;
+    let main = &p.funcs.as_slice()[number];
+    let decls = main.decls.as_slice();
+    let mut state = start(alloc, plans, number, plans.len())?;
+    let mut columns = columns_of(alloc, decls.len(), inputs.rows() as usize)?;
+    for k in 0..inputs.rows() {
+        load(inputs, main.n_in, k, &mut state.cells);
+        run(plans, number, &mut state);
+        show(decls, state.cells.as_slice(), &mut columns)?;
+    }
+    Ok(Table::of(List::of(columns)))
+}
+
+// So many empty columns, each with room for the rows.
+fn columns_of(alloc: Global, number: usize, rows: usize) -> Result<Vec<List<Cell>>, Memory>
+    ensures number { IfOk result (λ r. length r.items ≡ number) }
+    ensures empty { IfOk result (λ r. (x : ℕ) → slice_index_or r.items x [] ≡ []) }
+{
+    let mut columns = Vec::with_capacity(alloc, number)?;
+    for _column in 0..number {
+        columns.push(List::of(Vec::with_capacity(alloc, rows)?))?;
+    }
+    Ok(columns)
+}
+
+// Puts a row of inputs into the first cells.
+fn load(inputs: &Inputs, width: u32, k: u32, cells: &mut Vec<Option<Value>>)
+    requires row { k < length inputs.now.rows }
+    requires width { inputs.now.width ≡ width }
+    requires room { width ≤ length cells.old.items }
+    ensures size { length cells.new.items ≡ length cells.old.items }
+    ensures row { (x : ℕ) → x < width → slice_get cells.new.items x ≡ Some (entry_at inputs.now.rows k x) }
+{
+    for x in 0..width {
+        cells[x as usize] = Some(inputs.value(k, x));
+    }
+}
+
+// One more cell in each column.
+fn show(
+    decls: &[Decl],
+    cells: &[Option<Value>],
+    columns: &mut Vec<List<Cell>>,
+) -> Result<(), Memory>
+    requires { length columns.old.items ≡ length decls.now }
+    ensures size { length columns.new.items ≡ length columns.old.items }
+    ensures shows { OnOk result (Shows decls.now (entry cells.now) columns.old.items columns.new.items) }
+{
+    for x in 0..decls.len() {
+        let cell = cell_at(&decls[x].clock, cells, x);
+        columns[x].push(cell)?;
+    }
+    Ok(())
+}
+
+// What a variable has at an instant.
+fn cell_at(clock: &Clock, cells: &[Option<Value>], x: usize) -> Cell
+    ensures { result ≡ cell_of (entry cells.now) clock.now x }
+{
+    if !is_present(clock, cells) {
+        return Cell::Absent;
+    }
+    match cells.get(x) {
+        Some(Some(value)) => Cell::Here(*value),
+        _ => Cell::Absent,
+    }
+}

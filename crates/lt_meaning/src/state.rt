@@ -1,0 +1,167 @@
+// A function on its way through the instants.
+
+ghost use Rattle.std.specs.Prelude.{◌≡◌, ◌≢◌, ◌<◌, ◌≤◌, ℕ, true, false, Some, length, map, take, slice_get, if◌then◌else◌};
+ghost use Rattle.lt_base.specs.Meaning.{entry, present};
+ghost use Rattle.lt_meaning.specs.declared.plan.Delay.{Delay as DelayAt};
+ghost use Rattle.lt_meaning.specs.Form.{form, value_in};
+ghost use Rattle.lt_meaning.specs.Plan.{action_form};
+ghost use Rattle.lt_meaning.specs.Stands.{IsReady, Advances, CanAct, Acts, CanAnswer, Answers, CanRun, Runs};
+
+use crate::node::{Node, is_present};
+use crate::plan::{Action, Delay, Plan, Step};
+use lt_base::Value;
+use std::mem::swap;
+
+/// Where a call has come: its cells, what its delays keep, and the calls within it.
+#[derive(Drop)]
+pub struct State {
+    pub cells: Vec<Option<Value>>,
+    pub kept: Vec<Option<Value>>,
+    /// What the delays keep next.
+    pub next: Vec<Option<Value>>,
+    /// For each step that is a call, where that call has come.
+    pub children: Vec<Option<Box<State>>>,
+}
+
+/// One instant of the function of this number, whose inputs are in its first cells.
+#[cycle(run)]
+pub fn run(plans: &[Plan], g: usize, state: &mut State)
+    requires { IsReady plans.now g state.old }
+    ensures { Advances plans.now g state.old state.new }
+{
+    let plan = &plans[g];
+    for i in 0..plan.steps.len() {
+        take(
+            plans,
+            &plan.steps[i],
+            state.kept.as_slice(),
+            &mut state.cells,
+            &mut state.children[i],
+        );
+    }
+    advance(
+        plan.delays.as_slice(),
+        state.cells.as_slice(),
+        state.kept.as_slice(),
+        &mut state.next,
+    );
+    swap(&mut state.kept, &mut state.next);
+}
+
+// What the delays keep next.
+fn advance(
+    delays: &[Delay],
+    cells: &[Option<Value>],
+    kept: &[Option<Value>],
+    next: &mut Vec<Option<Value>>,
+)
+    requires kept { length kept.now ≡ length delays.now }
+    requires next { length next.old.items ≡ length delays.now }
+    ensures size { length next.new.items ≡ length next.old.items }
+    ensures next { (j : ℕ) (d : DelayAt) → slice_get delays.now j ≡ Some d → entry next.new.items j ≡ (if present (entry cells.now) d.clock then value_in (entry cells.now) (entry kept.now) (form d.right) else entry kept.now j) }
+{
+    for j in 0..delays.len() {
+        let delay = &delays[j];
+        let newest = if is_present(&delay.clock, cells) {
+            delay.right.value(cells, kept)
+        } else {
+            kept[j]
+        };
+        next[j] = newest;
+    }
+}
+
+// One step.
+#[cycle(run)]
+fn take(
+    plans: &[Plan],
+    step: &Step,
+    kept: &[Option<Value>],
+    cells: &mut Vec<Option<Value>>,
+    child: &mut Option<Box<State>>,
+)
+    requires cell { step.now.cell < length cells.old.items }
+    requires child { CanAct plans.now (action_form step.now.action) child.old }
+    ensures size { length cells.new.items ≡ length cells.old.items }
+    ensures others { (s : ℕ) → s ≢ step.now.cell → entry cells.new.items s ≡ entry cells.old.items s }
+    ensures absent { present (entry cells.old.items) step.now.clock ≡ false → (cells.new.items ≡ cells.old.items) × (child.new ≡ child.old) }
+    ensures acts { present (entry cells.old.items) step.now.clock ≡ true
+        → Acts plans.now (action_form step.now.action) (entry cells.old.items) (entry kept.now) child.old child.new (entry cells.new.items step.now.cell) }
+{
+    if !is_present(&step.clock, cells.as_slice()) {
+        return;
+    }
+    let value = action(plans, &step.action, cells.as_slice(), kept, child);
+    cells[step.cell] = value;
+}
+
+// What a step gives its cell.
+#[cycle(run)]
+fn action(
+    plans: &[Plan],
+    action: &Action,
+    cells: &[Option<Value>],
+    kept: &[Option<Value>],
+    child: &mut Option<Box<State>>,
+) -> Option<Value>
+    requires { CanAct plans.now (action_form action.now) child.old }
+    ensures { Acts plans.now (action_form action.now) (entry cells.now) (entry kept.now) child.old child.new result }
+{
+    match action {
+        Action::Set(node) => node.value(cells, kept),
+        Action::Run(function, args) => called(plans, *function, args, cells, kept, child),
+    }
+}
+
+// A call at an instant.
+#[cycle(run)]
+fn called(
+    plans: &[Plan],
+    function: usize,
+    args: &Vec<Node>,
+    cells: &[Option<Value>],
+    kept: &[Option<Value>],
+    child: &mut Option<Box<State>>,
+) -> Option<Value>
+    requires { CanAnswer plans.now function (length args.now.items) child.old }
+    ensures { Answers plans.now function (map (value_in (entry cells.now) (entry kept.now)) (map form args.now.items)) child.old child.new result }
+{
+    match child {
+        None => unreachable!(),
+        Some(state) => answer(plans, function, args, cells, kept, state),
+    }
+}
+
+#[cycle(run)]
+fn answer(
+    plans: &[Plan],
+    function: usize,
+    args: &Vec<Node>,
+    cells: &[Option<Value>],
+    kept: &[Option<Value>],
+    state: &mut State,
+) -> Option<Value>
+    requires { CanRun plans.now function (length args.now.items) state.old }
+    ensures { Runs plans.now function (map (value_in (entry cells.now) (entry kept.now)) (map form args.now.items)) state.old state.new result }
+{
+    let plan = &plans[function];
+    fill(args, cells, kept, &mut state.cells);
+    run(plans, function, state);
+    state.cells[plan.output]
+}
+
+// Puts the arguments' values into the first cells.
+fn fill(
+    args: &Vec<Node>,
+    cells: &[Option<Value>],
+    kept: &[Option<Value>],
+    to: &mut Vec<Option<Value>>,
+)
+    requires { length args.now.items ≤ length to.old.items }
+    ensures size { length to.new.items ≡ length to.old.items }
+    ensures filled { take (length args.now.items) to.new.items ≡ map (value_in (entry cells.now) (entry kept.now)) (map form args.now.items) }
+{
+    for i in 0..args.len() {
+        to[i] = args[i].value(cells, kept);
+    }
+}

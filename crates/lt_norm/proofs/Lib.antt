@@ -1,0 +1,14 @@
+pub mod Told
+pub mod Stands
+pub mod Clocks
+pub mod Typings
+pub mod Ranks
+pub mod Lifted
+pub mod Plains
+pub mod NormalForms
+pub mod Steps
+pub mod Loop
+pub mod Found
+pub mod Built
+pub mod Examples
+pub mod Passes

@@ -1,0 +1,6 @@
+pub mod Plain
+pub mod Lift
+pub mod Flat
+pub mod NormalForm
+pub mod Walk
+pub mod Fixtures

@@ -1,0 +1,15 @@
+//! The normal form of a function: each delay stands alone on a right side.
+#![tactic(auto)]
+
+mod equations;
+mod flat;
+mod forms;
+mod kinds;
+mod lift;
+mod plain;
+mod right;
+#[cfg(test)]
+mod tests;
+
+pub use equations::normal;
+pub use flat::Flat;

@@ -1,0 +1,58 @@
+// Clocks.
+ghost use Rattle.std.specs.Prelude.{◌≡◌, ◌++◌, OnOk};
+ghost use Rattle.lt_texts.specs.Lines.{clock_text, step_text, place_text};
+
+use crate::names::{append_number, append_variable};
+use lt_base::{Clock, List, Memory};
+use lt_syntax::Tree;
+use std::alloc::Global;
+
+/// Appends a clock: `base`, and then each pair from there inwards.
+pub(crate) fn append_clock(
+    line: &mut List<u8>,
+    tree: &Tree,
+    func: u32,
+    clock: &Clock,
+) -> Result<(), Memory>
+    ensures { OnOk result (line.new ≡ line.old ++ clock_text tree.now func clock.now) }
+{
+    line.extend(b"base")?;
+    for (variable, polarity) in clock.steps.as_slice() {
+        append_step(line, tree, func, *variable, *polarity)?;
+    }
+    Ok(())
+}
+
+fn append_step(
+    line: &mut List<u8>,
+    tree: &Tree,
+    func: u32,
+    variable: u32,
+    polarity: bool,
+) -> Result<(), Memory>
+    ensures { OnOk result (line.new ≡ line.old ++ step_text tree.now func (variable, polarity)) }
+{
+    if polarity {
+        line.extend(b" on ")?;
+    } else {
+        line.extend(b" on not ")?;
+    }
+    append_variable(line, tree, func, variable)
+}
+
+/// Appends where a clock is at fault: a declaration, or an equation by its number from 1 on.
+pub(crate) fn append_place(
+    alloc: Global,
+    line: &mut List<u8>,
+    at: Option<u32>,
+) -> Result<(), Memory>
+    ensures { OnOk result (line.new ≡ line.old ++ place_text at) }
+{
+    match at {
+        None => line.extend(b"declaration"),
+        Some(equation) => {
+            line.extend(b"equation ")?;
+            append_number(alloc, line, u64::from(equation) + 1)
+        }
+    }
+}
