@@ -1,14 +1,14 @@
 -- A whole instant of a state, and what it answers.
-use Rattle.std.proofs.Common.{◌≡◌, ◌≢◌, ℕ, zero, suc, ◌+◌, ◌<◌, ◌≤◌, Bool, true, false, List, [], ◌∷◌, length, map, take, get_or, Option, Some, None, refl, sym, ap, subst, ◌∙◌, arith}
-use Rattle.std.specs.Prelude.{slice_get, if◌then◌else◌}
+use Rattle.std.proofs.Common.{◌≡◌, ℕ, zero, suc, ◌<◌, ◌≤◌, true, List, [], ◌∷◌, length, get_or, Option, Some, None, refl, sym, ap, subst, ◌∙◌, arith}
+use Rattle.std.specs.Prelude.{slice_get}
 use Rattle.std.specs.Global.{Box, Vec}
 use Rattle.std.proofs.lemmas.List.{get_or-take}
-use Rattle.std.proofs.lemmas.Option.{slice_get_within, get_or_from_slice_get}
+use Rattle.std.proofs.lemmas.Option.{slice_get_within}
 use Rattle.lt_base.specs.declared.value.Value.{Value}
 use Rattle.lt_base.specs.Expression.{Expression}
-use Rattle.lt_base.specs.Program.{Function, GoodFunction}
-use Rattle.lt_base.specs.Meaning.{Environment, Row, Callee, entry, clock_of, right_of, function_of, present, latest, value_of}
-use Rattle.lt_base.specs.Solution.{Given, Obeys, Solves}
+use Rattle.lt_base.specs.Program.{Function}
+use Rattle.lt_base.specs.Meaning.{Environment, Row, Callee, entry, clock_of, right_of, present, latest, value_of}
+use Rattle.lt_base.specs.Solution.{Given, Solves}
 use Rattle.lt_base.specs.Behaviour.{calls_of}
 use Rattle.lt_base.proofs.Lookups.{is_input}
 use Rattle.lt_base.proofs.Defined.{good_function, clocked_function, causal_function, program_closed}
@@ -17,13 +17,12 @@ use Rattle.lt_meaning.specs.declared.plan.Plan.{Plan}
 use Rattle.lt_meaning.specs.declared.plan.Delay.{Delay}
 use Rattle.lt_meaning.specs.declared.state.State.{State, out-State}
 use Rattle.lt_meaning.specs.declared.state.State.TheOpen.{State-F}
-use Rattle.lt_meaning.specs.Form.{form, value_in}
-use Rattle.lt_meaning.specs.Plan.{DelayForm, delay_form, inputs_of, inputs_at}
+use Rattle.lt_meaning.specs.Plan.{delay_form, inputs_of, inputs_at}
 use Rattle.lt_meaning.specs.Lift.{Wait, Item}
-use Rattle.lt_meaning.specs.Planned.{In, Lifted, Answering, PlanOf, PlanAt, Planned}
-use Rattle.lt_meaning.specs.Stands.{cells_of, ChildStands, StandsOver, Stands, IsReady, Advances, CanRun, Runs, Holds, row_in}
+use Rattle.lt_meaning.specs.Planned.{In, Lifted, Answering, PlanAt, Planned}
+use Rattle.lt_meaning.specs.Stands.{cells_of, ChildStands, StandsOver, Stands, Advances, CanRun, Holds, row_in}
 use Rattle.lt_meaning.proofs.Keeping.{next_of}
-use Rattle.lt_meaning.proofs.Running.{Progress, kept_next}
+use Rattle.lt_meaning.proofs.Running.{kept_next}
 use Rattle.lt_meaning.proofs.Instant.{Partly, PartlyBy, Deeper, Along, plan_is, inputs_are, steps_number, some_at, map_at}
 
 -- the delays keep on after these cells' values

@@ -1,24 +1,22 @@
 -- A function before the first instant.
-use Rattle.std.proofs.Common.{◌≡◌, ◌≢◌, ℕ, zero, suc, ◌+◌, ◌-◌, ◌<◌, ◌≤◌, ◌⊎◌, inl, inr, List, [], ◌∷◌, ◌++◌, length, map, get_or, Option, Some, None, refl, sym, ap, subst, ◌∙◌, arith}
+use Rattle.std.proofs.Common.{◌≡◌, ℕ, zero, suc, ◌+◌, ◌-◌, ◌<◌, ◌⊎◌, inl, inr, List, [], ◌∷◌, ◌++◌, length, map, get_or, Option, Some, None, refl, sym, ap, subst, ◌∙◌, arith}
 use Rattle.std.specs.Prelude.{slice_get}
 use Rattle.std.specs.Global.{Box, Vec}
 use Rattle.std.proofs.lemmas.List.{length-map}
 use Rattle.std.proofs.lemmas.Option.{slice_get_within, get_or_from_slice_get}
 use Rattle.lt_base.specs.declared.value.Value.{Value}
-use Rattle.lt_base.specs.Expression.{Arguments}
 use Rattle.lt_base.specs.Program.{Function}
-use Rattle.lt_base.specs.Meaning.{ClockPairs, Row, Environment, entry, function_of, latest, value_of}
+use Rattle.lt_base.specs.Meaning.{ClockPairs, function_of}
 use Rattle.lt_base.specs.Behaviour.{calls_of}
 use Rattle.lt_meaning.specs.declared.plan.Plan.{Plan}
 use Rattle.lt_meaning.specs.declared.plan.Delay.{Delay}
 use Rattle.lt_meaning.specs.declared.plan.Step.{Step}
 use Rattle.lt_meaning.specs.declared.state.State.{State, out-State}
-use Rattle.lt_meaning.specs.declared.state.State.TheOpen.{State-F}
-use Rattle.lt_meaning.specs.Plan.{ActionForm, sets, runs, StepForm, action_form, step_form, DelayForm, delay_form}
-use Rattle.lt_meaning.specs.Lift.{Wait, Source, whole, part, Item, form_of, action_of, step_of}
-use Rattle.lt_meaning.specs.Planned.{In, IfCall, Answering, PlanAt, Planned, Lifted}
+use Rattle.lt_meaning.specs.Plan.{StepForm, action_form, DelayForm, delay_form}
+use Rattle.lt_meaning.specs.Lift.{Source, whole, part, Item, form_of, action_of}
+use Rattle.lt_meaning.specs.Planned.{IfCall, Answering, Planned}
 use Rattle.lt_meaning.specs.Stands.{ChildStands, StandsOver, Stands, CanStart, Starts, CanStartChild, ChildStarts}
-use Rattle.lt_meaning.proofs.Standing.{get_left, get_right, get_either}
+use Rattle.lt_meaning.proofs.Standing.{get_either}
 use Rattle.lt_meaning.proofs.Instant.{Deeper, plan_is, steps_number, some_at, map_at, item_at}
 
 -- the calls of the first i steps have begun

@@ -1,27 +1,21 @@
 -- How far the plan of a function has come.
-use Rattle.std.proofs.Common.{◌≡◌, ◌≢◌, ℕ, zero, suc, ◌+◌, ◌<◌, ◌≤◌, ◌⊎◌, inl, inr, Bool, true, false, cond, List, [], ◌∷◌, ◌++◌, length, take, drop, map, get_or, Option, Some, None, refl, sym, ap, subst, ◌∙◌, arith, ⊎_elim}
-use Rattle.std.specs.Prelude.{slice_get, nat_eq, nat_lt, if◌then◌else◌}
-use Rattle.std.specs.List.{count_by, position_or_len}
-use Rattle.std.proofs.lemmas.List.{append_assoc, append-nil, length-map, map-append, length-append, take-append-le, get_or-take}
-use Rattle.std.proofs.lemmas.List.Sums.{position_or_len_is}
-use Rattle.std.proofs.lemmas.Option.{slice_get_within, slice_get-get_or, get_or_from_slice_get}
-use Rattle.lt_base.specs.Expression.{Expression, literal, variable, unary, binary, imported, choose, sampled, merged, delayed, follow, arrow, call, Arguments, no_arguments, argument}
+use Rattle.std.proofs.Common.{◌≡◌, ◌≢◌, ℕ, suc, ◌+◌, ◌<◌, ◌≤◌, ◌⊎◌, inl, inr, List, [], ◌∷◌, ◌++◌, length, map, Option, Some, refl, sym, ap, subst, ◌∙◌, arith, ⊎_elim}
+use Rattle.std.specs.Prelude.{slice_get}
+use Rattle.std.proofs.lemmas.List.{length-map, map-append, length-append}
+use Rattle.std.proofs.lemmas.Option.{slice_get_within}
+use Rattle.lt_base.specs.Expression.{Expression}
 use Rattle.lt_base.specs.Program.{Function, GoodFunction}
-use Rattle.lt_base.specs.Meaning.{ClockPairs, clock_of, right_of, function_of}
+use Rattle.lt_base.specs.Meaning.{ClockPairs, clock_of}
 use Rattle.lt_base.specs.Order.{EachRead, EachClockVar, Ordered}
-use Rattle.lt_base.specs.Equations.{lefts}
-use Rattle.lt_base.specs.Clocking.{WellFormed}
 use Rattle.lt_base.proofs.Reading.{each_map, each_clock_map, each_at, each_from, each_clock_at, each_clock_from}
-use Rattle.lt_base.proofs.Lookups.{lefts_cons, same_self, input_none}
-use Rattle.lt_cause.specs.Tables.{count}
-use Rattle.lt_cause.specs.Orders.{IsOrder, is_left, place_by, place_in}
+use Rattle.lt_cause.specs.Orders.{IsOrder, place_in}
 use Rattle.lt_meaning.specs.declared.plan.Plan.{Plan}
-use Rattle.lt_meaning.specs.Plan.{StepForm, step_form, DelayForm, delay_form}
-use Rattle.lt_meaning.specs.Lift.{delay_count, call_count, form_of, Wait, delays_in, Source, whole, part, Item, step_of, calls_in}
+use Rattle.lt_meaning.specs.Plan.{step_form, DelayForm, delay_form}
+use Rattle.lt_meaning.specs.Lift.{call_count, form_of, Wait, delays_in, Source, whole, part, Item, step_of, calls_in}
 use Rattle.lt_meaning.specs.Taken.{Taken, after, with_step}
 use Rattle.lt_meaning.specs.Fine.{Fine, Passes}
-use Rattle.lt_meaning.specs.Planned.{In, Within, StandsFrom, expression_of, PlanOf, inner_calls, inner_delays, Lifted, IfCall, Answering}
-use Rattle.lt_meaning.proofs.Standing.{get_left, get_right, take_get, get_take, in_left, in_right, in_either}
+use Rattle.lt_meaning.specs.Planned.{In, Within, StandsFrom, expression_of, PlanOf, inner_delays, Lifted, IfCall, Answering}
+use Rattle.lt_meaning.proofs.Standing.{get_left, get_right, in_left, in_right, in_either}
 use Rattle.lt_meaning.proofs.Sites.{in_one, Called, Declared, reads_declared, clock_declared, calls_answer, waits_fine, calls_need}
 use Rattle.lt_meaning.proofs.Running.{nat_same}
 use Rattle.lt_meaning.proofs.Instant.{some_at}

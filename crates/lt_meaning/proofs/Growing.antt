@@ -1,14 +1,13 @@
 -- What lifting takes, arm by arm.
-use Rattle.std.proofs.Common.{◌≡◌, ℕ, ◌+◌, Bool, true, false, List, [], ◌∷◌, ◌++◌, length, map, take, get_or, ◌<◌, ◌≤◌, Option, Some, None, Result, Ok, Err, IfOk, OnOk, refl, sym, ap, subst, ◌∙◌, arith, add-one}
-use Rattle.std.proofs.Math.Seq.{take-suc}
-use Rattle.std.proofs.lemmas.List.{append_assoc, append-nil, map-append, length-append, take_all}
+use Rattle.std.proofs.Common.{◌≡◌, ℕ, ◌+◌, Bool, true, List, [], ◌∷◌, ◌++◌, length, map, Result, Ok, Err, IfOk, OnOk, refl, sym, ap, subst, ◌∙◌, arith}
+use Rattle.std.proofs.lemmas.List.{append_assoc, append-nil, map-append, length-append}
 use Rattle.lt_base.specs.declared.value.Value.{Value}
 use Rattle.lt_base.specs.declared.value.Value.TheVariants.{Bool as Truth}
 use Rattle.lt_base.specs.declared.memory.Memory.{Memory}
-use Rattle.lt_base.specs.Expression.{Expression, literal, variable, unary, binary, imported, choose, sampled, merged, delayed, follow, arrow, call, Arguments, no_arguments, argument, arguments_of}
+use Rattle.lt_base.specs.Expression.{Expression, choose, sampled, delayed, follow, arrow, call, Arguments, no_arguments, arguments_of}
 use Rattle.lt_base.specs.Meaning.{ClockPairs, outer}
 use Rattle.lt_meaning.specs.declared.node.Node.{Node}
-use Rattle.lt_meaning.specs.Form.{Form, form, at, kept, one, either}
+use Rattle.lt_meaning.specs.Form.{Form, form, at, kept, either}
 use Rattle.lt_meaning.specs.Plan.{StepForm, runs}
 use Rattle.lt_meaning.specs.Lift.{delay_count, delay_counts, call_count, call_counts, form_of, forms_of, Wait, first_wait, delays_in, arguments_delays, part, Item, step_of, calls_in, arguments_calls}
 use Rattle.lt_meaning.specs.Taken.{Taken, after, after_arguments, with_wait, with_call}

@@ -1,34 +1,27 @@
 -- One instant of a state.
-use Rattle.std.proofs.Common.{◌≡◌, ◌≢◌, ℕ, zero, suc, ◌+◌, ◌<◌, ◌≤◌, Bool, true, false, List, [], ◌∷◌, ◌++◌, length, map, take, set, get_or, Option, Some, None, refl, sym, ap, subst, ◌∙◌, arith, ◌⊎◌, inl, inr, get_or-set_other, get_or-set_same}
-use Rattle.std.specs.Prelude.{slice_get, if◌then◌else◌}
+use Rattle.std.proofs.Common.{◌≡◌, ◌≢◌, ℕ, zero, suc, ◌+◌, ◌<◌, ◌≤◌, true, false, List, [], ◌∷◌, length, map, set, get_or, Option, Some, None, refl, sym, ap, subst, ◌∙◌, arith, ◌⊎◌, inl, inr, get_or-set_other, get_or-set_same}
+use Rattle.std.specs.Prelude.{slice_get}
 use Rattle.std.specs.Option.{option_map}
 use Rattle.std.specs.Global.{Box, Vec}
 use Rattle.std.specs.Vec.{with_item}
-use Rattle.std.proofs.lemmas.List.{length-map, length-set, get_or-take}
+use Rattle.std.proofs.lemmas.List.{length-map, length-set}
 use Rattle.std.proofs.lemmas.Option.{slice_get-map, slice_get-get_or, slice_get_within, slice_get_past, get_or_from_slice_get}
 use Rattle.lt_base.specs.declared.value.Value.{Value}
-use Rattle.lt_base.specs.Expression.{Expression, Arguments, no_arguments, argument}
-use Rattle.lt_base.specs.Program.{Function, GoodFunction}
-use Rattle.lt_base.specs.Meaning.{ClockPairs, Environment, Row, Callee, rows_at, values_of, entry, clock_of, right_of, function_of, present, latest, value_of}
-use Rattle.lt_base.specs.Solution.{Given, Obeys, Solves}
+use Rattle.lt_base.specs.Expression.{Arguments, no_arguments, argument}
+use Rattle.lt_base.specs.Program.{Function}
+use Rattle.lt_base.specs.Meaning.{ClockPairs, Environment, Row, rows_at, values_of, entry, function_of, present}
 use Rattle.lt_base.specs.Behaviour.{calls_of}
 use Rattle.lt_base.specs.Checked.{count}
-use Rattle.lt_base.proofs.Lookups.{is_input}
-use Rattle.lt_base.proofs.Defined.{good_function, clocked_function, causal_function, program_closed}
-use Rattle.lt_base.proofs.Streams.{call_is}
 use Rattle.lt_meaning.specs.declared.plan.Plan.{Plan}
-use Rattle.lt_meaning.specs.declared.plan.Delay.{Delay}
 use Rattle.lt_meaning.specs.declared.plan.Step.{Step}
 use Rattle.lt_meaning.specs.declared.state.State.{State, out-State}
 use Rattle.lt_meaning.specs.declared.state.State.TheOpen.{State-F}
-use Rattle.lt_meaning.specs.Form.{form, value_in}
-use Rattle.lt_meaning.specs.Plan.{ActionForm, sets, runs, StepForm, action_form, step_form, DelayForm, delay_form, inputs_of, inputs_at}
-use Rattle.lt_meaning.specs.Lift.{delay_count, call_count, form_of, forms_of, Wait, Source, whole, part, Item, action_of, step_of}
-use Rattle.lt_meaning.specs.Planned.{In, IfCall, Answering, PlanOf, PlanAt, Planned, EachCell, expression_of}
-use Rattle.lt_meaning.specs.Stands.{cells_of, ChildStands, StandsOver, Stands, IsReady, Advances, CanRun, Runs, CanAnswer, Answers, CanAct, Acts, Holds, row_in}
-use Rattle.lt_meaning.proofs.Standing.{get_take}
-use Rattle.lt_meaning.proofs.Keeping.{next_of}
-use Rattle.lt_meaning.proofs.Running.{RanOn, ran_from, Gives, Progress, progress_none, progress_next, kept_next}
+use Rattle.lt_meaning.specs.Form.{value_in}
+use Rattle.lt_meaning.specs.Plan.{StepForm, action_form, step_form, inputs_of, inputs_at}
+use Rattle.lt_meaning.specs.Lift.{delay_count, call_count, forms_of, Source, whole, part, Item, action_of, step_of}
+use Rattle.lt_meaning.specs.Planned.{IfCall, Answering, PlanAt, Planned}
+use Rattle.lt_meaning.specs.Stands.{ChildStands, StandsOver, Stands, IsReady, CanAct, Acts}
+use Rattle.lt_meaning.proofs.Running.{Gives, Progress, progress_none, progress_next}
 
 -- so far in an instant
 pub record Partly (plans : List Plan) (k : Planned plans) (P : State → ℕ → List Row → Type 0) (s : State-F State) (g : ℕ) (rows : List Row) (es : List Environment) (st : StandsOver plans k P s g rows es) (t : State-F State) (i : ℕ) : Type 0 where

@@ -1,15 +1,14 @@
 -- Steps in order: each reads what was written before it, and writes a cell that none before it touches.
-use Rattle.std.proofs.Common.{◌≡◌, ◌≢◌, ℕ, zero, suc, ◌+◌, ◌<◌, ◌≤◌, ◌⊎◌, inl, inr, Bool, true, false, List, [], ◌∷◌, ◌++◌, length, take, Option, Some, None, refl, sym, ap, subst, ◌∙◌, arith, ⊎_elim}
-use Rattle.std.specs.Prelude.{slice_get}
-use Rattle.std.proofs.lemmas.List.{append_assoc, append-nil, take-append-le, take_all, length-append}
+use Rattle.std.proofs.Common.{◌≡◌, ◌≢◌, ℕ, ◌+◌, ◌<◌, ◌≤◌, inl, inr, true, false, List, [], ◌∷◌, ◌++◌, length, take, sym, ap, subst, ◌∙◌, arith, ⊎_elim}
+use Rattle.std.proofs.lemmas.List.{append_assoc, append-nil, take-append-le, take_all}
 use Rattle.std.proofs.lemmas.Option.{slice_get_within}
 use Rattle.lt_base.specs.Expression.{Expression, literal, variable, unary, binary, imported, choose, sampled, merged, delayed, follow, arrow, call, Arguments, no_arguments, argument}
 use Rattle.lt_base.specs.Meaning.{ClockPairs, outer}
 use Rattle.lt_base.specs.Order.{EachRead, EachArgumentRead, EachClockVar}
 use Rattle.lt_base.proofs.Reading.{each_map, each_argument_map, each_clock_map}
-use Rattle.lt_meaning.specs.Lift.{delay_count, delay_counts, call_count, call_counts, Source, whole, part, Item, calls_in, arguments_calls}
+use Rattle.lt_meaning.specs.Lift.{delay_count, call_count, call_counts, part, Item, calls_in, arguments_calls}
 use Rattle.lt_meaning.specs.Planned.{In, Within, EachCell, expression_of, inner_calls, MayFollow, InOrder}
-use Rattle.lt_meaning.proofs.Standing.{get_either, get_left, in_left, in_right, in_either}
+use Rattle.lt_meaning.proofs.Standing.{get_either, in_right, in_either}
 use Rattle.lt_meaning.proofs.Sites.{in_one}
 
 each_cell_map : (P Q : ℕ → Type 0) → ((s : ℕ) → P s → Q s) → (x : Item) → EachCell P x → EachCell Q x

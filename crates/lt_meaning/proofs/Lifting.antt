@@ -1,16 +1,15 @@
 -- A lifted expression has the expression's value.
-use Rattle.std.proofs.Common.{◌≡◌, ℕ, zero, suc, ◌+◌, Bool, true, false, List, [], ◌∷◌, ◌++◌, length, map, Option, Some, None, refl, sym, ap, ◌∙◌, arith}
-use Rattle.std.specs.Prelude.{◌&&◌, slice_get, if◌then◌else◌}
+use Rattle.std.proofs.Common.{◌≡◌, ℕ, ◌+◌, true, false, List, [], ◌∷◌, ◌++◌, length, map, Some, refl, sym, ap, ◌∙◌, arith}
+use Rattle.std.specs.Prelude.{slice_get}
 use Rattle.std.specs.Option.{option_and_then}
 use Rattle.std.proofs.lemmas.List.{length-append}
-use Rattle.lt_base.specs.declared.value.Value.{Value}
-use Rattle.lt_base.specs.declared.value.Value.TheVariants.{Int, Bool as Truth}
+use Rattle.lt_base.specs.declared.value.Value.TheVariants.{Bool as Truth}
 use Rattle.lt_base.specs.Operators.{op1, op2, imp_value}
 use Rattle.lt_base.specs.Expression.{Expression, literal, variable, unary, binary, imported, choose, sampled, merged, delayed, follow, arrow, call, Arguments, no_arguments, argument}
-use Rattle.lt_base.specs.Meaning.{ClockPairs, Environment, Row, Callee, present, outer, both, pick, latest, value_of, values_of, is_truth}
+use Rattle.lt_base.specs.Meaning.{ClockPairs, Environment, Callee, present, outer, both, pick, latest, value_of, values_of}
 use Rattle.lt_base.proofs.Solution.{and_left, and_both, pick_same}
 use Rattle.lt_base.proofs.First.{first_flag, arrow_by_flag, follow_by_arrow}
-use Rattle.lt_meaning.specs.Form.{Form, value_in}
+use Rattle.lt_meaning.specs.Form.{value_in}
 use Rattle.lt_meaning.specs.Lift.{delay_count, delay_counts, call_count, call_counts, form_of, forms_of, Wait, first_wait, delays_in, arguments_delays, part, Item, calls_in, arguments_calls}
 use Rattle.lt_meaning.specs.Planned.{In, StandsFrom}
 use Rattle.lt_meaning.specs.Stands.{Holds}

@@ -1,15 +1,14 @@
 -- The places of the variables in the order of the equations.
-use Rattle.std.proofs.Common.{◌≡◌, ◌≢◌, ℕ, zero, suc, ◌+◌, ◌<◌, ◌≤◌, ◌⊎◌, inl, inr, Bool, true, false, cond, List, [], ◌∷◌, ◌++◌, length, get_or, Option, Some, None, refl, sym, ap, subst, ◌∙◌, arith, eqb-true, ltb-true, lt-ltb}
+use Rattle.std.proofs.Common.{◌≡◌, ℕ, zero, suc, ◌+◌, ◌<◌, ◌≤◌, ◌⊎◌, inl, inr, Bool, true, false, cond, List, [], ◌∷◌, length, get_or, Option, Some, None, refl, sym, ap, subst, ◌∙◌, arith, eqb-true, ltb-true, lt-ltb}
 use Rattle.std.specs.Prelude.{slice_get, nat_eq, nat_lt, if◌then◌else◌}
-use Rattle.std.specs.List.{count_by, sum_by, position_or_len}
+use Rattle.std.specs.List.{count_by, position_or_len}
 use Rattle.std.proofs.lemmas.List.Sums.{position_or_len_is, sum_by-cons}
 use Rattle.std.proofs.lemmas.Option.{slice_get_within, slice_get-get_or, get_or_from_slice_get}
 use Rattle.lt_base.specs.Expression.{Expression}
 use Rattle.lt_base.specs.Program.{Function, GoodFunction}
-use Rattle.lt_base.specs.Meaning.{right_of, clock_of}
-use Rattle.lt_base.specs.Order.{EachRead, EachClockVar, Ordered}
-use Rattle.lt_base.specs.Equations.{lefts, EquationsIn}
-use Rattle.lt_base.proofs.Reading.{each_at, each_from, each_clock_at, each_clock_from}
+use Rattle.lt_base.specs.Meaning.{right_of}
+use Rattle.lt_base.specs.Order.{Ordered}
+use Rattle.lt_base.specs.Equations.{EquationsIn}
 use Rattle.lt_base.proofs.Lookups.{same_self, all_found, left_below, input_none, inside_most}
 use Rattle.lt_cause.specs.Tables.{count}
 use Rattle.lt_cause.specs.Orders.{IsOrder, is_left, place_by, place_in}

@@ -1,17 +1,17 @@
 -- One instant of a function, step by step.
-use Rattle.std.proofs.Common.{◌≡◌, ◌≢◌, ℕ, zero, suc, ◌+◌, ◌<◌, ◌≤◌, ◌⊎◌, inl, inr, Bool, true, false, List, [], ◌∷◌, ◌++◌, length, map, take, Option, Some, None, refl, sym, ap, subst, ◌∙◌, arith}
+use Rattle.std.proofs.Common.{◌≡◌, ◌≢◌, ℕ, zero, suc, ◌+◌, ◌<◌, ◌≤◌, ◌⊎◌, inl, inr, Bool, true, false, List, ◌∷◌, map, take, Option, Some, None, refl, sym, ap, subst, ◌∙◌, arith}
 use Rattle.std.specs.Prelude.{slice_get, if◌then◌else◌}
 use Rattle.std.specs.Global.{Box}
 use Rattle.lt_base.specs.declared.value.Value.{Value}
-use Rattle.lt_base.specs.Expression.{Expression, call, Arguments}
+use Rattle.lt_base.specs.Expression.{Arguments}
 use Rattle.lt_base.specs.Meaning.{ClockPairs, Environment, Row, Callee, entry, present, latest, value_of, values_of, rows_at}
-use Rattle.lt_base.specs.Order.{EachRead, EachArgumentRead, EachClockVar}
-use Rattle.lt_base.proofs.Reading.{each_map, each_argument_map, each_clock_map}
+use Rattle.lt_base.specs.Order.{EachRead, EachArgumentRead}
+use Rattle.lt_base.proofs.Reading.{each_map, each_clock_map}
 use Rattle.lt_base.proofs.Solution.{value_local, values_local, present_local}
 use Rattle.lt_meaning.specs.declared.state.State.{State}
 use Rattle.lt_meaning.specs.Form.{value_in}
 use Rattle.lt_meaning.specs.Plan.{DelayForm}
-use Rattle.lt_meaning.specs.Lift.{form_of, forms_of, Wait, Source, whole, part, Item, delays_in, calls_in}
+use Rattle.lt_meaning.specs.Lift.{form_of, forms_of, Wait, Source, whole, part, Item}
 use Rattle.lt_meaning.specs.Planned.{In, StandsFrom, EachCell, expression_of, inner_calls, inner_delays, MayFollow, InOrder, Lifted}
 use Rattle.lt_meaning.specs.Stands.{ChildStands, Holds}
 use Rattle.lt_meaning.proofs.Standing.{get_take, take_get}

@@ -1,11 +1,11 @@
 -- The step of an equation.
-use Rattle.std.proofs.Common.{◌≡◌, ℕ, zero, suc, ◌<◌, List, [], ◌∷◌, length, get_or, Result, Ok, Err, OnOk, refl, sym, ap, subst, ◌∙◌, arith}
+use Rattle.std.proofs.Common.{◌≡◌, ℕ, zero, suc, ◌<◌, List, [], ◌∷◌, length, get_or, Result, Ok, Err, OnOk, refl, sym, ap, ◌∙◌, arith}
 use Rattle.lt_base.specs.declared.function.Decl.{Decl}
 use Rattle.lt_base.specs.declared.memory.Memory.{Memory}
 use Rattle.lt_base.specs.Expression.{Expression}
 use Rattle.lt_base.specs.Meaning.{ClockPairs, clock_of}
 use Rattle.lt_meaning.specs.Form.{Form}
-use Rattle.lt_meaning.specs.Plan.{StepForm, sets}
+use Rattle.lt_meaning.specs.Plan.{sets}
 use Rattle.lt_meaning.specs.Lift.{form_of, whole, step_of}
 use Rattle.lt_meaning.specs.Taken.{Taken, after, with_step}
 

@@ -1,5 +1,5 @@
 -- What holds of the calls and the delays in an expression that passed the checks.
-use Rattle.std.proofs.Common.{◌≡◌, ℕ, zero, suc, ◌+◌, ◌<◌, ◌≤◌, ◌⊎◌, inl, inr, Bool, true, false, List, [], ◌∷◌, ◌++◌, length, Option, Some, None, refl, sym, ap, subst, ◌∙◌, arith, ⊎_elim}
+use Rattle.std.proofs.Common.{◌≡◌, ℕ, zero, suc, ◌+◌, ◌<◌, true, false, List, [], ◌∷◌, ◌++◌, length, Option, Some, None, refl, ap, subst, ◌∙◌, arith, ⊎_elim}
 use Rattle.std.specs.Prelude.{slice_get}
 use Rattle.lt_base.specs.declared.function.Decl.{Decl}
 use Rattle.lt_base.specs.declared.value.Value.TheVariants.{Bool as Truth}
@@ -9,11 +9,11 @@ use Rattle.lt_base.specs.Meaning.{ClockPairs, outer, function_of, clock_of}
 use Rattle.lt_base.specs.Clocking.{WellFormed, Clocked, ArgumentsClocked, FirstOnBase, AnswersOnBase}
 use Rattle.lt_base.specs.Order.{EachRead, EachArgumentRead, EachClockVar}
 use Rattle.lt_base.specs.Checked.{EachUse, EachArgumentUse, Answers, count}
-use Rattle.lt_meaning.specs.Lift.{delay_count, delay_counts, call_count, call_counts, Wait, first_wait, delays_in, arguments_delays, Source, whole, part, Item, calls_in, arguments_calls}
+use Rattle.lt_meaning.specs.Lift.{delay_count, call_count, call_counts, Wait, first_wait, delays_in, arguments_delays, part, Item, calls_in, arguments_calls}
 use Rattle.lt_meaning.specs.Fine.{Site, Fine}
 use Rattle.lt_meaning.specs.Planned.{In, StandsFrom, inner_delays, IfCall, Answering}
 use Rattle.lt_meaning.proofs.Standing.{in_either, from_left, from_right}
-use Rattle.lt_meaning.proofs.Lifting.{delays_number, arguments_delays_number, two_lengths}
+use Rattle.lt_meaning.proofs.Lifting.{delays_number, two_lengths}
 
 pub in_one : {A : Type 0} (y x : A) → In (y ∷ []) x → y ≡ x
 in_one y x i = by i.0 i.1

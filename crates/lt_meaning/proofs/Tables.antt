@@ -1,5 +1,5 @@
 -- The table of a program, row by row.
-use Rattle.std.proofs.Common.{◌≡◌, ℕ, zero, suc, ◌+◌, ◌<◌, ◌≤◌, ◌≢◌, ◌⊎◌, inl, inr, List, [], ◌∷◌, ◌++◌, length, map, reverse, take, get_or, Option, Some, None, MatchOption, refl, sym, ap, subst, ◌∙◌, arith, add-one}
+use Rattle.std.proofs.Common.{◌≡◌, ℕ, zero, suc, ◌+◌, ◌<◌, ◌≤◌, ◌≢◌, ◌⊎◌, inl, inr, List, [], ◌∷◌, ◌++◌, length, map, reverse, take, get_or, Option, Some, MatchOption, refl, sym, ap, subst, ◌∙◌, arith, add-one}
 use Rattle.std.specs.Prelude.{slice_get}
 use Rattle.std.specs.List.{All}
 use Rattle.std.specs.Option.{option_and_then}
@@ -13,7 +13,7 @@ use Rattle.lt_base.specs.declared.function.Decl.{Decl}
 use Rattle.lt_base.specs.Expression.{Expression, literal, variable, unary, binary, imported, choose, sampled, merged, delayed, follow, arrow, call, Arguments, no_arguments, argument}
 use Rattle.lt_base.specs.Program.{Function, GoodFunction, WholeProgram, GoodProgram}
 use Rattle.lt_base.specs.Inputs.{InputTable, entry_at}
-use Rattle.lt_base.specs.Meaning.{Row, Environment, clock_of, right_of, entry, function_of, cell, stream_of, calls}
+use Rattle.lt_base.specs.Meaning.{Row, Environment, clock_of, function_of, cell}
 use Rattle.lt_base.specs.Typing.{RowFits, AllFit, input_types, ty_at}
 use Rattle.lt_base.specs.Calls.{EachCall, EachArgumentCall}
 use Rattle.lt_base.specs.Solution.{Solves}
@@ -25,13 +25,13 @@ use Rattle.lt_base.proofs.Heights.{height_of, height_low, layered}
 use Rattle.lt_base.proofs.Defined.{good_function, clocked_function, causal_function}
 use Rattle.lt_base.proofs.Streams.{stream_is}
 use Rattle.lt_meaning.specs.declared.plan.Plan.{Plan}
-use Rattle.lt_meaning.specs.declared.state.State.{State, out-State}
+use Rattle.lt_meaning.specs.declared.state.State.{State}
 use Rattle.lt_meaning.specs.Plan.{inputs_of, inputs_at}
-use Rattle.lt_meaning.specs.Fine.{Site, Passes}
+use Rattle.lt_meaning.specs.Fine.{Passes}
 use Rattle.lt_meaning.specs.Planned.{PlanOf, PlanAt, Planned}
-use Rattle.lt_meaning.specs.Stands.{cells_of, Stands, row_in}
+use Rattle.lt_meaning.specs.Stands.{cells_of, Stands}
 use Rattle.lt_meaning.specs.Ready.{ArePlans}
-use Rattle.lt_meaning.specs.Streams.{HasStreams, HasMainStreams, HasTypes, HasMainTypes, InputsFit, InputsFitMain, main_of}
+use Rattle.lt_meaning.specs.Streams.{HasStreams, HasMainStreams, HasTypes, HasMainTypes, InputsFit, InputsFitMain}
 use Rattle.lt_meaning.proofs.Standing.{get_left, get_right}
 use Rattle.lt_meaning.proofs.Running.{nat_same}
 use Rattle.lt_meaning.proofs.Columns.{row_filled}

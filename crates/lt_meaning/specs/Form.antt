@@ -1,5 +1,5 @@
 -- Expressions over cells: what is left of a right side when its delays and calls have cells of their own.
-use Rattle.std.specs.Prelude.{ℕ, Option, Some, List, [], ◌∷◌}
+use Rattle.std.specs.Prelude.{ℕ, Option, Some}
 use Rattle.std.specs.Option.{option_and_then}
 use Rattle.lt_base.specs.declared.value.Value.{Value}
 use Rattle.lt_base.specs.declared.operators.Un.{Un}

@@ -1,5 +1,5 @@
 -- Plans without pointers.
-use Rattle.std.specs.Prelude.{◌≡◌, ℕ, Option, Some, None, List, [], ◌∷◌, map, slice_get, take}
+use Rattle.std.specs.Prelude.{ℕ, Option, Some, None, List, map, slice_get}
 use Rattle.lt_base.specs.declared.value.Value.{Value}
 use Rattle.lt_base.specs.Meaning.{ClockPairs}
 use Rattle.lt_meaning.specs.declared.plan.Plan.{Plan}

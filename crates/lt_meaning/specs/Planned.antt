@@ -1,12 +1,12 @@
 -- Plans of the functions of a program.
-use Rattle.std.specs.Prelude.{◌≡◌, ◌≢◌, ℕ, ◌+◌, ◌<◌, ◌≤◌, Bool, true, Option, Some, None, List, [], ◌∷◌, length, map, take, slice_get}
-use Rattle.lt_base.specs.Expression.{Expression, call, Arguments}
+use Rattle.std.specs.Prelude.{◌≡◌, ◌≢◌, ℕ, ◌+◌, ◌<◌, ◌≤◌, Option, Some, List, [], ◌∷◌, length, map, take, slice_get}
+use Rattle.lt_base.specs.Expression.{Expression, call}
 use Rattle.lt_base.specs.Program.{Function, WholeProgram, GoodProgram}
-use Rattle.lt_base.specs.Meaning.{ClockPairs, Environment, Callee, clock_of, right_of, function_of, present, latest, value_of}
-use Rattle.lt_base.specs.Order.{EachRead, EachArgumentRead, EachClockVar}
+use Rattle.lt_base.specs.Meaning.{ClockPairs, clock_of, right_of, function_of}
+use Rattle.lt_base.specs.Order.{EachRead, EachClockVar}
 use Rattle.lt_base.specs.Checked.{CheckedProgram, count}
 use Rattle.lt_meaning.specs.declared.plan.Plan.{Plan}
-use Rattle.lt_meaning.specs.Plan.{StepForm, step_form, DelayForm, delay_form}
+use Rattle.lt_meaning.specs.Plan.{step_form, DelayForm, delay_form}
 use Rattle.lt_meaning.specs.Lift.{form_of, Wait, delays_in, arguments_delays, Source, whole, part, Item, step_of, calls_in, arguments_calls}
 
 -- an element of a list

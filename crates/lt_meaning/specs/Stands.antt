@@ -1,8 +1,7 @@
 -- Where a function has come after some instants.
-use Rattle.std.specs.Prelude.{◌≡◌, ℕ, zero, suc, ◌<◌, Option, Some, None, List, [], ◌∷◌, ◌++◌, length, map, take, slice_get, true}
+use Rattle.std.specs.Prelude.{◌≡◌, ℕ, zero, suc, ◌<◌, Option, Some, None, List, [], ◌∷◌, length, map, take, slice_get, true}
 use Rattle.std.specs.Global.{Box}
 use Rattle.lt_base.specs.declared.value.Value.{Value}
-use Rattle.lt_base.specs.Expression.{Expression, Arguments}
 use Rattle.lt_base.specs.Program.{Function}
 use Rattle.lt_base.specs.Meaning.{ClockPairs, Environment, Row, Callee, entry, function_of, present, latest, value_of, values_of, rows_at}
 use Rattle.lt_base.specs.Solution.{Solves}
@@ -10,10 +9,10 @@ use Rattle.lt_base.specs.Behaviour.{calls_of}
 use Rattle.lt_meaning.specs.declared.plan.Plan.{Plan}
 use Rattle.lt_meaning.specs.declared.state.State.{State, out-State}
 use Rattle.lt_meaning.specs.declared.state.State.TheOpen.{State-F}
-use Rattle.lt_meaning.specs.Form.{Form, value_in}
+use Rattle.lt_meaning.specs.Form.{value_in}
 use Rattle.lt_meaning.specs.Plan.{ActionForm, sets, runs, inputs_at}
 use Rattle.lt_meaning.specs.Lift.{Wait, Source, whole, part, Item}
-use Rattle.lt_meaning.specs.Planned.{PlanOf, PlanAt, Planned, Answering, expression_of}
+use Rattle.lt_meaning.specs.Planned.{Planned, Answering, expression_of}
 
 -- the values of its variables and of the calls in it, by cell
 abbrev pub cells_of : State → List (Option Value)

@@ -1,7 +1,6 @@
 -- What was taken so far by the expressions of a function that were lifted.
-use Rattle.std.specs.Prelude.{◌≡◌, ℕ, ◌+◌, Bool, false, Option, Some, None, List, [], ◌∷◌, ◌++◌, length, map}
+use Rattle.std.specs.Prelude.{ℕ, ◌+◌, false, Option, Some, None, List, [], ◌∷◌, ◌++◌, length, map}
 use denote.Bor.{Bor}
-use Rattle.lt_base.specs.declared.value.Value.{Value}
 use Rattle.lt_base.specs.declared.value.Value.TheVariants.{Bool as Truth}
 use Rattle.lt_base.specs.declared.expression.Expr.{Expr}
 use Rattle.lt_base.specs.Expression.{Expression, literal, Arguments, shape}

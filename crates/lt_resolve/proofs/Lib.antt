@@ -15,3 +15,5 @@ pub mod Good
 pub mod Rights
 pub mod Programs
 pub mod Resolved
+pub mod Inside
+pub mod One

@@ -8,3 +8,4 @@ pub mod Right
 pub mod Told
 pub mod Checks
 pub mod Resolves
+pub mod Laws

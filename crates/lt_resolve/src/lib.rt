@@ -8,6 +8,7 @@ mod expression;
 mod fault;
 mod function;
 mod known;
+pub mod laws;
 mod names;
 mod program;
 mod scope;

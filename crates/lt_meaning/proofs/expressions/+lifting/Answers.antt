@@ -1,14 +1,12 @@
-use Rattle.std.proofs.Common.{◌≡◌, ◌∙◌, ◌++◌, ◌∷◌, ◌+◌, [], true, false, map, take, get_or, length, refl, sym, ap, subst, arith, add-one}
+use Rattle.std.proofs.Common.{◌≡◌, ◌∙◌, ◌++◌, ◌∷◌, ◌+◌, [], true, false, map, take, length, refl, sym, ap, subst, add-one}
 use Rattle.std.proofs.Math.Seq.{take-suc}
 use Rattle.std.proofs.lemmas.List.{take_all, map-append}
-use Rattle.lt_base.specs.declared.value.Value.TheVariants.{Bool as Truth}
 use Rattle.lt_base.specs.declared.expression.Expr.{Expr}
 use Rattle.lt_base.specs.Expression.{Expression, shape, unary, binary, imported, choose, sampled, merged, delayed, follow, arrow, call, arguments_of}
 use Rattle.lt_base.proofs.Shape.{shape-Call}
-use Rattle.lt_meaning.specs.declared.node.Node.{Node}
-use Rattle.lt_meaning.specs.Form.{Form, form, one, two, named, joined}
+use Rattle.lt_meaning.specs.Form.{form, one, two, named, joined}
 use Rattle.lt_meaning.specs.Lift.{forms_of}
-use Rattle.lt_meaning.specs.Taken.{Taken, taken, after, after_arguments}
+use Rattle.lt_meaning.specs.Taken.{taken, after, after_arguments}
 use Rattle.lt_meaning.proofs.Growing.{Lifts, one_lifts, two_lifts, choose_lifts, sampled_lifts, delayed_lifts, follow_lifts, arrow_lifts, call_lifts, argument_lifts, no_arguments_lift}
 use Rattle.lt_meaning.proofs.expressions.+lifting.Goals as goal
 

@@ -1,4 +1,4 @@
-use Rattle.std.proofs.Common.{◌≡◌, ◌∙◌, ap, sym, reverse, take, length, ◌-◌}
+use Rattle.std.proofs.Common.{◌∙◌, ap, reverse}
 use Rattle.lt_base.specs.Meaning.{outer}
 use Rattle.lt_meaning.proofs.Outer.{outer_reverse}
 use Rattle.lt_meaning.proofs.expressions.outer.Goals as goal

@@ -1,10 +1,9 @@
-use Rattle.std.proofs.Common.{◌≡◌, ◌∙◌, ◌<◌, ◌≤◌, ◌++◌, ◌∷◌, ◌+◌, [], ℕ, suc, List, Some, length, map, drop, get_or, sym, ap, subst, refl, arith, add-one}
+use Rattle.std.proofs.Common.{◌≡◌, ◌∙◌, ◌<◌, ◌++◌, ◌∷◌, [], ℕ, suc, List, Some, length, map, drop, get_or, sym, ap, subst, refl, arith}
 use Rattle.std.specs.Prelude.{slice_get}
 use Rattle.std.proofs.lemmas.List.{length-map, map-append, length-append}
 use Rattle.std.proofs.lemmas.Option.{slice_get-get_or}
 use Rattle.lt_base.specs.declared.function.Decl.{Decl}
-use Rattle.lt_base.specs.Expression.{Expression}
-use Rattle.lt_base.specs.Program.{Function, GoodFunction}
+use Rattle.lt_base.specs.Program.{Function}
 use Rattle.lt_base.specs.Meaning.{clock_of}
 use Rattle.lt_base.specs.Order.{Ordered}
 use Rattle.lt_cause.specs.Orders.{IsOrder, place_in}
@@ -13,7 +12,7 @@ use Rattle.lt_meaning.specs.Lift.{Wait, whole, step_of, delays_in}
 use Rattle.lt_meaning.specs.Taken.{Taken, taken, wait_form, after, with_step}
 use Rattle.lt_meaning.proofs.Instant.{some_at, at_index}
 use Rattle.lt_meaning.proofs.Placing.{number_inside, left_declared}
-use Rattle.lt_meaning.proofs.Begun.{Begun, begun_none, equation_next, Settling, settling_none, settling_next, planned}
+use Rattle.lt_meaning.proofs.Begun.{begun_none, equation_next, Settling, settling_none, settling_next, planned}
 use Rattle.lt_meaning.proofs.Weights.{weight, weight_falls}
 use Rattle.lt_meaning.proofs.planning.plan_of.Goals as goal
 

@@ -1,4 +1,4 @@
-use Rattle.std.proofs.Common.{◌≡◌, ◌+◌, ℕ, List, length, drop, map}
+use Rattle.std.proofs.Common.{ℕ, List, length, drop, map}
 use Rattle.lt_base.specs.Program.{Function, GoodFunction}
 use Rattle.lt_base.specs.Order.{Ordered}
 use Rattle.lt_cause.specs.Orders.{IsOrder, place_in}

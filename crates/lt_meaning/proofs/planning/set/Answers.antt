@@ -1,12 +1,7 @@
-use Rattle.std.proofs.Common.{◌≡◌, ◌∙◌, ap, sym, subst, OnOk, get_or, refl}
-use Rattle.std.proofs.lemmas.Result.{on_ok_weaker}
-use Rattle.lt_base.specs.Meaning.{clock_of}
+use Rattle.std.proofs.Common.{get_or, refl}
 use Rattle.lt_base.specs.Expression.{shape}
-use Rattle.lt_base.specs.declared.function.Decl.{Decl}
 use Rattle.lt_meaning.specs.Form.{form}
-use Rattle.lt_meaning.specs.Plan.{StepForm, sets}
-use Rattle.lt_meaning.specs.Lift.{form_of, step_of, whole}
-use Rattle.lt_meaning.specs.Taken.{Taken, taken, after, with_step}
+use Rattle.lt_meaning.specs.Taken.{taken}
 use Rattle.lt_meaning.proofs.Setting.{set_made}
 use Rattle.lt_meaning.proofs.planning.set.Goals as goal
 

@@ -1,6 +1,6 @@
-use Rattle.std.proofs.Common.{◌≡◌, ◌∙◌, ◌≤◌, length, map, ap, sym, arith, ℕ}
+use Rattle.std.proofs.Common.{◌≡◌, length, map, arith}
 use Rattle.lt_meaning.specs.Plan.{step_form}
-use Rattle.lt_meaning.specs.Taken.{Taken, wait_form}
+use Rattle.lt_meaning.specs.Taken.{wait_form}
 use Rattle.lt_meaning.proofs.planning.start.Goals as goal
 
 pub returns : goal.returns

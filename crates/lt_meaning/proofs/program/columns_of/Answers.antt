@@ -1,4 +1,4 @@
-use Rattle.std.proofs.Common.{◌≡◌, ◌∙◌, ◌+◌, ◌++◌, ◌∷◌, [], ℕ, List, sym, ap, subst, length, get_or}
+use Rattle.std.proofs.Common.{◌≡◌, ◌∙◌, ◌+◌, ◌∷◌, [], ℕ, List, sym, ap, subst, length, get_or}
 use Rattle.std.proofs.lemmas.List.{length-append}
 use Rattle.lt_base.specs.declared.value.Cell.{Cell}
 use Rattle.lt_meaning.proofs.Columns.{empty_next}

@@ -1,4 +1,4 @@
-use Rattle.std.proofs.Common.{◌≡◌, ◌∙◌, Some, arith, length}
+use Rattle.std.proofs.Common.{◌∙◌, Some, arith}
 use Rattle.std.proofs.lemmas.List.{length-set}
 use Rattle.lt_base.specs.Inputs.{entry_at}
 use Rattle.lt_meaning.proofs.Columns.{row_next}

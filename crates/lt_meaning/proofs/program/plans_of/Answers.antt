@@ -1,6 +1,5 @@
-use Rattle.std.proofs.Common.{◌≡◌, ◌∙◌, ◌<◌, Some, List, length, get_or, sym, ap, subst, arith}
-use Rattle.lt_base.specs.Program.{Function, WholeProgram}
-use Rattle.lt_base.specs.Meaning.{function_of}
+use Rattle.std.proofs.Common.{◌≡◌, ◌∙◌, length, get_or, ap, arith}
+use Rattle.lt_base.specs.Program.{WholeProgram}
 use Rattle.lt_base.specs.Dependence.{Causal}
 use Rattle.lt_base.proofs.Lookups.{function_all}
 use Rattle.lt_meaning.specs.Streams.{NumbersFit}

@@ -1,7 +1,6 @@
-use Rattle.std.proofs.Common.{◌≡◌, ◌∙◌, ◌++◌, ◌∷◌, [], List, sym, ap, subst, arith, length, get_or}
+use Rattle.std.proofs.Common.{◌≡◌, ◌∙◌, ◌++◌, ◌∷◌, [], sym, ap, arith, get_or}
 use Rattle.lt_base.specs.declared.value.Cell.{Cell}
 use Rattle.lt_base.specs.Meaning.{ClockPairs, entry, clock_of, cell}
-use Rattle.lt_base.specs.declared.function.Decl.{Decl}
 use Rattle.lt_meaning.proofs.Setting.{clock_of_is}
 use Rattle.lt_meaning.proofs.Columns.{Shown, shown_next}
 use Rattle.lt_meaning.proofs.program.show.Goals as goal

@@ -1,8 +1,5 @@
-use Rattle.std.proofs.Common.{◌≡◌, ◌∙◌, ◌<◌, ◌≤◌, ◌++◌, ◌∷◌, ◌+◌, [], ℕ, Option, Some, None, List, MatchOption, length, map, take, get_or, refl, sym, ap, subst, arith}
-use Rattle.std.specs.Prelude.{slice_get}
-use Rattle.lt_base.specs.declared.value.Value.{Value}
+use Rattle.std.proofs.Common.{◌≡◌, ◌∙◌, ◌<◌, ◌++◌, ◌∷◌, ◌+◌, [], Some, List, length, map, take, get_or, refl, sym, ap, subst, arith}
 use Rattle.lt_base.specs.declared.value.Cell.{Cell}
-use Rattle.lt_base.specs.declared.function.Decl.{Decl}
 use Rattle.lt_base.specs.Program.{Function, WholeProgram}
 use Rattle.lt_base.specs.Meaning.{Row, Environment, entry, function_of, clock_of, cell}
 use Rattle.lt_base.specs.Behaviour.{newest_first}
@@ -13,11 +10,10 @@ use Rattle.lt_meaning.specs.declared.state.State.TheOpen.{State-F}
 use Rattle.lt_meaning.specs.declared.state.State.TheViews.{out-roll-State, roll-State}
 use Rattle.lt_meaning.specs.Plan.{inputs_at}
 use Rattle.lt_meaning.specs.Stands.{Stands, Starts, cells_of, row_in}
-use Rattle.lt_meaning.specs.Ready.{ArePlans}
-use Rattle.lt_meaning.specs.Streams.{InputsFit, HasMainStreams}
+use Rattle.lt_meaning.specs.Streams.{HasMainStreams}
 use Rattle.lt_meaning.proofs.Instant.{some_at}
 use Rattle.lt_meaning.proofs.Answering.{refilled}
-use Rattle.lt_meaning.proofs.Tables.{function_at, row_width, newest_next, filled_is, room_of, shown_by, shown_more, Shown, has_main_streams, fit_of}
+use Rattle.lt_meaning.proofs.Tables.{function_at, row_width, newest_next, filled_is, room_of, shown_more, has_main_streams, fit_of}
 use Rattle.lt_meaning.proofs.program.table_of.Goals as goal
 
 pub bounds-as_slice-number : goal.bounds-as_slice-number

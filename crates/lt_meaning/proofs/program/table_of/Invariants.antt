@@ -1,4 +1,4 @@
-use Rattle.std.proofs.Common.{◌≡◌, ◌≤◌, Some, List, length}
+use Rattle.std.proofs.Common.{◌≡◌, Some, List}
 use Rattle.lt_base.specs.Program.{Function}
 use Rattle.lt_base.specs.Meaning.{Environment, function_of}
 use Rattle.lt_meaning.specs.Ready.{ArePlans}

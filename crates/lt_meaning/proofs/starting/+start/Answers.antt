@@ -1,13 +1,10 @@
-use Rattle.std.proofs.Common.{◌≡◌, ◌∙◌, ◌<◌, ◌-◌, ◌+◌, ◌∷◌, ◌++◌, [], Some, List, Option, length, map, take, get_or, sym, ap, subst, arith, rules}
+use Rattle.std.proofs.Common.{◌≡◌, ◌∙◌, ◌-◌, ◌+◌, ◌∷◌, [], Some, List, Option, length, sym, ap, subst, arith, rules}
 use Rattle.std.specs.Prelude.{slice_get}
 use Rattle.std.specs.Global.{Box}
 use Rattle.std.proofs.lemmas.List.{length-append}
-use Rattle.std.proofs.lemmas.Option.{slice_get_within}
-use Rattle.lt_meaning.specs.declared.plan.Step.{Step}
 use Rattle.lt_meaning.specs.declared.state.State.{State}
 use Rattle.lt_meaning.specs.declared.state.State.TheOpen.{State-F}
 use Rattle.lt_meaning.specs.declared.state.State.TheViews.{out-roll-State, roll-State}
-use Rattle.lt_meaning.specs.Plan.{action_form}
 use Rattle.lt_meaning.proofs.Instant.{at_index}
 use Rattle.lt_meaning.proofs.Begins.{Begins, begins_none, begins_next, child_can, starts, can_start_there}
 use Rattle.lt_meaning.proofs.starting.+start.Goals as goal

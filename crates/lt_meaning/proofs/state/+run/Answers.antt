@@ -1,11 +1,11 @@
-use Rattle.std.proofs.Common.{◌≡◌, ◌<◌, ◌≤◌, ◌+◌, ◌∷◌, ℕ, Some, None, List, Option, map, take, refl, length, sym, ap, subst, ◌∙◌, arith, rules, get_or}
+use Rattle.std.proofs.Common.{◌≡◌, ◌<◌, ◌≤◌, ◌+◌, ◌∷◌, None, List, Option, map, take, refl, length, sym, ap, subst, ◌∙◌, arith, rules}
 use Rattle.std.specs.Prelude.{slice_get}
-use Rattle.std.specs.Global.{Box, Vec}
+use Rattle.std.specs.Global.{Vec}
 use Rattle.std.specs.Vec.{with_item}
 use Rattle.lt_base.specs.declared.value.Value.{Value}
 use Rattle.std.proofs.lemmas.List.{length-map}
 use Rattle.std.proofs.lemmas.Option.{get_or_from_slice_get}
-use Rattle.lt_base.specs.Meaning.{Row, entry, present}
+use Rattle.lt_base.specs.Meaning.{Row, entry}
 use Rattle.lt_meaning.specs.declared.state.State.{State, out-State}
 use Rattle.lt_meaning.specs.declared.state.State.TheOpen.{State-F}
 use Rattle.lt_meaning.specs.declared.state.State.TheViews.{out-roll-State, roll-State, the_lemmas}
@@ -13,7 +13,7 @@ use Rattle.lt_meaning.specs.Form.{form, value_in}
 use Rattle.lt_meaning.specs.Plan.{action_form, step_form, inputs_at}
 use Rattle.lt_meaning.specs.Stands.{Acts, Stands, cells_of, row_in}
 use Rattle.lt_meaning.proofs.Keeping.{next_of}
-use Rattle.lt_meaning.proofs.Instant.{Along, Took, along_none, along_next, children_are, delays_are, step_can, at_index, Unvisited, unvisited_next, plan_there}
+use Rattle.lt_meaning.proofs.Instant.{Along, Took, along_none, along_next, children_are, delays_are, step_can, at_index, Unvisited, unvisited_next}
 use Rattle.lt_meaning.proofs.Answering.{KeepsOn, instant, refilled, can_run_there, can_fill, row_number, output_room, answered_by}
 use Rattle.lt_meaning.proofs.state.+run.Goals as goal
 

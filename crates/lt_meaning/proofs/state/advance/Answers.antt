@@ -1,9 +1,7 @@
-use Rattle.std.proofs.Common.{◌≡◌, ◌≢◌, ℕ, ◌+◌, ◌<◌, Option, Some, None, sym, ap, ◌∙◌, length, set, get_or, arith, length-set}
-use Rattle.std.specs.Prelude.{slice_get, if◌then◌else◌}
+use Rattle.std.proofs.Common.{None, sym, ap, ◌∙◌, get_or, arith, length-set}
+use Rattle.std.specs.Prelude.{if◌then◌else◌}
 use Rattle.std.proofs.lemmas.Option.{slice_get_within}
-use Rattle.lt_base.specs.declared.value.Value.{Value}
-use Rattle.lt_base.specs.Meaning.{entry, present}
-use Rattle.lt_meaning.specs.declared.plan.Delay.{Delay}
+use Rattle.lt_base.specs.Meaning.{entry}
 use Rattle.lt_meaning.specs.Form.{form, value_in}
 use Rattle.lt_meaning.proofs.Keeping.{keeps_next}
 use Rattle.lt_meaning.proofs.state.advance.Goals as goal
