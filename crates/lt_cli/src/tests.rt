@@ -345,19 +345,58 @@ fn checked_programs_are_printed(rt: HostRuntime) -> Result<(), Fail> {
 fn faulty_programs_are_refused(rt: HostRuntime) -> Result<(), Fail> {
     let alloc = rt.alloc();
     let rows = [
-        ("node main(x: int) returns (y: int) let y = 0 fby (y + x);", "syntax 3 Unexpected at byte 57\n"),
-        ("node main(x: int) returns (y: int) let y = x x; tel", "syntax 3 Unexpected at byte 45\n"),
-        ("node main(x: int) returns (y: int) let y = z; tel", "name 2 Unknown in node main: z\n"),
-        ("node main(x: int) returns (y: int) let tel", "name 3 NoEquation in node main: y\n"),
-        ("node main(x: int) returns (y: int) let y = x; y = x; tel", "name 4 TwoEquations in node main: y\n"),
-        ("node main(x: int) returns (y: int) let y = x; x = y; tel", "name 5 EquationForInput in node main: x\n"),
-        ("node f(x: int) returns (y: int) let y = x; tel", "name 6 NoMain\n"),
-        ("node main(x, x: int) returns (y: int) let y = x; tel", "name 1 Twice in node main: x\n"),
-        ("node f(a: int) returns (b: int) let b = f(a); tel node main(x: int) returns (y: int) let y = x; tel", "name 9 Recursive in node f: f\n"),
-        ("node main(x: int) returns (y: int) let y = x < 1; tel", "type in node main: y is int, found bool\n"),
-        ("node main(x: int; c: bool) returns (y: int) let y = x when c; tel", "clock in node main: equation 1 of y on base\n"),
-        ("node main(x: int) returns (y: int; z: int) let y = z + x; z = y; tel", "cycle in node main: y z\n"),
-        ("node main(x: int) returns (y: int) let y = y -> x; tel", "cycle in node main: y\n"),
+        (
+            "node main(x: int) returns (y: int) let y = 0 fby (y + x);",
+            "syntax 3 Unexpected at byte 57\n",
+        ),
+        (
+            "node main(x: int) returns (y: int) let y = x x; tel",
+            "syntax 3 Unexpected at byte 45\n",
+        ),
+        (
+            "node main(x: int) returns (y: int) let y = z; tel",
+            "name 2 Unknown in node main: z\n",
+        ),
+        (
+            "node main(x: int) returns (y: int) let tel",
+            "name 3 NoEquation in node main: y\n",
+        ),
+        (
+            "node main(x: int) returns (y: int) let y = x; y = x; tel",
+            "name 4 TwoEquations in node main: y\n",
+        ),
+        (
+            "node main(x: int) returns (y: int) let y = x; x = y; tel",
+            "name 5 EquationForInput in node main: x\n",
+        ),
+        (
+            "node f(x: int) returns (y: int) let y = x; tel",
+            "name 6 NoMain\n",
+        ),
+        (
+            "node main(x, x: int) returns (y: int) let y = x; tel",
+            "name 1 Twice in node main: x\n",
+        ),
+        (
+            "node f(a: int) returns (b: int) let b = f(a); tel node main(x: int) returns (y: int) let y = x; tel",
+            "name 9 Recursive in node f: f\n",
+        ),
+        (
+            "node main(x: int) returns (y: int) let y = x < 1; tel",
+            "type in node main: y is int, found bool\n",
+        ),
+        (
+            "node main(x: int; c: bool) returns (y: int) let y = x when c; tel",
+            "clock in node main: equation 1 of y on base\n",
+        ),
+        (
+            "node main(x: int) returns (y: int; z: int) let y = z + x; z = y; tel",
+            "cycle in node main: y z\n",
+        ),
+        (
+            "node main(x: int) returns (y: int) let y = y -> x; tel",
+            "cycle in node main: y\n",
+        ),
     ];
     for (program, line) in rows {
         let texts = Texts { program, ..COUNTER };

@@ -20,11 +20,7 @@ pub enum ProgramFault {
     /// A clock is at fault.
     Clock(ClockFault, Tree),
     /// The variables of the function of this number depend on each other.
-    Cycle {
-        func: u32,
-        cycle: Cycle,
-        tree: Tree,
-    },
+    Cycle { func: u32, cycle: Cycle, tree: Tree },
     /// `main` with all functions that it calls is too large.
     TooMany(Sizes),
 }

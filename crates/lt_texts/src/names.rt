@@ -58,7 +58,10 @@ fn append_declared(line: &mut List<u8>, node: &NodeText, number: usize) -> Resul
     } else if number - inputs < outputs {
         append_name(line, &node.outs.as_slice()[number - inputs].name)
     } else if number - inputs - outputs < node.locals.len() {
-        append_name(line, &node.locals.as_slice()[number - inputs - outputs].name)
+        append_name(
+            line,
+            &node.locals.as_slice()[number - inputs - outputs].name,
+        )
     } else {
         Ok(())
     }

@@ -14,9 +14,9 @@ returns-in-Err-Fault c =
     let first : IsFirstCycle c.args.p.now c.loop-number.number c.in-Err-Fault.cycle.vars = record {
       before = subst (λ (fs : List Function). All Causal (take c.loop-number.number fs)) same c.loop-number.invariant;
       here = function_here _ c.args.p.now.funcs c.loop-number.number c.f-item.result
-      (subst (λ (fs : List Function). c.loop-number.number < length fs) same c.loop-number-test.true)
-      (subst (λ (fs : List Function). c.f-item.result ≡ get_or fs c.loop-number.number c.f-item.result) same c.f-item.is)
-      (told.cycle _ refl);
+          (subst (λ (fs : List Function). c.loop-number.number < length fs) same c.loop-number-test.true)
+          (subst (λ (fs : List Function). c.f-item.result ≡ get_or fs c.loop-number.number c.f-item.result) same c.f-item.is)
+          (told.cycle _ refl);
     } in
     first_cycle _ _ _ _ _ refl c.in-Err-Fault.cycle-is first
 
