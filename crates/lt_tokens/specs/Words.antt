@@ -1,5 +1,5 @@
 -- Which words are keywords.
-use Rattle.std.specs.Prelude.{ℕ, List, codes, bytes_eq, true, false, Option, Some, None, if◌then◌else◌}
+use Rattle.std.specs.Prelude.{ℕ, Bool, List, ◌∷◌, ◌&&◌, nat_le, codes, bytes_eq, true, false, Option, Some, None, if◌then◌else◌}
 use Rattle.lt_base.specs.declared.operators.Bin.TheVariants.{And, Or, Xor, Div, Mod}
 use Rattle.lt_base.specs.declared.value.Ty.TheVariants as ty
 use Rattle.lt_tokens.specs.declared.token.Infix.{Infix}
@@ -50,3 +50,8 @@ keyword_or None None None s = token.Ident s
 -- the token that a word of letters, digits and _ is
 abbrev pub word_of : List ℕ → Token
 word_of s = keyword_or (declaring s) (forming s) (joining s) s
+
+-- the second byte is a small letter, as in each keyword
+abbrev pub second_is_small : List ℕ → Bool
+second_is_small (a ∷ b ∷ bs) = nat_le 97 b && nat_le b 122
+second_is_small _ = false

@@ -95,12 +95,25 @@ fn name_of(alloc: Global, s: &[u8]) -> Result<Name, Memory>
     Name::from_str(alloc, text)
 }
 
+/// The second byte is a small letter, as in each keyword. Most names of long programs have a digit there.
+fn second_is_small(s: &[u8]) -> bool
+    ensures { result ≡ words.second_is_small s.now }
+{
+    match s {
+        [_, b, ..] => b.is_ascii_lowercase(),
+        _ => false,
+    }
+}
+
 /// The keyword or the name that a word is.
 pub fn word_of(alloc: Global, s: &[u8]) -> Result<Token, Memory>
     requires { IsUtf8 s.now }
     ensures value { IfOk result (λ token. token ≡ words.word_of s.now) }
     ensures small { IfOk result IsSmall }
 {
+    if !second_is_small(s) {
+        return Ok(Token::Ident(name_of(alloc, s)?));
+    }
     if let Some(token) = declaring(s) {
         return Ok(token);
     }
