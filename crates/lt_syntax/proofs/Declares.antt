@@ -1,11 +1,13 @@
 -- Declarations, and phases other than a body.
 use Rattle.std.proofs.Common.{◌≡◌, ℕ, Bool, List, [], ◌∷◌, ◌++◌, refl, ap, ap₂, ◌∙◌, append_assoc}
+use Rattle.std.specs.Global.{Box}
 use Rattle.lt_base.specs.declared.value.Ty.{Ty}
 use Rattle.lt_tokens.specs.declared.token.Token.{Token}
 use Rattle.lt_syntax.specs.declared.tree.DeclText.{DeclText}
 use Rattle.lt_syntax.specs.declared.tree.NodeText.{NodeText}
 use Rattle.lt_syntax.specs.declared.header.Phase.{Phase}
 use Rattle.lt_syntax.specs.declared.header.Phase.TheVariants as phase
+use Rattle.lt_syntax.specs.Machine as machine
 use Rattle.lt_syntax.specs.Program.{declared}
 use Rattle.lt_syntax.specs.Parser.{move, finish, step_on}
 use Rattle.lt_syntax.specs.Phases.{phase_of}
@@ -21,24 +23,24 @@ declare_more old d0 d1 xs x ty c c' p q r =
     ∙ append_assoc old (declared xs ty c) (record { name = x; ty = ty; clock = c } ∷ [])
     ∙ ap (λ z. old ++ z) (declared_snoc xs x ty c)
 
--- where no equation may begin, a token only moves on
-pub elsewhere : (p : Phase) → ((n : NodeText) → p ≡ phase.Body n → ⊥) → (done : List NodeText) (t : Token) → finish done (move 200 (phase_of p) t) ≡ step_on 200 done (phase_of p) t
-elsewhere (phase.Body n) h done t = absurd (h n refl)
-elsewhere phase.Idle h done t = refl
-elsewhere phase.Told h done t = refl
-elsewhere phase.WantNode h done t = refl
-elsewhere (phase.HasNode x) h done t = refl
-elsewhere (phase.Opened n) h done t = refl
-elsewhere (phase.WantName n s xs) h done t = refl
-elsewhere (phase.HasName n s xs) h done t = refl
-elsewhere (phase.WantType n s xs) h done t = refl
-elsewhere (phase.HasGroup n s xs ty c) h done t = refl
-elsewhere (phase.WantPolarity n s xs ty c) h done t = refl
-elsewhere (phase.WantVariable n s xs ty c) h done t = refl
-elsewhere (phase.HasIns n) h done t = refl
-elsewhere (phase.Returning n) h done t = refl
-elsewhere (phase.HasOuts n) h done t = refl
-elsewhere (phase.HasHead n) h done t = refl
-elsewhere (phase.HasLocals n) h done t = refl
-elsewhere (phase.HasLeft n x) h done t = refl
-elsewhere (phase.In n x fs m) h done t = refl
+-- where no equation may begin or goes on, a token only moves on
+pub elsewhere : (p : Phase) (fs : List machine.Frame) (m : machine.Mode) → ((n : Box NodeText) (x : List ℕ) → p ≡ phase.In n x → ⊥) → ((n : Box NodeText) → p ≡ phase.Body n → ⊥) → (done : List NodeText) (t : Token) → finish done (move 200 (phase_of p [] machine.Want) t) ≡ step_on 200 done (phase_of p fs m) t
+elsewhere (phase.In n x) fs m g h done t = absurd (g n x refl)
+elsewhere (phase.Body n) fs m g h done t = absurd (h n refl)
+elsewhere phase.Idle fs m g h done t = refl
+elsewhere phase.Told fs m g h done t = refl
+elsewhere phase.WantNode fs m g h done t = refl
+elsewhere (phase.HasNode x) fs m g h done t = refl
+elsewhere (phase.Opened n) fs m g h done t = refl
+elsewhere (phase.WantName n s xs) fs m g h done t = refl
+elsewhere (phase.HasName n s xs) fs m g h done t = refl
+elsewhere (phase.WantType n s xs) fs m g h done t = refl
+elsewhere (phase.HasGroup n s xs ty c) fs m g h done t = refl
+elsewhere (phase.WantPolarity n s xs ty c) fs m g h done t = refl
+elsewhere (phase.WantVariable n s xs ty c) fs m g h done t = refl
+elsewhere (phase.HasIns n) fs m g h done t = refl
+elsewhere (phase.Returning n) fs m g h done t = refl
+elsewhere (phase.HasOuts n) fs m g h done t = refl
+elsewhere (phase.HasHead n) fs m g h done t = refl
+elsewhere (phase.HasLocals n) fs m g h done t = refl
+elsewhere (phase.HasLeft n x) fs m g h done t = refl

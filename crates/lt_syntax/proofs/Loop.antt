@@ -44,9 +44,9 @@ found f g here rest s v e = ap front (sym s) ∙ sym v ∙ ap (λ z. front_of z 
 pub place : (bytes rest here : List ℕ) → here ≡ skip rest → length here ≤ length bytes → (length bytes - length here) + length (skip rest) ≡ length bytes
 place bytes rest here s h = omega (arith, ap length s)
 
-pub wrong_step : (limit : ℕ) → 1 ≤ limit → (bytes rest : List ℕ) (s : State) → SoFar limit bytes rest s → (t : Token) (after : List ℕ) (at : ℕ) (e : Or SyntaxFault) → front (skip rest) ≡ text.Begins t after → at + length (skip rest) ≡ length bytes → StepsAt at (Err e) (step limit s t) → Answers limit bytes (Err e)
-wrong_step limit one bytes rest s g t after at or.Memory f p h = tt
-wrong_step limit one bytes rest s g t after at (or.Fault e) f p h = stops limit one bytes rest s g e t after h.1 f (omega (arith, h.0, p)) h.2 h.3
+pub wrong_step : (limit : ℕ) → 1 ≤ limit → (bytes rest : List ℕ) (s s' : State) → SoFar limit bytes rest s → (t : Token) (after : List ℕ) (at : ℕ) (e : Or SyntaxFault) → front (skip rest) ≡ text.Begins t after → at + length (skip rest) ≡ length bytes → StepsAt at (Err e) s' (step limit s t) → Answers limit bytes (Err e)
+wrong_step limit one bytes rest s s' g t after at or.Memory f p h = tt
+wrong_step limit one bytes rest s s' g t after at (or.Fault e) f p h = stops limit one bytes rest s g e t after h.1 f (omega (arith, h.0, p)) h.2 h.3
 
 pub all_of : (n : ℕ) (here : List ℕ) → take (length here - n) (drop n here) ≡ drop n here
 all_of n here = let l : length (drop n here) ≤ length here - n = grind (arith, length-drop) in take_all (length here - n) (drop n here) l

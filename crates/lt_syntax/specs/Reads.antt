@@ -5,12 +5,10 @@ use Rattle.lt_base.specs.declared.memory.Or.TheVariants as or
 use Rattle.lt_syntax.specs.declared.fault.SyntaxFault.{SyntaxFault}
 use Rattle.lt_syntax.specs.declared.fault.SyntaxKind.{SyntaxKind}
 use Rattle.lt_syntax.specs.declared.fault.SyntaxKind.TheVariants as code
-use Rattle.lt_syntax.specs.declared.header.Parser.{Parser}
 use Rattle.lt_syntax.specs.declared.tree.NodeText.{NodeText}
 use Rattle.lt_syntax.specs.Program.{Spells, NotEmpty}
 use Rattle.lt_syntax.specs.Faults.{IsFault}
 use Rattle.lt_syntax.specs.Parser as parser
-use Rattle.lt_syntax.specs.Phases.{state_of}
 
 -- A tree is spelled by the bytes, and a fault is the first one.
 abbrev pub Answers : ℕ → List ℕ → Result (List NodeText) (Or SyntaxFault) → Type 0
@@ -28,11 +26,11 @@ abbrev pub syntax_kind : parser.Kind → SyntaxKind
 syntax_kind parser.Unexpected = code.Unexpected
 syntax_kind parser.TooDeep = code.TooDeep
 
--- a step at this place
-abbrev pub StepsAt : ℕ → Result Parser (Or SyntaxFault) → Result parser.State parser.Kind → Type 0
-StepsAt at (Ok p) r = r ≡ Ok (state_of p)
-StepsAt at (Err (or.Fault f)) r = (f.at ≡ at) × (k : parser.Kind) × (f.kind ≡ syntax_kind k) × (r ≡ Err k)
-StepsAt at (Err or.Memory) r = ⊤
+-- the step at this place goes to this state
+abbrev pub StepsAt : ℕ → Result (Unit {0}) (Or SyntaxFault) → parser.State → Result parser.State parser.Kind → Type 0
+StepsAt at (Ok done) s r = r ≡ Ok s
+StepsAt at (Err (or.Fault f)) s r = (f.at ≡ at) × (k : parser.Kind) × (f.kind ≡ syntax_kind k) × (r ≡ Err k)
+StepsAt at (Err or.Memory) s r = ⊤
 
 -- the whole nodes, where the text may end here
 abbrev pub EndsWith : parser.State → Option (List NodeText) → Type 0

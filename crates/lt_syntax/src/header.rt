@@ -1,10 +1,13 @@
 // The parser of programs: what each token does to what is begun.
-ghost use Rattle.std.specs.Prelude.{◌≡◌, ◌++◌, ◌∷◌, [], IfOk, OnOk, IsTrue, ◌↔◌, Err, Result};
+ghost use Rattle.std.specs.Prelude.{◌≡◌, ◌++◌, ◌∷◌, [], ℕ, List, IfOk, OnOk, IsTrue, ◌↔◌, Err, Result};
 ghost use Rattle.lt_tokens.specs.declared.token.Token.TheVariants as token;
 ghost use Rattle.lt_tokens.specs.Fronts.{IsSmall};
+ghost use Rattle.lt_syntax.specs.Machine as machine;
 ghost use Rattle.lt_syntax.specs.Parser as parser;
+ghost use Rattle.lt_syntax.specs.declared.header.Phase.TheVariants as phases;
 ghost use Rattle.lt_syntax.specs.Program.{declared};
 ghost use Rattle.lt_syntax.specs.Views.{mode_of, stack_of, next_of};
+ghost use Rattle.std.specs.Global.{Box};
 ghost use Rattle.lt_syntax.specs.Phases.{phase_of, state_of, Moves, Steps, Fits};
 
 use crate::expression::go;
@@ -15,6 +18,7 @@ use crate::tree::{DeclText, EqText, NodeText};
 use lt_base::{Bin, List, Memory, Name, Or, Ty};
 use lt_tokens::{Infix, Token};
 use std::alloc::Global;
+use std::mem::replace;
 
 /// Why a token is wrong.
 #[derive(Clone, Copy, Drop)]
@@ -30,49 +34,49 @@ pub enum Phase {
     Told,
     WantNode,
     HasNode(Name),
-    Opened(NodeText),
-    WantName(NodeText, Section, List<Name>),
-    HasName(NodeText, Section, List<Name>),
-    WantType(NodeText, Section, List<Name>),
-    HasGroup(NodeText, Section, List<Name>, Ty, List<(Name, bool)>),
-    WantPolarity(NodeText, Section, List<Name>, Ty, List<(Name, bool)>),
-    WantVariable(NodeText, Section, List<Name>, Ty, List<(Name, bool)>),
-    HasIns(NodeText),
-    Returning(NodeText),
-    HasOuts(NodeText),
-    HasHead(NodeText),
-    HasLocals(NodeText),
-    Body(NodeText),
-    HasLeft(NodeText, Name),
-    In(NodeText, Name, Vec<Frame>, Mode),
+    Opened(Box<NodeText>),
+    WantName(Box<NodeText>, Section, List<Name>),
+    HasName(Box<NodeText>, Section, List<Name>),
+    WantType(Box<NodeText>, Section, List<Name>),
+    HasGroup(Box<NodeText>, Section, List<Name>, Ty, List<(Name, bool)>),
+    WantPolarity(Box<NodeText>, Section, List<Name>, Ty, List<(Name, bool)>),
+    WantVariable(Box<NodeText>, Section, List<Name>, Ty, List<(Name, bool)>),
+    HasIns(Box<NodeText>),
+    Returning(Box<NodeText>),
+    HasOuts(Box<NodeText>),
+    HasHead(Box<NodeText>),
+    HasLocals(Box<NodeText>),
+    Body(Box<NodeText>),
+    HasLeft(Box<NodeText>, Name),
+    In(Box<NodeText>, Name),
 }
 
-/// The whole nodes, and where the text is.
+/// The whole nodes, where the text is, and what is begun of the right side of an equation there.
 #[derive(Drop)]
 pub struct Parser {
     pub nodes: List<NodeText>,
-    pub phase: Box<Phase>,
-}
-
-fn parser_at(alloc: Global, nodes: List<NodeText>, phase: Phase) -> Result<Parser, Memory>
-    ensures { IfOk result (λ p. state_of p ≡ record { done = nodes; phase = phase_of phase }) }
-{
-    let phase = Box::new(alloc, phase)?;
-    Ok(Parser { nodes, phase })
+    pub phase: Phase,
+    pub frames: Vec<Frame>,
+    pub mode: Mode,
 }
 
 /// Nothing is read yet.
-pub fn start(alloc: Global) -> Result<Parser, Memory>
-    ensures { IfOk result (λ p. state_of p ≡ parser.start) }
+pub fn start(alloc: Global) -> Parser
+    ensures { state_of result ≡ parser.start }
 {
-    parser_at(alloc, List::new(alloc), Phase::Idle)
+    Parser {
+        nodes: List::new(alloc),
+        phase: Phase::Idle,
+        frames: Vec::new(alloc),
+        mode: Mode::Want,
+    }
 }
 
 /// The text may end here.
-pub fn may_end(phase: &Phase) -> bool
-    ensures { IsTrue result ↔ parser.Ends (phase_of phase.now) }
+pub fn may_end(p: &Parser) -> bool
+    ensures { IsTrue result ↔ parser.Ends (state_of p.now).phase }
 {
-    match phase {
+    match &p.phase {
         Phase::Idle | Phase::Told => true,
         _ => false,
     }
@@ -110,13 +114,13 @@ fn declare(
 
 /// The node with the declarations of a group.
 fn add(
-    n: NodeText,
+    n: Box<NodeText>,
     s: Section,
     xs: List<Name>,
     ty: Ty,
     c: List<(Name, bool)>,
-) -> Result<NodeText, Memory>
-    ensures { IfOk result (λ m. m ≡ parser.add n s (declared xs ty c)) }
+) -> Result<Box<NodeText>, Memory>
+    ensures { IfOk result (λ m. m.value ≡ parser.add n.value s (declared xs ty c)) }
 {
     let mut n = n;
     match s {
@@ -155,23 +159,30 @@ fn want_node(t: Token) -> Result<Phase, Or<Kind>>
     }
 }
 
+fn empty_node(alloc: Global, name: Name) -> Result<Box<NodeText>, Memory>
+    ensures { IfOk result (λ n. n.value ≡ parser.empty_node name) }
+{
+    let node = NodeText {
+        name,
+        ins: List::new(alloc),
+        outs: List::new(alloc),
+        locals: List::new(alloc),
+        eqs: List::new(alloc),
+    };
+    Ok(Box::new(alloc, node)?)
+}
+
 fn has_node(alloc: Global, name: Name, t: Token) -> Result<Phase, Or<Kind>>
     ensures { Moves result (parser.move LIMIT (parser.HasNode name) t) }
 {
     match t {
-        Token::Open => Ok(Phase::Opened(NodeText {
-            name,
-            ins: List::new(alloc),
-            outs: List::new(alloc),
-            locals: List::new(alloc),
-            eqs: List::new(alloc),
-        })),
+        Token::Open => Ok(Phase::Opened(empty_node(alloc, name)?)),
         _ => Err(wrong()),
     }
 }
 
-fn opened(alloc: Global, n: NodeText, t: Token) -> Result<Phase, Or<Kind>>
-    ensures { Moves result (parser.move LIMIT (parser.Opened n) t) }
+fn opened(alloc: Global, n: Box<NodeText>, t: Token) -> Result<Phase, Or<Kind>>
+    ensures { Moves result (parser.move LIMIT (parser.Opened n.value) t) }
 {
     match t {
         Token::Ident(x) => Ok(Phase::HasName(n, Section::Ins, one(alloc, x)?)),
@@ -180,8 +191,8 @@ fn opened(alloc: Global, n: NodeText, t: Token) -> Result<Phase, Or<Kind>>
     }
 }
 
-fn want_name(n: NodeText, s: Section, xs: List<Name>, t: Token) -> Result<Phase, Or<Kind>>
-    ensures { Moves result (parser.move LIMIT (parser.WantName n s xs) t) }
+fn want_name(n: Box<NodeText>, s: Section, xs: List<Name>, t: Token) -> Result<Phase, Or<Kind>>
+    ensures { Moves result (parser.move LIMIT (parser.WantName n.value s xs) t) }
 {
     match t {
         Token::Ident(x) => {
@@ -193,8 +204,8 @@ fn want_name(n: NodeText, s: Section, xs: List<Name>, t: Token) -> Result<Phase,
     }
 }
 
-fn has_name(n: NodeText, s: Section, xs: List<Name>, t: Token) -> Result<Phase, Or<Kind>>
-    ensures { Moves result (parser.move LIMIT (parser.HasName n s xs) t) }
+fn has_name(n: Box<NodeText>, s: Section, xs: List<Name>, t: Token) -> Result<Phase, Or<Kind>>
+    ensures { Moves result (parser.move LIMIT (parser.HasName n.value s xs) t) }
 {
     match t {
         Token::Comma => Ok(Phase::WantName(n, s, xs)),
@@ -205,12 +216,12 @@ fn has_name(n: NodeText, s: Section, xs: List<Name>, t: Token) -> Result<Phase, 
 
 fn want_type(
     alloc: Global,
-    n: NodeText,
+    n: Box<NodeText>,
     s: Section,
     xs: List<Name>,
     t: Token,
 ) -> Result<Phase, Or<Kind>>
-    ensures { Moves result (parser.move LIMIT (parser.WantType n s xs) t) }
+    ensures { Moves result (parser.move LIMIT (parser.WantType n.value s xs) t) }
 {
     match t {
         Token::Type(ty) => Ok(Phase::HasGroup(n, s, xs, ty, List::new(alloc))),
@@ -219,13 +230,13 @@ fn want_type(
 }
 
 fn group_when(
-    n: NodeText,
+    n: Box<NodeText>,
     s: Section,
     xs: List<Name>,
     ty: Ty,
     c: List<(Name, bool)>,
 ) -> Result<Phase, Or<Kind>>
-    ensures { Moves result (parser.end_group token.When n s xs ty c) }
+    ensures { Moves result (parser.end_group token.When n.value s xs ty c) }
 {
     match s {
         Section::Ins => Err(wrong()),
@@ -235,13 +246,13 @@ fn group_when(
 
 fn group_semicolon(
     alloc: Global,
-    n: NodeText,
+    n: Box<NodeText>,
     s: Section,
     xs: List<Name>,
     ty: Ty,
     c: List<(Name, bool)>,
 ) -> Result<Phase, Or<Kind>>
-    ensures { Moves result (parser.end_group token.Semicolon n s xs ty c) }
+    ensures { Moves result (parser.end_group token.Semicolon n.value s xs ty c) }
 {
     let n = add(n, s, xs, ty, c)?;
     match s {
@@ -251,13 +262,13 @@ fn group_semicolon(
 }
 
 fn group_close(
-    n: NodeText,
+    n: Box<NodeText>,
     s: Section,
     xs: List<Name>,
     ty: Ty,
     c: List<(Name, bool)>,
 ) -> Result<Phase, Or<Kind>>
-    ensures { Moves result (parser.end_group token.Close n s xs ty c) }
+    ensures { Moves result (parser.end_group token.Close n.value s xs ty c) }
 {
     match s {
         Section::Ins => Ok(Phase::HasIns(add(n, s, xs, ty, c)?)),
@@ -268,14 +279,14 @@ fn group_close(
 
 fn has_group(
     alloc: Global,
-    n: NodeText,
+    n: Box<NodeText>,
     s: Section,
     xs: List<Name>,
     ty: Ty,
     c: List<(Name, bool)>,
     t: Token,
 ) -> Result<Phase, Or<Kind>>
-    ensures { Moves result (parser.move LIMIT (parser.HasGroup n s xs ty c) t) }
+    ensures { Moves result (parser.move LIMIT (parser.HasGroup n.value s xs ty c) t) }
 {
     match t {
         Token::When => group_when(n, s, xs, ty, c),
@@ -286,14 +297,14 @@ fn has_group(
 }
 
 fn want_polarity(
-    n: NodeText,
+    n: Box<NodeText>,
     s: Section,
     xs: List<Name>,
     ty: Ty,
     c: List<(Name, bool)>,
     t: Token,
 ) -> Result<Phase, Or<Kind>>
-    ensures { Moves result (parser.move LIMIT (parser.WantPolarity n s xs ty c) t) }
+    ensures { Moves result (parser.move LIMIT (parser.WantPolarity n.value s xs ty c) t) }
 {
     match t {
         Token::Not => Ok(Phase::WantVariable(n, s, xs, ty, c)),
@@ -307,14 +318,14 @@ fn want_polarity(
 }
 
 fn want_variable(
-    n: NodeText,
+    n: Box<NodeText>,
     s: Section,
     xs: List<Name>,
     ty: Ty,
     c: List<(Name, bool)>,
     t: Token,
 ) -> Result<Phase, Or<Kind>>
-    ensures { Moves result (parser.move LIMIT (parser.WantVariable n s xs ty c) t) }
+    ensures { Moves result (parser.move LIMIT (parser.WantVariable n.value s xs ty c) t) }
 {
     match t {
         Token::Ident(x) => {
@@ -326,8 +337,8 @@ fn want_variable(
     }
 }
 
-fn has_ins(n: NodeText, t: Token) -> Result<Phase, Or<Kind>>
-    ensures { Moves result (parser.move LIMIT (parser.HasIns n) t) }
+fn has_ins(n: Box<NodeText>, t: Token) -> Result<Phase, Or<Kind>>
+    ensures { Moves result (parser.move LIMIT (parser.HasIns n.value) t) }
 {
     match t {
         Token::Returns => Ok(Phase::Returning(n)),
@@ -335,8 +346,8 @@ fn has_ins(n: NodeText, t: Token) -> Result<Phase, Or<Kind>>
     }
 }
 
-fn returning(alloc: Global, n: NodeText, t: Token) -> Result<Phase, Or<Kind>>
-    ensures { Moves result (parser.move LIMIT (parser.Returning n) t) }
+fn returning(alloc: Global, n: Box<NodeText>, t: Token) -> Result<Phase, Or<Kind>>
+    ensures { Moves result (parser.move LIMIT (parser.Returning n.value) t) }
 {
     match t {
         Token::Open => Ok(Phase::WantName(n, Section::Outs, List::new(alloc))),
@@ -344,8 +355,8 @@ fn returning(alloc: Global, n: NodeText, t: Token) -> Result<Phase, Or<Kind>>
     }
 }
 
-fn has_outs(alloc: Global, n: NodeText, t: Token) -> Result<Phase, Or<Kind>>
-    ensures { Moves result (parser.move LIMIT (parser.HasOuts n) t) }
+fn has_outs(alloc: Global, n: Box<NodeText>, t: Token) -> Result<Phase, Or<Kind>>
+    ensures { Moves result (parser.move LIMIT (parser.HasOuts n.value) t) }
 {
     match t {
         Token::Semicolon => Ok(Phase::HasHead(n)),
@@ -355,8 +366,8 @@ fn has_outs(alloc: Global, n: NodeText, t: Token) -> Result<Phase, Or<Kind>>
     }
 }
 
-fn has_head(alloc: Global, n: NodeText, t: Token) -> Result<Phase, Or<Kind>>
-    ensures { Moves result (parser.move LIMIT (parser.HasHead n) t) }
+fn has_head(alloc: Global, n: Box<NodeText>, t: Token) -> Result<Phase, Or<Kind>>
+    ensures { Moves result (parser.move LIMIT (parser.HasHead n.value) t) }
 {
     match t {
         Token::Var => Ok(Phase::WantName(n, Section::Locals, List::new(alloc))),
@@ -365,8 +376,8 @@ fn has_head(alloc: Global, n: NodeText, t: Token) -> Result<Phase, Or<Kind>>
     }
 }
 
-fn has_locals(alloc: Global, n: NodeText, t: Token) -> Result<Phase, Or<Kind>>
-    ensures { Moves result (parser.move LIMIT (parser.HasLocals n) t) }
+fn has_locals(alloc: Global, n: Box<NodeText>, t: Token) -> Result<Phase, Or<Kind>>
+    ensures { Moves result (parser.move LIMIT (parser.HasLocals n.value) t) }
 {
     match t {
         Token::Ident(x) => Ok(Phase::HasName(n, Section::Locals, one(alloc, x)?)),
@@ -375,64 +386,18 @@ fn has_locals(alloc: Global, n: NodeText, t: Token) -> Result<Phase, Or<Kind>>
     }
 }
 
-fn has_left(alloc: Global, n: NodeText, x: Name, t: Token) -> Result<Phase, Or<Kind>>
-    ensures { Moves result (parser.move LIMIT (parser.HasLeft n x) t) }
+fn has_left(n: Box<NodeText>, x: Name, t: Token) -> Result<Phase, Or<Kind>>
+    ensures { Moves result (parser.move LIMIT (parser.HasLeft n.value x) t) }
 {
     match t {
-        Token::Infix(Infix::Operator(Bin::Eq)) => {
-            Ok(Phase::In(n, x, Vec::new(alloc), Mode::Want))
-        }
+        Token::Infix(Infix::Operator(Bin::Eq)) => Ok(Phase::In(n, x)),
         _ => Err(wrong()),
     }
 }
 
-/// The right side of an equation goes on.
-fn went(n: NodeText, x: Name, frames: Vec<Frame>, next: Next) -> Result<Phase, Or<Kind>>
-    ensures { Moves result (parser.checked LIMIT n x (next_of next (stack_of frames.items))) }
-{
-    match next {
-        Next::Bad => Err(wrong()),
-        Next::Go(Mode::Want) => {
-            if !fits(&frames) {
-                return Err(Or::Fault(Kind::TooDeep));
-            }
-            Ok(Phase::In(n, x, frames, Mode::Want))
-        }
-        Next::Go(Mode::WantClock) => {
-            if !fits(&frames) {
-                return Err(Or::Fault(Kind::TooDeep));
-            }
-            Ok(Phase::In(n, x, frames, Mode::WantClock))
-        }
-        Next::Go(m) => Ok(Phase::In(n, x, frames, m)),
-        Next::Done(a) => {
-            let mut n = n;
-            n.eqs.push(EqText::new(x, Box::into_inner(a.term)))?;
-            Ok(Phase::Body(n))
-        }
-    }
-}
-
-fn in_equation(
-    alloc: Global,
-    n: NodeText,
-    x: Name,
-    frames: Vec<Frame>,
-    m: Mode,
-    t: Token,
-) -> Result<Phase, Or<Kind>>
-    requires small { IsSmall t }
-    requires room { Fits LIMIT (parser.In n x (stack_of frames.items) (mode_of m)) }
-    ensures { Moves result (parser.move LIMIT (parser.In n x (stack_of frames.items) (mode_of m)) t) }
-{
-    let mut frames = frames;
-    let next = go(alloc, m, &mut frames, t)?;
-    went(n, x, frames, next)
-}
-
 /// A name begins an equation.
-fn body(n: NodeText, t: Token) -> Result<Phase, Or<Kind>>
-    ensures { Moves result (parser.move LIMIT (parser.Body n) t) }
+fn body(n: Box<NodeText>, t: Token) -> Result<Phase, Or<Kind>>
+    ensures { Moves result (parser.move LIMIT (parser.Body n.value) t) }
 {
     match t {
         Token::Ident(x) => Ok(Phase::HasLeft(n, x)),
@@ -440,11 +405,10 @@ fn body(n: NodeText, t: Token) -> Result<Phase, Or<Kind>>
     }
 }
 
-/// What a token does, but for `tel` behind equations.
+/// What a token does, but for an equation's right side and `tel` behind equations.
 fn move_on(alloc: Global, phase: Phase, t: Token) -> Result<Phase, Or<Kind>>
-    requires small { IsSmall t }
-    requires room { Fits LIMIT (phase_of phase) }
-    ensures { Moves result (parser.move LIMIT (phase_of phase) t) }
+    requires { (n : Box NodeText) (x : List ℕ) → phase ≡ phases.In n x → ⊥ }
+    ensures { Moves result (parser.move LIMIT (phase_of phase [] machine.Want) t) }
 {
     match phase {
         Phase::Idle => idle(t),
@@ -464,47 +428,100 @@ fn move_on(alloc: Global, phase: Phase, t: Token) -> Result<Phase, Or<Kind>>
         Phase::HasHead(n) => has_head(alloc, n, t),
         Phase::HasLocals(n) => has_locals(alloc, n, t),
         Phase::Body(n) => body(n, t),
-        Phase::HasLeft(n, x) => has_left(alloc, n, x, t),
-        Phase::In(n, x, frames, m) => in_equation(alloc, n, x, frames, m, t),
+        Phase::HasLeft(n, x) => has_left(n, x, t),
+        Phase::In(_, _) => unreachable!(),
     }
 }
 
-/// `tel`, or an equation.
-fn end_body(alloc: Global, nodes: List<NodeText>, n: NodeText, t: Token) -> Result<Parser, Or<Kind>>
-    ensures { Steps result (parser.step_on LIMIT nodes (parser.Body n) t) }
-{
-    let mut nodes = nodes;
-    if let Token::Tel = t {
-        nodes.push(n)?;
-        return Ok(parser_at(alloc, nodes, Phase::Told)?);
-    }
-    let phase = body(n, t)?;
-    Ok(parser_at(alloc, nodes, phase)?)
-}
-
-/// The next phase beside the whole nodes.
-fn moved(
-    alloc: Global,
-    nodes: List<NodeText>,
-    phase: Result<Phase, Or<Kind>>,
-) -> Result<Parser, Or<Kind>>
-    ensures { (next : Result parser.Phase parser.Kind) → Moves phase next → Steps result (parser.finish nodes next) }
+/// The next phase, in which no form is begun.
+fn moved(p: &mut Parser, phase: Result<Phase, Or<Kind>>) -> Result<(), Or<Kind>>
+    ensures { (next : Result parser.Phase parser.Kind) → Moves phase next → Steps result (state_of p.new) (parser.finish p.old.nodes next) }
 {
     match phase {
-        Ok(phase) => Ok(parser_at(alloc, nodes, phase)?),
+        Ok(phase) => {
+            p.phase = phase;
+            p.frames.clear();
+            p.mode = Mode::Want;
+            Ok(())
+        }
         Err(Or::Fault(kind)) => Err(Or::Fault(kind)),
         Err(Or::Memory) => Err(Or::Memory),
     }
 }
 
-/// Takes one token.
-pub fn step(alloc: Global, p: Parser, t: Token) -> Result<Parser, Or<Kind>>
-    requires small { IsSmall t }
-    requires room { Fits LIMIT (phase_of p.phase.value) }
-    ensures { Steps result (parser.step LIMIT (state_of p) t) }
+/// `tel`, or an equation.
+fn end_body(p: &mut Parser, n: Box<NodeText>, t: Token) -> Result<(), Or<Kind>>
+    ensures { Steps result (state_of p.new) (parser.step_on LIMIT p.old.nodes (parser.Body n.value) t) }
 {
-    match Box::into_inner(p.phase) {
-        Phase::Body(n) => end_body(alloc, p.nodes, n, t),
-        phase => moved(alloc, p.nodes, move_on(alloc, phase, t)),
+    if let Token::Tel = t {
+        p.nodes.push(Box::into_inner(n))?;
+        p.phase = Phase::Told;
+        return Ok(());
+    }
+    moved(p, body(n, t))
+}
+
+/// The right side of an equation goes on, or ends.
+fn went(p: &mut Parser, n: Box<NodeText>, x: Name, next: Next) -> Result<(), Or<Kind>>
+    ensures { Steps result (state_of p.new) (parser.finish p.old.nodes (parser.checked LIMIT n.value x (next_of next (stack_of p.old.frames.items)))) }
+{
+    match next {
+        Next::Bad => Err(Or::Fault(Kind::Unexpected)),
+        Next::Go(Mode::Want) => {
+            if !fits(&p.frames) {
+                return Err(Or::Fault(Kind::TooDeep));
+            }
+            p.mode = Mode::Want;
+            p.phase = Phase::In(n, x);
+            Ok(())
+        }
+        Next::Go(Mode::WantClock) => {
+            if !fits(&p.frames) {
+                return Err(Or::Fault(Kind::TooDeep));
+            }
+            p.mode = Mode::WantClock;
+            p.phase = Phase::In(n, x);
+            Ok(())
+        }
+        Next::Go(mode) => {
+            p.mode = mode;
+            p.phase = Phase::In(n, x);
+            Ok(())
+        }
+        Next::Done(a) => {
+            let mut n = n;
+            n.eqs.push(EqText::new(x, Box::into_inner(a.term)))?;
+            p.phase = Phase::Body(n);
+            Ok(())
+        }
+    }
+}
+
+fn in_equation(
+    alloc: Global,
+    p: &mut Parser,
+    n: Box<NodeText>,
+    x: Name,
+    t: Token,
+) -> Result<(), Or<Kind>>
+    requires small { IsSmall t }
+    requires room { Fits LIMIT (parser.In n.value x (stack_of p.old.frames.items) (mode_of p.old.mode)) }
+    ensures { Steps result (state_of p.new) (parser.finish p.old.nodes (parser.move LIMIT (parser.In n.value x (stack_of p.old.frames.items) (mode_of p.old.mode)) t)) }
+{
+    let mode = replace(&mut p.mode, Mode::Want);
+    let next = go(alloc, mode, &mut p.frames, t)?;
+    went(p, n, x, next)
+}
+
+/// Takes one token. Behind an error the parser is of no use.
+pub fn step(alloc: Global, p: &mut Parser, t: Token) -> Result<(), Or<Kind>>
+    requires small { IsSmall t }
+    requires room { Fits LIMIT (state_of p.old).phase }
+    ensures { Steps result (state_of p.new) (parser.step LIMIT (state_of p.old) t) }
+{
+    match replace(&mut p.phase, Phase::Told) {
+        Phase::In(n, x) => in_equation(alloc, p, n, x, t),
+        Phase::Body(n) => end_body(p, n, t),
+        phase => moved(p, move_on(alloc, phase, t)),
     }
 }

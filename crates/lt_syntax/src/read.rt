@@ -2,7 +2,7 @@
 ghost use Rattle.std.specs.Prelude.{◌≡◌, List};
 ghost use Rattle.lt_tokens.specs.Fronts.{IsSmall};
 ghost use Rattle.lt_syntax.specs.Parser as parser;
-ghost use Rattle.lt_syntax.specs.Phases.{phase_of, state_of, Fits};
+ghost use Rattle.lt_syntax.specs.Phases.{state_of, Fits};
 ghost use Rattle.lt_syntax.specs.Reads.{Answers, StepsAt, EndsWith};
 
 use crate::fault::{SyntaxFault, SyntaxKind};
@@ -13,13 +13,13 @@ use lt_base::{List, Or};
 use lt_tokens::{Front, Token, read_front, skip};
 use std::alloc::Global;
 
-fn step_at(alloc: Global, p: Parser, t: Token, at: usize) -> Result<Parser, Or<SyntaxFault>>
+fn step_at(alloc: Global, p: &mut Parser, t: Token, at: usize) -> Result<(), Or<SyntaxFault>>
     requires small { IsSmall t }
-    requires room { Fits LIMIT (phase_of p.phase.value) }
-    ensures { StepsAt at result (parser.step LIMIT (state_of p) t) }
+    requires room { Fits LIMIT (state_of p.old).phase }
+    ensures { StepsAt at result (state_of p.new) (parser.step LIMIT (state_of p.old) t) }
 {
     match step(alloc, p, t) {
-        Ok(q) => Ok(q),
+        Ok(()) => Ok(()),
         Err(Or::Fault(Kind::Unexpected)) => {
             let kind = SyntaxKind::Unexpected;
             Err(Or::Fault(SyntaxFault { at, kind }))
@@ -36,7 +36,7 @@ fn step_at(alloc: Global, p: Parser, t: Token, at: usize) -> Result<Parser, Or<S
 fn whole(p: Parser) -> Option<List<NodeText>>
     ensures { EndsWith (state_of p) result }
 {
-    if p.nodes.is_empty() || !may_end(&p.phase) {
+    if p.nodes.is_empty() || !may_end(&p) {
         return None;
     }
     Some(p.nodes)
@@ -46,17 +46,17 @@ fn whole(p: Parser) -> Option<List<NodeText>>
 pub fn read(alloc: Global, bytes: &[u8]) -> Result<List<NodeText>, Or<SyntaxFault>>
     ensures { Answers LIMIT bytes.now result }
 {
-    let mut p = start(alloc)?;
+    let mut p = start(alloc);
     let mut rest = bytes;
     'text: loop {
         let here = skip(rest);
         let at = bytes.len() - here.len();
         match read_front(alloc, here)? {
             Front::Begins(t, n) => {
-                p = match step_at(alloc, p, t, at) {
-                    Ok(q) => q,
+                match step_at(alloc, &mut p, t, at) {
+                    Ok(()) => {}
                     Err(e) => return Err(e),
-                };
+                }
                 rest = &here[n..];
             }
             Front::Over => {

@@ -1,11 +1,17 @@
-use Rattle.std.proofs.Common.{subst}
+use Rattle.std.proofs.Common.{[], subst}
+use Rattle.lt_syntax.specs.Machine as machine
 use Rattle.lt_syntax.specs.Parser as parser
-use Rattle.lt_syntax.specs.Phases.{phase_of, Steps}
+use Rattle.lt_syntax.specs.Phases.{phase_of, state_of, Steps}
+use Rattle.lt_syntax.specs.Views.{mode_of, stack_of}
 use Rattle.lt_syntax.proofs.Declares.{elsewhere}
 use Rattle.lt_syntax.proofs.header.step.Goals as goal
 
 pub returns-in_default : goal.returns-in_default
 returns-in_default c =
-    let m = parser.move 200 (phase_of c.into_inner.result) c.args.t in
-    subst (λ p. Steps c.moved.result (parser.step_on 200 c.args.p.nodes (phase_of p) c.args.t)) c.into_inner.ensures
-    (subst (Steps c.moved.result) (elsewhere c.into_inner.result c.in_default.not-Body c.args.p.nodes c.args.t) (c.moved.ensures m c.move_on.ensures))
+    let p = c.args.p.now in
+    let fs = stack_of p.frames.items in
+    let m = mode_of p.mode in
+    let next = parser.move 200 (phase_of c.replace.result [] machine.Want) c.args.t in
+    let stepped = elsewhere c.replace.result fs m c.in_default.not-In c.in_default.not-Body p.nodes c.args.t in
+    let goes = Steps c.moved.result (state_of c.moved.new.p) in
+    subst (λ q. goes (parser.step_on 200 p.nodes (phase_of q fs m) c.args.t)) c.replace.ensures.value (subst goes stepped (c.moved.ensures next c.move_on.ensures))

@@ -13,7 +13,7 @@ returns-in-Err c =
     let here = c.skip-here.result.now in
     let e = found c.in_ok-t.field-0 (front.Begins c.in-Begins.t c.in-Begins.n) here c.text.rest.now c.skip-here.ensures.value c.in_ok-t.ensures.value c.in-Begins.is in
     let h : length here ≤ length c.args.bytes.now = omega (arith, c.skip-here.ensures.length, c.text.invariant.within) in
-    wrong_step 200 (omega arith) c.args.bytes.now c.text.rest.now (state_of c.text.p) c.text.invariant.so_far c.in-Begins.t (drop c.in-Begins.n here) (length c.args.bytes.now - length here) c.in-Err.e e (place c.args.bytes.now c.text.rest.now here c.skip-here.ensures.value h) c.in-Err.ensures
+    wrong_step 200 (omega arith) c.args.bytes.now c.text.rest.now (state_of c.text.p) (state_of c.step_at.new.p) c.text.invariant.so_far c.in-Begins.t (drop c.in-Begins.n here) (length c.args.bytes.now - length here) c.in-Err.e e (place c.args.bytes.now c.text.rest.now here c.skip-here.ensures.value h) c.in-Err.ensures
 
 pub text-preserved : goal.text-preserved
 text-preserved c =
@@ -21,10 +21,10 @@ text-preserved c =
     let n = c.in-Begins.n in
     let e = found c.in_ok-t.field-0 (front.Begins c.in-Begins.t n) here c.text.rest.now c.skip-here.ensures.value c.in_ok-t.ensures.value c.in-Begins.is in
     let a = all_of n here in
-    let g = goes 200 c.args.bytes.now c.text.rest.now (state_of c.text.p) c.in-Begins.t (drop n here) (state_of c.in-Ok.q) c.text.invariant.so_far e c.in-Ok.ensures in
+    let g = goes 200 c.args.bytes.now c.text.rest.now (state_of c.text.p) c.in-Begins.t (drop n here) (state_of c.step_at.new.p) c.text.invariant.so_far e c.in-Ok.ensures in
     record {
       within = omega (arith, ap length a, shorter n here, c.skip-here.ensures.length, c.text.invariant.within);
-      so_far = subst (λ z. SoFar 200 c.args.bytes.now z (state_of c.in-Ok.q)) (sym a) g;
+      so_far = subst (λ z. SoFar 200 c.args.bytes.now z (state_of c.step_at.new.p)) (sym a) g;
     }
 
 pub returns-in-Some : goal.returns-in-Some
