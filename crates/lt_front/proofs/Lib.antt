@@ -1,5 +1,5 @@
 pub mod Lengths
 pub mod Rooms
-pub mod Stages
+pub mod Outcomes
 pub mod OneProgram
 pub mod OneFault

@@ -9,3 +9,6 @@ mod fault;
 pub use checked::Checked;
 pub use checks::front;
 pub use fault::ProgramFault;
+
+#[cfg(test)]
+mod tests;

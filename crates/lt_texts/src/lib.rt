@@ -7,3 +7,6 @@ mod program;
 mod words;
 
 pub use program::program_line;
+
+#[cfg(test)]
+mod tests;

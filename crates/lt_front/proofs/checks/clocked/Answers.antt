@@ -1,6 +1,6 @@
 use Rattle.std.proofs.Common.{refl, inl, sym, subst}
 use Rattle.lt_check.specs.ClockFaults.{IsFirstClockFault}
-use Rattle.lt_front.proofs.Stages.{faulty}
+use Rattle.lt_front.proofs.Outcomes.{faulty}
 use Rattle.lt_front.proofs.Rooms.{equations_fit}
 use Rattle.lt_front.proofs.checks.clocked.Goals as goal
 
