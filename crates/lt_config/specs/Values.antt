@@ -3,8 +3,7 @@ use Rattle.std.specs.Prelude.{ℕ, ◌+◌, ◌&&◌, ◌||◌, Bool, true, fals
 use Rattle.std.specs.Option.{option_map_or}
 use Rattle.std.specs.Str.{bytes_eq}
 use Rattle.toml.specs.Data.{Data, Items, no_items, item, Members, no_members, member, as_str, as_integer, as_array, as_table}
-use Rattle.lt_arch.specs.declared.limits.TheConstants.{GREATEST_BOUND, GREATEST_COUNTDOWN}
-use Rattle.lt_config.specs.declared.limits.TheConstants.{MOST_NODES}
+use Rattle.lt_config.specs.Limits.{greatest_bound, greatest_countdown, most_nodes}
 use Rattle.lt_config.specs.declared.keys.Key.{Key}
 use Rattle.lt_config.specs.declared.keys.Key.TheVariants.{Protocol, Period, Delay, Send, Execute, Nodes, Periods, Delays, Sends, Executes}
 
@@ -76,7 +75,7 @@ is_at_most (negsuc m) b = true
 -- low <= first <= second <= the greatest bound
 abbrev pub is_bounds : (low : ℕ) → Option (ℤ × ℤ) → Bool
 is_bounds low None = false
-is_bounds low (Some p) = is_between low GREATEST_BOUND p.0 && (is_between low GREATEST_BOUND p.1 && is_at_most p.0 p.1)
+is_bounds low (Some p) = is_between low greatest_bound p.0 && (is_between low greatest_bound p.1 && is_at_most p.0 p.1)
 
 -- bounds of a period, and of a delay
 abbrev pub is_period : Data → Bool
@@ -86,7 +85,7 @@ abbrev pub is_delay : Data → Bool
 is_delay d = is_bounds 0 (pair_of d)
 
 abbrev pub is_countdown : Data → Bool
-is_countdown d = option_map_or (is_between 1 GREATEST_COUNTDOWN) (as_integer d) false
+is_countdown d = option_map_or (is_between 1 greatest_countdown) (as_integer d) false
 
 abbrev pub names_protocol : List ℕ → Bool
 names_protocol text = bytes_eq text (codes "backpressure") || bytes_eq text (codes "timebased")
@@ -97,7 +96,7 @@ count_members (member k d ms) = count_members ms + 1
 
 -- at least one node, and no more than the limit
 abbrev pub is_count_of_nodes : ℕ → Bool
-is_count_of_nodes n = nat_le 1 n && nat_le n MOST_NODES
+is_count_of_nodes n = nat_le 1 n && nat_le n most_nodes
 
 -- a value in the range of a key, where it has the key's kind
 abbrev pub in_range : Key → Data → Bool

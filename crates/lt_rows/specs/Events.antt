@@ -15,6 +15,7 @@ use Rattle.lt_arch.specs.Step.{time_of}
 use Rattle.lt_rows.specs.declared.fault.RowFault.{RowFault}
 use Rattle.lt_rows.specs.declared.fault.RowFault.TheVariants.{Header, Time, Kind, UnknownPlace, NotCsv}
 use Rattle.lt_rows.specs.Fields.{Fields, fields_of}
+use Rattle.lt_rows.specs.Limits.{greatest_time}
 
 -- the header's line
 
@@ -33,7 +34,7 @@ header_fault line = header_in (fields_of line)
 
 -- digits, whose value is at most the greatest time
 abbrev pub is_time : List ℕ → Bool
-is_time text = nat_lt 0 (length text) && (list_all is_digit text && nat_le (digits_value 10 text) GREATEST_TIME)
+is_time text = nat_lt 0 (length text) && (list_all is_digit text && nat_le (digits_value 10 text) greatest_time)
 
 unfoldable pub time_in : List ℕ → Option ℕ
 time_in text = if is_time text then Some (digits_value 10 text) else None

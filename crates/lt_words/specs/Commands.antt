@@ -2,7 +2,10 @@
 use Rattle.std.specs.Prelude.{ℕ, true, [], Some, codes}
 use Rattle.clap.specs.Words.{App, Rule, Text, new_app, new_rule, with_rule, with_subcommand}
 use Rattle.clap.specs.declared.builder.value_parser.ValueParser.TheVariants as parser
-use Rattle.lt_words.specs.declared.commands.TheConstants.{GREATEST_HORIZON}
+
+-- the greatest horizon, in ticks
+abbrev pub greatest_horizon : ℕ
+greatest_horizon = 1000000000000000
 
 -- a text that is needed
 abbrev pub text_rule : (id : Text) → Rule
@@ -22,7 +25,7 @@ abbrev pub run_app : App
 run_app = with_rule (with_rule (with_rule (new_app (codes "run")) (text_rule (codes "program"))) (text_rule (codes "inputs"))) (text_rule (codes "schedule"))
 
 abbrev pub plan_app : App
-plan_app = with_rule (with_rule (new_app (codes "plan")) (text_rule (codes "config"))) (number_rule (codes "horizon") GREATEST_HORIZON)
+plan_app = with_rule (with_rule (new_app (codes "plan")) (text_rule (codes "config"))) (number_rule (codes "horizon") greatest_horizon)
 
 -- a command is needed; help, version and the word `help` are none
 abbrev pub bare_app : App
