@@ -1,0 +1,58 @@
+-- The outputs' cells as the first cells of their streams.
+use Rattle.std.proofs.Common.{◌≡◌, ◌∙◌, ℕ, ◌<◌, ◌≤◌, List, [], ◌∷◌, length, map, take, get_or, refl, sym, ap, subst, arith}
+use Rattle.std.specs.List.{All}
+use Rattle.std.proofs.lemmas.List.Elements.{All-nil, All-cons, All-head, All-tail, All-weaker}
+use Rattle.std.proofs.Math.Seq.{take-length}
+use Rattle.lt_base.specs.declared.value.Value.{Value}
+use Rattle.lt_base.specs.declared.value.Cell.{Cell}
+use Rattle.lt_base.specs.Program.{Function, WholeProgram, GoodFunction, GoodProgram}
+use Rattle.lt_base.specs.Meaning.{stream_of}
+use Rattle.lt_base.proofs.Streams.{stream_length}
+use Rattle.std.proofs.lemmas.List.Elements.{All-get_or}
+use Rattle.lt_meaning.specs.Streams.{HasStreams, HasMainStreams}
+use Rattle.lt_run.specs.Main.{main_in, output_streams}
+use Rattle.lt_run.specs.Run.{first_cells}
+use Rattle.lt_run.proofs.Mains.{of_main}
+
+taken_same : (n : ℕ) (g h : ℕ → List Cell) (ys : List ℕ) → All (λ y. g y ≡ h y) ys → map (λ y. take n (g y)) ys ≡ map (take n) (map h ys)
+taken_same n g h [] same = refl
+taken_same n g h (y ∷ ys) same =
+    let first = All-head (λ x. g x ≡ h x) y ys same in
+    let rest = taken_same n g h ys (All-tail (λ x. g x ≡ h x) y ys same) in
+    λ i. take n (first i) ∷ rest i
+
+all_taken : (n : ℕ) (h : ℕ → List Cell) (ys : List ℕ) → ((y : ℕ) → length (h y) ≡ n) → map (take n) (map h ys) ≡ map h ys
+all_taken n h [] size = refl
+all_taken n h (y ∷ ys) size =
+    let first : take n (h y) ≡ h y = subst (λ (m : ℕ). take m (h y) ≡ h y) (size y) (take-length (h y)) in
+    let rest = all_taken n h ys size in
+    λ i. first i ∷ rest i
+
+module _ (p : WholeProgram) (good : GoodProgram p) (rows : List (List Value)) (streams : List (List Cell)) (has : HasMainStreams p rows streams) where
+  main_has : HasStreams p.funcs (main_in p) rows streams
+  main_has = of_main (λ f. HasStreams p.funcs f rows streams) p has
+
+  main_good : GoodFunction (main_in p)
+  main_good = All-get_or GoodFunction p.funcs p.main _ good.main good.functions
+
+  pub main_width : length streams ≡ length (main_in p).decls
+  main_width = main_has.width
+
+  columns_are : All (λ y. get_or streams y [] ≡ stream_of p.funcs (main_in p) rows y) (main_in p).outs
+  columns_are = All-weaker (λ y. y < length (main_in p).decls) (λ y. get_or streams y [] ≡ stream_of p.funcs (main_in p) rows y) (λ y low. main_has.streams y low) (main_in p).outs main_good.outs
+
+  stream_is_long : (n y : ℕ) → n ≤ length rows → get_or streams y [] ≡ stream_of p.funcs (main_in p) rows y → n ≤ length (get_or streams y [])
+  stream_is_long n y within is = let size = ap length is ∙ stream_length p.funcs (main_in p) y rows in omega (arith, size, within)
+
+  -- each output has at least so many cells
+  pub outputs_long : (n : ℕ) → n ≤ length rows → All (λ y. n ≤ length (get_or streams y [])) (main_in p).outs
+  outputs_long n within =
+      All-weaker (λ y. get_or streams y [] ≡ stream_of p.funcs (main_in p) rows y) (λ y. n ≤ length (get_or streams y [])) (λ y is. stream_is_long n y within is) (main_in p).outs columns_are
+
+  -- what is taken of the columns is what the outputs show at first
+  pub outputs_first : (n : ℕ) → map (λ y. take n (get_or streams y [])) (main_in p).outs ≡ first_cells n (output_streams p rows)
+  outputs_first n = taken_same n (λ y. get_or streams y []) (stream_of p.funcs (main_in p) rows) (main_in p).outs columns_are
+
+-- all of it, after all instants
+pub outputs_whole : (p : WholeProgram) (rows : List (List Value)) → first_cells (length rows) (output_streams p rows) ≡ output_streams p rows
+outputs_whole p rows = all_taken (length rows) (stream_of p.funcs (main_in p) rows) (main_in p).outs (λ y. stream_length p.funcs (main_in p) y rows)
