@@ -7,7 +7,7 @@ ghost use Rattle.lt_run.specs.Main.{cells_verdict, most_cells};
 
 use crate::CommandFault;
 use lt_base::{Inputs, Or, Program};
-use lt_meaning::{StreamsFault, Table, program_streams};
+use lt_meaning::{StreamsFault, Table, streams};
 use std::alloc::Global;
 
 /// The streams of all variables of `main`, unless they have too many cells.
@@ -23,7 +23,7 @@ pub(crate) fn evaluate(
     ensures few { OnOk result (cell_count program.now inputs.now.rows ≤ most_cells) }
     ensures refused { IfErr result (Refuses (cells_verdict program.now inputs.now.rows)) }
 {
-    match program_streams(alloc, program, inputs) {
+    match streams(alloc, program, inputs) {
         Ok(streams) => Ok(streams),
         Err(Or::Fault(StreamsFault::TooMany)) => Err(Or::Fault(CommandFault::TooManyCells)),
         Err(Or::Memory) => Err(Or::Memory),
