@@ -1,5 +1,6 @@
 -- A step's answer as that of the step around it.
 use Rattle.std.proofs.Common.{◌≡◌, ◌∙◌, ◌<◌, Result, Ok, Err, IsTrue, refl, sym, ap, subst}
+use Rattle.lt_base.specs.Or.{MapsFault}
 use Rattle.lt_base.specs.declared.memory.Or.{Or}
 use Rattle.lt_base.specs.declared.memory.Or.TheVariants.{Fault, Memory}
 use Rattle.lt_answer.specs.World.{World, Blame, Blames}
@@ -15,5 +16,21 @@ module _ {T E G : Type 0} (raise : E → G) (blame : E → Blame) (outer : G →
     keeps = answered.keeps;
     cause = answered.cause;
     exact = λ told calm. answered.exact told calm;
+    sound = λ told sound rose. reads (answered.sound told sound rose);
+  }
+
+  pub raised_fault : (e : Or E) (e' : Or G) → MapsFault e e' (λ f g. g ≡ raise f) → Answered blame V a b (Err e) → Answered outer (Raised raise V) a b (Err e')
+  raised_fault (Fault f) (Fault g) is answered = record {
+    keeps = answered.keeps;
+    cause = subst (Blames a b) (sym (ap outer is ∙ same f)) answered.cause;
+    exact = λ told calm. (f, answered.exact told calm, is);
+    sound = λ told sound rose. reads (answered.sound told sound rose);
+  }
+  raised_fault (Fault f) Memory is answered = absurd is
+  raised_fault Memory (Fault g) is answered = absurd is
+  raised_fault Memory Memory is answered = record {
+    keeps = answered.keeps;
+    cause = answered.cause;
+    exact = λ told calm. tt;
     sound = λ told sound rose. reads (answered.sound told sound rose);
   }

@@ -26,8 +26,8 @@ pub fn meaning<F: Files>(
         (alone (F.state files.old)) (alone (F.state files.new)) result }
 {
     let checked = load_program(alloc, files, program)?;
-    checked.kept();
     let program = &checked.program;
+    program.kept();
     let table = load_inputs(alloc, files, inputs, program)?;
     let streams = evaluate(alloc, program, &table)?;
     Ok(print(alloc, main_of(program), &streams, table.rows())?)
@@ -47,8 +47,8 @@ pub fn run<F: Files>(
         (alone (F.state files.old)) (alone (F.state files.new)) result }
 {
     let checked = load_program(alloc, files, program)?;
-    checked.kept();
     let program = &checked.program;
+    program.kept();
     let table = load_inputs(alloc, files, inputs, program)?;
     let streams = evaluate(alloc, program, &table)?;
     let executed = judge_schedule(alloc, files, schedule, table.rows())?;

@@ -98,6 +98,7 @@ pub fn load_inputs<F: Files>(
     ensures answered { Answered command_blame (inputs_verdict program.now ((F.state files.old).named name.now)) (alone (F.state files.old)) (alone (F.state files.new)) result }
     ensures fit { IfOk result (InputsFitMain program.now) }
 {
+    program.kept();
     let bytes = fetch_within(alloc, files, name, What::InputsBytes)?;
     match read_inputs(alloc, bytes.as_slice(), main_of(program)) {
         Ok(table) => Ok(table),

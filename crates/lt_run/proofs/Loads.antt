@@ -21,6 +21,10 @@ pub err_is : {T E : Type 0} (r : Result T E) (e : E) → IsErrAnd r (λ f. f ≡
 err_is (Ok x) e is = absurd is
 err_is (Err f) e is = ap (λ g. Err g) is
 
+-- a step that loads an equal program
+pub checked_is : (V : Verdict CheckedText CommandFault) (a b : World) (k l : CheckedText) → k ≡ l → Answered command_blame V a b (Ok l) → Answered command_blame V a b (Ok k)
+checked_is V a b k l is answered = subst (λ (t : CheckedText). Answered command_blame V a b (Ok t)) (sym is) answered
+
 -- the limit on cells is a step that touches nothing
 cells_refused : (p : WholeProgram) (rows : List (List Value)) (w : World) (e : Or CommandFault) → Refuses (cells_verdict p rows) e → Answered command_blame (cells_verdict p rows) w w (Err e)
 cells_refused p rows w (Fault f) refused = refuses w f (subst (λ (g : CommandFault). Blames w w (command_blame g)) (sym refused.1) (calm_itself w)) refused
