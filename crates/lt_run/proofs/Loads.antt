@@ -39,7 +39,7 @@ Loads named program inputs next =
     next checked table)))
 
 module _ {T : Type 0} (next : CheckedText → InputTable → Verdict T CommandFault) (named : List ℕ → Option (List ℕ)) (program inputs : List ℕ) (a b : World) (checked : CheckedText)
-  (first : Answered command_blame (program_verdict (named program)) a b (Ok checked)) where
+    (first : Answered command_blame (program_verdict (named program)) a b (Ok checked)) where
   -- the inputs are refused
   pub inputs_stop : (c : World) (e : Or CommandFault) → Answered command_blame (inputs_verdict checked.program (named inputs)) b c (Err e) → Answered command_blame (Loads named program inputs next) a c (Err e)
   inputs_stop c e second = goes_on a b c checked (Err e) first (stops b c e second)
