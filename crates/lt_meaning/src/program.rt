@@ -10,7 +10,6 @@ ghost use Rattle.lt_meaning.specs.Ready.{ArePlans, Shows};
 ghost use Rattle.lt_meaning.specs.Streams.{HasMainStreams, HasMainTypes, cell_count, InputsFitMain, HasRoom};
 
 use crate::Table;
-use crate::evaluate::{GREATEST_CELLS, StreamsFault};
 use crate::node::is_present;
 use crate::plan::Plan;
 use crate::planning::plan_of;
@@ -18,6 +17,16 @@ use crate::starting::start;
 use crate::state::run;
 use lt_base::{Cell, Clock, Decl, Inputs, List, Memory, Or, Program, Value, sizes};
 use std::alloc::Global;
+
+/// The greatest number of cells: the weight of `main` for each row of inputs.
+pub const GREATEST_CELLS: u64 = 16_000_000;
+
+/// Why the streams of a program are refused.
+#[derive(Clone, Copy, Debug, PartialEq, Eq, Drop)]
+pub enum StreamsFault {
+    /// The weight of `main` times the number of rows is above the limit.
+    TooMany,
+}
 
 /// The streams of all variables of `main`, for as many instants as there are rows of inputs.
 pub fn streams(alloc: Global, p: &Program, inputs: &Inputs) -> Result<Table, Or<StreamsFault>>

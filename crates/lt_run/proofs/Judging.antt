@@ -6,7 +6,7 @@ use Rattle.lt_base.specs.declared.memory.Or.TheVariants.{Fault, Memory}
 use Rattle.lt_arch.specs.declared.event.Event.{Event}
 use Rattle.lt_arch.specs.declared.shape.Shape.{Shape}
 use Rattle.lt_arch.specs.declared.timing.Timing.{Timing}
-use Rattle.lt_small.specs.Schedule.{one_node, plain}
+use Rattle.lt_run.specs.Plain.{one_node, plain}
 use Rattle.lt_answer.specs.World.{World}
 use Rattle.lt_answer.specs.Answered.{Answered, RefusesReading}
 use Rattle.lt_judge.specs.declared.fault.ScheduleFault.{ScheduleFault}
@@ -17,11 +17,11 @@ use Rattle.lt_judge.specs.Judged.{IsOneNode, Executes, executed_by}
 use Rattle.lt_judge.specs.Verdict.{verdict}
 use Rattle.lt_verdict.specs.Rules.{Raised}
 use Rattle.lt_verdict.proofs.Decided.{HasOneKind, HasOneOutcome, raised_one}
-use Rattle.lt_run.specs.declared.fault.RunFault.{RunFault}
-use Rattle.lt_run.specs.Blamed.{run_blame}
-use Rattle.lt_run.specs.Scheduled.{run_fault, events_verdict, schedule_verdict}
+use Rattle.lt_run.specs.declared.fault.CommandFault.{CommandFault}
+use Rattle.lt_run.specs.Blamed.{command_blame}
+use Rattle.lt_run.specs.Scheduled.{command_fault, events_verdict, schedule_verdict}
 
-pub fault_blame : (e : ScheduleFault) → run_blame (run_fault e) ≡ schedule_blame e
+pub fault_blame : (e : ScheduleFault) → command_blame (command_fault e) ≡ schedule_blame e
 fault_blame (schedule.Row row f) = refl
 fault_blame (schedule.Offence event offence) = refl
 fault_blame schedule.Bytes = refl
@@ -76,5 +76,5 @@ events_decided kind rows file = record {
   one_value = λ m n p q. let same = one_outcome rows file (Ok m) (Ok n) (by_verdict rows file m p) (by_verdict rows file n q) in cc;
 }
 
-pub schedule_decided : {K : Type 0} (kind : RunFault → K) (rows : ℕ) (file : Option (List ℕ)) → HasOneOutcome kind (schedule_verdict rows file)
-schedule_decided kind rows file = raised_one run_fault kind (events_verdict rows file) (events_decided (λ e. kind (run_fault e)) rows file)
+pub schedule_decided : {K : Type 0} (kind : CommandFault → K) (rows : ℕ) (file : Option (List ℕ)) → HasOneOutcome kind (schedule_verdict rows file)
+schedule_decided kind rows file = raised_one command_fault kind (events_verdict rows file) (events_decided (λ e. kind (command_fault e)) rows file)

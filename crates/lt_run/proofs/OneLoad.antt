@@ -9,16 +9,16 @@ use Rattle.lt_front.proofs.OneFault.{front_decided}
 use Rattle.lt_verdict.proofs.Decided.{HasOneKind, HasOneOutcome, of_form, of_file, and_then, raised, and_then_one, raised_one, coarser}
 use Rattle.lt_run.specs.declared.fault.What.{What}
 use Rattle.lt_run.specs.declared.fault.What.TheVariants.{ProgramBytes, ConfigBytes}
-use Rattle.lt_run.specs.declared.fault.LoadFault.{LoadFault}
-use Rattle.lt_run.specs.declared.fault.LoadFault.TheVariants as fault
+use Rattle.lt_run.specs.declared.fault.CommandFault.{CommandFault}
+use Rattle.lt_run.specs.declared.fault.CommandFault.TheVariants as fault
 use Rattle.lt_run.specs.Loaded.{IsWithin, limit_of, whole_verdict, setup_verdict, program_verdict, config_verdict}
 
-pub whole_decided : {K : Type 0} (kind : LoadFault → K) (what : What) (file : Option (List ℕ)) → HasOneOutcome kind (whole_verdict what file)
+pub whole_decided : {K : Type 0} (kind : CommandFault → K) (what : What) (file : Option (List ℕ)) → HasOneOutcome kind (whole_verdict what file)
 unfolding whole_verdict
 whole_decided kind what file = of_file kind fault.Read file _ (λ bytes. of_form kind (IsWithin (limit_of what) bytes) (fault.Limit what) (λ x y p q. p.same ∙ sym q.same))
 
 -- a kind that tells a limit that is passed from other faults of a program
-pub program_decided : {K : Type 0} (kind : LoadFault → K) → ((e f : ProgramFault) → is_limit e ≡ is_limit f → kind (fault.Program e) ≡ kind (fault.Program f)) → (file : Option (List ℕ)) → HasOneOutcome kind (program_verdict file)
+pub program_decided : {K : Type 0} (kind : CommandFault → K) → ((e f : ProgramFault) → is_limit e ≡ is_limit f → kind (fault.Program e) ≡ kind (fault.Program f)) → (file : Option (List ℕ)) → HasOneOutcome kind (program_verdict file)
 program_decided kind along file =
     and_then_one kind (whole_verdict ProgramBytes file) _ (whole_decided kind ProgramBytes file)
     (λ bytes. raised_one (λ e. fault.Program e) kind (front_verdict bytes) (coarser is_limit (λ e. kind (fault.Program e)) (front_verdict bytes) along (front_decided bytes)))
@@ -32,6 +32,6 @@ no_setup_and_fault bytes e config p q = let same = sym p ∙ q in cc
 pub setup_decided : {K : Type 0} (kind : ConfigFault → K) (bytes : List ℕ) → HasOneKind kind (setup_verdict bytes)
 setup_decided kind bytes = record { one_kind = λ e f p q. ap kind (one_setup_fault bytes e f p q); not_both = no_setup_and_fault bytes }
 
-pub config_decided : {K : Type 0} (kind : LoadFault → K) (file : Option (List ℕ)) → HasOneKind kind (config_verdict file)
+pub config_decided : {K : Type 0} (kind : CommandFault → K) (file : Option (List ℕ)) → HasOneKind kind (config_verdict file)
 config_decided kind file =
     and_then kind (whole_verdict ConfigBytes file) _ (whole_decided kind ConfigBytes file) (λ bytes. raised (λ e. fault.Config e) kind (setup_verdict bytes) (setup_decided (λ e. kind (fault.Config e)) bytes))

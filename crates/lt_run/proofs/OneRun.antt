@@ -1,33 +1,51 @@
--- A run leaves one refusal, up to its kind.
-use Rattle.std.proofs.Common.{◌≡◌, ℕ, List, Option, sym, ap, ◌∙◌}
-use Rattle.lt_base.specs.Inputs.{InputTable}
-use Rattle.lt_small.specs.declared.program.SmallProgram.{SmallProgram}
-use Rattle.lt_small.specs.Inputs.{table_of}
-use Rattle.lt_small.proofs.OnePrograms.{one_program}
-use Rattle.lt_small.proofs.Rows.{one_inputs}
-use Rattle.lt_verdict.proofs.Decided.{HasOneKind, HasOneOutcome, of_form, of_file, and_then}
-use Rattle.lt_run.specs.declared.fault.RunFault.{RunFault}
-use Rattle.lt_run.specs.Run.{IsTable, program_verdict, inputs_verdict, printed_verdict, run_verdict}
+-- A command leaves one refusal, up to its kind.
+use Rattle.std.proofs.Common.{◌≡◌, ◌≤◌, ℕ, List, Option, sym, ap, ◌∙◌}
+use Rattle.lt_base.specs.declared.value.Value.{Value}
+use Rattle.lt_base.specs.declared.value.Cell.{Cell}
+use Rattle.lt_base.specs.Program.{WholeProgram}
+use Rattle.lt_front.specs.declared.fault.ProgramFault.{ProgramFault}
+use Rattle.lt_front.specs.Limits.{is_limit}
+use Rattle.lt_inputs.specs.Inputs.{inputs_of}
+use Rattle.lt_meaning.specs.Streams.{cell_count}
+use Rattle.lt_verdict.specs.Rules.{Exactly}
+use Rattle.lt_verdict.proofs.Decided.{HasOneKind, HasOneOutcome, of_rule, exactly, and_then, and_then_one, raised_one}
+use Rattle.lt_run.specs.declared.fault.What.TheVariants.{InputsBytes}
+use Rattle.lt_run.specs.declared.fault.CommandFault.{CommandFault}
+use Rattle.lt_run.specs.declared.fault.CommandFault.TheVariants as fault
+use Rattle.lt_run.specs.Main.{main_in, most_cells, cells_verdict}
+use Rattle.lt_run.specs.Loaded.{whole_verdict, program_verdict, inputs_verdict}
+use Rattle.lt_run.specs.Run.{printed_verdict, meaning_verdict, run_verdict}
 use Rattle.lt_run.proofs.Judging.{schedule_decided}
+use Rattle.lt_run.proofs.OneLoad.{whole_decided, program_decided}
 
-one_table : (input bytes : List ℕ) (s t : InputTable) → IsTable input bytes s → IsTable input bytes t → s ≡ t
-one_table input bytes s t p q = p.2 ∙ ap table_of (one_inputs input bytes p.0 q.0 p.1 q.1) ∙ sym q.2
+inputs_decided : {K : Type 0} (kind : CommandFault → K) (p : WholeProgram) (file : Option (List ℕ)) → HasOneOutcome kind (inputs_verdict p file)
+inputs_decided kind p file =
+    and_then_one kind (whole_verdict InputsBytes file) _ (whole_decided kind InputsBytes file)
+    (λ bytes. raised_one (λ e. fault.Inputs e) kind (Exactly (inputs_of (main_in p) bytes)) (exactly (λ e. kind (fault.Inputs e)) (inputs_of (main_in p) bytes)))
 
-program_decided : {K : Type 0} (kind : RunFault → K) (file : Option (List ℕ)) → HasOneOutcome kind (program_verdict file)
-unfolding program_verdict
-program_decided kind file = of_file kind _ file _ (λ bytes. of_form kind _ _ (one_program bytes))
+cells_decided : {K : Type 0} (kind : CommandFault → K) (p : WholeProgram) (rows : List (List Value)) → HasOneOutcome kind (cells_verdict p rows)
+cells_decided kind p rows =
+    of_rule kind (cell_count p rows ≤ most_cells) (λ e. e ≡ fault.TooManyCells) (λ e f is it. ap kind (is ∙ sym it))
 
-inputs_decided : {K : Type 0} (kind : RunFault → K) (small : SmallProgram) (file : Option (List ℕ)) → HasOneOutcome kind (inputs_verdict small file)
-unfolding inputs_verdict
-inputs_decided kind small file = of_file kind _ file _ (λ bytes. of_form kind _ _ (one_table small.input bytes))
+no_fault : {K : Type 0} (kind : CommandFault → K) (p : WholeProgram) (cells : List (List Cell)) → HasOneKind kind (printed_verdict p cells)
+no_fault kind p cells = record { one_kind = λ e f p q. absurd p; not_both = λ e x p q. p }
 
-no_fault : {K : Type 0} (kind : RunFault → K) (small : SmallProgram) (table : InputTable) (executed : ℕ) → HasOneKind kind (printed_verdict small table executed)
-no_fault kind small table executed = record { one_kind = λ e f p q. absurd p; not_both = λ e x p q. p }
+-- a kind that tells a limit that is passed from other faults of a program
+abbrev pub TellsLimits : {K : Type 0} → (CommandFault → K) → Type 0
+TellsLimits kind = (e f : ProgramFault) → is_limit e ≡ is_limit f → kind (fault.Program e) ≡ kind (fault.Program f)
 
 -- right refusals are of one kind, and then nothing is right to print
-pub run_decided : {K : Type 0} (kind : RunFault → K) (named : List ℕ → Option (List ℕ)) (program inputs schedule : List ℕ) → HasOneKind kind (run_verdict named program inputs schedule)
-run_decided kind named program inputs schedule =
-    and_then kind _ _ (program_decided kind (named program)) (λ small.
-    and_then kind _ _ (inputs_decided kind small (named inputs)) (λ table.
+pub meaning_decided : {K : Type 0} (kind : CommandFault → K) → TellsLimits kind → (named : List ℕ → Option (List ℕ)) (program inputs : List ℕ) → HasOneKind kind (meaning_verdict named program inputs)
+meaning_decided kind along named program inputs =
+    and_then kind _ _ (program_decided kind along (named program)) (λ checked.
+    and_then kind _ _ (inputs_decided kind checked.program (named inputs)) (λ table.
+    and_then kind _ _ (cells_decided kind checked.program table.rows) (λ few.
+    no_fault kind checked.program _)))
+
+pub run_decided : {K : Type 0} (kind : CommandFault → K) → TellsLimits kind → (named : List ℕ → Option (List ℕ)) (program inputs schedule : List ℕ) → HasOneKind kind (run_verdict named program inputs schedule)
+run_decided kind along named program inputs schedule =
+    and_then kind _ _ (program_decided kind along (named program)) (λ checked.
+    and_then kind _ _ (inputs_decided kind checked.program (named inputs)) (λ table.
+    and_then kind _ _ (cells_decided kind checked.program table.rows) (λ few.
     and_then kind _ _ (schedule_decided kind _ (named schedule)) (λ executed.
-    no_fault kind small table executed)))
+    no_fault kind checked.program _))))

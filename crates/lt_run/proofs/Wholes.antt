@@ -11,10 +11,10 @@ use Rattle.lt_io.specs.FilesState.{FilesState, KeepsFiles}
 use Rattle.lt_io.specs.Counts.{OrCounted}
 use Rattle.lt_io.specs.Transfer.{whole_of}
 use Rattle.lt_run.specs.declared.fault.What.{What}
-use Rattle.lt_run.specs.declared.fault.LoadFault.TheVariants.{Limit, Read}
+use Rattle.lt_run.specs.declared.fault.CommandFault.TheVariants.{Limit, Read}
 use Rattle.lt_answer.specs.World.{KeepsWorld, alone}
 use Rattle.lt_answer.specs.Answered.{Answered, RefusesReading}
-use Rattle.lt_run.specs.Blamed.{load_blame}
+use Rattle.lt_run.specs.Blamed.{command_blame}
 use Rattle.lt_run.specs.Loaded.{limit_of, whole_verdict}
 use Rattle.lt_answer.proofs.Stages.{keeps_itself}
 
@@ -36,7 +36,7 @@ keeps_alone : (a b : FilesState) → KeepsFiles a b → KeepsWorld (alone a) (al
 keeps_alone a b keeps = record { files = keeps; fabric = (keeps_itself (alone a)).fabric }
 
 -- over sound files the count rises at a missing file alone
-missing_alone : (what : What) (old new : FilesState) (file : Option (List ℕ)) → (IsSome file → new.faults ≡ old.faults) → old.faults < new.faults → RefusesReading load_blame (whole_verdict what file)
+missing_alone : (what : What) (old new : FilesState) (file : Option (List ℕ)) → (IsSome file → new.faults ≡ old.faults) → old.faults < new.faults → RefusesReading command_blame (whole_verdict what file)
 unfolding whole_verdict
 missing_alone what old new None sound rose = (Read, refl, refl)
 missing_alone what old new (Some bytes) sound rose = absurd (omega (arith, sound refl, rose))
@@ -72,7 +72,7 @@ past what None bytes is long = absurd is
 past what (Some whole) bytes is long = let read = held what (Some whole) bytes is in absurd (omega (arith, read.short, ap length read.same, long))
 
 -- the file's bytes
-pub fetched : (what : What) (old new : FilesState) (name bytes : List ℕ) → IsRead what old new name (Ok (Bytes bytes)) → Answered load_blame (whole_verdict what (old.named name)) (alone old) (alone new) (Ok bytes)
+pub fetched : (what : What) (old new : FilesState) (name bytes : List ℕ) → IsRead what old new name (Ok (Bytes bytes)) → Answered command_blame (whole_verdict what (old.named name)) (alone old) (alone new) (Ok bytes)
 fetched what old new name bytes read =
     record {
       keeps = keeps_alone old new read.keeps;
@@ -82,7 +82,7 @@ fetched what old new name bytes read =
     }
 
 -- it has too many
-pub fetched_too_long : (what : What) (old new : FilesState) (name : List ℕ) → IsRead what old new name (Ok TooLong) → Answered load_blame (whole_verdict what (old.named name)) (alone old) (alone new) (Err (Fault (Limit what)))
+pub fetched_too_long : (what : What) (old new : FilesState) (name : List ℕ) → IsRead what old new name (Ok TooLong) → Answered command_blame (whole_verdict what (old.named name)) (alone old) (alone new) (Err (Fault (Limit what)))
 fetched_too_long what old new name read =
     record {
       keeps = keeps_alone old new read.keeps;
@@ -92,7 +92,7 @@ fetched_too_long what old new name read =
     }
 
 -- a call on the files failed
-pub fetch_failed : (what : What) (old new : FilesState) (name : List ℕ) (failed : Failed) → IsRead what old new name (Err (Fault failed)) → Answered load_blame (whole_verdict what (old.named name)) (alone old) (alone new) (Err (Fault Read))
+pub fetch_failed : (what : What) (old new : FilesState) (name : List ℕ) (failed : Failed) → IsRead what old new name (Err (Fault failed)) → Answered command_blame (whole_verdict what (old.named name)) (alone old) (alone new) (Err (Fault Read))
 fetch_failed what old new name failed read =
     let rose : old.faults < new.faults = read.cause in
     record {
@@ -103,7 +103,7 @@ fetch_failed what old new name failed read =
     }
 
 -- no memory was found
-pub fetch_short : (what : What) (old new : FilesState) (name : List ℕ) → IsRead what old new name (Err Memory) → Answered load_blame (whole_verdict what (old.named name)) (alone old) (alone new) (Err Memory)
+pub fetch_short : (what : What) (old new : FilesState) (name : List ℕ) → IsRead what old new name (Err Memory) → Answered command_blame (whole_verdict what (old.named name)) (alone old) (alone new) (Err Memory)
 fetch_short what old new name read =
     record {
       keeps = keeps_alone old new read.keeps;
@@ -113,7 +113,7 @@ fetch_short what old new name read =
     }
 
 -- files that do not tell their bytes gave too many
-pub fetched_past : (what : What) (old new : FilesState) (name bytes : List ℕ) → IsRead what old new name (Ok (Bytes bytes)) → limit_of what < length bytes → Answered load_blame (whole_verdict what (old.named name)) (alone old) (alone new) (Err (Fault (Limit what)))
+pub fetched_past : (what : What) (old new : FilesState) (name bytes : List ℕ) → IsRead what old new name (Ok (Bytes bytes)) → limit_of what < length bytes → Answered command_blame (whole_verdict what (old.named name)) (alone old) (alone new) (Err (Fault (Limit what)))
 fetched_past what old new name bytes read long =
     record {
       keeps = keeps_alone old new read.keeps;

@@ -1,19 +1,14 @@
 -- Whose fault a refusal is.
-use Rattle.lt_run.specs.declared.fault.LoadFault.{LoadFault}
-use Rattle.lt_run.specs.declared.fault.LoadFault.TheVariants as load
-use Rattle.lt_run.specs.declared.fault.RunFault.{RunFault}
-use Rattle.lt_run.specs.declared.fault.RunFault.TheVariants.{NotBuilt, Row, Offence, Limit, Read}
+use Rattle.lt_run.specs.declared.fault.CommandFault.{CommandFault}
+use Rattle.lt_run.specs.declared.fault.CommandFault.TheVariants.{Program, Config, Inputs, TooManyCells, Row, Offence, Limit, Read}
 use Rattle.lt_answer.specs.World.{Blame, Content, Reading}
 
-abbrev pub load_blame : LoadFault → Blame
-load_blame (load.Program fault) = Content
-load_blame (load.Config fault) = Content
-load_blame (load.Limit what) = Content
-load_blame load.Read = Reading
-
-abbrev pub run_blame : RunFault → Blame
-run_blame (NotBuilt part) = Content
-run_blame (Row row fault) = Content
-run_blame (Offence event offence) = Content
-run_blame (Limit what) = Content
-run_blame Read = Reading
+abbrev pub command_blame : CommandFault → Blame
+command_blame (Program fault) = Content
+command_blame (Config fault) = Content
+command_blame (Inputs fault) = Content
+command_blame TooManyCells = Content
+command_blame (Row row fault) = Content
+command_blame (Offence event offence) = Content
+command_blame (Limit what) = Content
+command_blame Read = Reading

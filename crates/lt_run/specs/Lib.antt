@@ -1,5 +1,7 @@
 pub mod Blamed
+pub mod Main
 pub mod Loaded
+pub mod OneNode
+pub mod Plain
 pub mod Scheduled
-pub mod Fetched
 pub mod Run

@@ -1,21 +1,26 @@
 -- Files that a command reads before it runs.
 use Rattle.std.specs.Prelude.{◌≡◌, ◌≤◌, ℕ, List, length, Option, Ok, Err}
 use Rattle.lt_answer.specs.Answered.{Verdict, AndThen, OfForm, OfFile}
-use Rattle.lt_verdict.specs.Rules.{Raised}
+use Rattle.lt_verdict.specs.Rules.{Raised, Exactly}
 use Rattle.lt_front.specs.Checked.{CheckedText}
 use Rattle.lt_front.specs.Front.{front_verdict}
+use Rattle.lt_base.specs.Program.{WholeProgram}
+use Rattle.lt_base.specs.Inputs.{InputTable}
+use Rattle.lt_inputs.specs.Inputs.{inputs_of}
 use Rattle.lt_config.specs.declared.config.Config.{Config}
 use Rattle.lt_config.specs.declared.fault.ConfigFault.{ConfigFault}
 use Rattle.lt_config.specs.Reading.{config_of, setup_in}
 use Rattle.lt_run.specs.declared.fault.What.{What}
-use Rattle.lt_run.specs.declared.fault.What.TheVariants.{ProgramBytes, ConfigBytes, ScheduleBytes}
-use Rattle.lt_run.specs.declared.fault.LoadFault.{LoadFault}
-use Rattle.lt_run.specs.declared.fault.LoadFault.TheVariants as fault
+use Rattle.lt_run.specs.declared.fault.What.TheVariants.{ProgramBytes, ConfigBytes, InputsBytes, ScheduleBytes}
+use Rattle.lt_run.specs.declared.fault.CommandFault.{CommandFault}
+use Rattle.lt_run.specs.declared.fault.CommandFault.TheVariants as fault
+use Rattle.lt_run.specs.Main.{main_in}
 
 -- the most bytes of a file
 abbrev pub limit_of : What → ℕ
 limit_of ProgramBytes = 1048576
 limit_of ConfigBytes = 262144
+limit_of InputsBytes = 67108864
 limit_of ScheduleBytes = 1073741824
 
 -- these are the bytes, and not too many
@@ -24,11 +29,11 @@ pub record IsWithin (most : ℕ) (bytes whole : List ℕ) : Type 0 where
   pub short : length bytes ≤ most
 
 -- the bytes of a file, that they are too many, or that the file is missing
-unfoldable pub whole_verdict : What → Option (List ℕ) → Verdict (List ℕ) LoadFault
+unfoldable pub whole_verdict : What → Option (List ℕ) → Verdict (List ℕ) CommandFault
 whole_verdict what file = OfFile fault.Read file (λ bytes. OfForm (IsWithin (limit_of what) bytes) (fault.Limit what))
 
 -- the program of a file, through all checks
-abbrev pub program_verdict : Option (List ℕ) → Verdict CheckedText LoadFault
+abbrev pub program_verdict : Option (List ℕ) → Verdict CheckedText CommandFault
 program_verdict file = AndThen (whole_verdict ProgramBytes file) (λ bytes. Raised (λ e. fault.Program e) (front_verdict bytes))
 
 -- the setup of some bytes
@@ -37,5 +42,9 @@ setup_verdict bytes (Ok config) = config_of bytes ≡ Ok (setup_in config)
 setup_verdict bytes (Err e) = config_of bytes ≡ Err e
 
 -- the setup of a file
-abbrev pub config_verdict : Option (List ℕ) → Verdict Config LoadFault
+abbrev pub config_verdict : Option (List ℕ) → Verdict Config CommandFault
 config_verdict file = AndThen (whole_verdict ConfigBytes file) (λ bytes. Raised (λ e. fault.Config e) (setup_verdict bytes))
+
+-- the inputs of a program's main function in a file
+abbrev pub inputs_verdict : WholeProgram → Option (List ℕ) → Verdict InputTable CommandFault
+inputs_verdict p file = AndThen (whole_verdict InputsBytes file) (λ bytes. Raised (λ e. fault.Inputs e) (Exactly (inputs_of (main_in p) bytes)))

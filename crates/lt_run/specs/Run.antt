@@ -1,53 +1,41 @@
--- A run of one node on a program and inputs of the small form, along any schedule.
-use Rattle.std.specs.Prelude.{◌≡◌, ◌≤◌, ℕ, ℤ, List, [], ◌∷◌, length, take, Option, Ok, Err}
+-- What a program's outputs show: all of their streams, or of each what a run along a schedule executes.
+use Rattle.std.specs.Prelude.{◌≡◌, ℕ, List, length, map, take, Option, Ok, Err}
 use Rattle.lt_base.specs.declared.value.Cell.{Cell}
-use Rattle.lt_base.specs.Inputs.{InputTable}
-use Rattle.lt_base.specs.Meaning.{stream_of}
-use Rattle.lt_small.specs.declared.program.SmallProgram.{SmallProgram}
-use Rattle.lt_small.specs.Program.{IsProgram, function_of}
-use Rattle.lt_small.specs.Inputs.{IsInputs, table_of}
-use Rattle.lt_run.specs.declared.fault.Part.TheVariants as part
-use Rattle.lt_run.specs.declared.fault.RunFault.{RunFault}
-use Rattle.lt_run.specs.declared.fault.RunFault.TheVariants.{NotBuilt, Read}
+use Rattle.lt_base.specs.Program.{WholeProgram}
+use Rattle.lt_answer.specs.Answered.{Verdict, AndThen}
+use Rattle.lt_run.specs.declared.fault.CommandFault.{CommandFault}
 use Rattle.lt_run.specs.declared.printed.Printed.{Printed}
+use Rattle.lt_run.specs.Main.{output_names, output_streams, cells_verdict}
+use Rattle.lt_run.specs.Loaded.{program_verdict, inputs_verdict}
 use Rattle.lt_run.specs.Scheduled.{schedule_verdict}
-use Rattle.lt_answer.specs.Answered.{Verdict, AndThen, OfForm}
-use Rattle.lt_answer.specs.Answered.{OfFile}
 
--- the bytes hold this table of inputs
-abbrev pub IsTable : (input bytes : List ℕ) → InputTable → Type 0
-IsTable input bytes table = (values : List ℤ) × IsInputs input bytes values × (table ≡ table_of values)
-
--- a table of one column of ints, and of not too many rows
-abbrev pub IsColumn : InputTable → Type 0
-IsColumn table = (values : List ℤ) × (length values ≤ 100000) × (table ≡ table_of values)
-
--- the first executed entries of the output's stream
-abbrev pub cells_of : SmallProgram → InputTable → (executed : ℕ) → List Cell
-cells_of small table executed = take executed (stream_of (function_of small ∷ []) (function_of small) table.rows 1)
-
--- what is printed: the output with these cells
-pub record Prints (small : SmallProgram) (table : InputTable) (executed : ℕ) (printed : Printed) : Type 0 where
-  pub names : printed.names ≡ small.output ∷ []
-  pub cells : printed.cells ≡ cells_of small table executed ∷ []
-
--- the program file
-unfoldable pub program_verdict : Option (List ℕ) → Verdict SmallProgram RunFault
-program_verdict file = OfFile Read file (λ bytes. OfForm (IsProgram bytes) (NotBuilt part.Program))
-
--- the inputs file
-unfoldable pub inputs_verdict : SmallProgram → Option (List ℕ) → Verdict InputTable RunFault
-inputs_verdict small file = OfFile Read file (λ bytes. OfForm (IsTable small.input bytes) (NotBuilt part.Inputs))
+-- what is printed: main's outputs, with these cells
+pub record Prints (p : WholeProgram) (cells : List (List Cell)) (printed : Printed) : Type 0 where
+  pub names : printed.names ≡ output_names p
+  pub cells_are : printed.cells ≡ cells
 
 -- no refusal, and this is printed
-abbrev pub printed_verdict : SmallProgram → InputTable → (executed : ℕ) → Verdict Printed RunFault
-printed_verdict small table executed (Ok printed) = Prints small table executed printed
-printed_verdict small table executed (Err fault) = ⊥
+abbrev pub printed_verdict : WholeProgram → (cells : List (List Cell)) → Verdict Printed CommandFault
+printed_verdict p cells (Ok printed) = Prints p cells printed
+printed_verdict p cells (Err fault) = ⊥
 
--- the three files in order, and then what is printed
-abbrev pub run_verdict : (named : List ℕ → Option (List ℕ)) (program inputs schedule : List ℕ) → Verdict Printed RunFault
+-- of each of these streams the cells of the first instants
+abbrev pub first_cells : ℕ → List (List Cell) → List (List Cell)
+first_cells executed streams = map (take executed) streams
+
+-- the program, its inputs and the limit on cells in this order, and then the streams of the outputs
+abbrev pub meaning_verdict : (named : List ℕ → Option (List ℕ)) (program inputs : List ℕ) → Verdict Printed CommandFault
+meaning_verdict named program inputs =
+    AndThen (program_verdict (named program)) (λ checked.
+    AndThen (inputs_verdict checked.program (named inputs)) (λ table.
+    AndThen (cells_verdict checked.program table.rows) (λ few.
+    printed_verdict checked.program (output_streams checked.program table.rows))))
+
+-- the same, and then the schedule for as many rows of inputs, and of each stream the cells of the executed instants
+abbrev pub run_verdict : (named : List ℕ → Option (List ℕ)) (program inputs schedule : List ℕ) → Verdict Printed CommandFault
 run_verdict named program inputs schedule =
-    AndThen (program_verdict (named program)) (λ small.
-    AndThen (inputs_verdict small (named inputs)) (λ table.
+    AndThen (program_verdict (named program)) (λ checked.
+    AndThen (inputs_verdict checked.program (named inputs)) (λ table.
+    AndThen (cells_verdict checked.program table.rows) (λ few.
     AndThen (schedule_verdict (length table.rows) (named schedule)) (λ executed.
-    printed_verdict small table executed)))
+    printed_verdict checked.program (first_cells executed (output_streams checked.program table.rows))))))

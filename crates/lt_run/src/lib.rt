@@ -1,16 +1,16 @@
-//! What a command does with its files, step after step: a setup that is loaded, and a run with its outputs.
+//! What a command does with its files, step after step: a program or a setup that is loaded, the meaning of a program on inputs, and a run along a schedule.
 #![tactic(auto)]
 
+mod commands;
+mod evaluating;
 mod fault;
 mod loading;
-mod one_node;
 mod plain;
 mod printed;
-mod reading;
 mod scheduling;
 
-pub use fault::{LoadFault, Part, RunFault, What};
-pub use loading::{load_config, load_program};
-pub use one_node::run;
+pub use commands::{meaning, run};
+pub use fault::{CommandFault, What};
+pub use loading::{load_config, load_inputs, load_program};
 pub use plain::plain_shape;
 pub use printed::Printed;

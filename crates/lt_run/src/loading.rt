@@ -2,13 +2,16 @@
 ghost use Rattle.std.specs.Prelude.{◌≡◌, ◌≤◌, ◌<◌, ◌-◌, ◌^◌, IfOk, length};
 ghost use Rattle.lt_answer.specs.World.{alone};
 ghost use Rattle.lt_answer.specs.Answered.{Answered};
-ghost use Rattle.lt_run.specs.Blamed.{load_blame};
-ghost use Rattle.lt_run.specs.Loaded.{limit_of, whole_verdict, program_verdict, config_verdict};
+ghost use Rattle.lt_meaning.specs.Streams.{InputsFitMain};
+ghost use Rattle.lt_run.specs.Blamed.{command_blame};
+ghost use Rattle.lt_run.specs.Loaded.{limit_of, whole_verdict, program_verdict, config_verdict, inputs_verdict};
+ghost use Rattle.lt_run.specs.Main.{main_in};
 
-use crate::{LoadFault, What};
-use lt_base::{List, Or};
+use crate::{CommandFault, What};
+use lt_base::{Func, Inputs, List, Or, Program};
 use lt_config::{Config, read_config};
 use lt_front::{Checked, front};
+use lt_inputs::read_inputs;
 use lt_io::{Files, Whole, read_file};
 use std::alloc::Global;
 
@@ -20,6 +23,7 @@ impl What {
         match self {
             What::ProgramBytes => 1_048_576,
             What::ConfigBytes => 262_144,
+            What::InputsBytes => 67_108_864,
             What::ScheduleBytes => 1_073_741_824,
         }
     }
@@ -31,9 +35,9 @@ pub(crate) fn fetch_within<F: Files>(
     files: &mut F,
     name: &str,
     what: What,
-) -> Result<List<u8>, Or<LoadFault>>
+) -> Result<List<u8>, Or<CommandFault>>
     requires { (F.state files.old).faults < 2 ^ 64 - 1 }
-    ensures answered { Answered load_blame (whole_verdict what ((F.state files.old).named name.now)) (alone (F.state files.old)) (alone (F.state files.new)) result }
+    ensures answered { Answered command_blame (whole_verdict what ((F.state files.old).named name.now)) (alone (F.state files.old)) (alone (F.state files.new)) result }
     ensures short { IfOk result (λ bytes. length bytes ≤ limit_of what) }
 {
     let limit = what.limit();
@@ -41,12 +45,12 @@ pub(crate) fn fetch_within<F: Files>(
         Ok(Whole::Bytes(bytes)) => {
             // Files that do not tell their bytes could give more.
             if bytes.len() > limit {
-                return Err(Or::Fault(LoadFault::Limit(what)));
+                return Err(Or::Fault(CommandFault::Limit(what)));
             }
             Ok(bytes)
         }
-        Ok(Whole::TooLong) => Err(Or::Fault(LoadFault::Limit(what))),
-        Err(Or::Fault(_)) => Err(Or::Fault(LoadFault::Read)),
+        Ok(Whole::TooLong) => Err(Or::Fault(CommandFault::Limit(what))),
+        Err(Or::Fault(_)) => Err(Or::Fault(CommandFault::Read)),
         Err(Or::Memory) => Err(Or::Memory),
     }
 }
@@ -56,14 +60,14 @@ pub fn load_program<F: Files>(
     alloc: Global,
     files: &mut F,
     name: &str,
-) -> Result<Checked, Or<LoadFault>>
+) -> Result<Checked, Or<CommandFault>>
     requires { (F.state files.old).faults < 2 ^ 64 - 1 }
-    ensures { Answered load_blame (program_verdict ((F.state files.old).named name.now)) (alone (F.state files.old)) (alone (F.state files.new)) result }
+    ensures { Answered command_blame (program_verdict ((F.state files.old).named name.now)) (alone (F.state files.old)) (alone (F.state files.new)) result }
 {
     let bytes = fetch_within(alloc, files, name, What::ProgramBytes)?;
     match front(alloc, bytes.as_slice()) {
         Ok(checked) => Ok(checked),
-        Err(e) => Err(e.map(LoadFault::Program)),
+        Err(e) => Err(e.map(CommandFault::Program)),
     }
 }
 
@@ -72,13 +76,40 @@ pub fn load_config<F: Files>(
     alloc: Global,
     files: &mut F,
     name: &str,
-) -> Result<Config, Or<LoadFault>>
+) -> Result<Config, Or<CommandFault>>
     requires { (F.state files.old).faults < 2 ^ 64 - 1 }
-    ensures { Answered load_blame (config_verdict ((F.state files.old).named name.now)) (alone (F.state files.old)) (alone (F.state files.new)) result }
+    ensures { Answered command_blame (config_verdict ((F.state files.old).named name.now)) (alone (F.state files.old)) (alone (F.state files.new)) result }
 {
     let bytes = fetch_within(alloc, files, name, What::ConfigBytes)?;
     match read_config(alloc, bytes.as_slice()) {
         Ok(config) => Ok(config),
-        Err(e) => Err(e.map(LoadFault::Config)),
+        Err(e) => Err(e.map(CommandFault::Config)),
     }
+}
+
+/// Reads the file of a program's inputs: a row of values for each instant.
+pub fn load_inputs<F: Files>(
+    alloc: Global,
+    files: &mut F,
+    name: &str,
+    program: &Program,
+) -> Result<Inputs, Or<CommandFault>>
+    requires { (F.state files.old).faults < 2 ^ 64 - 1 }
+    ensures answered { Answered command_blame (inputs_verdict program.now ((F.state files.old).named name.now)) (alone (F.state files.old)) (alone (F.state files.new)) result }
+    ensures fit { IfOk result (InputsFitMain program.now) }
+{
+    program.kept();
+    let bytes = fetch_within(alloc, files, name, What::InputsBytes)?;
+    match read_inputs(alloc, bytes.as_slice(), main_of(program)) {
+        Ok(table) => Ok(table),
+        Err(e) => Err(e.map(CommandFault::Inputs)),
+    }
+}
+
+/// The function of a program that is run.
+pub(crate) fn main_of(program: &Program) -> &Func
+    ensures { result.now ≡ main_in program.now }
+{
+    program.kept();
+    &program.funcs.as_slice()[program.main as usize]
 }

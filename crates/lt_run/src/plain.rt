@@ -1,6 +1,6 @@
 // The architecture of a run without a setup.
 ghost use Rattle.std.specs.Prelude.{◌≡◌, IfOk};
-ghost use Rattle.lt_small.specs.Schedule.{one_node, plain, plain_node};
+ghost use Rattle.lt_run.specs.Plain.{one_node, plain, plain_node};
 
 use lt_arch::{NodeTime, Protocol, Shape, Timing};
 use lt_base::{List, Memory, Name};

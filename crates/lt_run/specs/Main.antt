@@ -1,0 +1,39 @@
+-- The function of a program that is run, its outputs, and how many cells count.
+use Rattle.std.specs.Prelude.{◌≡◌, ◌≤◌, ℕ, List, [], map, slice_index_or}
+use Rattle.lt_base.specs.declared.value.Value.{Value}
+use Rattle.lt_base.specs.declared.value.Cell.{Cell}
+use Rattle.lt_base.specs.Program.{Function, WholeProgram}
+use Rattle.lt_base.specs.Meaning.{stream_of}
+use Rattle.lt_answer.specs.Answered.{Verdict}
+use Rattle.lt_verdict.specs.Rules.{OfRule}
+use Rattle.lt_meaning.specs.Streams.{cell_count}
+use Rattle.lt_run.specs.declared.fault.CommandFault.{CommandFault}
+use Rattle.lt_run.specs.declared.fault.CommandFault.TheVariants as fault
+
+-- what stands for the function of a number that is none
+abbrev no_function : Function
+no_function = record { name = []; decls = []; n_in = 0; outs = []; eqs = [] }
+
+-- the function that is run
+abbrev pub main_in : WholeProgram → Function
+main_in p = slice_index_or p.funcs p.main no_function
+
+-- the name of a function's variable, as written
+abbrev pub name_in : Function → ℕ → List ℕ
+name_in f x = slice_index_or (map (λ d. d.name) f.decls) x []
+
+-- the names of the outputs, in the order of their declarations
+abbrev pub output_names : WholeProgram → List (List ℕ)
+output_names p = map (name_in (main_in p)) (main_in p).outs
+
+-- the streams of the outputs on these rows of inputs
+abbrev pub output_streams : WholeProgram → List (List Value) → List (List Cell)
+output_streams p rows = map (stream_of p.funcs (main_in p) rows) (main_in p).outs
+
+-- the most cells
+abbrev pub most_cells : ℕ
+most_cells = 16000000
+
+-- not too many cells count, or they are too many
+abbrev pub cells_verdict : WholeProgram → List (List Value) → Verdict (Unit {0}) CommandFault
+cells_verdict p rows = OfRule (cell_count p rows ≤ most_cells) (λ e. e ≡ fault.TooManyCells)
