@@ -1,5 +1,5 @@
 // Schedules of one node, over files in memory.
-ghost use Rattle.std.specs.Prelude.{◌≡◌, ◌<◌, ◌-◌, ◌^◌, IfOk};
+ghost use Rattle.std.specs.Prelude.{◌≡◌, ◌<◌, ◌-◌, ◌^◌, All, IfOk};
 ghost use Rattle.lt_io.specs.MemFiles.{mem_files_state};
 ghost use Rattle.lt_judge.specs.Judged.{IsOneNode};
 
@@ -35,7 +35,20 @@ fn plain(alloc: Global) -> Result<(Shape, Timing), Memory>
     Ok((shape, timing))
 }
 
-fn in_memory(alloc: Global, bytes: List<u8>) -> Result<MemFiles, Memory>
+fn listed(alloc: Global, call: u64) -> Result<List<u64>, Memory>
+    requires { call < 2 ^ 64 - 1 }
+    ensures { IfOk result (λ calls. All (λ n. n < 2 ^ 64 - 1) calls) }
+{
+    let mut calls = List::new(alloc);
+    if call > 0 {
+        calls.push(call)?;
+    }
+    Ok(calls)
+}
+
+// The file `S`, of which the call of this number fails; 0 for none.
+fn in_memory(alloc: Global, bytes: List<u8>, call: u64) -> Result<MemFiles, Memory>
+    requires { call < 2 ^ 64 - 1 }
     ensures { IfOk result (λ files. (mem_files_state files).faults ≡ 0) }
 {
     let mut files = List::new(alloc);
@@ -43,13 +56,13 @@ fn in_memory(alloc: Global, bytes: List<u8>) -> Result<MemFiles, Memory>
         name: Name::from_str(alloc, "S")?,
         bytes,
     })?;
-    Ok(MemFiles::new(files, List::new(alloc)))
+    Ok(MemFiles::new(files, listed(alloc, call)?))
 }
 
 fn file(alloc: Global, text: &str) -> Result<MemFiles, Memory>
     ensures { IfOk result (λ files. (mem_files_state files).faults ≡ 0) }
 {
-    in_memory(alloc, List::from_slice(alloc, text.as_bytes())?)
+    in_memory(alloc, List::from_slice(alloc, text.as_bytes())?, 0)
 }
 
 fn judged<F: Files>(alloc: Global, files: &mut F, name: &str) -> Result<u32, Or<ScheduleFault>>
@@ -131,14 +144,40 @@ fn headers(rt: HostRuntime) -> Result<(), Fail> {
     Ok(())
 }
 
+// The opening is the first call, and each read one more.
 #[test]
 fn refused_before_the_rest_is_read(rt: HostRuntime) -> Result<(), Fail> {
     let alloc = rt.alloc();
     let mut bytes = List::from_slice(alloc, b"time,event,place\n5,act,all\n5,act,all\n")?;
     let ten_million = vec![in alloc; b'x'; 10_000_000]?;
     bytes.extend(ten_million.as_slice())?;
-    let mut files = in_memory(alloc, bytes)?;
+    // The row ends at byte 37, in the first piece of 65,536 bytes, and a second piece would not be read.
+    let mut files = in_memory(alloc, bytes, 3)?;
     let found = judged(alloc, &mut files, "S");
     assert_eq!(rt; found, offence(2, Offence::TooSoon(0)));
+    Ok(())
+}
+
+// A header, 100,000 line feeds and an end, of which the call of this number fails.
+fn judged_far(alloc: Global, call: u64) -> Result<u32, Or<ScheduleFault>>
+    requires { call < 2 ^ 64 - 1 }
+{
+    let mut bytes = List::from_slice(alloc, b"time,event,place\n")?;
+    let far = vec![in alloc; b'\n'; 100_000]?;
+    bytes.extend(far.as_slice())?;
+    bytes.extend(b"0,end,\n")?;
+    let mut files = in_memory(alloc, bytes, call)?;
+    judged(alloc, &mut files, "S")
+}
+
+// The opening and the three reads of two pieces and the end are the calls.
+#[test]
+fn calls_that_fail(rt: HostRuntime) -> Result<(), Fail> {
+    let alloc = rt.alloc();
+    for call in 1..5 {
+        let found = judged_far(alloc, call);
+        assert_eq!(rt; found, Err(Or::Fault(ScheduleFault::Read)), "{call}");
+    }
+    assert_eq!(rt; judged_far(alloc, 5), Ok(0));
     Ok(())
 }
