@@ -1,17 +1,17 @@
 -- A text has no more functions than bytes, and no function more equations.
-use Rattle.std.proofs.Common.{◌≡◌, ℕ, suc, ◌+◌, ◌<◌, ◌≤◌, Bool, true, false, Option, Some, None, List, [], ◌∷◌, length, map, drop, refl, sym, ap, subst, arith, length-drop}
+use Rattle.std.proofs.Common.{◌≡◌, ℕ, suc, ◌+◌, ◌<◌, ◌≤◌, Bool, true, false, Option, Some, None, List, [], ◌∷◌, length, map, drop, refl, ap, subst, arith, length-drop}
 use Rattle.std.proofs.lemmas.List.{length-map, length-take}
 use Rattle.std.proofs.lemmas.List.Elements.{All-nil, All-cons}
-use Rattle.std.specs.Prelude.{cond, take_while, nat_le, if◌then◌else◌}
+use Rattle.std.specs.Prelude.{cond, take_while, if◌then◌else◌}
 use Rattle.std.specs.List.{All, prefix_len}
 use Rattle.lt_tokens.specs.declared.token.Infix.{Infix}
 use Rattle.lt_tokens.specs.declared.token.Token.{Token}
 use Rattle.lt_tokens.specs.declared.token.Token.TheVariants as token
-use Rattle.lt_tokens.specs.Text.{is_blank, is_letter, is_word, is_digit, starts_with, skip, skip_comment, Front, Over, Begins, BadByte, BadNumber, value_on, greatest, pair, single, symbol_of, symbol, span, word, number, front, Cuts}
+use Rattle.lt_tokens.specs.Text.{is_blank, is_letter, is_word, is_digit, skip, skip_comment, Front, Begins, BadNumber, pair, single, symbol_of, span, word, number, front, Cuts}
 use Rattle.lt_syntax.specs.declared.tree.NodeText.{NodeText}
 use Rattle.lt_syntax.specs.Tree.{Tm}
 use Rattle.lt_syntax.specs.Grammar.{Form, Forms, meaning, tokens, arguments, polarity, number as numeral, truth, name, paren, minus, negated, binary, choice, sampled, merged, call, nil, cons}
-use Rattle.lt_syntax.specs.Program.{Group, Node, each, between, optional, ident, clause, group, local, locals, equation, node, node_tree, Program, Spells}
+use Rattle.lt_syntax.specs.Program.{Group, Node, each, between, optional, ident, clause, group, local, locals, equation, node, node_tree, Spells}
 
 -- blanks and comments
 

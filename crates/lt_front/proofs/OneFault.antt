@@ -1,13 +1,12 @@
 -- The checks of a program leave one refusal, up to whether it is a limit that is passed.
-use Rattle.std.proofs.Common.{◌≡◌, ◌∙◌, ◌<◌, ◌⊎◌, ℕ, suc, Bool, true, false, List, [], ◌∷◌, Option, Some, None, Result, Ok, Err, refl, sym, ap, subst, arith, inl, inr}
-use Rattle.std.specs.Prelude.{nat_eq, slice_get, slice_index_or}
+use Rattle.std.proofs.Common.{◌≡◌, ◌∙◌, ◌<◌, ◌⊎◌, ℕ, suc, true, false, List, ◌∷◌, Option, Some, None, Ok, Err, refl, sym, ap, arith, inl, inr}
+use Rattle.std.specs.Prelude.{nat_eq}
 use Rattle.std.specs.List.{Contains}
 use Rattle.std.proofs.lemmas.Bool.Decides.{leb_tells}
 use Rattle.std.proofs.lemmas.Option.{slice_get_within, get_or_from_slice_get}
 use Rattle.lt_base.specs.Program.{WholeProgram}
-use Rattle.lt_base.specs.Graph.{Walks, NoClosedWalk}
+use Rattle.lt_base.specs.Graph.{NoClosedWalk}
 use Rattle.lt_syntax.specs.declared.tree.NodeText.{NodeText}
-use Rattle.lt_syntax.specs.Program.{Spells}
 use Rattle.lt_syntax.proofs.Whole.{one_tree}
 use Rattle.lt_graph.specs.Edges.{Joined, IsFirstCircular}
 use Rattle.lt_resolve.specs.declared.fault.NameKind.{NameKind}
@@ -16,10 +15,9 @@ use Rattle.lt_resolve.specs.declared.fault.NameFault.{NameFault}
 use Rattle.lt_resolve.specs.Faults.{Occurrence, First, IsFirstFault, number}
 use Rattle.lt_front.specs.declared.fault.ProgramFault.{ProgramFault}
 use Rattle.lt_front.specs.declared.fault.ProgramFault.TheVariants as fault
-use Rattle.lt_front.specs.Checked.{CheckedText}
 use Rattle.lt_front.specs.Limits.{is_limit, is_limit_kind}
-use Rattle.lt_front.specs.Front.{syntax_verdict, name_verdict, IsTypeFault, IsClockFault, IsCycle, IsTooMany, fits_verdict, causal_verdict, clocked_verdict, typed_verdict, resolved_verdict, front_verdict}
-use Rattle.lt_verdict.proofs.Decided.{HasOneKind, HasOneOutcome, of_rule, and_then_one}
+use Rattle.lt_front.specs.Front.{syntax_verdict, name_verdict, IsTypeFault, IsClockFault, IsCycle, IsTooMany, fits_verdict, causal_verdict, clocked_verdict, typed_verdict, front_verdict}
+use Rattle.lt_verdict.proofs.Decided.{HasOneOutcome, of_rule, and_then_one}
 use Rattle.lt_front.proofs.OneProgram.{one_program}
 
 -- syntax

@@ -1,7 +1,7 @@
 -- Which faults are limits that are passed.
 use Rattle.std.specs.Prelude.{Bool, true, false}
 use Rattle.lt_resolve.specs.declared.fault.NameKind.{NameKind}
-use Rattle.lt_resolve.specs.declared.fault.NameKind.TheVariants.{Twice, Unknown, NoEquation, TwoEquations, EquationForInput, NoMain, WrongCount, NotOneOutput, Recursive, Limit}
+use Rattle.lt_resolve.specs.declared.fault.NameKind.TheVariants.{Limit}
 use Rattle.lt_front.specs.declared.fault.ProgramFault.{ProgramFault}
 use Rattle.lt_front.specs.declared.fault.ProgramFault.TheVariants as fault
 

@@ -1,4 +1,4 @@
-use Rattle.std.proofs.Common.{◌≡◌, ◌∙◌, ◌<◌, refl, ap, sym, subst, All, take, length, get_or, List}
+use Rattle.std.proofs.Common.{◌≡◌, ◌∙◌, ◌<◌, refl, ap, subst, All, take, length, get_or, List}
 use Rattle.std.proofs.lemmas.List.{take_all}
 use Rattle.lt_base.specs.Program.{WholeProgram, Function}
 use Rattle.lt_base.specs.Dependence.{Causal}

@@ -1,4 +1,4 @@
-use Rattle.std.proofs.Common.{◌≡◌, List, ℕ, Ok, Err, inl, refl}
+use Rattle.std.proofs.Common.{◌≡◌, List, ℕ, Err, inl}
 use Rattle.lt_base.specs.declared.memory.Or.{Or}
 use Rattle.lt_base.specs.declared.memory.Or.TheVariants.{Fault, Memory}
 use Rattle.lt_base.specs.Or.{MapsFault}
