@@ -1,17 +1,18 @@
 // The parser of programs: what each token does to what is begun.
-ghost use Rattle.std.specs.Prelude.{◌≡◌, ◌++◌, ◌∷◌, [], ℕ, List, IfOk, OnOk, IsTrue, ◌↔◌, Err, Result};
+ghost use Rattle.std.specs.Prelude.{◌≡◌, ◌++◌, ◌∷◌, [], ℕ, List, IfOk, OnOk, IsTrue, ◌↔◌, Ok, Err, Result, if◌then◌else◌};
 ghost use Rattle.lt_tokens.specs.declared.token.Token.TheVariants as token;
 ghost use Rattle.lt_tokens.specs.Fronts.{IsSmall};
 ghost use Rattle.lt_syntax.specs.Machine as machine;
 ghost use Rattle.lt_syntax.specs.Parser as parser;
 ghost use Rattle.lt_syntax.specs.declared.header.Phase.TheVariants as phases;
+ghost use Rattle.lt_syntax.specs.declared.tree.NodeText.{NodeText as OneNode};
 ghost use Rattle.lt_syntax.specs.Program.{declared};
-ghost use Rattle.lt_syntax.specs.Views.{mode_of, stack_of, next_of};
+ghost use Rattle.lt_syntax.specs.Views.{mode_of, operand_of, stack_of, next_of};
 ghost use Rattle.std.specs.Global.{Box};
 ghost use Rattle.lt_syntax.specs.Phases.{phase_of, state_of, Moves, Steps, Fits};
 
 use crate::expression::go;
-use crate::frame::{Frame, Mode, Next};
+use crate::frame::{Frame, Mode, Next, Operand};
 use crate::section::Section;
 use crate::stack::{LIMIT, fits};
 use crate::tree::{DeclText, EqText, NodeText};
@@ -461,39 +462,51 @@ fn end_body(p: &mut Parser, n: Box<NodeText>, t: Token) -> Result<(), Or<Kind>>
     moved(p, body(n, t))
 }
 
+/// A form is begun that can't fit the greatest height.
+fn is_too_deep(frames: &[Frame], mode: &Mode) -> bool
+    ensures { (n : OneNode) (x : List ℕ) → parser.checked LIMIT n x (machine.Go (stack_of frames.now) (mode_of mode.now)) ≡ (if result then Err parser.TooDeep else Ok (parser.In n x (stack_of frames.now) (mode_of mode.now))) }
+{
+    match mode {
+        Mode::Want | Mode::WantClock => {
+            if fits(frames) {
+                return false;
+            }
+            true
+        }
+        Mode::Named(_) | Mode::Has(_) => false,
+    }
+}
+
+/// The right side of an equation goes on.
+fn goes_on(p: &mut Parser, n: Box<NodeText>, x: Name, mode: Mode) -> Result<(), Or<Kind>>
+    ensures { Steps result (state_of p.new) (parser.finish p.old.nodes (parser.checked LIMIT n.value x (machine.Go (stack_of p.old.frames.items) (mode_of mode)))) }
+{
+    if is_too_deep(&p.frames, &mode) {
+        return Err(Or::Fault(Kind::TooDeep));
+    }
+    p.mode = mode;
+    p.phase = Phase::In(n, x);
+    Ok(())
+}
+
+/// The right side of an equation ends.
+fn ends(p: &mut Parser, n: Box<NodeText>, x: Name, a: Operand) -> Result<(), Or<Kind>>
+    ensures { Steps result (state_of p.new) (parser.finish p.old.nodes (Ok (parser.Body (parser.add_equation n.value x (operand_of a).tree)))) }
+{
+    let mut n = n;
+    n.eqs.push(EqText::new(x, Box::into_inner(a.term)))?;
+    p.phase = Phase::Body(n);
+    Ok(())
+}
+
 /// The right side of an equation goes on, or ends.
 fn went(p: &mut Parser, n: Box<NodeText>, x: Name, next: Next) -> Result<(), Or<Kind>>
     ensures { Steps result (state_of p.new) (parser.finish p.old.nodes (parser.checked LIMIT n.value x (next_of next (stack_of p.old.frames.items)))) }
 {
     match next {
         Next::Bad => Err(Or::Fault(Kind::Unexpected)),
-        Next::Go(Mode::Want) => {
-            if !fits(&p.frames) {
-                return Err(Or::Fault(Kind::TooDeep));
-            }
-            p.mode = Mode::Want;
-            p.phase = Phase::In(n, x);
-            Ok(())
-        }
-        Next::Go(Mode::WantClock) => {
-            if !fits(&p.frames) {
-                return Err(Or::Fault(Kind::TooDeep));
-            }
-            p.mode = Mode::WantClock;
-            p.phase = Phase::In(n, x);
-            Ok(())
-        }
-        Next::Go(mode) => {
-            p.mode = mode;
-            p.phase = Phase::In(n, x);
-            Ok(())
-        }
-        Next::Done(a) => {
-            let mut n = n;
-            n.eqs.push(EqText::new(x, Box::into_inner(a.term)))?;
-            p.phase = Phase::Body(n);
-            Ok(())
-        }
+        Next::Go(mode) => goes_on(p, n, x, mode),
+        Next::Done(a) => ends(p, n, x, a),
     }
 }
 
