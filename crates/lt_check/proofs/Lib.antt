@@ -5,4 +5,5 @@ mod TypeLemmas
 mod ClockLemmas
 mod AtLemmas
 mod ClockedLemmas
+mod Shares
 pub mod Fixture

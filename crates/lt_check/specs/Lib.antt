@@ -2,3 +2,4 @@ pub mod Places
 pub mod TypeFaults
 pub mod Innermost
 pub mod ClockFaults
+pub mod Shares

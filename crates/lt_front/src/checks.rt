@@ -10,8 +10,8 @@ ghost use Rattle.lt_front.specs.Front.{front_verdict, resolved_verdict, typed_ve
 
 use crate::causality::causality;
 use crate::{Checked, ProgramFault};
-use lt_base::{Or, Program, sizes};
-use lt_check::{clocks, types};
+use lt_base::{Or, Program};
+use lt_check::{clocks, sizes, types};
 use lt_resolve::resolve;
 use lt_syntax::{Tree, parse};
 use std::alloc::Global;
