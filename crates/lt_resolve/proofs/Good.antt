@@ -1,5 +1,5 @@
 -- A function without a fault is a good one.
-use Rattle.std.proofs.Common.{◌≡◌, ℕ, zero, suc, ◌+◌, ◌-◌, ◌<◌, ◌≤◌, Bool, true, false, cond, List, [], ◌∷◌, ◌++◌, length, get_or, take, map, reverse, Some, refl, sym, ap, ◌∙◌, subst, arith, eqb-true, ltb-true, ltb-false}
+use Rattle.std.proofs.Common.{◌≡◌, ℕ, zero, suc, ◌+◌, ◌-◌, ◌<◌, ◌≤◌, ◌^◌, Bool, true, false, cond, List, [], ◌∷◌, ◌++◌, length, get_or, take, map, reverse, Some, refl, sym, ap, ◌∙◌, subst, arith, eqb-true, ltb-true, ltb-false}
 use Rattle.std.specs.Prelude.{nat_eq, nat_lt}
 use Rattle.std.specs.List.{All, count_by}
 use Rattle.std.specs.Str.{bytes_eq}
@@ -18,6 +18,9 @@ use Rattle.lt_syntax.specs.declared.tree.NodeText.{NodeText}
 use Rattle.lt_syntax.specs.Tree.{Tm}
 use Rattle.lt_resolve.specs.Names.{Name, number_of, among}
 use Rattle.lt_resolve.specs.Scopes.{declarations, names_of, variables, lefts}
+use Rattle.lt_resolve.specs.declared.function.Draft.{Draft}
+use Rattle.lt_resolve.specs.Known.{IsKnown}
+use Rattle.lt_resolve.specs.Drafts.{IsDraftEquation, IsDraft, completed}
 use Rattle.lt_resolve.specs.Named.{IsPair, IsDeclared, IsEquation, IsFunction, Along, numbers}
 use Rattle.lt_resolve.specs.Right.{IsRight}
 use Rattle.lt_resolve.proofs.Numbers.{number_below, numbered}
@@ -158,21 +161,44 @@ module _ (funcs : List Name) (n : NodeText) (f : Function) (is : IsFunction func
     lefts = left_counts;
   }
 
--- a function put together from its parts
-module _ (funcs vars : List Name) (n m : NodeText) (same : m ≡ n) (names : vars ≡ variables n) where
-  pub assembled : (name : Name) (d0 d1 d2 d3 decls : List Decl) (n_in : ℕ) (outs : List ℕ) (eqs : List (ℕ × Expression))
-      → d0 ≡ [] → ((b : List DeclText) → Along (IsDeclared vars) b d0 → Along (IsDeclared vars) (b ++ m.ins) d1) → ((b : List DeclText) → Along (IsDeclared vars) b d1 → Along (IsDeclared vars) (b ++ m.outs) d2)
-      → ((b : List DeclText) → Along (IsDeclared vars) b d2 → Along (IsDeclared vars) (b ++ m.locals) d3) → decls ≡ d3 → name ≡ m.name → n_in ≡ length m.ins → outs ≡ numbers (length m.ins) (length m.outs) → Along (IsEquation vars funcs) m.eqs eqs
-      → IsFunction funcs n (record { name = name; decls = decls; n_in = n_in; outs = outs; eqs = eqs })
-  assembled name d0 d1 d2 d3 decls n_in outs eqs e0 h1 h2 h3 e3 en ei eo ee = subst (λ k. IsFunction funcs k (record { name = name; decls = decls; n_in = n_in; outs = outs; eqs = eqs })) same (record {
-    name = en;
-    decls = subst (λ v. Along (IsDeclared v) (declarations m) decls) vars_are
-        (subst (Along (IsDeclared vars) (declarations m)) (sym e3)
-        (subst (λ ds. Along (IsDeclared vars) ds d3) (append_assoc m.ins m.outs m.locals) (h3 (m.ins ++ m.outs) (h2 m.ins (h1 [] (subst (Along (IsDeclared vars) []) (sym e0) tt))))));
-    n_in = ei;
-    outs = eo;
-    eqs = subst (λ v. Along (IsEquation v funcs) m.eqs eqs) vars_are ee;
-  })
-    where
-      vars_are : vars ≡ variables m
-      vars_are = names ∙ ap variables (sym same)
+-- ---- drafts
+
+module _ (funcs vars : List Name) (d : Draft) (names : vars ≡ variables d.node.now) where
+  -- a draft put together from its parts
+  pub drafted : (d0 d1 d2 d3 : List Decl) → d0 ≡ [] → ((b : List DeclText) → Along (IsDeclared vars) b d0 → Along (IsDeclared vars) (b ++ d.node.now.ins) d1)
+      → ((b : List DeclText) → Along (IsDeclared vars) b d1 → Along (IsDeclared vars) (b ++ d.node.now.outs) d2) → ((b : List DeclText) → Along (IsDeclared vars) b d2 → Along (IsDeclared vars) (b ++ d.node.now.locals) d3)
+      → d.decls ≡ d3 → Along (IsDraftEquation vars funcs) d.node.now.eqs d.eqs → IsDraft funcs d
+  drafted d0 d1 d2 d3 e0 h1 h2 h3 e3 h =
+      let m = d.node.now in
+      record {
+        decls = subst (λ v. Along (IsDeclared v) (declarations m) d.decls) names
+            (subst (Along (IsDeclared vars) (declarations m)) (sym e3)
+            (subst (λ ds. Along (IsDeclared vars) ds d3) (append_assoc m.ins m.outs m.locals) (h3 (m.ins ++ m.outs) (h2 m.ins (h1 [] (subst (Along (IsDeclared vars) []) (sym e0) tt))))));
+        eqs = subst (λ v. Along (IsDraftEquation v funcs) m.eqs d.eqs) names h;
+      }
+
+equations_named : (vs funcs : List Name) (qs : List (Name × Tm)) (es : List (ℕ × Expression)) → Along (IsDraftEquation vs funcs) qs es → All (λ q. IsKnown vs funcs q.1) qs → Along (IsEquation vs funcs) qs es
+equations_named vs funcs [] [] h k = tt
+equations_named vs funcs [] (e ∷ es) h k = absurd h
+equations_named vs funcs (q ∷ qs) [] h k = absurd h
+equations_named vs funcs (q ∷ qs) (e ∷ es) h k = ((h.0.0, h.0.1 (All-head (λ q. IsKnown vs funcs q.1) q qs k)), equations_named vs funcs qs es h.1 (All-tail (λ q. IsKnown vs funcs q.1) q qs k))
+
+-- the function of a draft without a fault
+pub is_completed : (funcs : List Name) (d : Draft) → IsDraft funcs d → IsRight funcs d.node.now → IsFunction funcs d.node.now (completed d)
+is_completed funcs d h r = record {
+  name = refl;
+  decls = h.decls;
+  n_in = refl;
+  outs = refl;
+  eqs = equations_named (variables d.node.now) funcs d.node.now.eqs d.eqs h.eqs r.known;
+}
+
+pub good_draft : (funcs : List Name) (d : Draft) → IsDraft funcs d → IsRight funcs d.node.now → GoodFunction (completed d)
+good_draft funcs d h r = good_function funcs d.node.now (completed d) (is_completed funcs d h r) r
+
+pub room_of_draft : (funcs : List Name) (n : NodeText) → IsRight funcs n → length n.ins + length n.outs < 2 ^ 32
+room_of_draft funcs n r =
+    let many = length-append n.ins (n.outs ++ n.locals) in
+    let parts = length-append n.outs n.locals in
+    let few = r.few in
+    omega (arith, many, parts, few)

@@ -10,6 +10,7 @@ pub mod Order
 pub mod Sites
 pub mod Edges
 pub mod Distinct
+mod Lefts
 pub mod Below
 pub mod Good
 pub mod Rights

@@ -1,5 +1,5 @@
 -- Names and their numbers.
-use Rattle.std.proofs.Common.{◌≡◌, ℕ, suc, ◌+◌, ◌<◌, Bool, true, false, not, ◌||◌, cond, List, [], ◌∷◌, ◌++◌, length, get_or, position, Option, None, Some, refl, sym, ap, ◌∙◌, arith, ltb, is_some}
+use Rattle.std.proofs.Common.{◌≡◌, ℕ, suc, ◌+◌, ◌<◌, Bool, true, false, not, ◌||◌, cond, List, [], ◌∷◌, ◌++◌, length, get_or, position, Option, None, Some, refl, sym, ap, ◌∙◌, arith, ltb, is_some, if◌then◌else◌}
 use Rattle.std.specs.List.{position_or_len}
 use Rattle.std.specs.Option.{option_map}
 use Rattle.std.specs.Str.{bytes_eq}
@@ -7,7 +7,9 @@ use Rattle.std.proofs.lemmas.Bool.Decides.{nat_tests}
 use Rattle.std.proofs.lemmas.List.Folds.{list_any-append}
 use Rattle.std.proofs.lemmas.List.Quantifiers.{position-Some}
 use Rattle.std.proofs.lemmas.Slice.Eq.{bytes_eq-Decides}
-use Rattle.lt_resolve.specs.Names.{Name, number_of, among}
+use Rattle.lt_resolve.specs.Names.{Name, number_of, among, if_missing}
+use Rattle.lt_resolve.specs.Named.{operator_of}
+use Rattle.lt_resolve.specs.Uses.{if_uncallable}
 
 less_suc : (j n : ℕ) → ltb (suc j) (suc n) ≡ ltb j n
 less_suc j n = grind (arith, nat_tests)
@@ -69,3 +71,17 @@ or_false true b h = h
 -- without a number it is none of them
 pub no_number_tells : (xs ys : List Name) (x : Name) → number_of (xs ++ ys) x ≡ None → false ≡ among xs x
 no_number_tells xs ys x h = sym (or_false (among xs x) (among ys x) (sym (list_any-append (bytes_eq x) xs ys) ∙ sym (has_number (xs ++ ys) x) ∙ ap is_some h))
+
+-- ---- what a look-up tells
+
+pub not_missing : (names : List Name) (x : Name) (i : ℕ) → Some i ≡ number_of names x → if_missing names x ≡ None
+not_missing names x i h = ap (λ b. if b then None else Some x) (sym (has_number names x) ∙ ap is_some (sym h))
+
+pub is_missing : (names : List Name) (x : Name) → None ≡ number_of names x → if_missing names x ≡ Some x
+is_missing names x h = ap (λ b. if b then None else Some x) (sym (has_number names x) ∙ ap is_some (sym h))
+
+pub is_callable : (funcs : List Name) (f : Name) (g : ℕ) → Some g ≡ number_of funcs f → if_uncallable funcs f ≡ None
+is_callable funcs f g h = ap (λ b. if b || is_some (operator_of f) then None else Some f) (sym (has_number funcs f) ∙ ap is_some (sym h))
+
+pub is_uncallable : (funcs : List Name) (f : Name) → None ≡ number_of funcs f → None ≡ operator_of f → if_uncallable funcs f ≡ Some f
+is_uncallable funcs f h k = λ i. if (sym (has_number funcs f) ∙ ap is_some (sym h)) i || is_some (sym k i) then None else Some f

@@ -2,7 +2,7 @@
 use Rattle.std.proofs.Common.{◌≡◌, ℕ, zero, suc, ◌+◌, ◌<◌, true, List, [], ◌∷◌, ◌++◌, length, get_or, map, slice_get, Some, refl, sym, ap, ◌∙◌, subst, arith, eqb-true}
 use Rattle.std.specs.Prelude.{nat_eq}
 use Rattle.std.specs.List.{All}
-use Rattle.std.proofs.lemmas.List.{length-map}
+use Rattle.std.proofs.lemmas.List.{length-map, map-append}
 use Rattle.std.proofs.lemmas.List.Elements.{All-nil, All-cons, All-head, All-tail}
 use Rattle.lt_base.specs.declared.function.Decl.{Decl}
 use Rattle.lt_base.specs.Expression.{Expression, literal, variable, unary, binary, imported, choose, sampled, merged, delayed, follow, arrow, call, Arguments, no_arguments, argument}
@@ -22,7 +22,9 @@ use Rattle.lt_resolve.specs.Faults.{sites, wanted, answered, inputs_of, outputs_
 use Rattle.lt_resolve.proofs.Numbers.{number_below}
 use Rattle.lt_resolve.proofs.Distinct.{differ}
 use Rattle.lt_resolve.proofs.Below.{calls_below}
-use Rattle.lt_resolve.proofs.Pairs.{along_length, along_right, all_left, all_right}
+use Rattle.lt_resolve.specs.declared.function.Draft.{Draft}
+use Rattle.lt_resolve.specs.Drafts.{IsDraft, AreDrafts}
+use Rattle.lt_resolve.proofs.Pairs.{all_at, along_push, along_length, along_right, all_left, all_right}
 use Rattle.lt_resolve.proofs.Good.{good_function}
 
 -- ---- a good program
@@ -141,3 +143,36 @@ pub uses_right : (t : List NodeText) (fs : List Function) → Along (IsFunction 
 uses_right t fs h a b c =
     functions_use (λ g n. Answers (function_of fs g) n) (functions t) 0 t fs h
     (λ k d l g e. answers (functions t) t fs h g (get_or (sites t) k d).arguments (c k d l g e) (eqb-true (get_or (sites t) k d).arguments (inputs_of (slice_get t g)) (subst (λ o. nat_eq (get_or (sites t) k d).arguments (wanted t o) ≡ true) e (a k d l))) (eqb-true (outputs_of (slice_get t g)) 1 (subst (λ o. nat_eq (answered t o) 1 ≡ true) e (b k d l))))
+
+-- ---- drafts
+
+map_same : {A : Type 0} (xs : List A) → map (λ x. x) xs ≡ xs
+map_same [] = refl
+map_same (x ∷ xs) = ap (λ l. x ∷ l) (map_same xs)
+
+unmapped : {A B : Type 0} (P : B → Type 0) (f : A → B) (xs : List A) → All P (map f xs) → All (λ x. P (f x)) xs
+unmapped P f [] h = All-nil (λ x. P (f x))
+unmapped P f (x ∷ xs) h = All-cons (λ x. P (f x)) x xs (All-head P (f x) (map f xs) h) (unmapped P f xs (All-tail P (f x) (map f xs) h))
+
+abbrev node_of : Draft → NodeText
+node_of d = d.node.now
+
+-- a draft of a right tree is of a right function
+module _ (t : List NodeText) (ds : List Draft) (a : AreDrafts t ds) (r : IsRightTree t) (k : ℕ) (d : Draft) (l : k < length ds) (e : d ≡ get_or ds k d) where
+  pub draft_at : IsDraft (functions t) d
+  draft_at = all_at (IsDraft (functions t)) ds k d a.all l e
+
+  pub right_at : IsRight (functions t) d.node.now
+  right_at = all_at (λ d. IsRight (functions t) d.node.now) ds k d (unmapped (IsRight (functions t)) node_of ds (subst (All (IsRight (functions t))) (sym a.nodes) r.all)) l e
+
+-- one function more
+pub along_next : (funcs : List Name) (ds : List Draft) (fs fs' : List Function) (d : Draft) (f : Function) → Along (IsFunction funcs) (map (λ d. d.node.now) ds) fs → IsFunction funcs d.node.now f → fs' ≡ fs ++ f ∷ [] → Along (IsFunction funcs) (map (λ d. d.node.now) (ds ++ d ∷ [])) fs'
+along_next funcs ds fs fs' d f h i p =
+    subst (Along (IsFunction funcs) (map node_of (ds ++ d ∷ []))) (sym p)
+    (subst (λ ns. Along (IsFunction funcs) ns (fs ++ f ∷ [])) (sym (map-append node_of ds (d ∷ []))) (along_push (IsFunction funcs) (map node_of ds) fs d.node.now f h i))
+
+-- all functions
+pub along_whole : (t : List NodeText) (ds done : List Draft) (fs gs : List Function) → map (λ d. d) done ≡ ds → AreDrafts t ds → gs ≡ fs → Along (IsFunction (functions t)) (map (λ d. d.node.now) done) fs → Along (IsFunction (functions t)) t gs
+along_whole t ds done fs gs e a p h =
+    subst (Along (IsFunction (functions t)) t) (sym p)
+    (subst (λ ns. Along (IsFunction (functions t)) ns fs) (ap (map node_of) (sym (map_same done) ∙ e) ∙ a.nodes) h)

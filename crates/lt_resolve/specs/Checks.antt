@@ -8,24 +8,22 @@ use Rattle.lt_resolve.specs.declared.fault.NameKind.{NameKind}
 use Rattle.lt_resolve.specs.declared.fault.NameKind.TheVariants as kind
 use Rattle.lt_resolve.specs.declared.fault.NameFault.{NameFault}
 use Rattle.lt_resolve.specs.declared.checks.Check.{Check}
-use Rattle.lt_resolve.specs.declared.checks.Check.TheVariants.{Unknown, NoEquation, TwoEquations, EquationForInput, Variables, Inputs, Outputs}
+use Rattle.lt_resolve.specs.declared.checks.Check.TheVariants.{NoEquation, TwoEquations, EquationForInput, Variables, Inputs, Outputs}
 use Rattle.lt_resolve.specs.Names.{Name}
 use Rattle.lt_resolve.specs.Uses.{Site}
-use Rattle.lt_resolve.specs.Faults.{unknown_in, no_equation_in, two_equations_in, input_equation_in, above, size}
+use Rattle.lt_resolve.specs.Faults.{no_equation_in, two_equations_in, input_equation_in, above, size}
 
 -- what a check finds in a function
-abbrev pub found : Check → List Name → NodeText → Option Name
-found Unknown funcs n = unknown_in funcs n
-found NoEquation funcs n = no_equation_in n
-found TwoEquations funcs n = two_equations_in n
-found EquationForInput funcs n = input_equation_in n
-found Variables funcs n = above 4096 (size n) (codes "variables")
-found Inputs funcs n = above 64 (length n.ins) (codes "inputs")
-found Outputs funcs n = above 64 (length n.outs) (codes "outputs")
+abbrev pub found : Check → NodeText → Option Name
+found NoEquation n = no_equation_in n
+found TwoEquations n = two_equations_in n
+found EquationForInput n = input_equation_in n
+found Variables n = above 4096 (size n) (codes "variables")
+found Inputs n = above 64 (length n.ins) (codes "inputs")
+found Outputs n = above 64 (length n.outs) (codes "outputs")
 
 -- the kind of fault that it shows
 abbrev pub kind_of : Check → NameKind
-kind_of Unknown = kind.Unknown
 kind_of NoEquation = kind.NoEquation
 kind_of TwoEquations = kind.TwoEquations
 kind_of EquationForInput = kind.EquationForInput

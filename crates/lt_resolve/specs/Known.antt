@@ -4,7 +4,9 @@ use Rattle.lt_base.specs.declared.operators.Imp.{Imp}
 use Rattle.lt_base.specs.Expression.{Expression, imported, call, Arguments, no_arguments, argument}
 use Rattle.lt_syntax.specs.Tree.{Tm, Lit, Var, Unary, Binary, Choice, Sampled, Merged, Delayed, Followed, Arrow, Call, Tms, Nil, Cons}
 use Rattle.lt_resolve.specs.Names.{Name, number_of}
-use Rattle.lt_resolve.specs.Named.{operator_of}
+use Rattle.lt_resolve.specs.declared.expression.Callee.{Callee}
+use Rattle.lt_resolve.specs.declared.expression.Callee.TheVariants.{Function, Operator}
+use Rattle.lt_resolve.specs.Named.{operator_of, IsNamed, AreNamed}
 use Rattle.lt_resolve.specs.Uses.{count}
 
 -- the name has a number
@@ -41,8 +43,20 @@ abbrev pub IsOperation : Imp → Arguments → Expression → Type 0
 IsOperation o es (imported p d e) = (p ≡ o) × (es ≡ argument d (argument e no_arguments))
 IsOperation o es _ = ⊥
 
--- the expression calls what the name stands for on these arguments
-abbrev pub IsCalled : List Name → Name → Arguments → Expression → Type 0
-IsCalled funcs f es (call g ds) = (number_of funcs f ≡ Some g) × (ds ≡ es)
-IsCalled funcs f es (imported o d e) = (number_of funcs f ≡ None) × (operator_of f ≡ Some o) × (es ≡ argument d (argument e no_arguments))
-IsCalled funcs f es _ = ⊥
+-- the name is a function's, or that of the imported operator and no function's
+abbrev pub StandsFor : List Name → Name → Callee → Type 0
+StandsFor funcs f (Function g) = number_of funcs f ≡ Some g
+StandsFor funcs f (Operator o) = (number_of funcs f ≡ None) × (operator_of f ≡ Some o)
+
+-- the expression is the call of the function on these arguments, or the imported operator on them where they are two
+abbrev pub IsCalled : Callee → ℕ → Arguments → Expression → Type 0
+IsCalled (Function g) n es (call h ds) = (h ≡ g) × (ds ≡ es)
+IsCalled (Function g) n es _ = ⊥
+IsCalled (Operator o) n es e = n ≡ 2 → IsOperation o es e
+
+-- the expression is the term, in which each variable and each function has its number, if each imported operator has two arguments
+abbrev pub IsTranslated : List Name → List Name → Tm → Expression → Type 0
+IsTranslated vars funcs a e = IsKnown vars funcs a → IsNamed vars funcs a e
+
+abbrev pub AreTranslated : List Name → List Name → Tms → Arguments → Type 0
+AreTranslated vars funcs args es = AreKnown vars funcs args → AreNamed vars funcs args es

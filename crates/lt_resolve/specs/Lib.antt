@@ -3,6 +3,7 @@ pub mod Scopes
 pub mod Named
 pub mod Uses
 pub mod Known
+pub mod Drafts
 pub mod Faults
 pub mod Right
 pub mod Told

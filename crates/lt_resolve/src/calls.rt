@@ -53,7 +53,6 @@ fn collect<'a>(
     term: &'a Term,
     calls: &mut Vec<Call<'a>>,
 ) -> Result<(), Memory>
-    requires { length functions.now < 2 ^ 32 }
     ensures { OnOk result (calls.new.items ≡ calls.old.items ++ sites_in functions.now caller (tm_of term.now)) }
 {
     match term {
@@ -88,7 +87,7 @@ fn collect<'a>(
             calls.push(Call {
                 caller,
                 name,
-                callee: functions.short_number(name),
+                callee: functions.number(name),
                 arguments: args.len(),
             })?;
             collect_arguments(functions, caller, args, calls)
@@ -103,7 +102,6 @@ fn collect_arguments<'a>(
     args: &'a [Term],
     calls: &mut Vec<Call<'a>>,
 ) -> Result<(), Memory>
-    requires { length functions.now < 2 ^ 32 }
     ensures { OnOk result (calls.new.items ≡ calls.old.items ++ argument_sites functions.now caller (tms (map tm_of args.now))) }
 {
     'arguments: for a in args {
@@ -119,7 +117,6 @@ fn collect_equations<'a>(
     eqs: &'a List<EqText>,
     calls: &mut Vec<Call<'a>>,
 ) -> Result<(), Memory>
-    requires { length functions.now < 2 ^ 32 }
     ensures { OnOk result (calls.new.items ≡ calls.old.items ++ equation_sites functions.now caller eqs.now) }
 {
     'eqs: for eq in eqs.as_slice() {

@@ -6,7 +6,6 @@ ghost use Rattle.lt_resolve.specs.Told.{Tells, Shows, Cleared, Passes};
 ghost use Rattle.lt_resolve.specs.Checks.{found, kind_of, IsWhole};
 
 use crate::fault::{NameFault, NameKind};
-use crate::names::Names;
 use crate::scope::Scope;
 use crate::tables::{Tables, located};
 use lt_base::Or;
@@ -15,7 +14,6 @@ use std::alloc::Global;
 /// What is looked for in a function.
 #[derive(Clone, Copy)]
 enum Check {
-    Unknown,
     NoEquation,
     TwoEquations,
     EquationForInput,
@@ -28,7 +26,6 @@ fn kind_of(check: Check) -> NameKind
     ensures { result ≡ kind_of check }
 {
     match check {
-        Check::Unknown => NameKind::Unknown,
         Check::NoEquation => NameKind::NoEquation,
         Check::TwoEquations => NameKind::TwoEquations,
         Check::EquationForInput => NameKind::EquationForInput,
@@ -48,16 +45,10 @@ fn within<'a>(limit: u64, quantity: u64, word: &'a str) -> Result<(), Or<&'a str
 }
 
 /// Refuses what the check finds in a function.
-fn check_one<'a>(
-    alloc: Global,
-    check: Check,
-    functions: &Names,
-    scope: &Scope<'a>,
-) -> Result<(), Or<&'a str>>
-    ensures { Tells (found check functions.now scope.now) result }
+fn check_one<'a>(alloc: Global, check: Check, scope: &Scope<'a>) -> Result<(), Or<&'a str>>
+    ensures { Tells (found check scope.now) result }
 {
     match check {
-        Check::Unknown => scope.unknown(functions),
         Check::NoEquation => scope.no_equation(alloc),
         Check::TwoEquations => scope.two_equations(alloc),
         Check::EquationForInput => scope.input_equation(),
@@ -70,10 +61,10 @@ fn check_one<'a>(
 /// Refuses what the check finds first.
 fn check_all(alloc: Global, check: Check, tables: &Tables) -> Result<(), Or<NameFault>>
     requires { length tables.now < 2 ^ 32 }
-    ensures { Shows (kind_of check) (λ o. o ≡ first_in (λ _. found check (functions tables.now)) 0 tables.now) result }
+    ensures { Shows (kind_of check) (λ o. o ≡ first_in (λ _. found check) 0 tables.now) result }
 {
     'scopes: for (i, scope) in tables.scopes().iter().enumerate() {
-        match check_one(alloc, check, tables.functions(), scope) {
+        match check_one(alloc, check, scope) {
             Ok(()) => {}
             Err(error) => return Err(located(alloc, kind_of(check), i, error)),
         }
@@ -104,10 +95,9 @@ fn has_main(alloc: Global, tables: &Tables) -> Result<(), Or<NameFault>>
 /// Refuses the first fault among those of single functions, and a tree without `main`.
 pub fn check_functions(alloc: Global, tables: &Tables) -> Result<(), Or<NameFault>>
     requires room { length tables.now < 2 ^ 32 }
-    requires cleared { Cleared tables.now 1 }
+    requires cleared { Cleared tables.now 2 }
     ensures { Passes tables.now 6 result }
 {
-    pass(alloc, Check::Unknown, tables)?;
     pass(alloc, Check::NoEquation, tables)?;
     pass(alloc, Check::TwoEquations, tables)?;
     pass(alloc, Check::EquationForInput, tables)?;

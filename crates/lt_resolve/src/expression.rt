@@ -1,23 +1,62 @@
 // Names to numbers in expressions.
-ghost use Rattle.std.specs.Prelude.{◌≡◌, ◌<◌, ◌^◌, Some, IfOk, length, map, vec_len};
+ghost use Rattle.std.specs.Prelude.{◌≡◌, IfOk, length, map, vec_len};
 ghost use Rattle.lt_base.specs.Expression.{shape, arguments_of};
 ghost use Rattle.lt_syntax.specs.Tree.{tms};
 ghost use Rattle.lt_syntax.specs.Views.{tm_of};
-ghost use Rattle.lt_resolve.specs.Names.{number_of};
-ghost use Rattle.lt_resolve.specs.Named.{operator_of, IsNamed, AreNamed};
-ghost use Rattle.lt_resolve.specs.Known.{HasNumber, IsCallable, IsKnown, AreKnown, IsOperation, IsCalled};
+ghost use Rattle.lt_resolve.specs.Named.{operator_of};
+ghost use Rattle.lt_resolve.specs.Uses.{if_uncallable, unknown, unknown_argument};
+ghost use Rattle.lt_resolve.specs.Told.{Tells};
+ghost use Rattle.lt_resolve.specs.Known.{StandsFor, IsOperation, IsCalled, IsTranslated, AreTranslated};
 
-use crate::known::operator_of;
 use crate::names::Names;
-use lt_base::{Expr, Imp, Memory};
+use lt_base::{Expr, Imp, Memory, Or, Value};
 use lt_syntax::Term;
 use std::alloc::Global;
 
-/// An imported operator with its two operands.
-fn operation(alloc: Global, operator: Imp, mut args: Vec<Expr>) -> Result<Expr, Memory>
-    requires { vec_len args ≡ 2 }
-    ensures { IfOk result (λ e. IsOperation operator (arguments_of (map shape args.items)) (shape e)) }
+/// What the name of a call stands for.
+#[derive(Clone, Copy)]
+enum Callee {
+    Function(u32),
+    Operator(Imp),
+}
+
+/// The imported operator of this name.
+fn operator_of(name: &str) -> Option<Imp>
+    ensures { result ≡ operator_of name.now }
 {
+    if name == "min" {
+        Some(Imp::Min)
+    } else if name == "max" {
+        Some(Imp::Max)
+    } else if name == "gcd" {
+        Some(Imp::Gcd)
+    } else {
+        None
+    }
+}
+
+/// The function of this name or, without one, the imported operator; refuses a name that is neither.
+fn callee_of<'t>(functions: &Names, name: &'t str) -> Result<Callee, Or<&'t str>>
+    ensures told { Tells (if_uncallable functions.now name.now) result }
+    ensures found { IfOk result (StandsFor functions.now name.now) }
+{
+    match functions.number(name) {
+        Some(g) => Ok(Callee::Function(g)),
+        None => match operator_of(name) {
+            Some(operator) => Ok(Callee::Operator(operator)),
+            None => Err(Or::Fault(name)),
+        },
+    }
+}
+
+/// An imported operator with its two operands. A call with another number of them is refused later; a literal stands
+/// for it until then.
+fn operation(alloc: Global, operator: Imp, mut args: Vec<Expr>) -> Result<Expr, Memory>
+    ensures { IfOk result (λ e. vec_len args ≡ 2 → IsOperation operator (arguments_of (map shape args.items)) (shape e)) }
+{
+    if args.len() != 2 {
+        return Ok(Expr::Lit(Value::Bool(false)));
+    }
     let b = args.pop().unwrap();
     let a = args.pop().unwrap();
     let a = Box::new(alloc, a)?;
@@ -25,101 +64,94 @@ fn operation(alloc: Global, operator: Imp, mut args: Vec<Expr>) -> Result<Expr, 
     Ok(Expr::Imported(operator, a, b))
 }
 
-/// A call of the function of this name or, without one, of the imported operator.
-fn call(alloc: Global, functions: &Names, name: &str, args: Vec<Expr>) -> Result<Expr, Memory>
-    requires room { length functions.now < 2 ^ 32 }
-    requires callable { IsCallable (number_of functions.now name.now) (operator_of name.now) (vec_len args) }
-    ensures { IfOk result (λ e. IsCalled functions.now name.now (arguments_of (map shape args.items)) (shape e)) }
+fn call(alloc: Global, callee: Callee, args: Vec<Expr>) -> Result<Expr, Memory>
+    ensures { IfOk result (λ e. IsCalled callee (vec_len args) (arguments_of (map shape args.items)) (shape e)) }
 {
-    match functions.short_number(name) {
-        Some(g) => Ok(Expr::Call(g, args)),
-        None => operation(alloc, operator_of(name).unwrap(), args),
+    match callee {
+        Callee::Function(g) => Ok(Expr::Call(g, args)),
+        Callee::Operator(operator) => operation(alloc, operator, args),
     }
 }
 
-/// The number of a declared name.
-pub fn number(names: &Names, name: &str) -> u32
-    requires room { length names.now < 2 ^ 32 }
-    requires declared { HasNumber names.now name.now }
-    ensures { number_of names.now name.now ≡ Some result }
-{
-    names.short_number(name).unwrap()
-}
-
-/// The expression of a term, in which each variable and each function has its number.
 #[cycle(expression)]
-pub fn expression(
+fn boxed<'t>(
     alloc: Global,
     variables: &Names,
     functions: &Names,
-    term: &Term,
-) -> Result<Expr, Memory>
-    requires few_variables { length variables.now < 2 ^ 32 }
-    requires few_functions { length functions.now < 2 ^ 32 }
-    requires known { IsKnown variables.now functions.now (tm_of term.now) }
-    ensures { IfOk result (λ e. IsNamed variables.now functions.now (tm_of term.now) (shape e)) }
+    term: &'t Term,
+) -> Result<Box<Expr>, Or<&'t str>>
+    ensures told { Tells (unknown variables.now functions.now (tm_of term.now)) result }
+    ensures named { IfOk result (λ e. IsTranslated variables.now functions.now (tm_of term.now) (shape e.value)) }
+{
+    Ok(Box::new(alloc, expression(alloc, variables, functions, term)?)?)
+}
+
+/// The expression of a term, in which each variable and each function has its number; refuses the first name that has
+/// none.
+#[cycle(expression)]
+pub fn expression<'t>(
+    alloc: Global,
+    variables: &Names,
+    functions: &Names,
+    term: &'t Term,
+) -> Result<Expr, Or<&'t str>>
+    ensures told { Tells (unknown variables.now functions.now (tm_of term.now)) result }
+    ensures named { IfOk result (λ e. IsTranslated variables.now functions.now (tm_of term.now) (shape e)) }
 {
     match term {
         Term::Lit(v) => Ok(Expr::Lit(*v)),
-        Term::Var(x) => Ok(Expr::Var(number(variables, x.as_str()))),
-        Term::Un(o, a) => {
-            let a = Box::new(alloc, expression(alloc, variables, functions, a)?)?;
-            Ok(Expr::Un(*o, a))
-        }
+        Term::Var(x) => Ok(Expr::Var(variables.find(x.as_str())?)),
+        Term::Un(o, a) => Ok(Expr::Un(*o, boxed(alloc, variables, functions, a)?)),
         Term::Bin(o, a, b) => {
-            let a = Box::new(alloc, expression(alloc, variables, functions, a)?)?;
-            let b = Box::new(alloc, expression(alloc, variables, functions, b)?)?;
+            let a = boxed(alloc, variables, functions, a)?;
+            let b = boxed(alloc, variables, functions, b)?;
             Ok(Expr::Bin(*o, a, b))
         }
         Term::If(c, a, b) => {
-            let c = Box::new(alloc, expression(alloc, variables, functions, c)?)?;
-            let a = Box::new(alloc, expression(alloc, variables, functions, a)?)?;
-            let b = Box::new(alloc, expression(alloc, variables, functions, b)?)?;
+            let c = boxed(alloc, variables, functions, c)?;
+            let a = boxed(alloc, variables, functions, a)?;
+            let b = boxed(alloc, variables, functions, b)?;
             Ok(Expr::If(c, a, b))
         }
         Term::When(a, c, polarity) => {
-            let a = Box::new(alloc, expression(alloc, variables, functions, a)?)?;
-            Ok(Expr::When(a, number(variables, c.as_str()), *polarity))
+            let a = boxed(alloc, variables, functions, a)?;
+            Ok(Expr::When(a, variables.find(c.as_str())?, *polarity))
         }
         Term::Merge(c, a, b) => {
-            let c = number(variables, c.as_str());
-            let a = Box::new(alloc, expression(alloc, variables, functions, a)?)?;
-            let b = Box::new(alloc, expression(alloc, variables, functions, b)?)?;
+            let c = variables.find(c.as_str())?;
+            let a = boxed(alloc, variables, functions, a)?;
+            let b = boxed(alloc, variables, functions, b)?;
             Ok(Expr::Merge(c, a, b))
         }
-        Term::Fby(v, a) => {
-            let a = Box::new(alloc, expression(alloc, variables, functions, a)?)?;
-            Ok(Expr::Fby(*v, a))
-        }
+        Term::Fby(v, a) => Ok(Expr::Fby(*v, boxed(alloc, variables, functions, a)?)),
         Term::Follow(a, b) => {
-            let a = Box::new(alloc, expression(alloc, variables, functions, a)?)?;
-            let b = Box::new(alloc, expression(alloc, variables, functions, b)?)?;
+            let a = boxed(alloc, variables, functions, a)?;
+            let b = boxed(alloc, variables, functions, b)?;
             Ok(Expr::Follow(a, b))
         }
         Term::Arrow(a, b) => {
-            let a = Box::new(alloc, expression(alloc, variables, functions, a)?)?;
-            let b = Box::new(alloc, expression(alloc, variables, functions, b)?)?;
+            let a = boxed(alloc, variables, functions, a)?;
+            let b = boxed(alloc, variables, functions, b)?;
             Ok(Expr::Arrow(a, b))
         }
         Term::Call(f, args) => {
+            let callee = callee_of(functions, f.as_str())?;
             let args = arguments(alloc, variables, functions, args)?;
-            call(alloc, functions, f.as_str(), args)
+            Ok(call(alloc, callee, args)?)
         }
     }
 }
 
 #[cycle(expression)]
-fn arguments(
+fn arguments<'t>(
     alloc: Global,
     variables: &Names,
     functions: &Names,
-    args: &[Term],
-) -> Result<Vec<Expr>, Memory>
-    requires few_variables { length variables.now < 2 ^ 32 }
-    requires few_functions { length functions.now < 2 ^ 32 }
-    requires known { AreKnown variables.now functions.now (tms (map tm_of args.now)) }
+    args: &'t [Term],
+) -> Result<Vec<Expr>, Or<&'t str>>
+    ensures told { Tells (unknown_argument variables.now functions.now (tms (map tm_of args.now))) result }
     ensures len { IfOk result (λ es. vec_len es ≡ length args.now) }
-    ensures named { IfOk result (λ es. AreNamed variables.now functions.now (tms (map tm_of args.now)) (arguments_of (map shape es.items))) }
+    ensures named { IfOk result (λ es. AreTranslated variables.now functions.now (tms (map tm_of args.now)) (arguments_of (map shape es.items))) }
 {
     let mut exprs = Vec::with_capacity(alloc, args.len())?;
     'arguments: for a in args {

@@ -1,35 +1,42 @@
 // Names to numbers in declarations, equations and functions.
-ghost use Rattle.std.specs.Prelude.{◌≡◌, ◌++◌, ◌+◌, ◌≤◌, ◌<◌, ◌^◌, IfOk, OnOk, List, length, reverse};
-ghost use Rattle.std.specs.List.{All};
+ghost use Rattle.std.specs.Prelude.{◌≡◌, ◌++◌, ◌+◌, ◌<◌, ◌^◌, IfOk, OnOk, List, length, reverse};
 ghost use Rattle.lt_syntax.specs.declared.tree.DeclText.{DeclText as OneDecl};
-ghost use Rattle.lt_resolve.specs.Scopes.{variables};
-ghost use Rattle.lt_resolve.specs.Named.{IsPair, IsDeclared, IsEquation, IsFunction, Along, numbers};
-ghost use Rattle.lt_resolve.specs.Known.{HasNumber, IsKnown};
-ghost use Rattle.lt_resolve.specs.Right.{ClockKnown, IsRight};
+ghost use Rattle.lt_resolve.specs.Names.{first_some};
+ghost use Rattle.lt_resolve.specs.Faults.{unknown_clock, unknown_declared, unknown_equation, unknown_in};
+ghost use Rattle.lt_resolve.specs.Told.{Tells};
+ghost use Rattle.lt_base.specs.Program.{GoodFunction};
+ghost use Rattle.lt_resolve.specs.Named.{IsPair, IsDeclared, Along, numbers};
+ghost use Rattle.lt_resolve.specs.Drafts.{IsDraftEquation, IsDraft, completed};
 
-use crate::expression::{expression, number};
+use crate::expression::expression;
 use crate::names::Names;
 use crate::scope::Scope;
-use lt_base::{Clock, Decl, Equation, Func, List, Memory, Name};
-use lt_syntax::{DeclText, EqText};
+use lt_base::{Clock, Decl, Equation, Func, List, Memory, Name, Or};
+use lt_syntax::{DeclText, EqText, NodeText};
 use std::alloc::Global;
 
-fn clock(alloc: Global, variables: &Names, pairs: &List<(Name, bool)>) -> Result<Clock, Memory>
-    requires room { length variables.now < 2 ^ 32 }
-    requires known { All (λ p. HasNumber variables.now p.0) pairs.now }
-    ensures { IfOk result (λ clock. Along (IsPair variables.now) pairs.now (reverse clock)) }
+fn clock<'t>(
+    alloc: Global,
+    variables: &Names,
+    pairs: &'t List<(Name, bool)>,
+) -> Result<Clock, Or<&'t str>>
+    ensures told { Tells (unknown_clock variables.now pairs.now) result }
+    ensures named { IfOk result (λ clock. Along (IsPair variables.now) pairs.now (reverse clock)) }
 {
     let mut clock = Clock::base(alloc);
     'pairs: for pair in pairs.as_slice() {
-        clock = clock.deeper(number(variables, pair.0.as_str()), pair.1)?;
+        clock = clock.deeper(variables.find(pair.0.as_str())?, pair.1)?;
     }
     Ok(clock)
 }
 
-fn declaration(alloc: Global, variables: &Names, decl: &DeclText) -> Result<Decl, Memory>
-    requires room { length variables.now < 2 ^ 32 }
-    requires known { ClockKnown variables.now decl.now }
-    ensures { IfOk result (λ d. IsDeclared variables.now decl.now d) }
+fn declaration<'t>(
+    alloc: Global,
+    variables: &Names,
+    decl: &'t DeclText,
+) -> Result<Decl, Or<&'t str>>
+    ensures told { Tells (unknown_clock variables.now decl.now.clock) result }
+    ensures named { IfOk result (λ d. IsDeclared variables.now decl.now d) }
 {
     Ok(Decl {
         name: decl.name.copy()?,
@@ -39,15 +46,14 @@ fn declaration(alloc: Global, variables: &Names, decl: &DeclText) -> Result<Decl
 }
 
 /// Appends declarations.
-fn declare(
+fn declare<'t>(
     alloc: Global,
     variables: &Names,
-    decls: &List<DeclText>,
+    decls: &'t List<DeclText>,
     out: &mut Vec<Decl>,
-) -> Result<(), Memory>
-    requires room { length variables.now < 2 ^ 32 }
-    requires known { All (ClockKnown variables.now) decls.now }
-    ensures { OnOk result ((before : List OneDecl) → Along (IsDeclared variables.now) before out.old.items → Along (IsDeclared variables.now) (before ++ decls.now) out.new.items) }
+) -> Result<(), Or<&'t str>>
+    ensures told { Tells (unknown_declared variables.now decls.now) result }
+    ensures named { OnOk result ((before : List OneDecl) → Along (IsDeclared variables.now) before out.old.items → Along (IsDeclared variables.now) (before ++ decls.now) out.new.items) }
 {
     'decls: for decl in decls.as_slice() {
         out.push(declaration(alloc, variables, decl)?)?;
@@ -55,40 +61,66 @@ fn declare(
     Ok(())
 }
 
-fn equation(
+fn equation<'t>(
     alloc: Global,
     variables: &Names,
     functions: &Names,
-    eq: &EqText,
-) -> Result<Equation, Memory>
-    requires few_variables { length variables.now < 2 ^ 32 }
-    requires few_functions { length functions.now < 2 ^ 32 }
-    requires left { HasNumber variables.now eq.now.0 }
-    requires known { IsKnown variables.now functions.now eq.now.1 }
-    ensures { IfOk result (λ e. IsEquation variables.now functions.now eq.now e) }
+    eq: &'t EqText,
+) -> Result<Equation, Or<&'t str>>
+    ensures told { Tells (unknown_equation variables.now functions.now eq.now) result }
+    ensures named { IfOk result (λ e. IsDraftEquation variables.now functions.now eq.now e) }
 {
-    let left = number(variables, eq.left().as_str());
+    let left = variables.find(eq.left().as_str())?;
     let right = expression(alloc, variables, functions, eq.right())?;
     Ok(Equation::new(left, right))
 }
 
-fn equations(
+fn equations<'t>(
     alloc: Global,
     variables: &Names,
     functions: &Names,
-    eqs: &List<EqText>,
-) -> Result<Vec<Equation>, Memory>
-    requires few_variables { length variables.now < 2 ^ 32 }
-    requires few_functions { length functions.now < 2 ^ 32 }
-    requires lefts { All (λ q. HasNumber variables.now q.0) eqs.now }
-    requires known { All (λ q. IsKnown variables.now functions.now q.1) eqs.now }
-    ensures { IfOk result (λ list. Along (IsEquation variables.now functions.now) eqs.now list.items) }
+    eqs: &'t List<EqText>,
+) -> Result<Vec<Equation>, Or<&'t str>>
+    ensures told { Tells (first_some (unknown_equation variables.now functions.now) eqs.now) result }
+    ensures named { IfOk result (λ list. Along (IsDraftEquation variables.now functions.now) eqs.now list.items) }
 {
     let mut list = Vec::with_capacity(alloc, eqs.len())?;
     'eqs: for eq in eqs.as_slice() {
         list.push(equation(alloc, variables, functions, eq)?)?;
     }
     Ok(list)
+}
+
+/// A function with the numbers of its names, before its other faults are looked for.
+#[derive(Drop)]
+pub struct Draft<'a> {
+    node: &'a NodeText,
+    decls: List<Decl>,
+    eqs: List<Equation>,
+}
+
+/// The function with its names replaced by numbers; refuses the first name that has none.
+pub fn draft_of<'a>(
+    alloc: Global,
+    functions: &Names,
+    scope: &Scope<'a>,
+) -> Result<Draft<'a>, Or<&'a str>>
+    ensures told { Tells (unknown_in functions.now scope.now) result }
+    ensures node { IfOk result (λ d. d.node.now ≡ scope.now) }
+    ensures draft { IfOk result (IsDraft functions.now) }
+{
+    let node = scope.node();
+    let variables = scope.variables();
+    let mut decls = Vec::new(alloc);
+    declare(alloc, variables, &node.ins, &mut decls)?;
+    declare(alloc, variables, &node.outs, &mut decls)?;
+    declare(alloc, variables, &node.locals, &mut decls)?;
+    let eqs = equations(alloc, variables, functions, &node.eqs)?;
+    Ok(Draft {
+        node,
+        decls: List::of(decls),
+        eqs: List::of(eqs),
+    })
 }
 
 /// As many numbers, from the first on.
@@ -103,26 +135,22 @@ fn count(alloc: Global, first: u32, n: u32) -> Result<Vec<u32>, Memory>
     Ok(list)
 }
 
-/// The function with its names replaced by numbers.
-pub fn function(alloc: Global, functions: &Names, scope: &Scope) -> Result<Func, Memory>
-    requires few_functions { length functions.now < 2 ^ 32 }
-    requires right { IsRight functions.now scope.now }
-    ensures { IfOk result (λ f. IsFunction functions.now scope.now f) }
-{
-    let node = scope.node();
-    let variables = scope.variables();
-    let mut decls = Vec::new(alloc);
-    declare(alloc, variables, &node.ins, &mut decls)?;
-    declare(alloc, variables, &node.outs, &mut decls)?;
-    declare(alloc, variables, &node.locals, &mut decls)?;
-    let inputs = node.ins.len() as u32;
-    let outs = count(alloc, inputs, node.outs.len() as u32)?;
-    let eqs = equations(alloc, variables, functions, &node.eqs)?;
-    Ok(Func::new(
-        node.name.copy()?,
-        List::of(decls),
-        inputs,
-        List::of(outs),
-        List::of(eqs),
-    ))
+impl<'a> Draft<'a> {
+    /// The function of a draft that turned out to be without a fault.
+    pub fn function(self, alloc: Global) -> Result<Func, Memory>
+        requires room { length self.node.now.ins + length self.node.now.outs < 2 ^ 32 }
+        requires good { GoodFunction (completed self) }
+        ensures { IfOk result (λ f. f ≡ completed self.entry) }
+    {
+        let node = self.node;
+        let inputs = node.ins.len() as u32;
+        let outs = count(alloc, inputs, node.outs.len() as u32)?;
+        Ok(Func::new(
+            node.name.copy()?,
+            self.decls,
+            inputs,
+            List::of(outs),
+            self.eqs,
+        ))
+    }
 }

@@ -4,10 +4,10 @@
 mod calls;
 mod checks;
 mod delays;
+mod drafts;
 mod expression;
 mod fault;
 mod function;
-mod known;
 pub mod laws;
 mod names;
 mod program;

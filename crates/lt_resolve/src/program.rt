@@ -1,32 +1,43 @@
 // From a tree to its program.
-ghost use Rattle.std.specs.Prelude.{◌<◌, ◌^◌, Ok, Err, length, MatchResult, IfOk};
+ghost use Rattle.std.specs.Prelude.{◌≡◌, ◌<◌, ◌^◌, Ok, Err, Some, length, MatchResult, IfOk};
 ghost use Rattle.lt_base.specs.Or.{ForFault};
-ghost use Rattle.lt_resolve.specs.Named.{Named};
+ghost use Rattle.lt_resolve.specs.Names.{number_of};
+ghost use Rattle.lt_resolve.specs.Named.{main, Named};
+ghost use Rattle.lt_resolve.specs.Known.{HasNumber};
+ghost use Rattle.lt_resolve.specs.Drafts.{AreDrafts};
 ghost use Rattle.lt_resolve.specs.Right.{IsRightTree};
 ghost use Rattle.lt_resolve.specs.Resolves.{Resolves};
 
 use crate::calls::check_calls;
 use crate::checks::{check_functions, check_limits};
-use crate::expression::number;
+use crate::drafts::drafts;
 use crate::fault::NameFault;
-use crate::function::function;
+use crate::function::Draft;
+use crate::names::Names;
 use crate::tables::Tables;
 use lt_base::{List, Memory, Or, Program};
 use lt_syntax::Tree;
 use std::alloc::Global;
 
-/// The program of a tree without a fault.
-fn program(alloc: Global, tables: &Tables) -> Result<Program, Memory>
-    requires { IsRightTree tables.now }
+/// The number of `main`.
+fn main_of(functions: &Names) -> u32
+    requires { HasNumber functions.now main }
+    ensures { number_of functions.now main ≡ Some result }
+{
+    functions.number("main").unwrap()
+}
+
+/// The program of the drafts of a tree without a fault.
+fn program(alloc: Global, tables: &Tables, drafts: Vec<Draft>) -> Result<Program, Memory>
+    requires drafts { AreDrafts tables.now drafts.items }
+    requires right { IsRightTree tables.now }
     ensures { IfOk result (λ p. Named tables.now p) }
 {
-    let scopes = tables.scopes();
-    let functions = tables.functions();
-    let mut funcs = Vec::with_capacity(alloc, scopes.len())?;
-    'scopes: for scope in scopes {
-        funcs.push(function(alloc, functions, scope)?)?;
+    let mut funcs = Vec::with_capacity(alloc, drafts.len())?;
+    'drafts: for draft in drafts {
+        funcs.push(draft.function(alloc)?)?;
     }
-    Ok(Program::new(List::of(funcs), number(functions, "main")))
+    Ok(Program::new(List::of(funcs), main_of(tables.functions())))
 }
 
 /// The program of the tree, in which each name is replaced by the number of its declaration, or the tree's first fault.
@@ -39,8 +50,9 @@ pub fn resolve(alloc: Global, t: &Tree) -> Result<Program, Or<NameFault>>
 {
     t.kept();
     let tables = Tables::of(alloc, t)?;
+    let drafts = drafts(alloc, &tables)?;
     check_functions(alloc, &tables)?;
     check_calls(alloc, &tables)?;
     check_limits(alloc, &tables)?;
-    Ok(program(alloc, &tables)?)
+    Ok(program(alloc, &tables, drafts)?)
 }

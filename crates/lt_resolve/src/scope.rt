@@ -2,13 +2,12 @@
 ghost use Rattle.std.specs.Prelude.{◌≡◌, ◌++◌, ◌∷◌, [], ◌^◌, ◌-◌, min, ℕ, List, IfOk, OnOk, length, map};
 ghost use Rattle.lt_resolve.specs.Names.{among, if_missing, if_among, repeated, first_some};
 ghost use Rattle.lt_resolve.specs.Scopes.{names_of, variables, lefts};
-ghost use Rattle.lt_resolve.specs.Faults.{unknown_clock, unknown_declared, unknown_equation, unknown_in, no_equation_in, two_equations_in, input_equation_in, size};
+ghost use Rattle.lt_resolve.specs.Faults.{no_equation_in, two_equations_in, input_equation_in, size};
 ghost use Rattle.lt_resolve.specs.Told.{Tells};
 
 use crate::delays::all_delays;
-use crate::known::known;
 use crate::names::Names;
-use lt_base::{List, Memory, Name, Or};
+use lt_base::{List, Memory, Or};
 use lt_syntax::{DeclText, EqText, NodeText};
 use std::alloc::Global;
 use std::marker::Model;
@@ -53,7 +52,7 @@ fn declare<'a>(names: &mut Names<'a>, decls: &'a List<DeclText>) -> Result<(), O
 fn table_of_lefts<'a>(alloc: Global, eqs: &'a List<EqText>) -> Result<Names<'a>, Memory>
     ensures { IfOk result (λ names. (x : List ℕ) → among names x ≡ among (map (λ q. q.0) eqs.now) x) }
 {
-    let mut names = Names::new(alloc);
+    let mut names = Names::with_capacity(alloc, eqs.len())?;
     'eqs: for eq in eqs.as_slice() {
         names.insert(eq.left().as_str())?;
     }
@@ -70,55 +69,15 @@ fn all_among<'t>(names: &Names, decls: &'t List<DeclText>) -> Result<(), Or<&'t 
     Ok(())
 }
 
-fn clock_known<'t>(variables: &Names, clock: &'t List<(Name, bool)>) -> Result<(), Or<&'t str>>
-    ensures { Tells (unknown_clock variables.now clock.now) result }
-{
-    'pairs: for pair in clock.as_slice() {
-        variables.check(pair.0.as_str())?;
-    }
-    Ok(())
-}
-
-fn clocks_known<'t>(variables: &Names, decls: &'t List<DeclText>) -> Result<(), Or<&'t str>>
-    ensures { Tells (unknown_declared variables.now decls.now) result }
-{
-    'decls: for decl in decls.as_slice() {
-        clock_known(variables, &decl.clock)?;
-    }
-    Ok(())
-}
-
-fn equation_known<'t>(
-    variables: &Names,
-    functions: &Names,
-    eq: &'t EqText,
-) -> Result<(), Or<&'t str>>
-    ensures { Tells (unknown_equation variables.now functions.now eq.now) result }
-{
-    variables.check(eq.left().as_str())?;
-    known(variables, functions, eq.right())
-}
-
-fn equations_known<'t>(
-    variables: &Names,
-    functions: &Names,
-    eqs: &'t List<EqText>,
-) -> Result<(), Or<&'t str>>
-    ensures { Tells (first_some (unknown_equation variables.now functions.now) eqs.now) result }
-{
-    'eqs: for eq in eqs.as_slice() {
-        equation_known(variables, functions, eq)?;
-    }
-    Ok(())
-}
-
 impl<'a> Scope<'a> {
     /// The function with its variables; refuses a variable that was declared before.
     pub fn of(alloc: Global, node: &'a NodeText) -> Result<Scope<'a>, Or<&'a str>>
         ensures told { Tells (repeated [] (variables node.now)) result }
         ensures ok { IfOk result (λ s. s ≡ node.now) }
     {
-        let mut variables = Names::new(alloc);
+        let many = node.ins.len().saturating_add(node.outs.len());
+        let many = many.saturating_add(node.locals.len());
+        let mut variables = Names::with_capacity(alloc, many)?;
         declare(&mut variables, &node.ins)?;
         declare(&mut variables, &node.outs)?;
         declare(&mut variables, &node.locals)?;
@@ -137,16 +96,6 @@ impl<'a> Scope<'a> {
         &self.variables
     }
 
-    /// Refuses the first name in it that is not declared.
-    pub fn unknown(&self, functions: &Names) -> Result<(), Or<&'a str>>
-        ensures { Tells (unknown_in functions.now self.now) result }
-    {
-        clocks_known(&self.variables, &self.node.ins)?;
-        clocks_known(&self.variables, &self.node.outs)?;
-        clocks_known(&self.variables, &self.node.locals)?;
-        equations_known(&self.variables, functions, &self.node.eqs)
-    }
-
     /// Refuses the first output or local without an equation.
     pub fn no_equation(&self, alloc: Global) -> Result<(), Or<&'a str>>
         ensures { Tells (no_equation_in self.now) result }
@@ -160,7 +109,7 @@ impl<'a> Scope<'a> {
     pub fn two_equations(&self, alloc: Global) -> Result<(), Or<&'a str>>
         ensures { Tells (two_equations_in self.now) result }
     {
-        let mut names = Names::new(alloc);
+        let mut names = Names::with_capacity(alloc, self.node.eqs.len())?;
         'eqs: for eq in self.node.eqs.as_slice() {
             let name = eq.left().as_str();
             if !names.insert(name)? {
@@ -174,7 +123,7 @@ impl<'a> Scope<'a> {
         ensures { result ≡ among (names_of self.now.ins) name.now }
     {
         match self.variables.number(name) {
-            Some(i) => i < self.node.ins.len(),
+            Some(i) => (i as usize) < self.node.ins.len(),
             None => false,
         }
     }

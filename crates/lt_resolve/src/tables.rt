@@ -82,7 +82,7 @@ impl<'a> Tables<'a> {
         ensures tree { IfOk result (λ tables. tables ≡ t.now) }
     {
         let nodes = t.nodes.as_slice();
-        let mut functions = Names::new(alloc);
+        let mut functions = Names::with_capacity(alloc, nodes.len())?;
         let mut scopes = Vec::with_capacity(alloc, nodes.len())?;
         'nodes: for (i, node) in nodes.iter().enumerate() {
             match next(alloc, &mut functions, node) {

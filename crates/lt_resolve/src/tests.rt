@@ -155,22 +155,67 @@ fn repeated(alloc: Global, part: &str, times: u32, rest: &str) -> Result<String,
     Ok(text)
 }
 
-#[test]
-fn limits(rt: HostRuntime) -> Result<(), Fail> {
-    let alloc = rt.alloc();
+/// As many functions, of which the last is `main`.
+fn functions(alloc: Global, many: u32) -> Result<String, AllocError> {
     let nodes = repeated(
         alloc,
         "node f",
-        64,
+        many.saturating_sub(1),
         "(a: int) returns (b: int) let b = a; tel ",
     )?;
-    let more = format!(in alloc; "{nodes}node main(x: int) returns (y: int) let y = x; tel")?;
-    assert!(rt; answers(alloc, more.as_str(), 10, 0, "functions"));
-    let names = repeated(alloc, ", x", 64, "")?;
-    let inputs = format!(in alloc; "node main(x{names}: int) returns (y: int) let y = x; tel")?;
-    assert!(rt; answers(alloc, inputs.as_str(), 10, 0, "inputs"));
-    let lefts = repeated(alloc, " x", 64, " = 1;")?;
-    let outputs = format!(in alloc; "node main() returns (y{names}: int) let y = 1;{lefts} tel")?;
-    assert!(rt; answers(alloc, outputs.as_str(), 10, 0, "outputs"));
+    format!(in alloc; "{nodes}node main(x: int) returns (y: int) let y = x; tel")
+}
+
+/// A function of as many inputs.
+fn inputs(alloc: Global, many: u32) -> Result<String, AllocError> {
+    let names = repeated(alloc, ", x", many.saturating_sub(1), "")?;
+    format!(in alloc; "node main(x{names}: int) returns (y: int) let y = x; tel")
+}
+
+/// A function of as many outputs.
+fn outputs(alloc: Global, many: u32) -> Result<String, AllocError> {
+    let names = repeated(alloc, ", x", many.saturating_sub(1), "")?;
+    let lefts = repeated(alloc, " x", many.saturating_sub(1), " = 1;")?;
+    format!(in alloc; "node main() returns (y{names}: int) let y = 1;{lefts} tel")
+}
+
+/// A function of an input, an output with this right side, and as many locals with another one.
+fn locals(alloc: Global, many: u32, output: &str, local: &str) -> Result<String, AllocError> {
+    let names = repeated(alloc, ", v", many, "")?;
+    let right = format!(in alloc; " = {local};")?;
+    let lefts = repeated(alloc, " v", many, right.as_str())?;
+    format!(in alloc;
+        "node main(x: int) returns (y: int) var v{names}: int; let y = {output}; v = x;{lefts} tel"
+    )
+}
+
+#[test]
+fn limits(rt: HostRuntime) -> Result<(), Fail> {
+    let alloc = rt.alloc();
+    assert!(rt; answers(alloc, functions(alloc, 64)?.as_str(), 0, 0, ""));
+    assert!(rt; answers(alloc, functions(alloc, 65)?.as_str(), 10, 0, "functions"));
+    assert!(rt; answers(alloc, inputs(alloc, 64)?.as_str(), 0, 0, ""));
+    assert!(rt; answers(alloc, inputs(alloc, 65)?.as_str(), 10, 0, "inputs"));
+    assert!(rt; answers(alloc, outputs(alloc, 64)?.as_str(), 0, 0, ""));
+    assert!(rt; answers(alloc, outputs(alloc, 65)?.as_str(), 10, 0, "outputs"));
+    Ok(())
+}
+
+#[test]
+fn limit_of_variables_and_delays(rt: HostRuntime) -> Result<(), Fail> {
+    let alloc = rt.alloc();
+    let word = "variables";
+    // x, y, v and 4,093 more
+    let text = locals(alloc, 4093, "x", "x")?;
+    assert!(rt; answers(alloc, text.as_str(), 0, 0, ""));
+    let text = locals(alloc, 4094, "x", "x")?;
+    assert!(rt; answers(alloc, text.as_str(), 10, 0, word));
+    let text = locals(alloc, 4093, "0 fby x", "x")?;
+    assert!(rt; answers(alloc, text.as_str(), 10, 0, word));
+    // x, y, v, 2,045 more with a delay each, and three delays of y
+    let text = locals(alloc, 2045, "x fby (0 fby x)", "0 fby x")?;
+    assert!(rt; answers(alloc, text.as_str(), 0, 0, ""));
+    let text = locals(alloc, 2045, "x fby (x fby x)", "0 fby x")?;
+    assert!(rt; answers(alloc, text.as_str(), 10, 0, word));
     Ok(())
 }

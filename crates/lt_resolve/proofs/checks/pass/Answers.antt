@@ -1,15 +1,13 @@
 use Rattle.std.proofs.Common.{◌≡◌, suc, ◌-◌, Option, List, refl}
 use Rattle.lt_syntax.specs.declared.tree.NodeText.{NodeText}
 use Rattle.lt_resolve.specs.declared.checks.Check.{Check}
-use Rattle.lt_resolve.specs.declared.checks.Check.TheVariants.{Unknown, NoEquation, TwoEquations, EquationForInput, Variables, Inputs, Outputs}
-use Rattle.lt_resolve.specs.Scopes.{functions}
+use Rattle.lt_resolve.specs.declared.checks.Check.TheVariants.{NoEquation, TwoEquations, EquationForInput, Variables, Inputs, Outputs}
 use Rattle.lt_resolve.specs.Faults.{Occurrence, first_in, First, number}
 use Rattle.lt_resolve.specs.Checks.{found, kind_of, IsWhole}
 use Rattle.lt_resolve.proofs.Order.{passes, shows_as}
 use Rattle.lt_resolve.proofs.checks.pass.Goals as goal
 
-whole_first : (check : Check) → IsWhole check → (t : List NodeText) (o : Option Occurrence) → o ≡ first_in (λ _. found check (functions t)) 0 t → First t (kind_of check) o
-whole_first Unknown w t o h = h
+whole_first : (check : Check) → IsWhole check → (t : List NodeText) (o : Option Occurrence) → o ≡ first_in (λ _. found check) 0 t → First t (kind_of check) o
 whole_first NoEquation w t o h = h
 whole_first TwoEquations w t o h = h
 whole_first EquationForInput w t o h = h
@@ -18,7 +16,6 @@ whole_first Inputs w t o h = absurd w
 whole_first Outputs w t o h = absurd w
 
 next_number : (check : Check) → number (kind_of check) ≡ suc (number (kind_of check) - 1)
-next_number Unknown = refl
 next_number NoEquation = refl
 next_number TwoEquations = refl
 next_number EquationForInput = refl

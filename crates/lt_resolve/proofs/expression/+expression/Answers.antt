@@ -1,40 +1,59 @@
-use Rattle.std.proofs.Common.{◌≡◌, length, map, sym, ap, subst, ◌∙◌, arith, rules, vec_len}
-use Rattle.std.proofs.lemmas.Grind.{common_steps}
-use Rattle.lt_syntax.specs.declared.term.Term.{the_lemmas}
-use Rattle.lt_base.specs.Expression.{shape}
+use Rattle.std.proofs.Common.{◌≡◌, length, map, sym, ap, subst, ◌∙◌, arith, vec_len}
+use Rattle.lt_base.specs.Expression.{shape, arguments_of}
 use Rattle.lt_syntax.specs.Tree.{tms}
 use Rattle.lt_syntax.specs.Views.{tm_of}
-use Rattle.lt_resolve.specs.Names.{number_of}
-use Rattle.lt_resolve.specs.Uses.{count}
-use Rattle.lt_resolve.specs.Named.{operator_of, IsNamed}
-use Rattle.lt_resolve.specs.Known.{IsCallable, IsKnown}
+use Rattle.lt_resolve.specs.Uses.{unknown, count}
+use Rattle.lt_resolve.specs.Told.{Tells}
+use Rattle.lt_resolve.specs.Known.{StandsFor, IsTranslated, AreTranslated}
 use Rattle.lt_resolve.proofs.Pairs.{along_more, along_all}
+use Rattle.lt_resolve.proofs.Lists.{some_next, some_none}
+use Rattle.lt_resolve.proofs.Told.{tells_at}
 use Rattle.lt_resolve.proofs.Sites.{count_is}
-use Rattle.lt_resolve.proofs.Terms.{tm_of-Call, named_arguments, known_argument}
+use Rattle.lt_resolve.proofs.Terms.{tm_of-Call, unknown_arguments, translated_arguments, translated_call}
 use Rattle.lt_resolve.proofs.expression.+expression.Goals as goal
 
-pub arguments-expression-requires : goal.arguments-expression-requires
-arguments-expression-requires t c =
-    let known = known_argument c.args.variables.now c.args.functions.now c.args.args.now c.arguments.a-index c.a-item.result c.arguments-test.true c.a-item.is c.requires.known in
-    (first_of (search (rules, the_lemmas), grind (arith, common_steps), grind (arith, the_lemmas), search (rules, the_lemmas, arith) depth 9), (c.requires.few_variables, (c.requires.few_functions, known)))
+pub arguments-returns-in_err-expression-clause-told : goal.arguments-returns-in_err-expression-clause-told
+arguments-returns-in_err-expression-clause-told t c =
+    let vars = c.args.variables.now in
+    let funcs = c.args.functions.now in
+    subst
+    (λ o. Tells o c.from_residual-in_err-expression.result)
+    (unknown_arguments vars funcs c.args.args.now)
+    (tells_at (λ a. unknown vars funcs (tm_of a)) c.args.args.now c.arguments.a-index c.a-item.result c.in_err-expression.field-0.0 c.from_residual-in_err-expression.result c.arguments-test.true c.a-item.is c.arguments.invariant.rest c.from_residual-in_err-expression.ensures.1 c.in_err-expression.ensures.told)
 
 pub arguments-arguments-preserved : goal.arguments-arguments-preserved
-arguments-arguments-preserved t c = record {
-  many = (let many = c.arguments.invariant.many in let len = c.in_ok-push.ensures.len in omega (arith, many, len));
-  along = along_more (λ a e. IsNamed c.args.variables.now c.args.functions.now (tm_of a) (shape e)) c.args.args.now c.arguments.a-index c.a-item.result c.arguments.exprs.items c.push.new.self.items c.in_ok-expression.field-0
-      c.arguments-test.true c.a-item.is c.arguments.invariant.along c.in_ok-expression.ensures c.in_ok-push.ensures.items;
-}
+arguments-arguments-preserved t c =
+    let vars = c.args.variables.now in
+    let funcs = c.args.functions.now in
+    record {
+      rest = some_next (λ a. unknown vars funcs (tm_of a)) c.args.args.now c.arguments.a-index c.a-item.result c.arguments-test.true c.a-item.is c.in_ok-expression.ensures.told c.arguments.invariant.rest;
+      many = (let many = c.arguments.invariant.many in let len = c.in_ok-push.ensures.len in omega (arith, many, len));
+      along = along_more (λ a e. IsTranslated vars funcs (tm_of a) (shape e)) c.args.args.now c.arguments.a-index c.a-item.result c.arguments.exprs.items c.push.new.self.items c.in_ok-expression.field-0
+          c.arguments-test.true c.a-item.is c.arguments.invariant.along c.in_ok-expression.ensures.named c.in_ok-push.ensures.items;
+    }
+
+pub arguments-returns-clause-told : goal.arguments-returns-clause-told
+arguments-returns-clause-told t c =
+    let vars = c.args.variables.now in
+    let funcs = c.args.functions.now in
+    sym (unknown_arguments vars funcs c.args.args.now)
+    ∙ some_none (λ a. unknown vars funcs (tm_of a)) c.args.args.now c.arguments.a-index c.arguments-test.false c.arguments.invariant.rest
 
 pub arguments-returns-clause-named : goal.arguments-returns-clause-named
 arguments-returns-clause-named t c =
-    named_arguments c.args.variables.now c.args.functions.now c.args.args.now c.arguments.exprs.items
-    (along_all (λ a e. IsNamed c.args.variables.now c.args.functions.now (tm_of a) (shape e)) c.args.args.now c.arguments.a-index c.arguments.exprs.items c.arguments-test.false c.arguments.invariant.along)
+    translated_arguments c.args.variables.now c.args.functions.now c.args.args.now c.arguments.exprs.items
+    (along_all (λ a e. IsTranslated c.args.variables.now c.args.functions.now (tm_of a) (shape e)) c.args.args.now c.arguments.a-index c.arguments.exprs.items c.arguments-test.false c.arguments.invariant.along)
 
-pub expression-call-requires-clause-callable : goal.expression-call-requires-clause-callable
-expression-call-requires-clause-callable t c =
+pub expression-returns-in_ok-call-in-Call-clause-named : goal.expression-returns-in_ok-call-in-Call-clause-named
+expression-returns-in_ok-call-in-Call-clause-named t c =
+    let vars = c.args.variables.now in
     let funcs = c.args.functions.now in
-    let known = subst (IsKnown c.args.variables.now funcs) (ap tm_of c.in-Call.is ∙ tm_of-Call c.in-Call.f c.in-Call.args) c.requires.known in
-    let many : count (tms (map tm_of c.in-Call.args.items)) ≡ vec_len c.in_ok-args-in-Call.args =
-    count_is c.in-Call.args.items ∙ ap length (sym c.deref-in-Call.ensures.value) ∙ sym c.in_ok-args-in-Call.ensures.len in
-    subst (λ f. IsCallable (number_of funcs f) (operator_of f) (vec_len c.in_ok-args-in-Call.args)) (sym c.as_str-in-Call.ensures)
-    (subst (IsCallable (number_of funcs c.in-Call.f) (operator_of c.in-Call.f)) many known.0)
+    let args = c.in-Call.args.items in
+    let es = arguments_of (map shape c.in_ok-args-in-Call.args.items) in
+    let callee = c.in_ok-callee-in-Call.callee in
+    let e = shape c.in_ok-call-in-Call.field-0 in
+    let many : vec_len c.in_ok-args-in-Call.args ≡ count (tms (map tm_of args)) = c.in_ok-args-in-Call.ensures.len ∙ ap length c.deref-in-Call.ensures.value ∙ sym (count_is args) in
+    let translated = subst (λ l. AreTranslated vars funcs (tms (map tm_of l)) es) c.deref-in-Call.ensures.value c.in_ok-args-in-Call.ensures.named in
+    let stands = subst (λ x. StandsFor funcs x callee) c.as_str-in-Call.ensures c.in_ok-callee-in-Call.ensures.found in
+    subst (λ a. IsTranslated vars funcs a e) (sym (ap tm_of c.in-Call.is ∙ tm_of-Call c.in-Call.f c.in-Call.args))
+    (translated_call vars funcs c.in-Call.f (tms (map tm_of args)) (vec_len c.in_ok-args-in-Call.args) es many translated callee e stands c.in_ok-call-in-Call.ensures)

@@ -1,7 +1,7 @@
-use Rattle.std.proofs.Common.{take}
+use Rattle.std.proofs.Common.{map}
 use Rattle.lt_resolve.specs.Scopes.{functions}
 use Rattle.lt_resolve.specs.Named.{IsFunction, Along}
 use Rattle.lt_resolve.proofs.program.program.Given as goal
 
-abbrev pub invariant-scopes : goal.invariant-scopes
-invariant-scopes l = Along (IsFunction (functions l.tables)) (take l.scope-index l.scopes) l.funcs.items
+abbrev pub invariant-drafts : goal.invariant-drafts
+invariant-drafts l = Along (IsFunction (functions l.tables)) (map (λ d. d.node.now) l.yielded) l.funcs.items

@@ -8,8 +8,8 @@ use Rattle.lt_resolve.proofs.Rights.{right_tree}
 use Rattle.lt_resolve.proofs.Resolved.{is_resolved}
 use Rattle.lt_resolve.proofs.program.resolve.Goals as goal
 
-pub program-requires : goal.program-requires
-program-requires c =
+pub program-requires-clause-right : goal.program-requires-clause-right
+program-requires-clause-right c =
     let t = c.in_ok-tables.tables in
     right_tree t (subst IsSpelled (sym c.in_ok-tables.ensures.tree) c.kept.ensures) (all_cleared t c.in_ok-check_limits.ensures)
 
