@@ -5,19 +5,21 @@ use Rattle.lt_answer.specs.Answered.{Verdict}
 use Rattle.lt_verdict.proofs.Decided.{HasOneKind}
 use Rattle.lt_answer.specs.World.{IsCalm, Blame, Content, Reading, Linking, Blames}
 use Rattle.lt_answer.specs.Answered.{RefusesReading}
+use Rattle.lt_run.specs.declared.fault.CommandFault.{CommandFault}
+use Rattle.lt_run.specs.declared.fault.CommandFault.TheVariants.{Read}
 use Rattle.lt_cli.specs.declared.refusal.Refusal.{Refusal}
 use Rattle.lt_cli.specs.declared.status.Status.{Status}
 use Rattle.lt_cli.specs.declared.status.Status.TheVariants as status
 use Rattle.lt_cli.specs.Blamed.{blame_of}
-use Rattle.lt_cli.specs.Texts.{status_of, refusal_status, line_of, out_text, err_text}
+use Rattle.lt_cli.specs.Texts.{status_of, refusal_status, fault_status, line_of, out_text, err_text}
 use Rattle.lt_words.specs.Reading.{Said, command_of}
 use Rattle.lt_cli.specs.Commands.{text_verdict, command_verdict, asked_verdict, words_verdict}
 use Rattle.lt_cli.specs.Objects.{Objects, world_of}
 use Rattle.lt_cli.specs.Ran.{Ran, Ends, Printed, Reported, OutcomeBlames}
 use Rattle.lt_cli.specs.Ran.{printed, unprinted, both_whole, out_broke, err_broke, both_short}
 use Rattle.lt_cli.specs.Clauses.{IsMissingExact, IsOutsideCaused, IsWriteCaused}
-use Rattle.lt_cli.proofs.Refusals.{not_write, outside_blames, reading_line, not_linking}
-use Rattle.lt_cli.proofs.Exact.{fault_status}
+use Rattle.lt_cli.proofs.Refusals.{not_write, outside_blames, blamed_reads, reading_line, not_linking}
+use Rattle.lt_cli.proofs.Exact.{refused_status}
 
 -- a failed read
 
@@ -74,26 +76,25 @@ write_caused V old new ends ran at = write_ends V old new ends ran.outcome at
 
 -- a missing file
 
-module _ {T E : Type 0} (raise : E → Refusal) (shown : T → List ℕ) (V : Verdict T E) (one : HasOneKind (λ e. refusal_status (raise e)) V) (missing : E)
-    (is_read : refusal_status (raise missing) ≡ status.Outside) (reads : (e : E) → blame_of (raise e) ≡ Reading → e ≡ missing) (old new : Objects) where
+module _ {T : Type 0} (shown : T → List ℕ) (V : Verdict T CommandFault) (one : HasOneKind fault_status V) (old new : Objects) where
   -- a refusal with this blame, where the missing file is right
   blamed_rose : (r : Refusal) (whose : Blame) → blame_of r ≡ whose → Blames (world_of old) (world_of new) whose → (IsCalm (world_of old) (world_of new) → refusal_status r ≡ status.Outside) → old.files.faults < new.files.faults
   blamed_rose r Content is blamed right = let reading = outside_blames r (right blamed) in let wrong : Content ≡ Reading = sym is ∙ reading in cc
   blamed_rose r Reading is blamed right = blamed.0
   blamed_rose r Linking is blamed right = absurd (not_linking r is)
 
-  outcome_rose : (outcome : Result (List ℕ) Refusal) → OutcomeBlames old new outcome → (IsCalm (world_of old) (world_of new) → text_verdict raise shown V outcome) → V (Err missing) → old.files.faults < new.files.faults
-  outcome_rose (Ok text) cause right is = let wrong : status.Ok ≡ status.Outside = fault_status raise shown V one (Ok text) missing (right cause) is ∙ is_read in cc
-  outcome_rose (Err r) cause right is = blamed_rose r (blame_of r) refl cause (λ calm. fault_status raise shown V one (Err r) missing (right calm) is ∙ is_read)
+  outcome_rose : (outcome : Result (List ℕ) Refusal) → OutcomeBlames old new outcome → (IsCalm (world_of old) (world_of new) → text_verdict shown V outcome) → V (Err Read) → old.files.faults < new.files.faults
+  outcome_rose (Ok text) cause right is = let wrong : status.Ok ≡ status.Outside = refused_status shown V one (Ok text) Read (right cause) is in cc
+  outcome_rose (Err r) cause right is = blamed_rose r (blame_of r) refl cause (λ calm. refused_status shown V one (Err r) Read (right calm) is)
 
-  ends_rose : (ends : Status) → ends ≢ status.Memory → IsTrue old.files.told → Ends (text_verdict raise shown V) old new ends → V (Err missing) → old.files.faults < new.files.faults
+  ends_rose : (ends : Status) → ends ≢ status.Memory → IsTrue old.files.told → Ends (text_verdict shown V) old new ends → V (Err Read) → old.files.faults < new.files.faults
   ends_rose ends enough told (printed p) is = outcome_rose p.outcome p.cause (p.right told) is
   ends_rose ends enough told (unprinted p) is = absurd (enough p.no_memory)
 
-  refused_missing : RefusesReading blame_of (text_verdict raise shown V) → V (Err missing)
-  refused_missing (r, blamed, right) = subst (λ e. V (Err e)) (reads right.0 (sym (ap blame_of right.2) ∙ blamed)) right.1
+  refused_missing : RefusesReading blame_of (text_verdict shown V) → V (Err Read)
+  refused_missing (r, blamed, right) = subst (λ f. V (Err f)) (blamed_reads right.0 (sym (ap blame_of right.2) ∙ blamed)) right.1
 
-  pub missing_exact : (ends : Status) → IsTrue old.files.told → IsTrue old.files.sound → ends ≢ status.Memory → Ran (text_verdict raise shown V) old new ends → IsMissingExact missing V old new
+  pub missing_exact : (ends : Status) → IsTrue old.files.told → IsTrue old.files.sound → ends ≢ status.Memory → Ran (text_verdict shown V) old new ends → IsMissingExact V old new
   missing_exact ends told sound enough ran = (λ rose. refused_missing (ran.sound told sound rose), λ is. ends_rose ends enough told ran.outcome is)
 
 -- the verdict of the command that the words say

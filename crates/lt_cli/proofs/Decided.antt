@@ -1,20 +1,28 @@
 -- All right outcomes of a command have one status.
 use Rattle.std.proofs.Common.{◌≡◌, ℕ, List, Bool, Option, ap}
 use Rattle.std.specs.Prelude.{if◌then◌else◌}
+use Rattle.lt_front.specs.declared.fault.ProgramFault.{ProgramFault}
+use Rattle.lt_front.specs.Limits.{is_limit}
 use Rattle.lt_verdict.proofs.Decided.{HasOneKind}
 use Rattle.lt_run.specs.Loaded.{program_verdict, config_verdict}
-use Rattle.lt_run.specs.Run.{run_verdict}
-use Rattle.lt_run.proofs.OneRun.{run_decided as one_run}
+use Rattle.lt_run.specs.Run.{meaning_verdict, run_verdict}
+use Rattle.lt_run.proofs.OneRun.{meaning_decided as one_meaning, run_decided as one_run}
 use Rattle.lt_run.proofs.OneLoad.{program_decided, config_decided}
-use Rattle.lt_cli.specs.declared.refusal.Refusal.TheVariants.{Load, Run}
 use Rattle.lt_cli.specs.declared.status.Status.TheVariants as status
-use Rattle.lt_cli.specs.Texts.{refusal_status}
+use Rattle.lt_cli.specs.Texts.{fault_status, program_status}
 
-pub check_decided : (file : Option (List ℕ)) → HasOneKind (λ e. refusal_status (Load e)) (program_verdict file)
-check_decided file = (program_decided (λ e. refusal_status (Load e)) (λ e f same. ap (λ (b : Bool). if b then status.Limit else status.Program) same) file).faults
+-- whether a limit is passed is all that the status tells of a program's fault
+tells_limits : (e f : ProgramFault) → is_limit e ≡ is_limit f → program_status e ≡ program_status f
+tells_limits e f same = ap (λ (b : Bool). if b then status.Limit else status.Program) same
 
-pub plan_decided : (file : Option (List ℕ)) → HasOneKind (λ e. refusal_status (Load e)) (config_verdict file)
-plan_decided file = config_decided (λ e. refusal_status (Load e)) file
+pub check_decided : (file : Option (List ℕ)) → HasOneKind fault_status (program_verdict file)
+check_decided file = (program_decided fault_status tells_limits file).faults
 
-pub run_decided : (named : List ℕ → Option (List ℕ)) (program inputs schedule : List ℕ) → HasOneKind (λ e. refusal_status (Run e)) (run_verdict named program inputs schedule)
-run_decided named program inputs schedule = one_run (λ e. refusal_status (Run e)) named program inputs schedule
+pub meaning_decided : (named : List ℕ → Option (List ℕ)) (program inputs : List ℕ) → HasOneKind fault_status (meaning_verdict named program inputs)
+meaning_decided named program inputs = one_meaning fault_status tells_limits named program inputs
+
+pub run_decided : (named : List ℕ → Option (List ℕ)) (program inputs schedule : List ℕ) → HasOneKind fault_status (run_verdict named program inputs schedule)
+run_decided named program inputs schedule = one_run fault_status tells_limits named program inputs schedule
+
+pub plan_decided : (file : Option (List ℕ)) → HasOneKind fault_status (config_verdict file)
+plan_decided file = config_decided fault_status file

@@ -6,37 +6,39 @@ use Rattle.lt_verdict.proofs.Decided.{HasOneKind}
 use Rattle.lt_cli.specs.declared.refusal.Refusal.{Refusal}
 use Rattle.lt_cli.specs.declared.status.Status.{Status}
 use Rattle.lt_cli.specs.declared.status.Status.TheVariants as status
-use Rattle.lt_cli.specs.Texts.{status_of, refusal_status, line_of, out_text, err_text}
+use Rattle.lt_run.specs.declared.fault.CommandFault.{CommandFault}
+use Rattle.lt_cli.specs.declared.refusal.Refusal.TheVariants.{Command}
+use Rattle.lt_cli.specs.Texts.{status_of, refusal_status, fault_status, line_of, out_text, err_text}
 use Rattle.lt_cli.specs.Commands.{text_verdict}
 use Rattle.lt_cli.specs.Objects.{Objects}
 use Rattle.lt_cli.specs.Clauses.{TookLine, TookText, IsExact}
 use Rattle.lt_cli.proofs.Gave.{Gave}
 use Rattle.lt_cli.proofs.Refusals.{not_ok}
 
-module _ {T E : Type 0} (raise : E → Refusal) (shown : T → List ℕ) (V : Verdict T E) (one : HasOneKind (λ e. refusal_status (raise e)) V) where
+module _ {T : Type 0} (shown : T → List ℕ) (V : Verdict T CommandFault) (one : HasOneKind fault_status V) where
   -- a value that is right gives a text
-  pub text_status : (outcome : Result (List ℕ) Refusal) (x : T) → text_verdict raise shown V outcome → V (Ok x) → status_of outcome ≡ status.Ok
+  pub text_status : (outcome : Result (List ℕ) Refusal) (x : T) → text_verdict shown V outcome → V (Ok x) → status_of outcome ≡ status.Ok
   text_status (Ok text) x right is = refl
   text_status (Err r) x right is = absurd (one.not_both right.0 x right.1 is)
 
   -- a fault that is right has the outcome's status
-  pub fault_status : (outcome : Result (List ℕ) Refusal) (e : E) → text_verdict raise shown V outcome → V (Err e) → status_of outcome ≡ refusal_status (raise e)
-  fault_status (Ok text) e right is = absurd (one.not_both e right.0 is right.1)
-  fault_status (Err r) e right is = ap refusal_status right.2 ∙ one.one_kind right.0 e right.1 is
+  pub refused_status : (outcome : Result (List ℕ) Refusal) (f : CommandFault) → text_verdict shown V outcome → V (Err f) → status_of outcome ≡ fault_status f
+  refused_status (Ok text) f right is = absurd (one.not_both f right.0 is right.1)
+  refused_status (Err r) f right is = ap refusal_status right.2 ∙ one.one_kind right.0 f right.1 is
 
-  shows : (outcome : Result (List ℕ) Refusal) → text_verdict raise shown V outcome → status_of outcome ≡ status.Ok → (x : T) × V (Ok x) × (outcome ≡ Ok (shown x))
+  shows : (outcome : Result (List ℕ) Refusal) → text_verdict shown V outcome → status_of outcome ≡ status.Ok → (x : T) × V (Ok x) × (outcome ≡ Ok (shown x))
   shows (Ok text) right is = (right.0, right.1, ap (λ (t : List ℕ). Ok t) right.2)
   shows (Err r) right is = absurd (not_ok r is)
 
-  refuses : (outcome : Result (List ℕ) Refusal) → text_verdict raise shown V outcome → (status_of outcome ≡ status.Ok → ⊥) → (e : E) × V (Err e) × (outcome ≡ Err (raise e))
+  refuses : (outcome : Result (List ℕ) Refusal) → text_verdict shown V outcome → (status_of outcome ≡ status.Ok → ⊥) → (f : CommandFault) × V (Err f) × (outcome ≡ Err (Command f))
   refuses (Ok text) right not = absurd (not refl)
   refuses (Err r) right not = (right.0, right.1, ap (λ (s : Refusal). Err s) right.2)
 
-  module _ (old new : Objects) (ends : Status) (g : Gave (text_verdict raise shown V) old new ends) where
+  module _ (old new : Objects) (ends : Status) (g : Gave (text_verdict shown V) old new ends) where
     shown_at : ends ≡ status.Ok → (x : T) × V (Ok x) × (g.outcome ≡ Ok (shown x))
     shown_at at = shows g.outcome g.right (sym g.status ∙ at)
 
-    refused_at : ends ≢ status.Ok → (e : E) × V (Err e) × (g.outcome ≡ Err (raise e))
+    refused_at : ends ≢ status.Ok → (f : CommandFault) × V (Err f) × (g.outcome ≡ Err (Command f))
     refused_at not = refuses g.outcome g.right (λ is. not (g.status ∙ is))
 
     text_taken : (text : List ℕ) → g.outcome ≡ Ok text → TookText text old new
@@ -54,13 +56,13 @@ module _ {T E : Type 0} (raise : E → Refusal) (shown : T → List ℕ) (V : Ve
     status_at : (r : Refusal) → g.outcome ≡ Err r → refusal_status r ≡ ends
     status_at r is = sym (g.status ∙ ap status_of is)
 
-    pub exact : IsExact raise shown V old new ends
+    pub exact : IsExact shown V old new ends
     exact = record {
       ok = (λ at. let s = shown_at at in (s.0, s.1), λ here. g.status ∙ text_status g.outcome here.0 g.right here.1);
       text = λ at. let s = shown_at at in (s.0, s.1, text_taken _ s.2);
       refused = λ code not. (
         λ at. let s = refused_at (λ is. not (sym at ∙ is)) in (s.0, s.1, status_at _ s.2 ∙ at),
-        λ here. g.status ∙ fault_status g.outcome here.0 g.right here.1 ∙ here.2,
+        λ here. g.status ∙ refused_status g.outcome here.0 g.right here.1 ∙ here.2,
       );
       line = λ not. let s = refused_at not in (s.0, s.1, status_at _ s.2, line_taken _ s.2);
     }

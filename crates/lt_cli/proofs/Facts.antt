@@ -1,43 +1,43 @@
 -- What follows of a call of `ltta`, for the words.
 use Rattle.std.proofs.Common.{◌≡◌, ℕ, List, Option, Some, None, ◌++◌, Result, Ok, Err, refl, sym, ◌∙◌, ap, subst, append-nil}
+use Rattle.lt_answer.specs.Answered.{Verdict}
+use Rattle.lt_plan.specs.Text.{plan_of}
+use Rattle.lt_run.specs.declared.fault.CommandFault.{CommandFault}
+use Rattle.lt_run.specs.Loaded.{program_verdict, config_verdict}
+use Rattle.lt_run.specs.Run.{meaning_verdict, run_verdict}
+use Rattle.lt_words.specs.Reading.{Said, check, meaning, run, plan, command_of}
 use Rattle.lt_cli.specs.declared.refusal.Refusal.{Refusal}
-use Rattle.lt_cli.specs.declared.refusal.Refusal.TheVariants.{Words, Load, Run}
+use Rattle.lt_cli.specs.declared.refusal.Refusal.TheVariants.{Words}
 use Rattle.lt_cli.specs.declared.status.Status.{Status}
 use Rattle.lt_cli.specs.declared.status.Status.TheVariants as status
-use Rattle.lt_cli.specs.Texts.{status_of, refusal_status, line_of, out_text, err_text}
-use Rattle.lt_words.specs.Reading.{Said, check, meaning, run, plan, command_of}
-use Rattle.lt_cli.specs.Commands.{command_verdict, asked_verdict, words_verdict}
+use Rattle.lt_cli.specs.Texts.{status_of, refusal_status, out_text, err_text}
+use Rattle.lt_cli.specs.Commands.{text_verdict, checked_text, printed_text, command_verdict, asked_verdict, words_verdict}
 use Rattle.lt_cli.specs.Objects.{Objects}
-use Rattle.lt_cli.specs.Clauses.{AsksNothing, IsWordsExact}
+use Rattle.lt_cli.specs.Clauses.{IsWordsExact}
 use Rattle.lt_cli.proofs.Gave.{Gave}
-use Rattle.lt_cli.proofs.Refusals.{load_not_words, run_not_words}
+use Rattle.lt_cli.proofs.Refusals.{fault_not_words}
+
+-- a command has not the status of the words
+not_words : {T : Type 0} (shown : T → List ℕ) (V : Verdict T CommandFault) (outcome : Result (List ℕ) Refusal) → text_verdict shown V outcome → status_of outcome ≡ status.Words → ⊥
+not_words shown V (Ok text) right is = cc
+not_words shown V (Err r) right is = fault_not_words right.0 (sym (ap refusal_status right.2) ∙ is)
 
 -- the status of the words comes with no command
-asks_nothing : (named : List ℕ → Option (List ℕ)) (said : Option Said) (outcome : Result (List ℕ) Refusal) → asked_verdict named said outcome → status_of outcome ≡ status.Words → AsksNothing said
-asks_nothing named None outcome right is = tt
-asks_nothing named (Some (check program)) (Ok text) right is = cc
-asks_nothing named (Some (check program)) (Err r) right is = load_not_words right.0 (sym (ap refusal_status right.2) ∙ is)
-asks_nothing named (Some (meaning program inputs)) outcome right is = tt
-asks_nothing named (Some (run program inputs schedule)) (Ok text) right is = cc
-asks_nothing named (Some (run program inputs schedule)) (Err r) right is = run_not_words right.0 (sym (ap refusal_status right.2) ∙ is)
-asks_nothing named (Some (plan config horizon)) (Ok text) right is = cc
-asks_nothing named (Some (plan config horizon)) (Err r) right is = load_not_words right.0 (sym (ap refusal_status right.2) ∙ is)
-
--- words that say no command are refused
-refused_words : (named : List ℕ → Option (List ℕ)) (said : Option Said) (outcome : Result (List ℕ) Refusal) → asked_verdict named said outcome → AsksNothing said → outcome ≡ Err Words
-refused_words named None outcome right none = right
-refused_words named (Some (check program)) outcome right none = absurd none
-refused_words named (Some (meaning program inputs)) outcome right none = right
-refused_words named (Some (run program inputs schedule)) outcome right none = absurd none
-refused_words named (Some (plan config horizon)) outcome right none = absurd none
+asks_nothing : (named : List ℕ → Option (List ℕ)) (said : Option Said) (outcome : Result (List ℕ) Refusal) → asked_verdict named said outcome → status_of outcome ≡ status.Words → said ≡ None
+asks_nothing named None outcome right is = refl
+asks_nothing named (Some (check program)) outcome right is = absurd (not_words checked_text (program_verdict (named program)) outcome right is)
+asks_nothing named (Some (meaning program inputs)) outcome right is = absurd (not_words printed_text (meaning_verdict named program inputs) outcome right is)
+asks_nothing named (Some (run program inputs schedule)) outcome right is = absurd (not_words printed_text (run_verdict named program inputs schedule) outcome right is)
+asks_nothing named (Some (plan config horizon)) outcome right is = absurd (not_words (λ setup. plan_of setup horizon) (config_verdict (named config)) outcome right is)
 
 pub words_exact : (words : List (List ℕ)) (old new : Objects) (ends : Status) → Gave (words_verdict old.files.named words) old new ends → IsWordsExact words old new ends
 words_exact words old new ends g =
     let named = old.files.named in
-    let none : ends ≡ status.Words → AsksNothing (command_of words) = λ at. asks_nothing named (command_of words) g.outcome g.right (sym g.status ∙ at) in
-    let here : ends ≡ status.Words → g.outcome ≡ Err Words = λ at. refused_words named (command_of words) g.outcome g.right (none at) in
+    let none : ends ≡ status.Words → command_of words ≡ None = λ at. asks_nothing named (command_of words) g.outcome g.right (sym g.status ∙ at) in
+    let refused : command_of words ≡ None → g.outcome ≡ Err Words = λ is. subst (λ (s : Option Said). asked_verdict named s g.outcome) is g.right in
+    let here : ends ≡ status.Words → g.outcome ≡ Err Words = λ at. refused (none at) in
     record {
-      exact = (none, λ is. g.status ∙ ap status_of (refused_words named (command_of words) g.outcome g.right is));
+      exact = (none, λ is. g.status ∙ ap status_of (refused is));
       line = λ at. record {
         out = g.out ∙ ap (λ (o : Result (List ℕ) Refusal). old.out.taken ++ out_text o) (here at) ∙ append-nil old.out.taken;
         err = g.err ∙ ap (λ (o : Result (List ℕ) Refusal). old.err.taken ++ err_text o) (here at);

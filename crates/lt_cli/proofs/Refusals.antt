@@ -1,136 +1,122 @@
 -- Refusals, and their statuses.
-use Rattle.std.proofs.Common.{◌≡◌, List, Bool, true, false, refl}
+use Rattle.std.proofs.Common.{◌≡◌, ◌∙◌, List, Bool, true, false, refl, sym, ap}
 use Rattle.std.specs.Prelude.{codes, if◌then◌else◌}
 use Rattle.lt_front.specs.Limits.{is_limit}
 use Rattle.lt_answer.specs.World.{Blame, Content, Reading, Linking}
-use Rattle.lt_rows.specs.declared.fault.RowFault.TheVariants.{Header, Time, Kind, UnknownPlace, NotCsv, TooMany}
-use Rattle.lt_run.specs.declared.fault.Part.TheVariants as part
-use Rattle.lt_run.specs.declared.fault.LoadFault.{LoadFault}
-use Rattle.lt_run.specs.declared.fault.LoadFault.TheVariants as load
-use Rattle.lt_run.specs.declared.fault.RunFault.{RunFault}
-use Rattle.lt_run.specs.declared.fault.RunFault.TheVariants.{NotBuilt, Row, Offence, Limit, Read}
+use Rattle.lt_inputs.specs.declared.fault.InputKind.{InputKind}
+use Rattle.lt_inputs.specs.declared.fault.InputKind.TheVariants as inputs
+use Rattle.lt_rows.specs.declared.fault.RowFault.{RowFault}
+use Rattle.lt_rows.specs.declared.fault.RowFault.TheVariants as row
+use Rattle.lt_run.specs.Blamed.{command_blame}
+use Rattle.lt_run.specs.declared.fault.CommandFault.{CommandFault}
+use Rattle.lt_run.specs.declared.fault.CommandFault.TheVariants as fault
 use Rattle.lt_cli.specs.declared.refusal.Refusal.{Refusal}
-use Rattle.lt_cli.specs.declared.refusal.Refusal.TheVariants.{Words, Load, Run}
+use Rattle.lt_cli.specs.declared.refusal.Refusal.TheVariants.{Words, Command}
 use Rattle.lt_cli.specs.declared.status.Status.{Status}
 use Rattle.lt_cli.specs.declared.status.Status.TheVariants as status
 use Rattle.lt_cli.specs.Blamed.{blame_of}
-use Rattle.lt_cli.specs.Texts.{refusal_status, line_of}
+use Rattle.lt_cli.specs.Texts.{refusal_status, fault_status, inputs_status, row_status, line_of}
 
-program_or_limit : (b : Bool) (code : Status) → (status.Limit ≡ code → ⊥) → (status.Program ≡ code → ⊥) → (if b then status.Limit else status.Program) ≡ code → ⊥
-program_or_limit true code p q is = p is
-program_or_limit false code p q is = q is
+-- a status that says nothing of what the files hold
+record IsNoContent (code : Status) : Type 0 where
+  program : status.Program ≡ code → ⊥
+  setup : status.Setup ≡ code → ⊥
+  inputs : status.Inputs ≡ code → ⊥
+  schedule : status.Schedule ≡ code → ⊥
+  limit : status.Limit ≡ code → ⊥
+
+no_program : (b : Bool) (code : Status) → IsNoContent code → (if b then status.Limit else status.Program) ≡ code → ⊥
+no_program true code not is = not.limit is
+no_program false code not is = not.program is
+
+no_inputs : (k : InputKind) (code : Status) → IsNoContent code → inputs_status k ≡ code → ⊥
+no_inputs inputs.NotCsv code not is = not.inputs is
+no_inputs inputs.Header code not is = not.inputs is
+no_inputs inputs.Instant code not is = not.inputs is
+no_inputs inputs.Value code not is = not.inputs is
+no_inputs inputs.TooMany code not is = not.limit is
+
+no_row : (f : RowFault) (code : Status) → IsNoContent code → row_status f ≡ code → ⊥
+no_row row.Header code not is = not.schedule is
+no_row row.Time code not is = not.schedule is
+no_row row.Kind code not is = not.schedule is
+no_row row.UnknownPlace code not is = not.schedule is
+no_row row.NotCsv code not is = not.schedule is
+no_row row.TooMany code not is = not.limit is
+
+-- only a failed read has another status than that of some content
+reads_by_status : (f : CommandFault) (code : Status) → IsNoContent code → fault_status f ≡ code → f ≡ fault.Read
+reads_by_status (fault.Program f) code not is = absurd (no_program (is_limit f) code not is)
+reads_by_status (fault.Config f) code not is = absurd (not.setup is)
+reads_by_status (fault.Inputs f) code not is = absurd (no_inputs f.kind code not is)
+reads_by_status fault.TooManyCells code not is = absurd (not.limit is)
+reads_by_status (fault.Row n f) code not is = absurd (no_row f code not is)
+reads_by_status (fault.Offence event offence) code not is = absurd (not.schedule is)
+reads_by_status (fault.Limit what) code not is = absurd (not.limit is)
+reads_by_status fault.Read code not is = refl
+
+outside_by_status : (f : CommandFault) (code : Status) → IsNoContent code → fault_status f ≡ code → status.Outside ≡ code
+outside_by_status f code not is = sym (ap fault_status (reads_by_status f code not is)) ∙ is
+
+-- no fault has the status of success
+pub fault_not_ok : (f : CommandFault) → fault_status f ≡ status.Ok → ⊥
+fault_not_ok f is =
+    let outside = outside_by_status f status.Ok (record { program = λ h. cc; setup = λ h. cc; inputs = λ h. cc; schedule = λ h. cc; limit = λ h. cc }) is in
+    cc
+
+-- nor that of wrong words
+pub fault_not_words : (f : CommandFault) → fault_status f ≡ status.Words → ⊥
+fault_not_words f is =
+    let outside = outside_by_status f status.Words (record { program = λ h. cc; setup = λ h. cc; inputs = λ h. cc; schedule = λ h. cc; limit = λ h. cc }) is in
+    cc
+
+fault_not_write : (f : CommandFault) → fault_status f ≡ status.Write → ⊥
+fault_not_write f is =
+    let outside = outside_by_status f status.Write (record { program = λ h. cc; setup = λ h. cc; inputs = λ h. cc; schedule = λ h. cc; limit = λ h. cc }) is in
+    cc
 
 -- no refusal has the status of success
 pub not_ok : (r : Refusal) → refusal_status r ≡ status.Ok → ⊥
 not_ok Words is = cc
-not_ok (Load (load.Program fault)) is = program_or_limit (is_limit fault) status.Ok (λ h. cc) (λ h. cc) is
-not_ok (Load (load.Config fault)) is = cc
-not_ok (Load (load.Limit what)) is = cc
-not_ok (Load load.Read) is = cc
-not_ok (Run (NotBuilt part.Program)) is = cc
-not_ok (Run (NotBuilt part.Inputs)) is = cc
-not_ok (Run (Row row Header)) is = cc
-not_ok (Run (Row row Time)) is = cc
-not_ok (Run (Row row Kind)) is = cc
-not_ok (Run (Row row UnknownPlace)) is = cc
-not_ok (Run (Row row NotCsv)) is = cc
-not_ok (Run (Row row TooMany)) is = cc
-not_ok (Run (Offence event offence)) is = cc
-not_ok (Run (Limit what)) is = cc
-not_ok (Run Read) is = cc
+not_ok (Command f) is = fault_not_ok f is
 
 -- nor that of a failed write
 pub not_write : (r : Refusal) → refusal_status r ≡ status.Write → ⊥
 not_write Words is = cc
-not_write (Load (load.Program fault)) is = program_or_limit (is_limit fault) status.Write (λ h. cc) (λ h. cc) is
-not_write (Load (load.Config fault)) is = cc
-not_write (Load (load.Limit what)) is = cc
-not_write (Load load.Read) is = cc
-not_write (Run (NotBuilt part.Program)) is = cc
-not_write (Run (NotBuilt part.Inputs)) is = cc
-not_write (Run (Row row Header)) is = cc
-not_write (Run (Row row Time)) is = cc
-not_write (Run (Row row Kind)) is = cc
-not_write (Run (Row row UnknownPlace)) is = cc
-not_write (Run (Row row NotCsv)) is = cc
-not_write (Run (Row row TooMany)) is = cc
-not_write (Run (Offence event offence)) is = cc
-not_write (Run (Limit what)) is = cc
-not_write (Run Read) is = cc
-
--- only the words have theirs
-pub load_not_words : (e : LoadFault) → refusal_status (Load e) ≡ status.Words → ⊥
-load_not_words (load.Program fault) is = program_or_limit (is_limit fault) status.Words (λ h. cc) (λ h. cc) is
-load_not_words (load.Config fault) is = cc
-load_not_words (load.Limit what) is = cc
-load_not_words load.Read is = cc
-
-pub run_not_words : (e : RunFault) → refusal_status (Run e) ≡ status.Words → ⊥
-run_not_words (NotBuilt part.Program) is = cc
-run_not_words (NotBuilt part.Inputs) is = cc
-run_not_words (Row row Header) is = cc
-run_not_words (Row row Time) is = cc
-run_not_words (Row row Kind) is = cc
-run_not_words (Row row UnknownPlace) is = cc
-run_not_words (Row row NotCsv) is = cc
-run_not_words (Row row TooMany) is = cc
-run_not_words (Offence event offence) is = cc
-run_not_words (Limit what) is = cc
-run_not_words Read is = cc
+not_write (Command f) is = fault_not_write f is
 
 -- a failed call on the files has its own status and line
+
+fault_reads : (f : CommandFault) → fault_status f ≡ status.Outside → f ≡ fault.Read
+fault_reads f is = reads_by_status f status.Outside (record { program = λ h. cc; setup = λ h. cc; inputs = λ h. cc; schedule = λ h. cc; limit = λ h. cc }) is
+
 pub outside_blames : (r : Refusal) → refusal_status r ≡ status.Outside → blame_of r ≡ Reading
 outside_blames Words is = cc
-outside_blames (Load (load.Program fault)) is = absurd (program_or_limit (is_limit fault) status.Outside (λ h. cc) (λ h. cc) is)
-outside_blames (Load (load.Config fault)) is = cc
-outside_blames (Load (load.Limit what)) is = cc
-outside_blames (Load load.Read) is = refl
-outside_blames (Run (NotBuilt part.Program)) is = cc
-outside_blames (Run (NotBuilt part.Inputs)) is = cc
-outside_blames (Run (Row row Header)) is = cc
-outside_blames (Run (Row row Time)) is = cc
-outside_blames (Run (Row row Kind)) is = cc
-outside_blames (Run (Row row UnknownPlace)) is = cc
-outside_blames (Run (Row row NotCsv)) is = cc
-outside_blames (Run (Row row TooMany)) is = cc
-outside_blames (Run (Offence event offence)) is = cc
-outside_blames (Run (Limit what)) is = cc
-outside_blames (Run Read) is = refl
+outside_blames (Command f) is = ap command_blame (fault_reads f is)
+
+-- only a failed read blames the files
+pub blamed_reads : (f : CommandFault) → command_blame f ≡ Reading → f ≡ fault.Read
+blamed_reads (fault.Program f) is = cc
+blamed_reads (fault.Config f) is = cc
+blamed_reads (fault.Inputs f) is = cc
+blamed_reads fault.TooManyCells is = cc
+blamed_reads (fault.Row n f) is = cc
+blamed_reads (fault.Offence event offence) is = cc
+blamed_reads (fault.Limit what) is = cc
+blamed_reads fault.Read is = refl
 
 pub reading_line : (r : Refusal) → blame_of r ≡ Reading → line_of r ≡ codes "fault: read"
 reading_line Words is = cc
-reading_line (Load (load.Program fault)) is = cc
-reading_line (Load (load.Config fault)) is = cc
-reading_line (Load (load.Limit what)) is = cc
-reading_line (Load load.Read) is = refl
-reading_line (Run (NotBuilt part)) is = cc
-reading_line (Run (Row row fault)) is = cc
-reading_line (Run (Offence event offence)) is = cc
-reading_line (Run (Limit what)) is = cc
-reading_line (Run Read) is = refl
+reading_line (Command f) is = ap (λ (e : CommandFault). line_of (Command e)) (blamed_reads f is)
 
 -- no command sends messages
 pub not_linking : (r : Refusal) → blame_of r ≡ Linking → ⊥
 not_linking Words is = cc
-not_linking (Load (load.Program fault)) is = cc
-not_linking (Load (load.Config fault)) is = cc
-not_linking (Load (load.Limit what)) is = cc
-not_linking (Load load.Read) is = cc
-not_linking (Run (NotBuilt part)) is = cc
-not_linking (Run (Row row fault)) is = cc
-not_linking (Run (Offence event offence)) is = cc
-not_linking (Run (Limit what)) is = cc
-not_linking (Run Read) is = cc
-
-pub load_reads : (e : LoadFault) → blame_of (Load e) ≡ Reading → e ≡ load.Read
-load_reads (load.Program fault) is = cc
-load_reads (load.Config fault) is = cc
-load_reads (load.Limit what) is = cc
-load_reads load.Read is = refl
-
-pub run_reads : (e : RunFault) → blame_of (Run e) ≡ Reading → e ≡ Read
-run_reads (NotBuilt part) is = cc
-run_reads (Row row fault) is = cc
-run_reads (Offence event offence) is = cc
-run_reads (Limit what) is = cc
-run_reads Read is = refl
+not_linking (Command (fault.Program f)) is = cc
+not_linking (Command (fault.Config f)) is = cc
+not_linking (Command (fault.Inputs f)) is = cc
+not_linking (Command fault.TooManyCells) is = cc
+not_linking (Command (fault.Row n f)) is = cc
+not_linking (Command (fault.Offence event offence)) is = cc
+not_linking (Command (fault.Limit what)) is = cc
+not_linking (Command fault.Read) is = cc

@@ -4,21 +4,21 @@ use Rattle.lt_base.specs.Or.{MapsFault}
 use Rattle.lt_base.specs.declared.memory.Or.{Or}
 use Rattle.lt_base.specs.declared.memory.Or.TheVariants.{Fault, Memory}
 use Rattle.lt_answer.specs.Answered.{Verdict}
-use Rattle.lt_answer.specs.World.{World, Blame}
+use Rattle.lt_answer.specs.World.{World}
 use Rattle.lt_answer.specs.Answered.{Answered, RefusesReading}
+use Rattle.lt_run.specs.Blamed.{command_blame}
+use Rattle.lt_run.specs.declared.fault.CommandFault.{CommandFault}
 use Rattle.lt_cli.specs.declared.refusal.Refusal.{Refusal}
+use Rattle.lt_cli.specs.declared.refusal.Refusal.TheVariants.{Command}
 use Rattle.lt_cli.specs.Blamed.{blame_of}
 use Rattle.lt_cli.specs.Commands.{text_verdict}
 
-module _ {T E : Type 0} (raise : E → Refusal) (shown : T → List ℕ) (V : Verdict T E) (a b : World) where
-  abbrev blame : E → Blame
-  blame e = blame_of (raise e)
-
-  blamed : RefusesReading blame V → RefusesReading blame_of (text_verdict raise shown V)
-  blamed reading = (raise reading.0, reading.1, (reading.0, reading.2, refl))
+module _ {T : Type 0} (shown : T → List ℕ) (V : Verdict T CommandFault) (a b : World) where
+  blamed : RefusesReading command_blame V → RefusesReading blame_of (text_verdict shown V)
+  blamed reading = (Command reading.0, reading.1, (reading.0, reading.2, refl))
 
   -- it is shown so
-  pub text_shown : (x : T) (text : List ℕ) → Answered blame V a b (Ok x) → text ≡ shown x → Answered blame_of (text_verdict raise shown V) a b (Ok text)
+  pub text_shown : (x : T) (text : List ℕ) → Answered command_blame V a b (Ok x) → text ≡ shown x → Answered blame_of (text_verdict shown V) a b (Ok text)
   text_shown x text ran is = record {
     keeps = ran.keeps;
     cause = ran.cause;
@@ -27,11 +27,11 @@ module _ {T E : Type 0} (raise : E → Refusal) (shown : T → List ℕ) (V : Ve
   }
 
   -- no memory was found for the text
-  pub text_short : (x : T) → Answered blame V a b (Ok x) → Answered blame_of (text_verdict raise shown V) a b (Err Memory)
+  pub text_short : (x : T) → Answered command_blame V a b (Ok x) → Answered blame_of (text_verdict shown V) a b (Err Memory)
   text_short x ran = record { keeps = ran.keeps; cause = ran.cause; exact = λ told calm. tt; sound = λ told sound rose. blamed (ran.sound told sound rose) }
 
   -- it was refused, or no memory was found for it
-  pub text_refused : (e : Or E) (e' : Or Refusal) → MapsFault e e' (λ fault refusal. refusal ≡ raise fault) → Answered blame V a b (Err e) → Answered blame_of (text_verdict raise shown V) a b (Err e')
+  pub text_refused : (e : Or CommandFault) (e' : Or Refusal) → MapsFault e e' (λ fault refusal. refusal ≡ Command fault) → Answered command_blame V a b (Err e) → Answered blame_of (text_verdict shown V) a b (Err e')
   text_refused (Fault fault) (Fault refusal) is ran =
       record {
         keeps = ran.keeps;

@@ -1,12 +1,13 @@
 -- What holds of a call of `ltta`, fact by fact.
-use Rattle.std.specs.Prelude.{◌≡◌, ◌≢◌, ◌<◌, ◌⊎◌, ◌↔◌, ℕ, IsTrue, List, [], ◌∷◌, ◌++◌, Option, Some, None, Ok, Err, codes}
+use Rattle.std.specs.Prelude.{◌≡◌, ◌≢◌, ◌<◌, ◌⊎◌, ◌↔◌, ℕ, IsTrue, List, [], ◌∷◌, ◌++◌, None, Ok, Err, codes}
 use Rattle.lt_answer.specs.Answered.{Verdict}
-use Rattle.lt_cli.specs.declared.refusal.Refusal.{Refusal}
+use Rattle.lt_run.specs.declared.fault.CommandFault.{CommandFault}
+use Rattle.lt_run.specs.declared.fault.CommandFault.TheVariants.{Read}
 use Rattle.lt_cli.specs.declared.refusal.Refusal.TheVariants.{Words}
 use Rattle.lt_cli.specs.declared.status.Status.{Status}
 use Rattle.lt_cli.specs.declared.status.Status.TheVariants as status
-use Rattle.lt_cli.specs.Texts.{refusal_status, line_of}
-use Rattle.lt_words.specs.Reading.{Said, check, meaning, run, plan, command_of}
+use Rattle.lt_cli.specs.Texts.{fault_status, fault_line, line_of}
+use Rattle.lt_words.specs.Reading.{command_of}
 use Rattle.lt_cli.specs.Objects.{Objects}
 
 -- the sinks took nothing, and a line
@@ -19,29 +20,21 @@ pub record TookText (text : List ℕ) (old new : Objects) : Type 0 where
   pub out : new.out.taken ≡ old.out.taken ++ text
   pub err : new.err.taken ≡ old.err.taken
 
--- no command that is built
-abbrev pub AsksNothing : Option Said → Type 0
-AsksNothing None = Unit {0}
-AsksNothing (Some (check program)) = ⊥
-AsksNothing (Some (meaning program inputs)) = Unit {0}
-AsksNothing (Some (run program inputs schedule)) = ⊥
-AsksNothing (Some (plan config horizon)) = ⊥
-
--- the words are wrong exactly where the status says so, and then the usage line was printed
+-- the status says that the words are wrong exactly where they say no command, and then the usage line was printed
 pub record IsWordsExact (words : List (List ℕ)) (old new : Objects) (ends : Status) : Type 0 where
-  pub exact : (ends ≡ status.Words) ↔ AsksNothing (command_of words)
+  pub exact : (ends ≡ status.Words) ↔ (command_of words ≡ None)
   pub line : ends ≡ status.Words → TookLine (line_of Words) old new
 
--- a command with this verdict, whose values are shown and whose faults are raised so: each status comes exactly where it is right, with its text or its line
-pub record IsExact {T E : Type 0} (raise : E → Refusal) (shown : T → List ℕ) (V : Verdict T E) (old new : Objects) (ends : Status) : Type 0 where
+-- a command with this verdict, whose values are shown so: each status comes exactly where it is right, with its text or its line
+pub record IsExact {T : Type 0} (shown : T → List ℕ) (V : Verdict T CommandFault) (old new : Objects) (ends : Status) : Type 0 where
   pub ok : (ends ≡ status.Ok) ↔ ((x : T) × V (Ok x))
   pub text : ends ≡ status.Ok → (x : T) × V (Ok x) × TookText (shown x) old new
-  pub refused : (code : Status) → code ≢ status.Ok → (ends ≡ code) ↔ ((e : E) × V (Err e) × (refusal_status (raise e) ≡ code))
-  pub line : ends ≢ status.Ok → (e : E) × V (Err e) × (refusal_status (raise e) ≡ ends) × TookLine (line_of (raise e)) old new
+  pub refused : (code : Status) → code ≢ status.Ok → (ends ≡ code) ↔ ((f : CommandFault) × V (Err f) × (fault_status f ≡ code))
+  pub line : ends ≢ status.Ok → (f : CommandFault) × V (Err f) × (fault_status f ≡ ends) × TookLine (fault_line f) old new
 
 -- a command on sound files: a call on them fails exactly where the first file in order that is refused is missing
-abbrev pub IsMissingExact : {T E : Type 0} → (missing : E) → Verdict T E → (old new : Objects) → Type 0
-IsMissingExact missing V old new = (old.files.faults < new.files.faults) ↔ V (Err missing)
+abbrev pub IsMissingExact : {T : Type 0} → Verdict T CommandFault → (old new : Objects) → Type 0
+IsMissingExact V old new = (old.files.faults < new.files.faults) ↔ V (Err Read)
 
 -- a failed call on the files: their count rose, and its line was printed
 pub record IsOutsideCaused (old new : Objects) : Type 0 where

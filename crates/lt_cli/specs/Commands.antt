@@ -6,31 +6,32 @@ use Rattle.lt_plan.specs.Text.{plan_of}
 use Rattle.lt_words.specs.Reading.{Said, check, meaning, run, plan, command_of}
 use Rattle.lt_answer.specs.Answered.{Verdict}
 use Rattle.lt_verdict.specs.Rules.{Raised, Shown}
+use Rattle.lt_run.specs.declared.fault.CommandFault.{CommandFault}
 use Rattle.lt_run.specs.declared.printed.Printed.{Printed}
 use Rattle.lt_run.specs.Loaded.{program_verdict, config_verdict}
-use Rattle.lt_run.specs.Run.{run_verdict}
+use Rattle.lt_run.specs.Run.{meaning_verdict, run_verdict}
 use Rattle.lt_cli.specs.declared.refusal.Refusal.{Refusal}
-use Rattle.lt_cli.specs.declared.refusal.Refusal.TheVariants.{Words, Load, Run}
+use Rattle.lt_cli.specs.declared.refusal.Refusal.TheVariants.{Words, Command}
 use Rattle.lt_cli.specs.Texts.{outputs_text}
 
 -- the text of what a command gives, or its refusal
-abbrev pub text_verdict : {T E : Type 0} → (E → Refusal) → (T → List ℕ) → Verdict T E → Verdict (List ℕ) Refusal
-text_verdict raise shown V = Raised raise (Shown shown V)
+abbrev pub text_verdict : {T : Type 0} → (T → List ℕ) → Verdict T CommandFault → Verdict (List ℕ) Refusal
+text_verdict shown V = Raised (λ fault. Command fault) (Shown shown V)
 
 -- a program in its canonical form
 abbrev pub checked_text : CheckedText → List ℕ
 checked_text checked = canonical checked.tree
 
--- the outputs of a run
+-- the cells of outputs
 abbrev pub printed_text : Printed → List ℕ
 printed_text printed = outputs_text printed.names printed.cells
 
--- a command on these files; `meaning` is not built yet, and is no command
+-- a command on these files
 abbrev pub command_verdict : (named : List ℕ → Option (List ℕ)) → Said → Verdict (List ℕ) Refusal
-command_verdict named (check program) outcome = text_verdict Load checked_text (program_verdict (named program)) outcome
-command_verdict named (meaning program inputs) outcome = outcome ≡ Err Words
-command_verdict named (run program inputs schedule) outcome = text_verdict Run printed_text (run_verdict named program inputs schedule) outcome
-command_verdict named (plan config horizon) outcome = text_verdict Load (λ setup. plan_of setup horizon) (config_verdict (named config)) outcome
+command_verdict named (check program) = text_verdict checked_text (program_verdict (named program))
+command_verdict named (meaning program inputs) = text_verdict printed_text (meaning_verdict named program inputs)
+command_verdict named (run program inputs schedule) = text_verdict printed_text (run_verdict named program inputs schedule)
+command_verdict named (plan config horizon) = text_verdict (λ setup. plan_of setup horizon) (config_verdict (named config))
 
 -- of the words a command's text or refusal, or that they say none
 abbrev pub asked_verdict : (named : List ℕ → Option (List ℕ)) → Option Said → Verdict (List ℕ) Refusal

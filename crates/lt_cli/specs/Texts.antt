@@ -5,22 +5,22 @@ use Rattle.std.specs.Fmt.{signed_decimal}
 use Rattle.lt_base.specs.declared.value.Value.TheVariants.{Int, Bool as Truth}
 use Rattle.lt_base.specs.declared.value.Cell.{Cell}
 use Rattle.lt_base.specs.declared.value.Cell.TheVariants.{Absent, Here}
-use Rattle.lt_run.specs.declared.fault.Part.TheVariants as part
-use Rattle.lt_run.specs.declared.fault.What.TheVariants.{ProgramBytes, ConfigBytes, ScheduleBytes}
-use Rattle.lt_run.specs.declared.fault.What.{What}
-use Rattle.lt_run.specs.declared.fault.LoadFault.{LoadFault}
-use Rattle.lt_run.specs.declared.fault.LoadFault.TheVariants as load
-use Rattle.lt_run.specs.declared.fault.RunFault.{RunFault}
-use Rattle.lt_run.specs.declared.fault.RunFault.TheVariants.{NotBuilt, Row, Offence, Limit, Read}
+use Rattle.lt_inputs.specs.declared.fault.InputKind.{InputKind}
+use Rattle.lt_inputs.specs.declared.fault.InputKind.TheVariants as inputs
 use Rattle.lt_rows.specs.declared.fault.RowFault.{RowFault}
-use Rattle.lt_rows.specs.declared.fault.RowFault.TheVariants.{Header, Time, Kind, UnknownPlace, NotCsv, TooMany}
-use Rattle.lt_small.specs.Schedule.{one_node}
+use Rattle.lt_rows.specs.declared.fault.RowFault.TheVariants as row
+use Rattle.lt_front.specs.declared.fault.ProgramFault.{ProgramFault}
 use Rattle.lt_front.specs.Limits.{is_limit}
+use Rattle.lt_run.specs.declared.fault.What.{What}
+use Rattle.lt_run.specs.declared.fault.What.TheVariants.{ProgramBytes, ConfigBytes, InputsBytes, ScheduleBytes}
+use Rattle.lt_run.specs.declared.fault.CommandFault.{CommandFault}
+use Rattle.lt_run.specs.declared.fault.CommandFault.TheVariants as fault
+use Rattle.lt_run.specs.Plain.{one_node}
 use Rattle.lt_texts.specs.Lines.{program_line}
-use Rattle.lt_cli.specs.Lines.{config_line}
+use Rattle.lt_cli.specs.Lines.{config_line, inputs_line}
 use Rattle.lt_cli.specs.ScheduleLines.{row_line, offence_line}
 use Rattle.lt_cli.specs.declared.refusal.Refusal.{Refusal}
-use Rattle.lt_cli.specs.declared.refusal.Refusal.TheVariants.{Words, Load, Run}
+use Rattle.lt_cli.specs.declared.refusal.Refusal.TheVariants.{Words, Command}
 use Rattle.lt_cli.specs.declared.status.Status.{Status}
 use Rattle.lt_cli.specs.declared.status.Status.TheVariants as status
 
@@ -29,52 +29,49 @@ use Rattle.lt_cli.specs.declared.status.Status.TheVariants as status
 abbrev pub limit_line : What → List ℕ
 limit_line ProgramBytes = codes "limit: program bytes 1048576"
 limit_line ConfigBytes = codes "limit: config bytes 262144"
+limit_line InputsBytes = codes "limit: inputs bytes 67108864"
 limit_line ScheduleBytes = codes "limit: schedule bytes 1073741824"
 
-abbrev pub load_line : LoadFault → List ℕ
-load_line (load.Program fault) = program_line fault
-load_line (load.Config fault) = config_line fault
-load_line (load.Limit what) = limit_line what
-load_line load.Read = codes "fault: read"
-
-abbrev pub run_line : RunFault → List ℕ
-run_line (NotBuilt part.Program) = codes "not built: program"
-run_line (NotBuilt part.Inputs) = codes "not built: inputs"
-run_line (Row row fault) = row_line row fault
-run_line (Offence event offence) = offence_line one_node event offence
-run_line (Limit what) = limit_line what
-run_line Read = codes "fault: read"
+abbrev pub fault_line : CommandFault → List ℕ
+fault_line (fault.Program f) = program_line f
+fault_line (fault.Config f) = config_line f
+fault_line (fault.Inputs f) = inputs_line f
+fault_line fault.TooManyCells = codes "limit: meaning cells 16000000"
+fault_line (fault.Row n f) = row_line n f
+fault_line (fault.Offence event offence) = offence_line one_node event offence
+fault_line (fault.Limit what) = limit_line what
+fault_line fault.Read = codes "fault: read"
 
 abbrev pub line_of : Refusal → List ℕ
-line_of Words = codes "words: usage: ltta check P | run P I S | plan C [--horizon H]"
-line_of (Load fault) = load_line fault
-line_of (Run fault) = run_line fault
+line_of Words = codes "words: usage: ltta check P | meaning P I | run P I S | plan C [--horizon H]"
+line_of (Command f) = fault_line f
 
 -- the status of a refusal
 
-abbrev pub load_status : LoadFault → Status
-load_status (load.Program fault) = if is_limit fault then status.Limit else status.Program
-load_status (load.Config fault) = status.Setup
-load_status (load.Limit what) = status.Limit
-load_status load.Read = status.Outside
+abbrev pub program_status : ProgramFault → Status
+program_status f = if is_limit f then status.Limit else status.Program
 
--- a row's
+abbrev pub inputs_status : InputKind → Status
+inputs_status inputs.TooMany = status.Limit
+inputs_status _ = status.Inputs
+
 abbrev pub row_status : RowFault → Status
-row_status TooMany = status.Limit
+row_status row.TooMany = status.Limit
 row_status _ = status.Schedule
 
-abbrev pub run_status : RunFault → Status
-run_status (NotBuilt part.Program) = status.Program
-run_status (NotBuilt part.Inputs) = status.Inputs
-run_status (Row row fault) = row_status fault
-run_status (Offence event offence) = status.Schedule
-run_status (Limit what) = status.Limit
-run_status Read = status.Outside
+abbrev pub fault_status : CommandFault → Status
+fault_status (fault.Program f) = program_status f
+fault_status (fault.Config f) = status.Setup
+fault_status (fault.Inputs f) = inputs_status f.kind
+fault_status fault.TooManyCells = status.Limit
+fault_status (fault.Row n f) = row_status f
+fault_status (fault.Offence event offence) = status.Schedule
+fault_status (fault.Limit what) = status.Limit
+fault_status fault.Read = status.Outside
 
 abbrev pub refusal_status : Refusal → Status
 refusal_status Words = status.Words
-refusal_status (Load fault) = load_status fault
-refusal_status (Run fault) = run_status fault
+refusal_status (Command f) = fault_status f
 
 -- the status of a text, or of a refusal
 abbrev pub status_of : Result (List ℕ) Refusal → Status

@@ -1,6 +1,6 @@
 // What is printed for the words.
 ghost use Rattle.std.specs.Prelude.{◌<◌, ◌-◌, ◌^◌, map, string_bytes};
-ghost use Rattle.lt_words.specs.Reading.{check, plan, run as ask_run};
+ghost use Rattle.lt_words.specs.Reading.{check, meaning as ask_meaning, plan, run as ask_run};
 ghost use Rattle.lt_answer.specs.World.{alone};
 ghost use Rattle.lt_answer.specs.Answered.{Answered};
 ghost use Rattle.lt_cli.specs.Blamed.{blame_of};
@@ -12,7 +12,7 @@ use lt_base::{List, Or};
 use lt_io::Files;
 use lt_plan::plan_text;
 use lt_print::print;
-use lt_run::{load_config, load_program, run};
+use lt_run::{load_config, load_program, meaning, run};
 use lt_words::{Command, read_words};
 use std::alloc::Global;
 
@@ -27,6 +27,9 @@ pub fn answer<F: Files>(
 {
     match read_words(alloc, words)? {
         Some(Command::Check { program }) => check_answer(alloc, files, program),
+        Some(Command::Meaning { program, inputs }) => {
+            meaning_answer(alloc, files, program, inputs)
+        }
         Some(
             Command::Run {
                 program,
@@ -35,8 +38,7 @@ pub fn answer<F: Files>(
             },
         ) => run_answer(alloc, files, program, inputs, schedule),
         Some(Command::Plan { config, horizon }) => plan_answer(alloc, files, config, horizon),
-        // No other command is built yet.
-        _ => Err(Or::Fault(Refusal::Words)),
+        None => Err(Or::Fault(Refusal::Words)),
     }
 }
 
@@ -51,23 +53,24 @@ fn check_answer<F: Files>(
 {
     match load_program(alloc, files, program) {
         Ok(checked) => Ok(print(alloc, &checked.tree)?),
-        Err(e) => Err(e.map(Refusal::Load)),
+        Err(e) => Err(e.map(Refusal::Command)),
     }
 }
 
-// The plan of a setup.
-fn plan_answer<F: Files>(
+// The outputs of a program on all rows of its inputs.
+fn meaning_answer<F: Files>(
     alloc: Global,
     files: &mut F,
-    config: &str,
-    horizon: Option<u64>,
+    program: &str,
+    inputs: &str,
 ) -> Result<List<u8>, Or<Refusal>>
     requires { (F.state files.old).faults < 2 ^ 64 - 1 }
-    ensures { Answered blame_of (command_verdict (F.state files.old).named (plan config.now horizon)) (alone (F.state files.old)) (alone (F.state files.new)) result }
+    ensures { Answered blame_of (command_verdict (F.state files.old).named (ask_meaning program.now inputs.now))
+        (alone (F.state files.old)) (alone (F.state files.new)) result }
 {
-    match load_config(alloc, files, config) {
-        Ok(config) => Ok(plan_text(alloc, &config, horizon)?),
-        Err(e) => Err(e.map(Refusal::Load)),
+    match meaning(alloc, files, program, inputs) {
+        Ok(printed) => Ok(outputs_text(alloc, printed.names.as_slice(), printed.cells.as_slice())?),
+        Err(e) => Err(e.map(Refusal::Command)),
     }
 }
 
@@ -85,6 +88,22 @@ fn run_answer<F: Files>(
 {
     match run(alloc, files, program, inputs, schedule) {
         Ok(printed) => Ok(outputs_text(alloc, printed.names.as_slice(), printed.cells.as_slice())?),
-        Err(e) => Err(e.map(Refusal::Run)),
+        Err(e) => Err(e.map(Refusal::Command)),
+    }
+}
+
+// The plan of a setup.
+fn plan_answer<F: Files>(
+    alloc: Global,
+    files: &mut F,
+    config: &str,
+    horizon: Option<u64>,
+) -> Result<List<u8>, Or<Refusal>>
+    requires { (F.state files.old).faults < 2 ^ 64 - 1 }
+    ensures { Answered blame_of (command_verdict (F.state files.old).named (plan config.now horizon)) (alone (F.state files.old)) (alone (F.state files.new)) result }
+{
+    match load_config(alloc, files, config) {
+        Ok(config) => Ok(plan_text(alloc, &config, horizon)?),
+        Err(e) => Err(e.map(Refusal::Command)),
     }
 }

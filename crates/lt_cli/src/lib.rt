@@ -3,6 +3,8 @@
 
 mod answer;
 mod config_line;
+mod inputs_line;
+mod numbers;
 mod print;
 mod refusal;
 mod schedule_line;

@@ -2,6 +2,7 @@
 ghost use Rattle.std.specs.Prelude.{◌≡◌, ◌++◌, ◌∷◌, [], OnOk, IfOk, length};
 ghost use Rattle.lt_cli.specs.Texts.{cell_text, cells_text, output_line, outputs_text};
 
+use itoa::Buffer;
 use lt_base::{Cell, List, Memory, Name, Value};
 use std::alloc::Global;
 
@@ -12,44 +13,36 @@ pub fn outputs_text(alloc: Global, names: &[Name], cells: &[List<Cell>]) -> Resu
 {
     let mut text = List::new(alloc);
     for (output, name) in names.iter().enumerate() {
-        append_line(alloc, &mut text, name, &cells[output])?;
+        append_line(&mut text, name, &cells[output])?;
     }
     Ok(text)
 }
 
-fn append_line(
-    alloc: Global,
-    text: &mut List<u8>,
-    name: &Name,
-    cells: &List<Cell>,
-) -> Result<(), Memory>
+fn append_line(text: &mut List<u8>, name: &Name, cells: &List<Cell>) -> Result<(), Memory>
     ensures { OnOk result (text.new ≡ text.old ++ output_line name.now cells.now) }
 {
     text.extend(name.as_str().as_bytes())?;
     text.extend(b":")?;
-    append_cells(alloc, text, cells.as_slice())?;
+    append_cells(text, cells.as_slice())?;
     text.extend(b"\n")
 }
 
-fn append_cells(alloc: Global, text: &mut List<u8>, cells: &[Cell]) -> Result<(), Memory>
+fn append_cells(text: &mut List<u8>, cells: &[Cell]) -> Result<(), Memory>
     ensures { OnOk result (text.new ≡ text.old ++ cells_text cells.now) }
 {
     for cell in cells {
         text.extend(b" ")?;
-        append_cell(alloc, text, *cell)?;
+        append_cell(text, *cell)?;
     }
     Ok(())
 }
 
-fn append_cell(alloc: Global, text: &mut List<u8>, cell: Cell) -> Result<(), Memory>
+fn append_cell(text: &mut List<u8>, cell: Cell) -> Result<(), Memory>
     ensures { OnOk result (text.new ≡ text.old ++ cell_text cell) }
 {
     match cell {
         Cell::Absent => text.extend(b"."),
-        Cell::Here(Value::Int(number)) => {
-            let digits = format!(in alloc; "{number}")?;
-            text.extend(digits.as_bytes())
-        }
+        Cell::Here(Value::Int(number)) => text.extend(Buffer::new().format(number).as_bytes()),
         Cell::Here(Value::Bool(true)) => text.extend(b"true"),
         Cell::Here(Value::Bool(false)) => text.extend(b"false"),
     }

@@ -1,13 +1,19 @@
 // Why a command is refused.
 ghost use Rattle.std.specs.Prelude.{◌≡◌, IfOk};
-ghost use Rattle.lt_cli.specs.Texts.{refusal_status, line_of, load_status, load_line, run_status, row_status, run_line, limit_line};
+ghost use Rattle.lt_cli.specs.Texts.{fault_line, fault_status, inputs_status, limit_line, line_of, program_status, refusal_status, row_status};
+ghost use Rattle.lt_cli.specs.ScheduleLines.{offence_line};
+ghost use Rattle.lt_run.specs.Plain.{one_node};
 
 use crate::Status;
 use crate::config_line::config_line;
+use crate::inputs_line::inputs_line;
 use crate::schedule_line::{offence_line, row_line};
+use lt_arch::Offence;
 use lt_base::{List, Memory};
+use lt_front::ProgramFault;
+use lt_inputs::InputKind;
 use lt_rows::RowFault;
-use lt_run::{LoadFault, Part, RunFault, What, plain_shape};
+use lt_run::{CommandFault, What, plain_shape};
 use lt_texts::program_line;
 use std::alloc::Global;
 
@@ -16,10 +22,8 @@ use std::alloc::Global;
 pub enum Refusal {
     /// The words ask for no command.
     Words,
-    /// A file that is read before the command runs is at fault.
-    Load(LoadFault),
-    /// `run` is refused.
-    Run(RunFault),
+    /// The command's files are at fault, or a call on them failed.
+    Command(CommandFault),
 }
 
 impl Refusal {
@@ -29,8 +33,7 @@ impl Refusal {
     {
         match self {
             Refusal::Words => Status::Words,
-            Refusal::Load(fault) => load_status(fault),
-            Refusal::Run(fault) => run_status(*fault),
+            Refusal::Command(fault) => fault_status(fault),
         }
     }
 
@@ -42,52 +45,44 @@ impl Refusal {
             Refusal::Words => {
                 List::from_slice(
                     alloc,
-                    b"words: usage: ltta check P | run P I S | plan C [--horizon H]",
+                    b"words: usage: ltta check P | meaning P I | run P I S | plan C [--horizon H]",
                 )
             }
-            Refusal::Load(fault) => load_line(alloc, fault),
-            Refusal::Run(fault) => run_line(alloc, *fault),
+            Refusal::Command(fault) => fault_line(alloc, fault),
         }
     }
 }
 
-fn load_status(fault: &LoadFault) -> Status
-    ensures { result ≡ load_status fault.now }
+fn fault_status(fault: &CommandFault) -> Status
+    ensures { result ≡ fault_status fault.now }
 {
     match fault {
-        LoadFault::Program(fault) => {
-            if fault.is_limit() {
-                return Status::Limit;
-            }
-            Status::Program
-        }
-        LoadFault::Config(_) => Status::Setup,
-        LoadFault::Limit(_) => Status::Limit,
-        LoadFault::Read => Status::Outside,
+        CommandFault::Program(fault) => program_status(fault),
+        CommandFault::Config(_) => Status::Setup,
+        CommandFault::Inputs(fault) => inputs_status(fault.kind),
+        CommandFault::TooManyCells => Status::Limit,
+        CommandFault::Row { row: _, fault } => row_status(*fault),
+        CommandFault::Offence { .. } => Status::Schedule,
+        CommandFault::Limit(_) => Status::Limit,
+        CommandFault::Read => Status::Outside,
     }
 }
 
-fn load_line(alloc: Global, fault: &LoadFault) -> Result<List<u8>, Memory>
-    ensures { IfOk result (λ line. line ≡ load_line fault.now) }
+fn program_status(fault: &ProgramFault) -> Status
+    ensures { result ≡ program_status fault.now }
 {
-    match fault {
-        LoadFault::Program(fault) => program_line(alloc, fault),
-        LoadFault::Config(fault) => config_line(alloc, fault),
-        LoadFault::Limit(what) => limit_line(alloc, *what),
-        LoadFault::Read => List::from_slice(alloc, b"fault: read"),
+    if fault.is_limit() {
+        return Status::Limit;
     }
+    Status::Program
 }
 
-fn run_status(fault: RunFault) -> Status
-    ensures { result ≡ run_status fault }
+fn inputs_status(kind: InputKind) -> Status
+    ensures { result ≡ inputs_status kind }
 {
-    match fault {
-        RunFault::NotBuilt(Part::Program) => Status::Program,
-        RunFault::NotBuilt(Part::Inputs) => Status::Inputs,
-        RunFault::Row { row: _, fault } => row_status(fault),
-        RunFault::Offence { .. } => Status::Schedule,
-        RunFault::Limit(_) => Status::Limit,
-        RunFault::Read => Status::Outside,
+    match kind {
+        InputKind::TooMany => Status::Limit,
+        _ => Status::Inputs,
     }
 }
 
@@ -100,20 +95,27 @@ fn row_status(fault: RowFault) -> Status
     }
 }
 
-fn run_line(alloc: Global, fault: RunFault) -> Result<List<u8>, Memory>
-    ensures { IfOk result (λ line. line ≡ run_line fault) }
+fn fault_line(alloc: Global, fault: &CommandFault) -> Result<List<u8>, Memory>
+    ensures { IfOk result (λ line. line ≡ fault_line fault.now) }
 {
     match fault {
-        RunFault::NotBuilt(Part::Program) => List::from_slice(alloc, b"not built: program"),
-        RunFault::NotBuilt(Part::Inputs) => List::from_slice(alloc, b"not built: inputs"),
-        RunFault::Row { row, fault } => row_line(alloc, row, fault),
-        RunFault::Offence { event, offence } => {
-            let shape = plain_shape(alloc)?;
-            offence_line(alloc, &shape, event, offence)
-        }
-        RunFault::Limit(what) => limit_line(alloc, what),
-        RunFault::Read => List::from_slice(alloc, b"fault: read"),
+        CommandFault::Program(fault) => program_line(alloc, fault),
+        CommandFault::Config(fault) => config_line(alloc, fault),
+        CommandFault::Inputs(fault) => inputs_line(alloc, *fault),
+        CommandFault::TooManyCells => List::from_slice(alloc, b"limit: meaning cells 16000000"),
+        CommandFault::Row { row, fault } => row_line(alloc, *row, *fault),
+        CommandFault::Offence { event, offence } => plain_offence(alloc, *event, *offence),
+        CommandFault::Limit(what) => limit_line(alloc, *what),
+        CommandFault::Read => List::from_slice(alloc, b"fault: read"),
     }
+}
+
+// The line of an offence on the one node of a run without a setup.
+fn plain_offence(alloc: Global, event: u32, offence: Offence) -> Result<List<u8>, Memory>
+    ensures { IfOk result (λ line. line ≡ offence_line one_node event offence) }
+{
+    let shape = plain_shape(alloc)?;
+    offence_line(alloc, &shape, event, offence)
 }
 
 fn limit_line(alloc: Global, what: What) -> Result<List<u8>, Memory>
@@ -122,6 +124,7 @@ fn limit_line(alloc: Global, what: What) -> Result<List<u8>, Memory>
     match what {
         What::ProgramBytes => List::from_slice(alloc, b"limit: program bytes 1048576"),
         What::ConfigBytes => List::from_slice(alloc, b"limit: config bytes 262144"),
+        What::InputsBytes => List::from_slice(alloc, b"limit: inputs bytes 67108864"),
         What::ScheduleBytes => List::from_slice(alloc, b"limit: schedule bytes 1073741824"),
     }
 }

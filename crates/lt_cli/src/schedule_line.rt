@@ -1,8 +1,8 @@
 // The line of a refused schedule.
 ghost use Rattle.std.specs.Prelude.{◌≡◌, ◌++◌, IfOk, OnOk};
 ghost use Rattle.lt_cli.specs.ScheduleLines.{row_kind_text, row_line, offence_name, place_text, offence_line, node_text, node_name, channel_text, ends_text};
-ghost use Rattle.std.specs.Fmt.{decimal};
 
+use crate::numbers::append_number;
 use lt_arch::{Chan, ChanKind, Offence, Shape};
 use lt_base::{List, Memory};
 use lt_rows::RowFault;
@@ -18,7 +18,7 @@ pub(crate) fn row_line(alloc: Global, row: u32, fault: RowFault) -> Result<List<
     let mut line = List::from_slice(alloc, b"schedule ")?;
     line.extend(row_kind(fault).as_bytes())?;
     line.extend(b" at row ")?;
-    append_number(alloc, &mut line, row)?;
+    append_number(&mut line, row)?;
     Ok(line)
 }
 
@@ -46,7 +46,7 @@ pub(crate) fn offence_line(
     ensures { IfOk result (λ line. line ≡ offence_line shape.now event offence) }
 {
     let mut line = List::from_slice(alloc, b"schedule offence at event ")?;
-    append_number(alloc, &mut line, event)?;
+    append_number(&mut line, event)?;
     line.extend(b": ")?;
     line.extend(offence_name(offence).as_bytes())?;
     append_place(&mut line, shape, offence)?;
@@ -121,11 +121,4 @@ fn append_ends(line: &mut List<u8>, shape: &Shape, channel: Chan) -> Result<(), 
     append_name(line, shape, channel.from)?;
     line.extend(b">")?;
     append_name(line, shape, channel.to)
-}
-
-fn append_number(alloc: Global, line: &mut List<u8>, number: u32) -> Result<(), Memory>
-    ensures { OnOk result (line.new ≡ line.old ++ decimal number) }
-{
-    let digits = format!(in alloc; "{number}")?;
-    line.extend(digits.as_bytes())
 }

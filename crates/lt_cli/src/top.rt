@@ -1,11 +1,9 @@
 // The top call.
 ghost use Rattle.std.specs.Prelude.{◌≡◌, ◌≢◌, ◌<◌, ◌-◌, ◌^◌, ◌++◌, ◌∷◌, [], ℕ, IfOk, List as Items, Option as Maybe, IsTrue, Some, map, string_bytes};
-ghost use Rattle.lt_run.specs.declared.fault.LoadFault.TheVariants as load;
-ghost use Rattle.lt_run.specs.declared.fault.RunFault.TheVariants as running;
 ghost use Rattle.lt_plan.specs.Text.{plan_of};
 ghost use Rattle.lt_run.specs.Loaded.{program_verdict, config_verdict};
-ghost use Rattle.lt_run.specs.Run.{run_verdict};
-ghost use Rattle.lt_words.specs.Reading.{command_of, check, plan, run};
+ghost use Rattle.lt_run.specs.Run.{meaning_verdict, run_verdict};
+ghost use Rattle.lt_words.specs.Reading.{command_of, check, meaning, plan, run};
 ghost use Rattle.lt_cli.specs.Clauses.{IsWordsExact, IsExact, IsOutsideCaused, IsWriteCaused, IsMissingExact};
 ghost use Rattle.lt_cli.specs.Objects.{Objects, IsQuiet, Tells};
 ghost use Rattle.lt_cli.specs.Ran.{Ran};
@@ -43,15 +41,19 @@ pub fn ltta<F: Files, W: Fabric, O: Sink, E: Sink>(
     ensures check { let old : Objects = record { files = F.state files.old; fabric = W.state fabric.old; out = O.state out.old; err = E.state err.old } in
         let new : Objects = record { files = F.state files.new; fabric = W.state fabric.new; out = O.state out.new; err = E.state err.new } in
         (program : Items ℕ) → command_of (map string_bytes words.now) ≡ Some (check program) → Tells old → IsQuiet old new → result ≢ Status.Memory
-        → IsExact Refusal.Load checked_text (program_verdict (old.files.named program)) old new result }
-    ensures plan { let old : Objects = record { files = F.state files.old; fabric = W.state fabric.old; out = O.state out.old; err = E.state err.old } in
+        → IsExact checked_text (program_verdict (old.files.named program)) old new result }
+    ensures meaning { let old : Objects = record { files = F.state files.old; fabric = W.state fabric.old; out = O.state out.old; err = E.state err.old } in
         let new : Objects = record { files = F.state files.new; fabric = W.state fabric.new; out = O.state out.new; err = E.state err.new } in
-        (config : Items ℕ) (horizon : Maybe ℕ) → command_of (map string_bytes words.now) ≡ Some (plan config horizon) → Tells old → IsQuiet old new → result ≢ Status.Memory
-        → IsExact Refusal.Load (λ setup. plan_of setup horizon) (config_verdict (old.files.named config)) old new result }
+        (program inputs : Items ℕ) → command_of (map string_bytes words.now) ≡ Some (meaning program inputs) → Tells old → IsQuiet old new → result ≢ Status.Memory
+        → IsExact printed_text (meaning_verdict old.files.named program inputs) old new result }
     ensures run { let old : Objects = record { files = F.state files.old; fabric = W.state fabric.old; out = O.state out.old; err = E.state err.old } in
         let new : Objects = record { files = F.state files.new; fabric = W.state fabric.new; out = O.state out.new; err = E.state err.new } in
         (program inputs schedule : Items ℕ) → command_of (map string_bytes words.now) ≡ Some (run program inputs schedule) → Tells old → IsQuiet old new → result ≢ Status.Memory
-        → IsExact Refusal.Run printed_text (run_verdict old.files.named program inputs schedule) old new result }
+        → IsExact printed_text (run_verdict old.files.named program inputs schedule) old new result }
+    ensures plan { let old : Objects = record { files = F.state files.old; fabric = W.state fabric.old; out = O.state out.old; err = E.state err.old } in
+        let new : Objects = record { files = F.state files.new; fabric = W.state fabric.new; out = O.state out.new; err = E.state err.new } in
+        (config : Items ℕ) (horizon : Maybe ℕ) → command_of (map string_bytes words.now) ≡ Some (plan config horizon) → Tells old → IsQuiet old new → result ≢ Status.Memory
+        → IsExact (λ setup. plan_of setup horizon) (config_verdict (old.files.named config)) old new result }
 
     // What a status says of the outside.
     ensures outside { let old : Objects = record { files = F.state files.old; fabric = W.state fabric.old; out = O.state out.old; err = E.state err.old } in
@@ -63,15 +65,19 @@ pub fn ltta<F: Files, W: Fabric, O: Sink, E: Sink>(
     ensures check_missing { let old : Objects = record { files = F.state files.old; fabric = W.state fabric.old; out = O.state out.old; err = E.state err.old } in
         let new : Objects = record { files = F.state files.new; fabric = W.state fabric.new; out = O.state out.new; err = E.state err.new } in
         (program : Items ℕ) → command_of (map string_bytes words.now) ≡ Some (check program) → IsTrue old.files.sound → result ≢ Status.Memory
-        → IsMissingExact load.Read (program_verdict (old.files.named program)) old new }
-    ensures plan_missing { let old : Objects = record { files = F.state files.old; fabric = W.state fabric.old; out = O.state out.old; err = E.state err.old } in
+        → IsMissingExact (program_verdict (old.files.named program)) old new }
+    ensures meaning_missing { let old : Objects = record { files = F.state files.old; fabric = W.state fabric.old; out = O.state out.old; err = E.state err.old } in
         let new : Objects = record { files = F.state files.new; fabric = W.state fabric.new; out = O.state out.new; err = E.state err.new } in
-        (config : Items ℕ) (horizon : Maybe ℕ) → command_of (map string_bytes words.now) ≡ Some (plan config horizon) → IsTrue old.files.sound → result ≢ Status.Memory
-        → IsMissingExact load.Read (config_verdict (old.files.named config)) old new }
+        (program inputs : Items ℕ) → command_of (map string_bytes words.now) ≡ Some (meaning program inputs) → IsTrue old.files.sound → result ≢ Status.Memory
+        → IsMissingExact (meaning_verdict old.files.named program inputs) old new }
     ensures run_missing { let old : Objects = record { files = F.state files.old; fabric = W.state fabric.old; out = O.state out.old; err = E.state err.old } in
         let new : Objects = record { files = F.state files.new; fabric = W.state fabric.new; out = O.state out.new; err = E.state err.new } in
         (program inputs schedule : Items ℕ) → command_of (map string_bytes words.now) ≡ Some (run program inputs schedule) → IsTrue old.files.sound → result ≢ Status.Memory
-        → IsMissingExact running.Read (run_verdict old.files.named program inputs schedule) old new }
+        → IsMissingExact (run_verdict old.files.named program inputs schedule) old new }
+    ensures plan_missing { let old : Objects = record { files = F.state files.old; fabric = W.state fabric.old; out = O.state out.old; err = E.state err.old } in
+        let new : Objects = record { files = F.state files.new; fabric = W.state fabric.new; out = O.state out.new; err = E.state err.new } in
+        (config : Items ℕ) (horizon : Maybe ℕ) → command_of (map string_bytes words.now) ≡ Some (plan config horizon) → IsTrue old.files.sound → result ≢ Status.Memory
+        → IsMissingExact (config_verdict (old.files.named config)) old new }
 
     // All of it: what was to be printed, how far it was, and whose count rose.
     ensures ran { let old : Objects = record { files = F.state files.old; fabric = W.state fabric.old; out = O.state out.old; err = E.state err.old } in

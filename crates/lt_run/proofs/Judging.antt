@@ -14,9 +14,7 @@ use Rattle.lt_judge.specs.declared.fault.ScheduleFault.TheVariants as schedule
 use Rattle.lt_judge.specs.Blamed.{schedule_blame}
 use Rattle.lt_judge.specs.Judged as judged
 use Rattle.lt_judge.specs.Judged.{IsOneNode, Executes, executed_by}
-use Rattle.lt_judge.specs.Verdict.{verdict}
-use Rattle.lt_verdict.specs.Rules.{Raised}
-use Rattle.lt_verdict.proofs.Decided.{HasOneKind, HasOneOutcome, raised_one}
+use Rattle.lt_verdict.proofs.Decided.{HasOneOutcome, raised_one}
 use Rattle.lt_run.specs.declared.fault.CommandFault.{CommandFault}
 use Rattle.lt_run.specs.Blamed.{command_blame}
 use Rattle.lt_run.specs.Scheduled.{command_fault, events_verdict, schedule_verdict}

@@ -13,7 +13,7 @@ use Rattle.lt_run.specs.declared.fault.What.TheVariants.{InputsBytes}
 use Rattle.lt_run.specs.declared.fault.CommandFault.{CommandFault}
 use Rattle.lt_run.specs.declared.fault.CommandFault.TheVariants as fault
 use Rattle.lt_run.specs.Main.{main_in, most_cells, cells_verdict}
-use Rattle.lt_run.specs.Loaded.{whole_verdict, program_verdict, inputs_verdict}
+use Rattle.lt_run.specs.Loaded.{whole_verdict, inputs_verdict}
 use Rattle.lt_run.specs.Run.{printed_verdict, meaning_verdict, run_verdict}
 use Rattle.lt_run.proofs.Judging.{schedule_decided}
 use Rattle.lt_run.proofs.OneLoad.{whole_decided, program_decided}

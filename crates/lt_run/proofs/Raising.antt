@@ -1,5 +1,5 @@
 -- A step's answer as that of the step around it.
-use Rattle.std.proofs.Common.{◌≡◌, ◌∙◌, ◌<◌, Result, Ok, Err, IsTrue, refl, sym, ap, subst}
+use Rattle.std.proofs.Common.{◌≡◌, ◌∙◌, Ok, Err, refl, sym, ap, subst}
 use Rattle.lt_base.specs.Or.{MapsFault}
 use Rattle.lt_base.specs.declared.memory.Or.{Or}
 use Rattle.lt_base.specs.declared.memory.Or.TheVariants.{Fault, Memory}

@@ -1,5 +1,5 @@
 -- The schedule of a run on one node.
-use Rattle.std.specs.Prelude.{◌≡◌, ℕ, List, Option, Ok, Err}
+use Rattle.std.specs.Prelude.{ℕ, List, Option, Ok, Err}
 use Rattle.lt_answer.specs.Answered.{Verdict}
 use Rattle.lt_verdict.specs.Rules.{Raised}
 use Rattle.lt_run.specs.Plain.{one_node, plain}

@@ -1,11 +1,10 @@
 use Rattle.lt_plan.specs.Text.{plan_of}
 use Rattle.lt_run.specs.Loaded.{config_verdict}
-use Rattle.lt_cli.specs.declared.refusal.Refusal.TheVariants.{Load}
 use Rattle.lt_cli.proofs.Texts.{text_shown, text_refused}
 use Rattle.lt_cli.proofs.answer.plan_answer.Goals as goal
 
 pub returns-in-Err : goal.returns-in-Err
-returns-in-Err g c = text_refused Load (λ setup. plan_of setup c.args.horizon) (config_verdict ((g.F.Files.state c.args.files.now).named c.args.config.now)) _ _ _ _ c.map.ensures c.in-Err.ensures
+returns-in-Err g c = text_refused (λ setup. plan_of setup c.args.horizon) (config_verdict ((g.F.Files.state c.args.files.now).named c.args.config.now)) _ _ _ _ c.map.ensures c.in-Err.ensures
 
 pub returns-in_ok-plan_text-in-Ok : goal.returns-in_ok-plan_text-in-Ok
-returns-in_ok-plan_text-in-Ok g c = text_shown Load (λ setup. plan_of setup c.args.horizon) (config_verdict ((g.F.Files.state c.args.files.now).named c.args.config.now)) _ _ c.in-Ok.config _ c.in-Ok.ensures c.in_ok-plan_text-in-Ok.ensures
+returns-in_ok-plan_text-in-Ok g c = text_shown (λ setup. plan_of setup c.args.horizon) (config_verdict ((g.F.Files.state c.args.files.now).named c.args.config.now)) _ _ c.in-Ok.config _ c.in-Ok.ensures c.in_ok-plan_text-in-Ok.ensures

@@ -1,4 +1,4 @@
-use Rattle.std.proofs.Common.{◌≡◌, ◌∙◌, ◌≤◌, ℕ, List, Option, length, arith}
+use Rattle.std.proofs.Common.{◌∙◌, ℕ, List, Option, length, arith}
 use Rattle.lt_front.specs.Checked.{CheckedText}
 use Rattle.lt_base.specs.Inputs.{InputTable}
 use Rattle.lt_answer.specs.Answered.{Verdict, AndThen}

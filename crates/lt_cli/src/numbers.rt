@@ -1,0 +1,13 @@
+// Numbers in lines.
+ghost use Rattle.std.specs.Prelude.{◌≡◌, ◌++◌, OnOk};
+ghost use Rattle.std.specs.Fmt.{decimal};
+
+use itoa::Buffer;
+use lt_base::{List, Memory};
+
+/// Appends a number in decimal digits.
+pub(crate) fn append_number(line: &mut List<u8>, number: u32) -> Result<(), Memory>
+    ensures { OnOk result (line.new ≡ line.old ++ decimal number) }
+{
+    line.extend(Buffer::new().format(number).as_bytes())
+}
