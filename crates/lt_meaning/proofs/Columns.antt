@@ -1,34 +1,34 @@
 -- Columns of cells, one more cell at a time.
 use Rattle.std.proofs.Common.{◌≡◌, ◌≢◌, ℕ, zero, suc, ◌+◌, ◌<◌, ◌≤◌, ◌⊎◌, inl, inr, List, [], ◌∷◌, ◌++◌, length, map, take, set, get_or, Option, Some, refl, sym, ap, ◌∙◌, arith, get_or-set_other, get_or-set_same}
 use Rattle.std.specs.Prelude.{slice_get}
-use Rattle.std.proofs.lemmas.List.{length-set}
+use Rattle.std.proofs.lemmas.List.{length-set, map-append, append_assoc}
 use Rattle.std.proofs.lemmas.Option.{get_or_from_slice_get}
 use Rattle.lt_base.specs.declared.value.Value.{Value}
 use Rattle.lt_base.specs.declared.value.Cell.{Cell}
-use Rattle.lt_base.specs.declared.function.Decl.{Decl}
-use Rattle.lt_base.specs.Meaning.{Environment, clock_of, cell}
+use Rattle.lt_base.specs.declared.value.Cell.TheVariants.{Absent}
+use Rattle.lt_meaning.specs.Ready.{cell_in, cells_in}
 use Rattle.lt_meaning.proofs.Running.{nat_same}
 use Rattle.lt_meaning.proofs.Instant.{set_same, set_other, at_index}
 
-pub record Shown (ds : List Decl) (env : Environment) (old new : List (List Cell)) (i : ℕ) : Type 0 where
+-- the first i columns have these cells more
+pub record Put (more : ℕ → List Cell) (old new : List (List Cell)) (i : ℕ) : Type 0 where
   pub size : length new ≡ length old
-  pub shown : (x : ℕ) → x < i → get_or new x [] ≡ get_or old x [] ++ cell env (clock_of ds x) x ∷ []
+  pub put : (x : ℕ) → x < i → get_or new x [] ≡ get_or old x [] ++ more x
   pub rest : (x : ℕ) → i ≤ x → get_or new x [] ≡ get_or old x []
 
--- one more column is shown
-pub shown_next : (ds : List Decl) (env : Environment) (old new : List (List Cell)) (i : ℕ) (column column' : List Cell) → Shown ds env old new i → i < length new → column ≡ get_or new i column → column' ≡ column ++ cell env (clock_of ds i) i ∷ []
-    → Shown ds env old (set new i column') (i + 1)
-shown_next ds env old new i column column' s room at is =
+-- one more column has
+pub put_next : (more : ℕ → List Cell) (old new : List (List Cell)) (i : ℕ) (column column' : List Cell) → Put more old new i → i < length new → column ≡ get_or new i column → column' ≡ column ++ more i → Put more old (set new i column') (i + 1)
+put_next more old new i column column' s room at is =
     let here : get_or new i [] ≡ column = get_or_from_slice_get new i column [] (at_index new i column room at) in
     record {
       size = length-set new i column' ∙ s.size;
-      shown = λ x l.
-          let go : (x ≡ i) ⊎ (x ≢ i) → get_or (set new i column') x [] ≡ get_or old x [] ++ cell env (clock_of ds x) x ∷ [] =
+      put = λ x l.
+          let go : (x ≡ i) ⊎ (x ≢ i) → get_or (set new i column') x [] ≡ get_or old x [] ++ more x =
           elim [
             | inl e ↦
-                ap (λ x. get_or (set new i column') x []) e ∙ get_or-set_same new i column' [] room ∙ is ∙ ap (λ c. c ++ cell env (clock_of ds i) i ∷ []) (sym here ∙ s.rest i (omega arith))
-                ∙ ap (λ x. get_or old x [] ++ cell env (clock_of ds x) x ∷ []) (sym e)
-            | inr n ↦ get_or-set_other new i x column' [] n ∙ s.shown x (omega (arith, n))
+                ap (λ x. get_or (set new i column') x []) e ∙ get_or-set_same new i column' [] room ∙ is ∙ ap (λ c. c ++ more i) (sym here ∙ s.rest i (omega arith))
+                ∙ ap (λ x. get_or old x [] ++ more x) (sym e)
+            | inr n ↦ get_or-set_other new i x column' [] n ∙ s.put x (omega (arith, n))
           ] in
           go (nat_same x i);
       rest = λ x l. get_or-set_other new i x column' [] (λ e. absurd (omega (arith, e, l))) ∙ s.rest x (omega arith);
@@ -39,6 +39,18 @@ empty_next [] column h e zero = e
 empty_next [] column h e (suc x) = refl
 empty_next (c ∷ columns) column h e zero = h 0
 empty_next (c ∷ columns) column h e (suc x) = empty_next columns column (λ y. h (suc y)) e x
+
+-- one more cell in a row
+pub shown_next : (g : ℕ → Cell) (row : List Cell) (v : Cell) → ((y : ℕ) → y < length row → get_or row y Absent ≡ g y) → v ≡ g (length row) → (y : ℕ) → y < length row + 1 → get_or (row ++ v ∷ []) y Absent ≡ g y
+shown_next g [] v h is zero l = is
+shown_next g [] v h is (suc y) l = absurd (omega (arith, l))
+shown_next g (c ∷ row) v h is zero l = h 0 (omega arith)
+shown_next g (c ∷ row) v h is (suc y) l = shown_next (λ k. g (suc k)) row v (λ k m. h (suc k) (omega (arith, m))) is y (omega (arith, l))
+
+-- a column with the cells of one row more
+pub waiting_more : (column : List Cell) (rows rows' : List (List Cell)) (row : List Cell) (x : ℕ) → rows' ≡ rows ++ row ∷ [] → column ++ cells_in rows' x ≡ (column ++ cells_in rows x) ++ cell_in row x ∷ []
+waiting_more column rows rows' row x e =
+    ap (λ r. column ++ cells_in r x) e ∙ ap (λ r. column ++ r) (map-append (λ (r : List Cell). cell_in r x) rows (row ∷ [])) ∙ sym (append_assoc column (cells_in rows x) (cell_in row x ∷ []))
 
 -- ---- a row that is put into the first cells
 

@@ -16,3 +16,4 @@ pub mod Running
 pub mod Keeping
 pub mod Instant
 pub mod Answering
+pub mod Passing

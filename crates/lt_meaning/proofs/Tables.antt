@@ -30,7 +30,7 @@ use Rattle.lt_meaning.specs.Plan.{inputs_of, inputs_at}
 use Rattle.lt_meaning.specs.Fine.{Passes}
 use Rattle.lt_meaning.specs.Planned.{PlanOf, PlanAt, Planned}
 use Rattle.lt_meaning.specs.Stands.{cells_of, Stands}
-use Rattle.lt_meaning.specs.Ready.{ArePlans}
+use Rattle.lt_meaning.specs.Ready.{ArePlans, with_rows}
 use Rattle.lt_meaning.specs.Streams.{HasStreams, HasMainStreams, HasTypes, HasMainTypes, InputsFit, InputsFitMain}
 use Rattle.lt_meaning.proofs.Standing.{get_left, get_right}
 use Rattle.lt_meaning.proofs.Running.{nat_same}
@@ -174,25 +174,26 @@ shown_more f x env es =
     reverse-append (s env ∷ []) (map s es)
 
 -- how far the table has come
-pub record Shown (p : WholeProgram) (plans : List Plan) (a : ArePlans p plans) (rows : List (List Value)) (k : ℕ) (state : State) (columns : List (List Cell)) (f : Function) (es : List Environment) : Type 0 where
+pub record Shown (p : WholeProgram) (plans : List Plan) (a : ArePlans p plans) (rows : List (List Value)) (k : ℕ) (state : State) (columns waiting : List (List Cell)) (f : Function) (es : List Environment) : Type 0 where
   pub stands : Stands plans a.planned (length plans) state p.main (newest_first (take k rows)) es
   pub number : length columns ≡ length f.decls
-  pub columns_are : (x : ℕ) → x < length f.decls → get_or columns x [] ≡ shown_by f x es
+  pub columns_are : (x : ℕ) → x < length f.decls → with_rows columns waiting x ≡ shown_by f x es
 
-pub has_main_streams : (p : WholeProgram) (plans : List Plan) (a : ArePlans p plans) (rows : List (List Value)) (k : ℕ) (state : State) (columns : List (List Cell)) (f : Function) (es : List Environment) → function_of p.funcs p.main ≡ Some f → length rows ≤ k
-    → Shown p plans a rows k state columns f es → HasMainStreams p rows columns
-has_main_streams p plans a rows k state columns f es is all s =
+pub has_main_streams : (p : WholeProgram) (plans : List Plan) (a : ArePlans p plans) (rows : List (List Value)) (k : ℕ) (state : State) (columns waiting table : List (List Cell)) (f : Function) (es : List Environment) → function_of p.funcs p.main ≡ Some f → length rows ≤ k
+    → Shown p plans a rows k state columns waiting f es → length table ≡ length columns → ((x : ℕ) → x < length columns → get_or table x [] ≡ with_rows columns waiting x) → HasMainStreams p rows table
+has_main_streams p plans a rows k state columns waiting table f es is all s size put =
     let program = a.planned.program in
     let there : function_of program.funcs p.main ≡ Some f = ap (λ (q : WholeProgram). function_of q.funcs p.main) a.is ∙ is in
     let causal = causal_function program a.planned.good a.planned.checked p.main f there in
     let clocked = clocked_function program a.planned.good a.planned.checked p.main f there in
     let whole : newest_first (take k rows) ≡ newest_first rows = ap newest_first (take_all k rows all) in
     let solves = subst (λ r. Solves (calls_of program.funcs) f es r) whole (solves_of plans a.planned (length plans) state p.main (newest_first (take k rows)) es f s.stands there) in
-    let streams : HasStreams program.funcs f rows columns = record {
-      width = s.number;
-      streams = λ x l. s.columns_are x l ∙ stream_is program.funcs f causal clocked rows es solves x l;
+    let number = s.number in
+    let streams : HasStreams program.funcs f rows table = record {
+      width = size ∙ number;
+      streams = λ x l. put x (omega (arith, l, number)) ∙ s.columns_are x l ∙ stream_is program.funcs f causal clocked rows es solves x l;
     } in
-    subst (λ o. MatchOption o ⊥ (λ f. HasStreams p.funcs f rows columns)) (sym is) (subst (λ (q : WholeProgram). HasStreams q.funcs f rows columns) a.is streams)
+    subst (λ o. MatchOption o ⊥ (λ f. HasStreams p.funcs f rows table)) (sym is) (subst (λ (q : WholeProgram). HasStreams q.funcs f rows table) a.is streams)
 
 pub fit_of : (p : WholeProgram) (inputs : InputTable) (f : Function) → function_of p.funcs p.main ≡ Some f → InputsFitMain p inputs → InputsFit f inputs
 fit_of p inputs f is fit = subst (λ o. MatchOption o ⊥ (λ f. InputsFit f inputs)) is fit

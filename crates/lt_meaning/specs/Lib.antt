@@ -7,3 +7,4 @@ pub mod Planned
 pub mod Stands
 pub mod Ready
 pub mod Streams
+pub mod Worked

@@ -7,9 +7,12 @@ mod node;
 mod plan;
 mod planning;
 mod program;
+mod showing;
 mod starting;
 mod state;
 mod table;
+#[cfg(test)]
+mod tests;
 
 pub use program::{GREATEST_CELLS, StreamsFault, streams};
 pub use table::Table;

@@ -3,19 +3,18 @@
 ghost use Rattle.std.specs.Prelude.{◌≡◌, ◌<◌, ◌≤◌, ◌*◌, ◌-◌, ◌^◌, ℕ, [], Some, MatchResult, IfOk, OnOk, true, false, List as Items, length, min, slice_get, slice_index_or};
 ghost use Rattle.lt_base.specs.Or.{ForFault};
 ghost use Rattle.lt_base.specs.Inputs.{entry_at};
-ghost use Rattle.lt_base.specs.Meaning.{entry, cell as cell_of};
 ghost use Rattle.lt_base.specs.Sizes.{program_weight, cut};
 ghost use Rattle.lt_base.specs.Checked.{CheckedProgram};
-ghost use Rattle.lt_meaning.specs.Ready.{ArePlans, Shows};
+ghost use Rattle.lt_meaning.specs.Ready.{ArePlans};
 ghost use Rattle.lt_meaning.specs.Streams.{HasMainStreams, HasMainTypes, cell_count, InputsFitMain, HasRoom};
 
 use crate::Table;
-use crate::node::is_present;
 use crate::plan::Plan;
 use crate::planning::plan_of;
+use crate::showing::{TOGETHER, put_rows, row_of, settle};
 use crate::starting::start;
 use crate::state::run;
-use lt_base::{Cell, Clock, Decl, Inputs, List, Memory, Or, Program, Value, sizes};
+use lt_base::{Cell, Inputs, List, Memory, Or, Program, Value, sizes};
 use std::alloc::Global;
 
 /// The greatest number of cells: the weight of `main` for each row of inputs.
@@ -85,11 +84,15 @@ fn table_of(alloc: Global, p: &Program, plans: &[Plan], inputs: &Inputs) -> Resu
     let decls = main.decls.as_slice();
     let mut state = start(alloc, plans, number, plans.len())?;
     let mut columns = columns_of(alloc, decls.len(), inputs.rows() as usize)?;
+    let mut shown = Vec::with_capacity(alloc, TOGETHER)?;
     for k in 0..inputs.rows() {
         load(inputs, main.n_in, k, &mut state.cells);
         run(plans, number, &mut state);
-        show(decls, state.cells.as_slice(), &mut columns)?;
+        let row = row_of(alloc, decls, state.cells.as_slice())?;
+        shown.push(row)?;
+        settle(&mut columns, &mut shown)?;
     }
+    put_rows(&mut columns, shown.as_slice())?;
     Ok(Table::of(List::of(columns)))
 }
 
@@ -115,35 +118,5 @@ fn load(inputs: &Inputs, width: u32, k: u32, cells: &mut Vec<Option<Value>>)
 {
     for x in 0..width {
         cells[x as usize] = Some(inputs.value(k, x));
-    }
-}
-
-// One more cell in each column.
-fn show(
-    decls: &[Decl],
-    cells: &[Option<Value>],
-    columns: &mut Vec<List<Cell>>,
-) -> Result<(), Memory>
-    requires { length columns.old.items ≡ length decls.now }
-    ensures size { length columns.new.items ≡ length columns.old.items }
-    ensures shows { OnOk result (Shows decls.now (entry cells.now) columns.old.items columns.new.items) }
-{
-    for x in 0..decls.len() {
-        let cell = cell_at(&decls[x].clock, cells, x);
-        columns[x].push(cell)?;
-    }
-    Ok(())
-}
-
-// What a variable has at an instant.
-fn cell_at(clock: &Clock, cells: &[Option<Value>], x: usize) -> Cell
-    ensures { result ≡ cell_of (entry cells.now) clock.now x }
-{
-    if !is_present(clock, cells) {
-        return Cell::Absent;
-    }
-    match cells.get(x) {
-        Some(Some(value)) => Cell::Here(*value),
-        _ => Cell::Absent,
     }
 }

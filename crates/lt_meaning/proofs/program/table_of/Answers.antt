@@ -1,4 +1,4 @@
-use Rattle.std.proofs.Common.{◌≡◌, ◌∙◌, ◌<◌, ◌++◌, ◌∷◌, ◌+◌, [], Some, List, length, map, take, get_or, refl, sym, ap, subst, arith}
+use Rattle.std.proofs.Common.{◌≡◌, ◌∙◌, ◌<◌, ◌++◌, ◌∷◌, ◌+◌, [], Some, ℕ, List, length, map, take, get_or, refl, sym, ap, subst, arith}
 use Rattle.lt_base.specs.declared.value.Cell.{Cell}
 use Rattle.lt_base.specs.Program.{Function, WholeProgram}
 use Rattle.lt_base.specs.Meaning.{Row, Environment, entry, function_of, clock_of, cell}
@@ -11,6 +11,8 @@ use Rattle.lt_meaning.specs.declared.state.State.TheViews.{out-roll-State, roll-
 use Rattle.lt_meaning.specs.Plan.{inputs_at}
 use Rattle.lt_meaning.specs.Stands.{Stands, Starts, cells_of, row_in}
 use Rattle.lt_meaning.specs.Streams.{HasMainStreams}
+use Rattle.lt_meaning.specs.Ready.{cell_in, cells_in, with_rows}
+use Rattle.lt_meaning.proofs.Columns.{waiting_more}
 use Rattle.lt_meaning.proofs.Instant.{some_at}
 use Rattle.lt_meaning.proofs.Answering.{refilled}
 use Rattle.lt_meaning.proofs.Tables.{function_at, row_width, newest_next, filled_is, room_of, shown_more, has_main_streams, fit_of}
@@ -55,7 +57,7 @@ loop-k-init c = λ a f is.
       record {
         stands = started a.planned f there (omega (arith, low, number));
         number = c.in_ok-columns.ensures.number ∙ ap length decls;
-        columns_are = λ x l. c.in_ok-columns.ensures.empty x;
+        columns_are = λ x l i. c.in_ok-columns.ensures.empty x i ++ cells_in (c.in_ok-shown.ensures.items i) x;
       },
     )
 
@@ -99,15 +101,6 @@ run-requires c =
     let st : Stands plans a.planned (length plans) c.loop-k.state c.p.inside.main rows s.0 = subst (λ g. Stands plans a.planned (length plans) c.loop-k.state g rows s.0) (sym main) s.1.stands in
     (a.planned, length plans, rows, s.0, refilled plans c.p.inside.main a.planned (length plans) rows s.0 c.loop-k.state (roll-State v) v (out-roll-State v) c.load.ensures.size refl refl refl st)
 
-pub show-requires : goal.show-requires
-show-requires c =
-    let p = c.args.p.now in
-    let main = ap (λ (q : WholeProgram). q.main) c.p.view_is in
-    let same : c.as_slice.result.now ≡ p.funcs = c.as_slice.ensures ∙ ap (λ (q : WholeProgram). q.funcs) c.p.view_is in
-    let here : function_of p.funcs p.main ≡ Some c.index-as_slice-number.result = function_at p.funcs p.main c.index-as_slice-number.result c.kept.ensures.main (c.index-as_slice-number.is ∙ (λ i. get_or (same i) (main i) c.index-as_slice-number.result)) in
-    let s = c.loop-k.invariant c.requires.plans c.index-as_slice-number.result here in
-    s.1.number ∙ sym (ap length c.as_slice-decls.ensures ∙ ap (λ (f : Function). length f.decls) c.main.view_is)
-
 pub loop-k-preserved : goal.loop-k-preserved
 loop-k-preserved c = λ a f is.
     let p = c.args.p.now in
@@ -146,15 +139,19 @@ loop-k-preserved c = λ a f is.
     let stands : Stands plans a.planned (length plans) c.run.new.state p.main (newest_first (take (k + 1) rows)) (env ∷ es) =
     subst (λ g. Stands plans a.planned (length plans) c.run.new.state g (newest_first (take (k + 1) rows)) (env ∷ es)) main
     (subst (λ (r : List Row). Stands plans a.planned (length plans) c.run.new.state c.p.inside.main r (env ∷ es)) rows_are ran) in
+    let number_is = s.1.number in
     let cells : entry c.as_slice-in-loop-k.result.now ≡ env = ap entry c.as_slice-in-loop-k.ensures.value in (
       env ∷ es,
       record {
         stands = stands;
-        number = c.show.ensures.size ∙ s.1.number;
+        number = c.settle.ensures.size ∙ number_is;
         columns_are = λ x m.
             let inside : x < length c.as_slice-decls.result.now = let d = ap length decls in omega (arith, m, d) in
-            c.in_ok-show.ensures.shows x inside
-            ∙ (λ i. s.1.columns_are x m i ++ cell (cells i) (clock_of (decls i) x) x ∷ [])
+            let row = c.in_ok-row.row in
+            let shows : cell_in row x ≡ cell env (clock_of f.decls x) x = c.in_ok-row.ensures x inside ∙ (λ i. cell (cells i) (clock_of (decls i) x) x) in
+            c.in_ok-settle.ensures.same x (omega (arith, m, number_is))
+            ∙ waiting_more (get_or c.loop-k.columns.items x []) c.loop-k.shown.items c.push.new.self.items row x c.in_ok-push.ensures.items
+            ∙ (λ i. s.1.columns_are x m i ++ shows i ∷ [])
             ∙ sym (shown_more f x env es);
       },
     )
@@ -167,5 +164,7 @@ returns c =
     let s = c.loop-k.invariant a f.0 f.1 in
     let l = c.loop-k-test.false in
     let e = c.rows-k-end.ensures in
-    let streams = has_main_streams p c.args.plans.now a c.args.inputs.now.rows c.loop-k.k c.loop-k.state c.loop-k.columns.items f.0 s.0 f.1 (omega (arith, l, e)) s.1 in
+    let put : (x : ℕ) → x < length c.loop-k.columns.items → get_or c.put_rows.new.columns.items x [] ≡ with_rows c.loop-k.columns.items c.loop-k.shown.items x =
+    λ x m. c.in_ok-put_rows.ensures.put x m ∙ ap (λ (r : List (List Cell)). with_rows c.loop-k.columns.items r x) c.as_slice-2.ensures.value in
+    let streams = has_main_streams p c.args.plans.now a c.args.inputs.now.rows c.loop-k.k c.loop-k.state c.loop-k.columns.items c.loop-k.shown.items c.put_rows.new.columns.items f.0 s.0 f.1 (omega (arith, l, e)) s.1 c.put_rows.ensures.size put in
     subst (λ (t : List (List Cell)). HasMainStreams p c.args.inputs.now.rows t) (sym (c.of-2.ensures ∙ c.of.ensures)) streams
