@@ -1,5 +1,5 @@
 // Lines over long and over broken files, and rows as they read and are written.
-ghost use Rattle.std.specs.Prelude.{◌≡◌, ◌<◌, ◌≤◌, ◌-◌, ◌^◌, length, IfOk};
+ghost use Rattle.std.specs.Prelude.{◌≡◌, ◌<◌, ◌≤◌, ◌-◌, ◌^◌, All, length, IfOk};
 ghost use Rattle.lt_io.specs.MemFiles.{mem_files_state};
 ghost use Rattle.lt_rows.specs.Events.{IsEventOf};
 
@@ -67,15 +67,34 @@ fn first<F: Files>(alloc: Global, files: &mut F) -> Result<List<u8>, Memory>
     }
 }
 
-fn in_memory(alloc: Global, text: &[u8]) -> Result<MemFiles, Memory>
+fn listed(alloc: Global, call: u64) -> Result<List<u64>, Memory>
+    requires { call < 2 ^ 64 - 1 }
+    ensures { IfOk result (λ calls. All (λ n. n < 2 ^ 64 - 1) calls) }
+{
+    let mut calls = List::new(alloc);
+    if call > 0 {
+        calls.push(call)?;
+    }
+    Ok(calls)
+}
+
+// The file `lines`, of which the call of this number fails; 0 for none.
+fn in_memory(alloc: Global, bytes: List<u8>, call: u64) -> Result<MemFiles, Memory>
+    requires { call < 2 ^ 64 - 1 }
     ensures { IfOk result (λ files. (mem_files_state files).faults ≡ 0) }
 {
     let mut files = List::new(alloc);
     files.push(MemFile {
         name: Name::from_str(alloc, "lines")?,
-        bytes: List::from_slice(alloc, text)?,
+        bytes,
     })?;
-    Ok(MemFiles::new(files, List::new(alloc)))
+    Ok(MemFiles::new(files, listed(alloc, call)?))
+}
+
+fn file(alloc: Global, text: &str) -> Result<MemFiles, Memory>
+    ensures { IfOk result (λ files. (mem_files_state files).faults ≡ 0) }
+{
+    in_memory(alloc, List::from_slice(alloc, text.as_bytes())?, 0)
 }
 
 #[test]
@@ -90,17 +109,46 @@ fn lines_of_texts(rt: HostRuntime) -> Result<(), Fail> {
         ("\r\r\n", "\r\r|"),
     ];
     for (text, wanted) in rows {
-        let mut files = in_memory(alloc, text.as_bytes())?;
+        let mut files = file(alloc, text)?;
         let found = joined(alloc, &mut files)?;
         assert_eq!(rt; found.as_slice(), wanted.as_bytes(), "{text}");
     }
-    let mut files = in_memory(alloc, b"\nfirst\r\nsecond")?;
+    let mut files = file(alloc, "\nfirst\r\nsecond")?;
     let found = first(alloc, &mut files)?;
     assert_eq!(rt; found.as_slice(), "first\r".as_bytes());
     // The file comes in pieces of seven bytes, which cut its lines.
     let mut files = RepeatFiles::new(List::from_slice(alloc, b"abc\ndef")?, 3);
     let found = joined(alloc, &mut files)?;
     assert_eq!(rt; found.as_slice(), "abc|defabc|defabc|def|".as_bytes());
+    Ok(())
+}
+
+// A row, 100,000 of these bytes and another row, of which the call of this number fails: the number of rows that are
+// given, and how the reading ends.
+fn count_far(alloc: Global, byte: u8, call: u64) -> Result<(u32, Option<LineFault>), Memory>
+    requires { call < 2 ^ 64 - 1 }
+{
+    let mut bytes = List::from_slice(alloc, b"first\n")?;
+    let far = vec![in alloc; byte; 100_000]?;
+    bytes.extend(far.as_slice())?;
+    bytes.extend(b"\nlast\n")?;
+    let mut files = in_memory(alloc, bytes, call)?;
+    count(alloc, &mut files)
+}
+
+// The opening is the first call, and each read one more.
+#[test]
+fn no_piece_is_read_too_early(rt: HostRuntime) -> Result<(), Fail> {
+    let alloc = rt.alloc();
+    let read = Some(LineFault::Read);
+    assert_eq!(rt; count_far(alloc, b'x', 1)?, (0, read));
+    assert_eq!(rt; count_far(alloc, b'x', 2)?, (0, read));
+    // The first piece shows that the second row is too long.
+    assert_eq!(rt; count_far(alloc, b'x', 3)?, (1, Some(LineFault::TooLong)));
+    // The last row is in the second piece, and the third one is the end.
+    assert_eq!(rt; count_far(alloc, b'\n', 3)?, (1, read));
+    assert_eq!(rt; count_far(alloc, b'\n', 4)?, (2, read));
+    assert_eq!(rt; count_far(alloc, b'\n', 0)?, (2, None));
     Ok(())
 }
 
