@@ -1,6 +1,5 @@
 -- Why a call of `ltta` ends as it does.
 use Rattle.std.proofs.Common.{◌≡◌, ◌≢◌, ◌<◌, ℕ, List, Option, Some, ◌++◌, ◌∷◌, [], Result, Ok, Err, IsTrue, refl, sym, ◌∙◌, ap, subst, append-nil, inl, inr}
-use Rattle.std.specs.Prelude.{codes}
 use Rattle.lt_answer.specs.Answered.{Verdict}
 use Rattle.lt_verdict.proofs.Decided.{HasOneKind}
 use Rattle.lt_answer.specs.World.{IsCalm, Blame, Content, Reading, Linking, Blames}
@@ -11,7 +10,7 @@ use Rattle.lt_cli.specs.declared.refusal.Refusal.{Refusal}
 use Rattle.lt_cli.specs.declared.status.Status.{Status}
 use Rattle.lt_cli.specs.declared.status.Status.TheVariants as status
 use Rattle.lt_cli.specs.Blamed.{blame_of}
-use Rattle.lt_cli.specs.Texts.{status_of, refusal_status, fault_status, line_of, out_text, err_text}
+use Rattle.lt_cli.specs.Texts.{status_of, refusal_status, fault_status, out_text, err_text}
 use Rattle.lt_words.specs.Reading.{Said, command_of}
 use Rattle.lt_cli.specs.Commands.{text_verdict, command_verdict, asked_verdict, words_verdict}
 use Rattle.lt_cli.specs.Objects.{Objects, world_of}

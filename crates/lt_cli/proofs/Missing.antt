@@ -1,6 +1,5 @@
 -- A number past the nodes, or the channels, names nothing.
-use Rattle.std.proofs.Common.{◌≡◌, ◌∙◌, ℕ, ◌≤◌, List, ◌++◌, length, None, sym, ap, append-nil}
-use Rattle.std.specs.List.{slice_get}
+use Rattle.std.proofs.Common.{◌≡◌, ◌∙◌, ℕ, ◌≤◌, List, ◌++◌, length, sym, ap, append-nil}
 use Rattle.std.proofs.lemmas.Option.{slice_get_past}
 use Rattle.lt_arch.specs.declared.shape.Shape.{Shape}
 use Rattle.lt_cli.specs.ScheduleLines.{node_name, channel_text, name_or_none, ends_or_none}

@@ -1,8 +1,8 @@
 -- Refusals, and their statuses.
-use Rattle.std.proofs.Common.{◌≡◌, ◌∙◌, List, Bool, true, false, refl, sym, ap}
+use Rattle.std.proofs.Common.{◌≡◌, ◌∙◌, Bool, true, false, refl, sym, ap}
 use Rattle.std.specs.Prelude.{codes, if◌then◌else◌}
 use Rattle.lt_front.specs.Limits.{is_limit}
-use Rattle.lt_answer.specs.World.{Blame, Content, Reading, Linking}
+use Rattle.lt_answer.specs.World.{Reading, Linking}
 use Rattle.lt_inputs.specs.declared.fault.InputKind.{InputKind}
 use Rattle.lt_inputs.specs.declared.fault.InputKind.TheVariants as inputs
 use Rattle.lt_rows.specs.declared.fault.RowFault.{RowFault}

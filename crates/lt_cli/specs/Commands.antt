@@ -1,5 +1,5 @@
 -- What is right to print for the words and the bytes of the files.
-use Rattle.std.specs.Prelude.{◌≡◌, ℕ, List, Option, Some, None, Ok, Err}
+use Rattle.std.specs.Prelude.{◌≡◌, ℕ, List, Option, Some, None, Err}
 use Rattle.lt_print.specs.Canonical.{canonical}
 use Rattle.lt_front.specs.Checked.{CheckedText}
 use Rattle.lt_plan.specs.Text.{plan_of}

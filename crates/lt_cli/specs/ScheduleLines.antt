@@ -1,5 +1,5 @@
 -- The lines of refused schedules, without their line feeds.
-use Rattle.std.specs.Prelude.{ℕ, List, [], ◌∷◌, ◌++◌, codes, Option, Some, None, slice_get}
+use Rattle.std.specs.Prelude.{ℕ, List, [], ◌++◌, codes, Option, Some, None, slice_get}
 use Rattle.std.specs.Fmt.{decimal}
 use Rattle.lt_arch.specs.declared.chan.Chan.{Chan}
 use Rattle.lt_arch.specs.declared.chan.ChanKind.{ChanKind}

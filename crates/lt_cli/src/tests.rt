@@ -320,6 +320,23 @@ fn faulty_inputs_are_refused(rt: HostRuntime) -> Result<(), Fail> {
     Ok(())
 }
 
+// A program and inputs that are made.
+#[derive(Drop)]
+struct Made {
+    program: String,
+    inputs: String,
+}
+
+impl Made {
+    fn texts<'a>(&'a self) -> Texts<'a> {
+        Texts {
+            program: self.program.as_str(),
+            inputs: self.inputs.as_str(),
+            ..COUNTER
+        }
+    }
+}
+
 // A main that calls the last of so many functions, each of which calls the one before twice.
 fn doubling(alloc: Global, functions: u32) -> Result<String, Memory> {
     let mut text = String::from_str(alloc, "node f1(a: int) returns (b: int) let b = a; tel\n")?;
@@ -362,14 +379,11 @@ fn limits_are_told(rt: HostRuntime) -> Result<(), Fail> {
         ("run p i s", 12, 1, "limit: weight 4096\n"),
     ];
     for (line, functions, count, err) in rows {
-        let program = doubling(alloc, functions)?;
-        let inputs = long_inputs(alloc, count)?;
-        let texts = Texts {
-            program: program.as_str(),
-            inputs: inputs.as_str(),
-            ..COUNTER
+        let made = Made {
+            program: doubling(alloc, functions)?,
+            inputs: long_inputs(alloc, count)?,
         };
-        let ended = call(alloc, line, texts, NONE)?;
+        let ended = call(alloc, line, made.texts(), NONE)?;
         assert_eq!(rt; ended.status, Status::Limit, "{line}");
         assert_eq!(rt; ended.out.as_slice(), b"".as_slice(), "{line}");
         assert_eq!(rt; ended.err.as_slice(), err.as_bytes(), "{line}");

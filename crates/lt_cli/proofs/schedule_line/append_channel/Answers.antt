@@ -1,4 +1,4 @@
-use Rattle.std.proofs.Common.{ℕ, List, ◌≤◌, length, subst}
+use Rattle.std.proofs.Common.{List, ◌≤◌, length, subst}
 use Rattle.lt_arch.specs.declared.chan.Chan.{Chan}
 use Rattle.lt_cli.proofs.Missing.{no_channel}
 use Rattle.lt_cli.proofs.schedule_line.append_channel.Goals as goal

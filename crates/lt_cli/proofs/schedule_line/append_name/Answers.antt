@@ -1,5 +1,4 @@
 use Rattle.std.proofs.Common.{ℕ, List, ◌≤◌, length, subst}
-use Rattle.lt_arch.specs.declared.chan.Chan.{Chan}
 use Rattle.lt_cli.proofs.Missing.{no_node}
 use Rattle.lt_cli.proofs.schedule_line.append_name.Goals as goal
 
