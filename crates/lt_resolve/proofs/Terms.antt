@@ -1,5 +1,5 @@
 -- Terms and their names.
-use Rattle.std.proofs.Common.{◌≡◌, ℕ, ◌+◌, subst, Vec, Global, List, [], ◌∷◌, map, Option, Some, None, refl, ap, sym, ◌∙◌}
+use Rattle.std.proofs.Common.{◌≡◌, ℕ, ◌+◌, subst, Vec, Global, List, [], ◌∷◌, map, Some, None, refl, ap, sym, ◌∙◌}
 use Rattle.std.specs.List.{sum_by}
 use Rattle.std.proofs.lemmas.List.Sums.{sum_by-cons}
 use Rattle.std.specs.Option.{option_or}

@@ -1,5 +1,5 @@
 -- What is looked for in one function after another.
-use Rattle.std.specs.Prelude.{◌≡◌, ℕ, Option, List, length, codes}
+use Rattle.std.specs.Prelude.{◌≡◌, ℕ, Option, length, codes}
 use Rattle.lt_base.specs.declared.memory.Or.{Or}
 use Rattle.lt_base.specs.declared.memory.Or.TheVariants.{Fault, Memory}
 use Rattle.std.specs.Borrow.{Bor}
