@@ -1,5 +1,5 @@
 -- The lines of refused programs, without their line feeds.
-use Rattle.std.specs.Prelude.{ℕ, ◌+◌, Bool, true, false, List, [], ◌++◌, ◌∷◌, Option, Some, None, codes, bytes_eq, nat_lt, reverse, if◌then◌else◌}
+use Rattle.std.specs.Prelude.{ℕ, ◌+◌, Bool, List, ◌++◌, ◌∷◌, Option, Some, None, codes, bytes_eq, nat_lt, reverse, if◌then◌else◌}
 use Rattle.std.specs.List.{flat_map}
 use Rattle.std.specs.Fmt.{decimal}
 use Rattle.lt_base.specs.declared.program.Sizes.{Sizes}
@@ -8,7 +8,7 @@ use Rattle.lt_syntax.specs.declared.fault.SyntaxFault.{SyntaxFault}
 use Rattle.lt_syntax.specs.declared.tree.NodeText.{NodeText}
 use Rattle.lt_resolve.specs.declared.fault.NameFault.{NameFault}
 use Rattle.lt_resolve.specs.declared.fault.NameKind.{NameKind}
-use Rattle.lt_resolve.specs.declared.fault.NameKind.TheVariants.{Twice, Unknown, NoEquation, TwoEquations, EquationForInput, NoMain, WrongCount, NotOneOutput, Recursive, Limit}
+use Rattle.lt_resolve.specs.declared.fault.NameKind.TheVariants.{NoMain, Limit}
 use Rattle.lt_check.specs.declared.typing.TypeFault.{TypeFault}
 use Rattle.lt_check.specs.declared.clocking.ClockFault.{ClockFault}
 use Rattle.lt_front.specs.declared.fault.ProgramFault.{ProgramFault}
