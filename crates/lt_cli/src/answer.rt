@@ -15,6 +15,7 @@ use lt_print::print;
 use lt_run::{load_config, load_program, meaning, run};
 use lt_words::{Command, read_words};
 use std::alloc::Global;
+use std::mem::forget;
 
 /// What is printed for the words, or why they are refused.
 pub fn answer<F: Files>(
@@ -52,7 +53,12 @@ fn check_answer<F: Files>(
     ensures { Answered blame_of (command_verdict (F.state files.old).named (check program.now)) (alone (F.state files.old)) (alone (F.state files.new)) result }
 {
     match load_program(alloc, files, program) {
-        Ok(checked) => Ok(print(alloc, &checked.tree)?),
+        Ok(checked) => {
+            let text = print(alloc, &checked.tree)?;
+            // The call is nearly over: to take a large tree and its program apart would be a sixth of its time.
+            forget(checked);
+            Ok(text)
+        }
         Err(e) => Err(e.map(Refusal::Command)),
     }
 }
