@@ -1,12 +1,12 @@
 -- Only the called functions of a library matter.
-use Rattle.std.proofs.Common.{◌≡◌, ℕ, ◌+◌, true, false, List, [], ◌∷◌, ◌++◌, length, All, refl, ap, ◌∙◌, sym}
+use Rattle.std.proofs.Common.{◌≡◌, ℕ, ◌+◌, true, false, List, [], ◌∷◌, ◌++◌, length, All, refl, ap}
 use Rattle.std.proofs.lemmas.List.Elements.{All-head, All-tail}
 use Rattle.lt_base.specs.declared.function.Decl.{Decl}
 use Rattle.lt_base.specs.Expression.{Expression, literal, variable, unary, binary, imported, choose, sampled, merged, delayed, follow, arrow, call, Arguments, no_arguments, argument}
 use Rattle.lt_base.specs.Program.{Function}
 use Rattle.lt_base.specs.Meaning.{ClockPairs, clock_of, outer}
 use Rattle.lt_base.specs.Calls.{EachCall, EachArgumentCall}
-use Rattle.lt_expand.specs.Copies.{first_of, Library, Copy, grown, arguments_grown, inlined, arguments_inlined, copies, arguments_copies, copied_decls, copied_equations, equations_grown, equations_inlined, equations_copies, opened}
+use Rattle.lt_expand.specs.Copies.{first_of, Library, grown, arguments_grown, inlined, arguments_inlined, copies, arguments_copies, copied_decls, copied_equations, equations_inlined, equations_copies, opened}
 
 module _ (lib lib' : Library) where
   abbrev pub Same : ℕ → Type 0

@@ -1,5 +1,5 @@
 -- A function with copies in place of its calls is clocked, and no call is left in it.
-use Rattle.std.proofs.Common.{◌≡◌, ℕ, zero, suc, ◌+◌, ◌<◌, ◌≤◌, Bool, true, false, List, [], ◌∷◌, ◌++◌, length, All, Option, Some, None, refl, sym, ap, ◌∙◌, subst, arith, ltb-true, ltb-false, length-append}
+use Rattle.std.proofs.Common.{◌≡◌, ℕ, zero, suc, ◌+◌, ◌<◌, ◌≤◌, Bool, true, false, List, [], ◌∷◌, length, All, Some, refl, sym, ap, ◌∙◌, subst, arith, ltb-true, ltb-false}
 use Rattle.std.specs.Prelude.{nat_lt}
 use Rattle.std.proofs.lemmas.List.Elements.{All-nil, All-cons}
 use Rattle.lt_base.specs.declared.function.Decl.{Decl}
@@ -14,8 +14,7 @@ use Rattle.lt_base.proofs.Lookups.{all_found, left_below}
 use Rattle.lt_expand.proofs.Basics.{all_equations}
 use Rattle.lt_expand.proofs.Basics.{well_more}
 use Rattle.lt_expand.specs.Copies.{raise, first_of, Library, Copy, grown, arguments_grown, inlined, arguments_inlined, copies, arguments_copies, input_equations, equations_copies, opened}
-use Rattle.lt_expand.proofs.Standing.{Each, Declared, Stands, span}
-use Rattle.lt_expand.proofs.Fitting.{Fits}
+use Rattle.lt_expand.proofs.Standing.{Each, Declared, Stands}
 use Rattle.lt_expand.proofs.Filled.{each_left, each_right, each_copy_map, each_both}
 use Rattle.lt_expand.proofs.Counted.{Countable}
 use Rattle.lt_expand.proofs.Told.{base_at}

@@ -1,12 +1,12 @@
 -- Each variable of a copy has one equation.
-use Rattle.std.proofs.Common.{◌≡◌, ℕ, zero, suc, ◌+◌, ◌-◌, ◌<◌, ◌≤◌, Bool, true, false, cond, List, [], ◌∷◌, ◌++◌, length, map, refl, sym, ap, ◌∙◌, subst, arith, ltb-true, ltb-false}
-use Rattle.std.specs.Prelude.{nat_eq, nat_lt, nat_le, ◌&&◌, if◌then◌else◌}
+use Rattle.std.proofs.Common.{◌≡◌, ℕ, suc, ◌+◌, ◌-◌, ◌<◌, Bool, true, false, cond, List, [], ◌∷◌, ◌++◌, length, refl, sym, ap, ◌∙◌, arith, ltb-true, ltb-false}
+use Rattle.std.specs.Prelude.{nat_eq, nat_lt}
 use Rattle.std.proofs.lemmas.Bool.Decides.{nat_tests}
 use Rattle.lt_base.specs.Expression.{Expression, Arguments, no_arguments, argument}
 use Rattle.lt_base.specs.Program.{Function, GoodFunction}
 use Rattle.lt_base.specs.Checked.{count}
 use Rattle.lt_base.specs.Equations.{lefts, inside}
-use Rattle.lt_base.proofs.Lookups.{lefts_cons, lefts_append, lefts_two, inside_none, inside_one}
+use Rattle.lt_base.proofs.Lookups.{lefts_cons, lefts_two, inside_none, inside_one}
 use Rattle.lt_expand.specs.Copies.{Library, Copy, grown, inlined, input_equations, copy_equation, copy_equations, copied_equations, equations_inlined}
 use Rattle.lt_expand.proofs.Standing.{Each, span, Numbered}
 

@@ -1,24 +1,23 @@
 -- A fact of every equation of a function with copies.
-use Rattle.std.proofs.Common.{◌≡◌, ℕ, zero, suc, ◌+◌, ◌-◌, ◌<◌, ◌≤◌, Bool, true, false, List, [], ◌∷◌, ◌++◌, length, map, All, Option, Some, None, refl, sym, ap, ◌∙◌, subst, arith, ltb-true, ltb-false}
+use Rattle.std.proofs.Common.{◌≡◌, ℕ, ◌+◌, ◌-◌, ◌<◌, ◌≤◌, Bool, true, false, List, [], ◌∷◌, ◌++◌, length, All, Option, Some, None, refl, sym, ap, ◌∙◌, subst, arith, ltb-true, ltb-false}
 use Rattle.std.specs.Prelude.{nat_lt}
 use Rattle.std.proofs.lemmas.List.Elements.{All-nil, All-cons, All-append, All-head, All-tail}
 use Rattle.lt_base.specs.declared.function.Decl.{Decl}
-use Rattle.lt_base.specs.Expression.{Expression, literal, variable, unary, binary, imported, choose, sampled, merged, delayed, follow, arrow, call, Arguments, no_arguments, argument}
+use Rattle.lt_base.specs.Expression.{Expression, Arguments}
 use Rattle.lt_base.specs.Program.{Function, GoodFunction}
-use Rattle.lt_base.specs.Meaning.{ClockPairs, clock_of, right_of}
+use Rattle.lt_base.specs.Meaning.{clock_of, right_of}
 use Rattle.lt_base.specs.Placed.{renamed}
 use Rattle.lt_base.specs.Checked.{count, EachUse, EachArgumentUse}
 use Rattle.lt_base.specs.Equations.{EachRight}
-use Rattle.lt_base.proofs.Lookups.{all_found, right_all, right_right, beyond, left_below}
+use Rattle.lt_base.proofs.Lookups.{all_found, right_all, right_right, beyond}
 use Rattle.lt_expand.proofs.Basics.{all_equations}
-use Rattle.lt_expand.specs.Copies.{raise, Library, Copy, grown, inlined, arguments_inlined, copies, input_equations, copy_equation, copy_equations, copied_equations, equations_inlined, equations_copies, opened}
-use Rattle.lt_expand.proofs.Standing.{Each, Stands, span, Numbered}
+use Rattle.lt_expand.specs.Copies.{raise, Library, Copy, grown, inlined, copies, input_equations, copy_equation, copy_equations, copied_equations, equations_inlined, equations_copies, opened}
+use Rattle.lt_expand.proofs.Standing.{Each, span, Numbered}
 use Rattle.lt_expand.proofs.Fitting.{Fits}
-use Rattle.lt_expand.proofs.Filled.{each_copy_map}
 use Rattle.lt_expand.proofs.Told.{same_count}
 use Rattle.lt_expand.proofs.Counted.{Countable}
 use Rattle.lt_expand.proofs.Inherited.{Inherited, each_equation_copy}
-use Rattle.lt_expand.proofs.Opened.{inlined_none, old_none, opened_stand, opened_begins, opened_right, given_or}
+use Rattle.lt_expand.proofs.Opened.{inlined_none, old_none, opened_begins, opened_right, given_or}
 
 -- ---- the source of each copy fits its call
 

@@ -1,29 +1,28 @@
 -- Every function of a checked program keeps its variables and streams where its calls are replaced by copies.
-use Rattle.std.proofs.Common.{◌≡◌, ℕ, zero, suc, ◌+◌, ◌<◌, ◌≤◌, Bool, true, false, List, [], ◌∷◌, ◌++◌, length, map, take, All, Option, Some, None, refl, sym, ap, ◌∙◌, subst, arith, ⊎_elim}
+use Rattle.std.proofs.Common.{◌≡◌, ℕ, zero, suc, ◌<◌, true, List, [], ◌∷◌, ◌++◌, length, map, take, All, Option, Some, None, refl, sym, ap, ◌∙◌, subst, arith, ⊎_elim}
 use Rattle.std.proofs.lemmas.List.{take-append-le}
 use Rattle.std.proofs.lemmas.List.Elements.{All-head, All-tail}
-use Rattle.lt_base.specs.declared.value.Ty.{Ty}
 use Rattle.lt_base.specs.declared.value.Value.{Value}
 use Rattle.lt_base.specs.declared.function.Decl.{Decl}
 use Rattle.lt_base.specs.Expression.{Expression}
 use Rattle.lt_base.specs.Program.{Function, GoodFunction, WholeProgram, GoodProgram, VarsBelow, CallsBelow}
-use Rattle.lt_base.specs.Meaning.{ClockPairs, Environment, Row, Callee, clock_of, right_of, present, environments, answer, function_of, calls, stream_of}
-use Rattle.lt_base.specs.Typing.{ty_at, input_types, answer_type, arguments_fit, call_type, TypedFunction}
+use Rattle.lt_base.specs.Meaning.{Environment, Callee, clock_of, right_of, present, environments, answer, function_of, calls, stream_of}
+use Rattle.lt_base.specs.Typing.{input_types, answer_type, arguments_fit, call_type, TypedFunction}
 use Rattle.lt_base.specs.Clocking.{FirstOnBase, AnswersOnBase, ClockedFunction}
 use Rattle.lt_base.specs.Dependence.{Causal, has}
 use Rattle.lt_base.specs.Calls.{EachCall, called, equations_called, function_called, CallsFunction}
 use Rattle.lt_base.specs.Solution.{AllSame}
-use Rattle.lt_base.specs.Checked.{count, EachUse, Answers, CheckedProgram}
+use Rattle.lt_base.specs.Checked.{EachUse, Answers, CheckedProgram}
 use Rattle.lt_base.specs.Kept.{Keeps}
 use Rattle.lt_base.proofs.Heights.{each_call_at, each_call_from, below_each, calls_function, height_of, height_low, height_lower}
 use Rattle.lt_base.proofs.Reading.{has_cases}
 use Rattle.lt_base.proofs.Kept.{kept_means, kept_streams}
 use Rattle.lt_base.proofs.Calls.{callless_streams}
-use Rattle.lt_base.proofs.Lookups.{all_found, right_all, function_all, more_good, clock_left, ty_left}
+use Rattle.lt_base.proofs.Lookups.{all_found, right_all, function_all, more_good, ty_left}
 use Rattle.lt_base.proofs.Defined.{program_closed, good_function, typed_function, clocked_function, causal_function}
 use Rattle.lt_expand.proofs.Basics.{all_equations, clocked_below}
 use Rattle.lt_expand.proofs.Basics.{well_below}
-use Rattle.lt_expand.specs.Copies.{raise, first_of, Library, Copy, copied_decls, equations_copies, opened, opened_or, expanded}
+use Rattle.lt_expand.specs.Copies.{first_of, Library, Copy, copied_decls, equations_copies, opened, opened_or, expanded}
 use Rattle.lt_expand.specs.Walk.{Within}
 use Rattle.lt_expand.proofs.Standing.{Each, Stands}
 use Rattle.lt_expand.proofs.Fitting.{Fits, Answering}

@@ -1,12 +1,11 @@
 -- A fact of each copy, from one of each expression at its clock.
-use Rattle.std.proofs.Common.{◌≡◌, ℕ, suc, ◌+◌, ◌<◌, Bool, true, false, List, [], ◌∷◌, ◌++◌, length, All, arith}
+use Rattle.std.proofs.Common.{ℕ, ◌+◌, Bool, true, false, List, [], ◌∷◌, All}
 use Rattle.std.proofs.lemmas.List.Elements.{All-head, All-tail}
 use Rattle.lt_base.specs.declared.value.Value.{Value}
 use Rattle.lt_base.specs.declared.function.Decl.{Decl}
 use Rattle.lt_base.specs.Expression.{Expression, literal, variable, unary, binary, imported, choose, sampled, merged, delayed, follow, arrow, call, Arguments, no_arguments, argument}
-use Rattle.lt_base.specs.Program.{Function}
 use Rattle.lt_base.specs.Meaning.{ClockPairs, clock_of, outer}
-use Rattle.lt_expand.specs.Copies.{Library, Copy, grown, arguments_grown, inlined, arguments_inlined, copies, arguments_copies, equations_copies}
+use Rattle.lt_expand.specs.Copies.{Library, Copy, grown, arguments_grown, arguments_inlined, copies, arguments_copies, equations_copies}
 use Rattle.lt_expand.proofs.Standing.{Each}
 use Rattle.lt_expand.proofs.Filled.{each_left, each_right, each_append}
 

@@ -1,17 +1,14 @@
 -- Every checked program has an expansion.
-use Rattle.std.proofs.Common.{◌≡◌, ℕ, zero, suc, ◌+◌, ◌<◌, List, [], ◌∷◌, ◌++◌, length, All, Option, Some, None, refl, sym, ap, ◌∙◌, subst, arith}
+use Rattle.std.proofs.Common.{◌≡◌, ℕ, zero, suc, List, ◌++◌, length, All, Option, Some, None, refl, sym, ap, ◌∙◌}
 use Rattle.std.specs.List.{range_with_len}
-use Rattle.lt_base.specs.Expression.{Expression}
-use Rattle.lt_base.specs.Program.{Function, WholeProgram, GoodProgram}
-use Rattle.lt_base.specs.Meaning.{Callee, clock_of, right_of, function_of, calls}
+use Rattle.lt_base.specs.Program.{Function}
+use Rattle.lt_base.specs.Meaning.{clock_of, function_of, calls}
 use Rattle.lt_base.specs.Dependence.{has}
 use Rattle.lt_base.specs.Calls.{EachCall, function_called, CallsFunction}
-use Rattle.lt_base.specs.Checked.{CheckedProgram}
-use Rattle.lt_base.specs.Sizes.{weight_with, parts_with}
 use Rattle.lt_base.proofs.Lookups.{all_found}
-use Rattle.lt_expand.specs.Copies.{Library, opened, opened_or, expanded, expansion}
+use Rattle.lt_expand.specs.Copies.{opened_or, expanded, expansion}
 use Rattle.lt_expand.specs.Expansion.{ProgramsExpand, new_origins}
-use Rattle.lt_expand.specs.Walk.{Within, owners}
+use Rattle.lt_expand.specs.Walk.{Within}
 use Rattle.lt_expand.proofs.Basics.{all_equations}
 use Rattle.lt_expand.proofs.Clocks.{clocked_callless}
 use Rattle.lt_expand.proofs.Alike.{Same, opened_alike}

@@ -24,3 +24,9 @@ pub mod Whole
 pub mod Lawful
 pub mod Steps
 pub mod Loops
+pub mod Making
+pub mod Calling
+pub mod Turns
+pub mod Opening
+pub mod Examples
+pub mod Passes

@@ -1,19 +1,19 @@
 -- One turn of each loop.
-use Rattle.std.proofs.Common.{◌≡◌, ℕ, zero, suc, ◌+◌, ◌-◌, ◌^◌, ◌<◌, ◌≤◌, Bool, List, [], ◌∷◌, ◌++◌, length, map, take, get_or, replicate, reverse, All, refl, sym, ap, ◌∙◌, subst, arith, length-append}
+use Rattle.std.proofs.Common.{◌≡◌, ℕ, zero, suc, ◌+◌, ◌-◌, ◌<◌, ◌≤◌, Bool, List, [], ◌∷◌, ◌++◌, length, take, get_or, replicate, reverse, All, refl, sym, ap, ◌∙◌, arith, length-append}
 use Rattle.std.specs.List.{range_with_len}
 use Rattle.std.proofs.lemmas.List.FromFn.{length-range_with_len}
-use Rattle.std.proofs.lemmas.List.{length-map, map-append, append_assoc, append-nil, take_more, take_all, length-replicate, reverse-append}
-use Rattle.std.proofs.lemmas.List.Elements.{All-nil, All-cons, All-head, All-tail}
+use Rattle.std.proofs.lemmas.List.{map-append, append_assoc, append-nil, take_more, take_all, length-replicate, reverse-append}
+use Rattle.std.proofs.lemmas.List.Elements.{All-nil, All-cons}
 use Rattle.lt_base.specs.declared.function.Decl.{Decl}
-use Rattle.lt_base.specs.Expression.{Expression, Arguments, no_arguments, argument, arguments_of}
+use Rattle.lt_base.specs.Expression.{Expression, arguments_of}
 use Rattle.lt_base.specs.Calls.{called, arguments_called, equations_called}
 use Rattle.lt_base.specs.Checked.{count, EachUse, EachArgumentUse}
 use Rattle.lt_base.specs.Meaning.{ClockPairs, clock_of}
-use Rattle.lt_base.specs.Placed.{renamed, below}
+use Rattle.lt_base.specs.Placed.{below}
 use Rattle.lt_expand.specs.Copies.{raise, Library, Copy, grown, arguments_grown, inlined, copies, copy_decl, copy_decls, copy_equation, copy_equations, input_equations, copied_decls, copied_equations, equations_grown, equations_inlined, equations_copies}
-use Rattle.lt_expand.specs.Walk.{Adds, InlinedTo, AllInlined, owners}
+use Rattle.lt_expand.specs.Walk.{InlinedTo, AllInlined, owners}
 use Rattle.lt_expand.proofs.Filled.{equations_filled, copied_length}
-use Rattle.lt_expand.proofs.Steps.{inline_length, adds_two, decls_append, equations_append}
+use Rattle.lt_expand.proofs.Steps.{inline_length, decls_append, equations_append}
 
 -- ---- clocks
 

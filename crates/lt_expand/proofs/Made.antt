@@ -1,17 +1,13 @@
 -- What is made of the functions that one function calls stands for their versions without calls.
-use Rattle.std.proofs.Common.{◌≡◌, ℕ, zero, suc, ◌+◌, ◌<◌, ◌≤◌, Bool, true, false, List, [], ◌∷◌, ◌++◌, length, replicate, All, Option, Some, None, refl, sym, ap, ◌∙◌, subst, arith, length-append, ⊎_elim}
-use Rattle.std.specs.List.{range_with_len, sum_by}
+use Rattle.std.proofs.Common.{◌≡◌, ℕ, suc, ◌+◌, ◌<◌, ◌≤◌, true, List, [], ◌∷◌, ◌++◌, length, replicate, All, Option, Some, refl, sym, ap, ◌∙◌, subst, arith, length-append, ⊎_elim}
 use Rattle.std.proofs.lemmas.List.Elements.{All-nil, All-cons, All-head, All-tail}
-use Rattle.std.proofs.lemmas.List.Sums.{sum_by-cons}
-use Rattle.lt_base.specs.declared.function.Decl.{Decl}
 use Rattle.lt_base.specs.Expression.{Expression, literal, variable, unary, binary, imported, choose, sampled, merged, delayed, follow, arrow, call, Arguments, no_arguments, argument}
 use Rattle.lt_base.specs.Program.{Function, GoodFunction, WholeProgram, GoodProgram}
-use Rattle.lt_base.specs.Meaning.{ClockPairs, Callee, clock_of, right_of, function_of, calls}
+use Rattle.lt_base.specs.Meaning.{Callee, clock_of, function_of, calls}
 use Rattle.lt_base.specs.Dependence.{has}
 use Rattle.lt_base.specs.Calls.{EachCall, EachArgumentCall, called, equations_called, function_called, CallsFunction}
 use Rattle.lt_base.specs.Checked.{EachUse, CheckedProgram}
 use Rattle.lt_base.specs.Sizes.{cost}
-use Rattle.lt_base.proofs.Calls.{each_call_map}
 use Rattle.lt_base.proofs.Heights.{each_call_at, each_call_from, calls_function}
 use Rattle.lt_base.proofs.Reading.{has_front, has_back, has_cases}
 use Rattle.lt_base.proofs.Lookups.{all_found}
@@ -20,11 +16,11 @@ use Rattle.lt_expand.specs.Copies.{Library, grown, arguments_grown, equations_gr
 use Rattle.lt_expand.specs.Expansion.{variables, new_origins}
 use Rattle.lt_expand.specs.Walk.{Within, library_of, IsMade, Copyable, AreVersions, owners}
 use Rattle.lt_expand.proofs.Basics.{all_equations}
-use Rattle.lt_expand.proofs.Fitting.{Fits, Answering}
+use Rattle.lt_expand.proofs.Fitting.{Answering}
 use Rattle.lt_expand.proofs.Filled.{equations_filled, copied_length}
 use Rattle.lt_expand.proofs.Clocks.{clocked_callless}
-use Rattle.lt_expand.proofs.Uses.{use_from, use_map}
-use Rattle.lt_expand.proofs.Expanded.{Expands, answering, expands, calls_within, within_all, called_inside}
+use Rattle.lt_expand.proofs.Uses.{use_from}
+use Rattle.lt_expand.proofs.Expanded.{answering, expands, calls_within, within_all, called_inside}
 use Rattle.lt_expand.proofs.Sized.{grown_cost, expanded_variables}
 use Rattle.lt_expand.proofs.Alike.{Same, grown_alike, opened_alike}
 

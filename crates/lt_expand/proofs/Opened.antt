@@ -1,5 +1,5 @@
 -- A function with copies in place of its calls keeps its variables and tells their equations.
-use Rattle.std.proofs.Common.{◌≡◌, ℕ, zero, suc, ◌+◌, ◌<◌, ◌≤◌, Bool, true, false, List, [], ◌∷◌, ◌++◌, length, map, Option, Some, None, refl, sym, ap, ◌∙◌, subst, arith, length-append, eqb-true}
+use Rattle.std.proofs.Common.{◌≡◌, ℕ, zero, suc, ◌+◌, ◌<◌, ◌≤◌, Bool, true, false, List, [], ◌∷◌, ◌++◌, length, Option, Some, None, refl, sym, ap, ◌∙◌, subst, arith, length-append, eqb-true}
 use Rattle.std.specs.Prelude.{nat_eq, if◌then◌else◌}
 use Rattle.std.proofs.lemmas.List.{length-map, append_assoc}
 use Rattle.lt_base.specs.declared.function.Decl.{Decl}
@@ -11,8 +11,8 @@ use Rattle.lt_base.specs.Typing.{ty_at}
 use Rattle.lt_base.specs.Placed.{renamed, below}
 use Rattle.lt_base.specs.Checked.{EachUse}
 use Rattle.lt_base.specs.Kept.{Keeps}
-use Rattle.lt_base.proofs.Lookups.{clock_left, clock_right, ty_left, ty_right, right_left, right_right, no_right, right_counts, beyond, found, lefts_two, inside_low, inside_not, inside_most}
-use Rattle.lt_expand.specs.Copies.{raise, Library, Copy, grown, inlined, copies, input_equations, copy_decl, copy_decls, copy_equation, copy_equations, copied_decls, copied_equations, equations_grown, equations_inlined, equations_copies, opened}
+use Rattle.lt_base.proofs.Lookups.{clock_left, clock_right, ty_left, ty_right, right_left, right_right, no_right, right_counts, found, lefts_two, inside_not, inside_most}
+use Rattle.lt_expand.specs.Copies.{raise, Library, Copy, grown, inlined, copies, input_equations, copy_decl, copy_decls, copy_equations, copied_decls, copied_equations, equations_grown, equations_inlined, equations_copies, opened}
 use Rattle.lt_expand.proofs.Standing.{Each, Declared, Stands, span, Numbered}
 use Rattle.lt_expand.proofs.Fitting.{Answering}
 use Rattle.lt_expand.proofs.Filled.{each_left, each_right, equations_filled, copied_length}

@@ -5,8 +5,8 @@ use Rattle.std.proofs.lemmas.List.Elements.{All-head, All-tail}
 use Rattle.std.proofs.lemmas.Bool.Decides.{nat_tests}
 use Rattle.lt_base.specs.Expression.{Expression}
 use Rattle.lt_base.specs.Program.{Function, GoodFunction}
-use Rattle.lt_base.specs.Equations.{lefts, inside}
-use Rattle.lt_base.proofs.Lookups.{lefts_cons, inside_most, not_same, same_self, all_found, left_below}
+use Rattle.lt_base.specs.Equations.{lefts}
+use Rattle.lt_base.proofs.Lookups.{lefts_cons, inside_most, all_found, left_below}
 use Rattle.lt_expand.proofs.Basics.{all_equations}
 
 -- how many of the equations have a number below n

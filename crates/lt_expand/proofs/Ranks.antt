@@ -1,30 +1,28 @@
 -- A function with copies of causal functions in place of its calls is causal.
-use Rattle.std.proofs.Common.{◌≡◌, ℕ, zero, suc, ◌+◌, ◌-◌, ◌<◌, ◌≤◌, Bool, true, false, List, [], ◌∷◌, ◌++◌, length, All, Option, Some, None, refl, sym, ap, ◌∙◌, subst, arith, ⊎_elim}
+use Rattle.std.proofs.Common.{◌≡◌, ℕ, zero, suc, ◌+◌, ◌-◌, ◌<◌, ◌≤◌, true, false, List, [], ◌∷◌, ◌++◌, length, All, Option, Some, None, refl, sym, ap, ◌∙◌, subst, arith, ⊎_elim}
 use Rattle.std.specs.Prelude.{nat_lt, nat_le, if◌then◌else◌}
 use Rattle.std.proofs.lemmas.List.Elements.{All-nil, All-cons}
 use Rattle.std.proofs.lemmas.Bool.Decides.{nat_tests}
-use Rattle.lt_base.specs.declared.function.Decl.{Decl}
-use Rattle.lt_base.specs.Expression.{Expression, literal, variable, unary, binary, imported, choose, sampled, merged, delayed, follow, arrow, call, Arguments, no_arguments, argument}
+use Rattle.lt_base.specs.Expression.{Expression, call, Arguments, no_arguments, argument}
 use Rattle.lt_base.specs.Program.{Function, GoodFunction, VarsBelow}
-use Rattle.lt_base.specs.Meaning.{ClockPairs, clock_of, right_of, outer}
-use Rattle.lt_base.specs.Clocking.{WellFormed, Clocked, ArgumentsClocked, ClockedFunction}
-use Rattle.lt_base.specs.Dependence.{has, reads, arguments_reads, clock_vars, Causal}
-use Rattle.lt_base.specs.Order.{EachRead, EachArgumentRead, EachClockVar, Ranked, Ordered}
-use Rattle.lt_base.specs.Placed.{renamed, below}
+use Rattle.lt_base.specs.Meaning.{ClockPairs, clock_of, right_of}
+use Rattle.lt_base.specs.Clocking.{ClockedFunction}
+use Rattle.lt_base.specs.Dependence.{has, arguments_reads, clock_vars, Causal}
+use Rattle.lt_base.specs.Order.{EachRead, EachArgumentRead, EachClockVar, Ordered}
+use Rattle.lt_base.specs.Placed.{below}
 use Rattle.lt_base.specs.Checked.{count}
 use Rattle.lt_base.proofs.Reading.{each_at, each_argument_at, each_clock_at, each_from, each_argument_from, each_clock_from, each_map, each_clock_map, has_front, has_back, has_cases, has_one, members_first, members_rest}
 use Rattle.lt_base.proofs.Order.{place_of, ordered, causal_from_ranks}
 use Rattle.lt_base.proofs.Lookups.{right_all, left_below}
 use Rattle.lt_expand.proofs.Basics.{well_below}
 use Rattle.lt_expand.specs.Copies.{raise, first_of, Library, Copy, grown, arguments_grown, inlined, arguments_inlined, copies, arguments_copies, input_equations, equations_copies, opened}
-use Rattle.lt_expand.proofs.Standing.{Each, Declared, Stands, span, Numbered}
-use Rattle.lt_expand.proofs.Fitting.{Fits}
+use Rattle.lt_expand.proofs.Standing.{Each, Stands, Numbered}
 use Rattle.lt_expand.proofs.Filled.{each_copy_map, each_both, numbered_low}
 use Rattle.lt_expand.proofs.Counted.{Countable}
 use Rattle.lt_expand.proofs.Told.{base_at}
-use Rattle.lt_expand.proofs.Inherited.{Inherited, each_equation_copy}
+use Rattle.lt_expand.proofs.Inherited.{each_equation_copy}
 use Rattle.lt_expand.proofs.Opened.{opened_more, opened_numbers, opened_stand, opened_clocks}
-use Rattle.lt_expand.proofs.Equations.{Fitted, Used, ArgumentsUsed, Equations, each_equation}
+use Rattle.lt_expand.proofs.Equations.{Fitted, Used, Equations, each_equation}
 use Rattle.lt_expand.proofs.Clocks.{AtClock, ArgumentsAtClock, clock_inherited, at_clocks, CopyClocked, copies_clocked}
 use Rattle.lt_expand.proofs.Pigeons.{equations_few}
 use Rattle.lt_expand.proofs.Readings.{copy_reads, clocked_reads, clocked_arguments_reads, reads_inlined, arguments_reads_inlined}

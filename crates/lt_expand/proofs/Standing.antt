@@ -1,6 +1,6 @@
 -- Copies of functions that stand in another function.
 use Rattle.std.specs.Prelude.{◌≡◌, ℕ, ◌+◌, ◌<◌, Some, List, [], ◌∷◌, length}
-use Rattle.lt_base.specs.Expression.{Expression, Arguments, no_arguments, argument}
+use Rattle.lt_base.specs.Expression.{Expression}
 use Rattle.lt_base.specs.Program.{Function}
 use Rattle.lt_base.specs.Meaning.{clock_of, right_of}
 use Rattle.lt_base.specs.Equations.{EquationsIn}

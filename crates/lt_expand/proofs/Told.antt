@@ -1,20 +1,20 @@
 -- Along a solution the output of a copy has the value of the call for which it stands.
-use Rattle.std.proofs.Common.{◌≡◌, ℕ, zero, suc, ◌+◌, ◌<◌, ◌≤◌, true, false, List, [], ◌∷◌, ◌++◌, length, take, All, Option, Some, None, refl, sym, ap, ◌∙◌, subst, arith}
+use Rattle.std.proofs.Common.{◌≡◌, ℕ, zero, suc, ◌+◌, ◌<◌, ◌≤◌, true, false, List, [], ◌∷◌, length, take, All, None, refl, ap, ◌∙◌, arith}
 use Rattle.std.proofs.lemmas.List.Elements.{All-head, All-tail}
 use Rattle.lt_base.specs.declared.function.Decl.{Decl}
 use Rattle.lt_base.specs.Expression.{Expression, literal, variable, unary, binary, imported, choose, sampled, merged, delayed, follow, arrow, call, Arguments, no_arguments, argument}
 use Rattle.lt_base.specs.Program.{Function}
 use Rattle.lt_base.specs.Checked.{count, EachUse, EachArgumentUse}
 use Rattle.lt_base.specs.Equations.{EquationsIn}
-use Rattle.lt_base.specs.Meaning.{ClockPairs, Environment, Row, Callee, clock_of, right_of, entry, present, outer, value_of, values_of}
+use Rattle.lt_base.specs.Meaning.{ClockPairs, Environment, Row, Callee, clock_of, right_of, entry, present, outer, values_of}
 use Rattle.lt_base.specs.Solution.{Solves}
-use Rattle.lt_base.specs.Placed.{renamed, below, StandsIn}
+use Rattle.lt_base.specs.Placed.{below, StandsIn}
 use Rattle.lt_base.specs.Tells.{AtEach, Tells, ArgumentsTell}
 use Rattle.lt_base.proofs.Solution.{and_left}
 use Rattle.lt_base.proofs.Lookups.{is_input, left_below}
 use Rattle.lt_base.proofs.Tells.{at_each, at_each_map, at_each_two, TellsAt, tells_same, tells_unary, tells_binary, tells_imported, tells_choose, tells_merged, tells_delayed, tells_follow, tells_arrow, tells_lifted, arguments_tell_more, stands_tells, tells_inlined}
 use Rattle.lt_expand.specs.Copies.{raise, first_of, Library, Copy, grown, arguments_grown, inlined, arguments_inlined, copies, arguments_copies, input_equations}
-use Rattle.lt_expand.proofs.Standing.{Each, Declared, Stands}
+use Rattle.lt_expand.proofs.Standing.{Each, Stands}
 use Rattle.lt_expand.proofs.Fitting.{Fits, Answering}
 use Rattle.lt_expand.proofs.Filled.{each_left, each_right}
 

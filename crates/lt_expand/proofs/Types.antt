@@ -1,5 +1,5 @@
 -- A function with copies in place of its calls is typed.
-use Rattle.std.proofs.Common.{◌≡◌, ℕ, zero, suc, ◌+◌, ◌<◌, ◌≤◌, Bool, true, false, List, [], ◌∷◌, ◌++◌, length, map, take, All, Option, Some, None, refl, sym, ap, ◌∙◌, subst, arith}
+use Rattle.std.proofs.Common.{◌≡◌, ℕ, zero, suc, ◌+◌, ◌<◌, Bool, true, false, List, [], ◌∷◌, length, map, take, All, Option, Some, None, refl, sym, ap, ◌∙◌, arith}
 use Rattle.std.specs.Option.{option_and_then}
 use Rattle.std.proofs.lemmas.List.Elements.{All-nil, All-cons, All-append, All-head, All-tail}
 use Rattle.lt_base.specs.declared.value.Ty.{Ty}
@@ -8,7 +8,7 @@ use Rattle.lt_base.specs.declared.function.Decl.{Decl}
 use Rattle.lt_base.specs.Value.{ty_of}
 use Rattle.lt_base.specs.Expression.{Expression, literal, variable, unary, binary, imported, choose, sampled, merged, delayed, follow, arrow, call, Arguments, no_arguments, argument}
 use Rattle.lt_base.specs.Program.{Function, GoodFunction}
-use Rattle.lt_base.specs.Meaning.{ClockPairs, Callee, clock_of, right_of, outer, function_of}
+use Rattle.lt_base.specs.Meaning.{ClockPairs, clock_of, right_of, outer, function_of}
 use Rattle.lt_base.specs.Typing.{ty_at, un_type, bin_type, imported_type, shared_type, both_types, under_bool, input_types, answer_type, arguments_fit, call_type, type_of, arguments_types, TypedFunction}
 use Rattle.lt_base.specs.Clocking.{Clocked, ArgumentsClocked, ClockedFunction}
 use Rattle.lt_base.specs.Order.{EachClockVar}
@@ -18,7 +18,7 @@ use Rattle.lt_base.proofs.Lookups.{all_found, left_below}
 use Rattle.lt_expand.proofs.Basics.{Has, both_has, under_has, un_has}
 use Rattle.lt_expand.proofs.Basics.{all_equations, declared_clock, each_clock_all, all_each_clock, ty_there, HasOne}
 use Rattle.lt_expand.specs.Copies.{raise, first_of, Library, Copy, grown, arguments_grown, inlined, arguments_inlined, copies, arguments_copies, input_equations, copy_decl, copy_decls, copied_decls, equations_copies, opened}
-use Rattle.lt_expand.proofs.Standing.{Each, Declared, Stands, span}
+use Rattle.lt_expand.proofs.Standing.{Each, Declared, Stands}
 use Rattle.lt_expand.proofs.Fitting.{Fits}
 use Rattle.lt_expand.proofs.Filled.{each_left, each_right, each_copy_map, each_both}
 use Rattle.lt_expand.proofs.Counted.{Countable}

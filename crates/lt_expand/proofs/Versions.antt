@@ -1,13 +1,13 @@
 -- The versions that are made, one after the other.
-use Rattle.std.proofs.Common.{◌≡◌, ◌≢◌, ℕ, zero, suc, ◌+◌, ◌<◌, ◌≤◌, Bool, true, false, List, [], ◌∷◌, length, replicate, set, get_or, Option, Some, None, refl, sym, ap, ◌∙◌, subst, arith, eqb-true}
-use Rattle.std.specs.Prelude.{nat_eq, nat_lt}
+use Rattle.std.proofs.Common.{◌≡◌, ◌≢◌, ℕ, zero, suc, ◌<◌, Bool, true, false, List, [], ◌∷◌, length, replicate, set, get_or, Option, Some, None, refl, sym, ap, ◌∙◌, subst, arith, eqb-true}
+use Rattle.std.specs.Prelude.{nat_eq}
 use Rattle.std.proofs.lemmas.List.{get_or-set_same, get_or-set_other, length-set, length-replicate}
 use Rattle.std.proofs.lemmas.Bool.Decides.{nat_tests}
 use Rattle.lt_base.specs.Program.{Function}
 use Rattle.lt_base.specs.Dependence.{has}
 use Rattle.lt_base.proofs.Reading.{has_one}
-use Rattle.lt_expand.specs.Copies.{no_function, expanded}
-use Rattle.lt_expand.specs.Walk.{Within, version_in, made_of, library_of, IsMade, AreVersions, KeepsVersions}
+use Rattle.lt_expand.specs.Copies.{expanded}
+use Rattle.lt_expand.specs.Walk.{Within, version_in, made_of, IsMade, AreVersions, KeepsVersions}
 
 some_version : (o : Option Function) (F : Function) → o ≡ Some F → o ≡ Some (version_in o)
 some_version None F h = absurd (cc)

@@ -1,17 +1,15 @@
 -- The weight of a function with copies is that of the function with all that it calls.
-use Rattle.std.proofs.Common.{◌≡◌, ℕ, zero, suc, ◌+◌, ◌*◌, ◌≤◌, true, false, List, [], ◌∷◌, ◌++◌, length, map, Option, Some, None, refl, sym, ap, ◌∙◌, arith, length-append}
+use Rattle.std.proofs.Common.{◌≡◌, ℕ, suc, ◌+◌, true, false, List, [], ◌∷◌, ◌++◌, length, map, refl, arith, length-append}
 use Rattle.std.specs.List.{sum_by}
 use Rattle.std.proofs.lemmas.List.{length-map}
 use Rattle.std.proofs.lemmas.List.Sums.{sum_by-cons, sum_by-append}
 use Rattle.lt_base.specs.declared.function.Decl.{Decl}
-use Rattle.lt_base.specs.Expression.{Expression, literal, variable, unary, binary, imported, choose, sampled, merged, delayed, follow, arrow, call, Arguments, no_arguments, argument, parts, arguments_parts}
+use Rattle.lt_base.specs.Expression.{Expression, literal, variable, unary, binary, imported, choose, sampled, merged, delayed, follow, arrow, call, Arguments, no_arguments, argument}
 use Rattle.lt_base.specs.Program.{Function}
-use Rattle.lt_base.specs.Meaning.{ClockPairs, clock_of, outer, function_of}
-use Rattle.lt_base.specs.Sizes.{cost, arguments_cost, weight_with, parts_with, nested, size_of, weight, total_parts}
-use Rattle.lt_base.specs.Placed.{renamed, arguments_renamed}
-use Rattle.lt_expand.specs.Copies.{raise, Library, Copy, grown, arguments_grown, inlined, arguments_inlined, copies, arguments_copies, copy_decl, input_equations, copy_equation, copy_equations, copied_decls, copied_equations, equations_grown, equations_inlined, equations_copies, opened, no_function, opened_or, expanded}
-use Rattle.lt_expand.specs.Expansion.{variables_with, variables}
-use Rattle.lt_expand.proofs.Sized.{none, cost_renamed, parts_renamed, sized}
+use Rattle.lt_base.specs.Meaning.{ClockPairs, clock_of, outer}
+use Rattle.lt_base.specs.Sizes.{cost, arguments_cost, weight_with, weight}
+use Rattle.lt_expand.specs.Copies.{raise, Library, Copy, grown, arguments_grown, inlined, arguments_inlined, copies, arguments_copies, copy_decl, input_equations, copy_equation, copy_equations, copied_decls, copied_equations, equations_inlined, equations_copies, opened, expanded}
+use Rattle.lt_expand.proofs.Sized.{none, cost_renamed, sized}
 
 abbrev copy_weight : Copy → ℕ
 copy_weight c = arguments_cost 1 none c.inputs + weight_with none c.source

@@ -1,18 +1,17 @@
 -- The expansion of a checked program.
-use Rattle.std.proofs.Common.{◌≡◌, ℕ, zero, suc, ◌+◌, ◌<◌, ◌≤◌, List, [], ◌∷◌, ◌++◌, length, replicate, All, Option, Some, None, refl, sym, ap, ◌∙◌, subst, arith, length-append}
+use Rattle.std.proofs.Common.{◌≡◌, ℕ, suc, List, [], ◌∷◌, ◌++◌, length, replicate, Option, Some, refl, sym, ap, ◌∙◌, subst, arith, length-append}
 use Rattle.std.specs.List.{range_with_len}
 use Rattle.std.proofs.lemmas.List.{length-replicate}
 use Rattle.std.proofs.lemmas.List.FromFn.{length-range_with_len}
-use Rattle.lt_base.specs.declared.function.Decl.{Decl}
 use Rattle.lt_base.specs.Expression.{Expression}
-use Rattle.lt_base.specs.Program.{Function, GoodFunction, WholeProgram, GoodProgram}
-use Rattle.lt_base.specs.Meaning.{Callee, clock_of, right_of, function_of, calls}
+use Rattle.lt_base.specs.Program.{Function, WholeProgram, GoodProgram}
+use Rattle.lt_base.specs.Meaning.{clock_of, function_of, calls}
 use Rattle.lt_base.specs.Calls.{EachCall, CallsFunction}
 use Rattle.lt_base.specs.Checked.{CheckedProgram}
-use Rattle.lt_base.specs.Sizes.{weight_with, parts_with, program_weight, program_parts}
+use Rattle.lt_base.specs.Sizes.{weight_with, parts_with}
 use Rattle.lt_base.proofs.Lookups.{all_found}
 use Rattle.lt_expand.specs.Copies.{Library, grown, equations_grown, equations_copies, copied_decls, opened, expanded, expansion}
-use Rattle.lt_expand.specs.Expansion.{ExpansionOf, ProgramExpansion}
+use Rattle.lt_expand.specs.Expansion.{ProgramExpansion}
 use Rattle.lt_expand.specs.Walk.{Within, library_of, IsMade, AreVersions, owners}
 use Rattle.lt_expand.proofs.Basics.{all_equations}
 use Rattle.lt_expand.proofs.Filled.{equations_filled, copied_length}

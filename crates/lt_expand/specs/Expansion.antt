@@ -1,5 +1,5 @@
 -- What the expansion of a program keeps, and what it adds.
-use Rattle.std.specs.Prelude.{◌≡◌, ℕ, zero, suc, ◌+◌, ◌<◌, ◌≤◌, Some, List, [], ◌∷◌, ◌++◌, length, replicate}
+use Rattle.std.specs.Prelude.{◌≡◌, ℕ, ◌+◌, ◌<◌, ◌≤◌, Some, List, [], ◌∷◌, ◌++◌, length, replicate}
 use Rattle.std.specs.List.{All, sum_by, range_with_len}
 use Rattle.lt_base.specs.declared.program.Sizes.{Sizes}
 use Rattle.lt_base.specs.declared.value.Value.{Value}
