@@ -1,0 +1,92 @@
+-- The versions that are made, one after the other.
+use Rattle.std.proofs.Common.{◌≡◌, ◌≢◌, ℕ, zero, suc, ◌<◌, Bool, true, false, List, [], ◌∷◌, length, replicate, set, get_or, Option, Some, None, refl, sym, ap, ◌∙◌, subst, arith, eqb-true}
+use Rattle.std.specs.Prelude.{nat_eq}
+use Rattle.std.proofs.lemmas.List.{get_or-set_same, get_or-set_other, length-set, length-replicate}
+use Rattle.std.proofs.lemmas.Bool.Decides.{nat_tests}
+use Rattle.lt_base.specs.Program.{Function}
+use Rattle.lt_base.specs.Dependence.{has}
+use Rattle.lt_base.proofs.Reading.{has_one}
+use Rattle.lt_expand.specs.Copies.{expanded}
+use Rattle.lt_expand.specs.Walk.{Within, version_in, made_of, IsMade, AreVersions, KeepsVersions}
+
+some_version : (o : Option Function) (F : Function) → o ≡ Some F → o ≡ Some (version_in o)
+some_version None F h = absurd (cc)
+some_version (Some G) F h = refl
+
+pub is_made : (versions : List (Option Function)) (g : ℕ) (F : Function) → made_of versions g ≡ Some F → IsMade versions g
+is_made versions g F h = some_version (made_of versions g) F h
+
+pub made_inside : (versions : List (Option Function)) (g : ℕ) (F : Function) → made_of versions g ≡ Some F → g < length versions
+made_inside [] g F h = absurd (cc)
+made_inside (o ∷ versions) zero F h = omega arith
+made_inside (o ∷ versions) (suc g) F h = let l = made_inside versions g F h in omega (arith, l)
+
+pub made_still : (before after : List (Option Function)) → KeepsVersions before after → (g : ℕ) → IsMade before g → IsMade after g
+made_still before after k g m = is_made after g _ (k g _ m)
+
+pub keeps_all : (versions : List (Option Function)) → KeepsVersions versions versions
+keeps_all versions g F h = h
+
+pub keeps_more : (a b c : List (Option Function)) → KeepsVersions a b → KeepsVersions b c → KeepsVersions a c
+keeps_more a b c p q g F h = q g F (p g F h)
+
+none_there : (n g : ℕ) (F : Function) → get_or (replicate n None) g None ≡ Some F → ⊥
+none_there zero g F h = absurd (cc)
+none_there (suc n) zero F h = absurd (cc)
+none_there (suc n) (suc g) F h = none_there n g F h
+
+-- nothing is made yet
+pub no_versions : (fs : List Function) (versions : List (Option Function)) → versions ≡ replicate (length fs) None → AreVersions fs versions
+no_versions fs versions e = record {
+  all = ap length e ∙ length-replicate (length fs) None;
+  are = λ g F h n w. absurd (none_there (length fs) g F (sym (ap (λ v. made_of v g) e) ∙ h));
+}
+
+-- ---- one more
+
+module _ (versions : List (Option Function)) (g : ℕ) (F : Function) (inside : g < length versions) where
+  abbrev more : List (Option Function)
+  more = set versions g (Some F)
+
+  set_here : made_of more g ≡ Some F
+  set_here = get_or-set_same versions g (Some F) None inside
+
+  set_there : (h : ℕ) → nat_eq h g ≡ false → made_of more h ≡ made_of versions h
+  set_there h t = get_or-set_other versions g h (Some F) None (not_same h g t)
+    where
+      not_same : (h g : ℕ) → nat_eq h g ≡ false → h ≢ g
+      not_same h g t = grind (arith, nat_tests)
+
+  pub set_made : IsMade more g
+  set_made = is_made more g F set_here
+
+  pub set_keeps : made_of versions g ≡ None → KeepsVersions versions more
+  set_keeps none h G e = go (nat_eq h g) refl
+    where
+      other : made_of versions h ≡ None → ⊥
+      other n = absurd (cc)
+
+      go : (t : Bool) → nat_eq h g ≡ t → made_of more h ≡ Some G
+      go true t = absurd (other (ap (made_of versions) (eqb-true h g t) ∙ none))
+      go false t = set_there h t ∙ e
+
+  pub set_are : (fs : List Function) → AreVersions fs versions → ((n : ℕ) → Within fs n g → F ≡ expanded fs n g) → AreVersions fs more
+  set_are fs a is = record {
+    all = length-set versions g (Some F) ∙ a.all;
+    are = λ h G e n w. go h G e n w (nat_eq h g) refl;
+  }
+    where
+      go : (h : ℕ) (G : Function) → made_of more h ≡ Some G → (n : ℕ) → Within fs n h → (t : Bool) → nat_eq h g ≡ t → G ≡ expanded fs n h
+      go h G e n w true t =
+          let same : h ≡ g = eqb-true h g t in
+          let own : made_of more h ≡ Some F = ap (made_of more) same ∙ set_here in
+          let equal : F ≡ G = cc in
+          sym equal ∙ is n (subst (Within fs n) same w) ∙ ap (expanded fs n) (sym same)
+      go h G e n w false t = a.are h G (sym (set_there h t) ∙ e) n w
+
+-- ---- what the loop over the called functions has made
+
+pub all_made : (versions : List (Option Function)) (hs : List ℕ) → ((k : ℕ) → k < length hs → IsMade versions (get_or hs k 0)) → (h : ℕ) → has h hs ≡ true → IsMade versions h
+all_made versions [] m h e = absurd (cc)
+all_made versions (x ∷ hs) m h e =
+    has_one (IsMade versions) x hs h e (m 0 (omega arith)) (λ k. all_made versions hs (λ i l. m (suc i) (omega (arith, l))) h k)

@@ -1,0 +1,4 @@
+pub mod Copies
+pub mod Expansion
+pub mod Walk
+pub mod Fixtures

@@ -1,0 +1,4 @@
+//! Calls replaced by copies of the called functions.
+#![tactic(auto)]
+
+pub mod laws;
