@@ -3,5 +3,7 @@
 
 mod called;
 pub mod laws;
+#[cfg(test)]
+mod tests;
 
 pub use called::called_by;
