@@ -29,4 +29,5 @@ pub mod Calling
 pub mod Turns
 pub mod Opening
 pub mod Examples
+pub mod Copying
 pub mod Passes

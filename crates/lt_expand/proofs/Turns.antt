@@ -1,6 +1,7 @@
 -- One turn of each small loop, from what its calls say.
-use Rattle.std.proofs.Common.{◌≡◌, ℕ, ◌+◌, ◌<◌, ◌≤◌, Bool, List, [], ◌∷◌, ◌++◌, length, map, take, get_or, reverse, Vec, Global, All, sym, ap, ◌∙◌, subst}
-use Rattle.std.proofs.lemmas.List.{map-append, append_assoc, take_more, take_all}
+use Rattle.std.proofs.Common.{◌≡◌, ℕ, ◌+◌, ◌^◌, ◌<◌, ◌≤◌, Bool, List, [], ◌∷◌, ◌++◌, length, map, take, get_or, reverse, Vec, Global, All, sym, ap, ◌∙◌, subst}
+use Rattle.std.proofs.lemmas.List.{map-append, append_assoc, take_more, take_all, reverse-append}
+use Rattle.std.proofs.lemmas.List.Elements.{All-nil, All-cons, All-head, All-tail}
 use Rattle.lt_base.specs.declared.function.Decl.{Decl}
 use Rattle.lt_base.specs.declared.expression.Expr.{Expr, Call}
 use Rattle.lt_base.specs.Expression.{Expression, arguments_of, shape}
@@ -63,3 +64,23 @@ clock_turn m place items now after i d n l read k was s =
     ∙ (λ j. (k j, d.1) ∷ was j)
     ∙ ap (λ (z : ℕ × Bool). (z.0 + m, z.1) ∷ below (raise m) (reverse (take i items)) place) read
     ∙ sym (clock_more m place items i d l)
+
+all_front : {A : Type 0} (P : A → Type 0) (xs ys : List A) → All P (xs ++ ys) → All P xs
+all_front P [] ys a = All-nil P
+all_front P (x ∷ xs) ys a = All-cons P x xs (All-head P x (xs ++ ys) a) (all_front P xs ys (All-tail P x (xs ++ ys) a))
+
+all_back : {A : Type 0} (P : A → Type 0) (xs ys : List A) → All P (xs ++ ys) → All P ys
+all_back P [] ys a = a
+all_back P (x ∷ xs) ys a = all_back P xs ys (All-tail P x (xs ++ ys) a)
+
+all_reversed : {A : Type 0} (P : A → Type 0) (xs : List A) → All P (reverse xs) → All P xs
+all_reversed P [] a = All-nil P
+all_reversed P (x ∷ xs) a =
+    let b = subst (All P) (reverse-append (x ∷ []) xs) a in
+    All-cons P x xs (All-head P x [] (all_back P (reverse xs) (x ∷ []) b)) (all_reversed P xs (all_front P (reverse xs) (x ∷ []) b))
+
+-- the number of a pair of a clock has room for being raised
+pub step_fits : (m : ℕ) (ck steps items : ClockPairs) (i : ℕ) (d : ℕ × Bool) → All (λ p. p.0 + m < 2 ^ 32) ck → reverse steps ≡ ck → items ≡ steps → i < length items → (get_or items i d).0 + m < 2 ^ 32
+step_fits m ck steps items i d a r e l =
+    let P : ℕ × Bool → Type 0 = λ p. p.0 + m < 2 ^ 32 in
+    subst (All P) (sym e) (all_reversed P steps (subst (All P) (sym r) a)) i d l
