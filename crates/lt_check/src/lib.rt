@@ -1,4 +1,4 @@
-//! The types and the clocks of a program.
+//! The types and the clocks of a program, and how large it is.
 #![tactic(auto)]
 
 mod clocking;
@@ -9,7 +9,7 @@ mod sizing;
 mod typing;
 
 pub use clocking::{ClockFault, clocks};
-pub use sizing::sizes;
+pub use sizing::{calls_of, sizes};
 pub use typing::{TypeFault, types};
 
 #[cfg(test)]

@@ -134,8 +134,8 @@ fn own_parts(f: &Func) -> u64
     sum
 }
 
-/// The functions that a function calls.
-fn calls_of(alloc: Global, f: &Func) -> Result<List<u32>, Memory>
+/// The functions that a function calls, in text order; one that is called twice stands there twice.
+pub fn calls_of(alloc: Global, f: &Func) -> Result<List<u32>, Memory>
     ensures { IfOk result (λ list. list ≡ equations_called f.now.eqs) }
 {
     let mut list = List::new(alloc);
@@ -234,8 +234,8 @@ fn totals(alloc: Global, shares: &[Share], measure: Measure) -> Result<Vec<u64>,
     Ok(table)
 }
 
-/// The weight and the expression parts of `main`, each cut at the greatest number. Each expression is gone over once, however
-/// deep the calls are nested.
+/// The weight and the expression parts of `main`, each cut at the greatest number. Each expression is gone over three
+/// times, however deep the calls are nested.
 pub fn sizes(alloc: Global, p: &Program) -> Result<Sizes, Memory>
     ensures weight { IfOk result (λ s. s.weight ≡ cut (program_weight p.now)) }
     ensures parts { IfOk result (λ s. s.parts ≡ cut (program_parts p.now)) }

@@ -3,7 +3,7 @@ ghost use Rattle.std.specs.Prelude.{◌≡◌, ◌<◌, ◌^◌, [], ◌∷◌, 
 ghost use Rattle.lt_base.specs.Expression.{shape};
 ghost use Rattle.lt_base.specs.Program.{VarsBelow, CallsBelow};
 
-use crate::{ClockFault, TypeFault, clocks, types};
+use crate::{ClockFault, TypeFault, clocks, sizes, types};
 use lt_base::{Bin, Clock, Decl, Equation, Expr, Func, List, Memory, Name, Or, Program, Ty, Value};
 use std::alloc::Global;
 use std::test::Fail;
@@ -132,5 +132,37 @@ fn faults_of_clocks(rt: HostRuntime) -> Result<(), Fail> {
     let on_x_on_c = Clock::base(alloc).deeper(X, true)?.deeper(C, true)?;
     let declared = clock_fault(alloc, Ty::Bool, on_x_on_c)?;
     assert_eq!(rt; declared, Some((Y, 2, None)));
+    Ok(())
+}
+
+// (x -> 0 fby x) fby x
+fn delays(alloc: Global) -> Result<Expr, Memory>
+    ensures variables { IfOk result (λ e. VarsBelow 3 (shape e)) }
+    ensures calls { IfOk result (λ e. CallsBelow 1 (shape e)) }
+{
+    let delayed = Expr::Fby(Value::Int(0), Box::new(alloc, Expr::Var(X))?);
+    let begun = Expr::Arrow(Box::new(alloc, Expr::Var(X))?, Box::new(alloc, delayed)?);
+    let x = Box::new(alloc, Expr::Var(X))?;
+    Ok(Expr::Follow(Box::new(alloc, begun)?, x))
+}
+
+// The weight and the parts of the program with this right side.
+fn measured(alloc: Global, right: Expr) -> Result<(u64, u64), Fail>
+    requires right { VarsBelow 3 (shape right) }
+    requires calls { CallsBelow 1 (shape right) }
+{
+    let p = program(alloc, Ty::Int, Clock::base(alloc), right)?;
+    let sizes = sizes(alloc, &p)?;
+    Ok((sizes.weight, sizes.parts))
+}
+
+// Three variables, with the delays and the parts of the right side.
+#[test]
+fn sizes_of_programs(rt: HostRuntime) -> Result<(), Fail> {
+    let alloc = rt.alloc();
+    assert_eq!(rt; measured(alloc, below_one(alloc)?)?, (3, 3));
+    assert_eq!(rt; measured(alloc, sampled(alloc)?)?, (3, 2));
+    // one delay for `0 fby`, one for `->` and two for the other `fby`; the 0 is no part
+    assert_eq!(rt; measured(alloc, delays(alloc)?)?, (7, 6));
     Ok(())
 }

@@ -11,7 +11,7 @@ use Rattle.lt_base.specs.Checked.{EachUse}
 use Rattle.lt_base.proofs.Shape.{shape-Call}
 use Rattle.lt_expand.specs.Copies.{Library, grown, arguments_grown, first_of}
 use Rattle.lt_expand.specs.Walk.{library_of, Copyable, Adds, InlinedTo}
-use Rattle.lt_expand.proofs.Steps.{ArgumentsTo, arguments_none, arguments_length, arguments_next, inline_call, moved}
+use Rattle.lt_expand.proofs.Steps.{ArgumentsTo, arguments_none, arguments_length, arguments_next, inline_call, inline_length, moved}
 use Rattle.lt_expand.proofs.Loops.{argument_uses, count_of, grown_room}
 
 module _ (versions : List (Option Function)) (e : Expr) (g : ℕ) (args : Vec Expr Global) (is : e ≡ Call g args) (items : List Expr) (are : items ≡ args.items) where
@@ -78,8 +78,9 @@ module _ (versions : List (Option Function)) (e : Expr) (g : ℕ) (args : Vec Ex
         let w = ap (grown lib) call_is in
         omega (arith, n, w, r)
 
-    pub call_inlined : (source : Function) → source ≡ lib g → (ds2 : List Decl) (es2 : List (ℕ × Expression)) (y : ℕ) → y ≡ first_of source.outs + length ds' → Adds (record { from = length ds'; clock = ck; source = source; inputs = arguments_of (map shape inputs) } ∷ []) ds' es' ds2 es2 → InlinedTo lib ck (shape e) ds es ds2 es2 (variable y)
-    call_inlined source s ds2 es2 y o r =
-        let o' : y ≡ first_of (lib g).outs + length ds' = o ∙ ap (λ (F : Function). first_of F.outs + length ds') s in
-        let r' = subst (λ F. Adds (record { from = length ds'; clock = ck; source = F; inputs = arguments_of (map shape inputs) } ∷ []) ds' es' ds2 es2) s r in
-        moved lib ck (shape e) (call g (arguments_of xs)) ds es ds2 es2 (variable y) (variable y) call_is refl (inline_call lib ck g xs ds ds' ds2 es es' es2 (map shape inputs) y whole o' r')
+    pub call_inlined : (ds2 : List Decl) (es2 : List (ℕ × Expression)) (y : ℕ) → y ≡ first_of (lib g).outs + length ds' → Adds (record { from = length ds'; clock = ck; source = lib g; inputs = arguments_of (map shape inputs) } ∷ []) ds' es' ds2 es2 → InlinedTo lib ck (shape e) ds es ds2 es2 (variable y)
+    call_inlined ds2 es2 y o r =
+        moved lib ck (shape e) (call g (arguments_of xs)) ds es ds2 es2 (variable y) (variable y) call_is refl (inline_call lib ck g xs ds ds' ds2 es es' es2 (map shape inputs) y whole o r)
+
+    pub call_length : (ds2 : List Decl) (es2 : List (ℕ × Expression)) (y : ℕ) → y ≡ first_of (lib g).outs + length ds' → Adds (record { from = length ds'; clock = ck; source = lib g; inputs = arguments_of (map shape inputs) } ∷ []) ds' es' ds2 es2 → length ds2 ≡ length ds + grown lib (shape e)
+    call_length ds2 es2 y o r = inline_length lib ck (shape e) ds es ds2 es2 (variable y) (call_inlined ds2 es2 y o r)

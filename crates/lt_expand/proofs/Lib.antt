@@ -25,6 +25,7 @@ pub mod Lawful
 pub mod Steps
 pub mod Loops
 pub mod Making
+pub mod Lower
 pub mod Calling
 pub mod Turns
 pub mod Opening

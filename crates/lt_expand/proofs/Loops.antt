@@ -1,25 +1,17 @@
 -- One turn of each loop.
-use Rattle.std.proofs.Common.{◌≡◌, ℕ, zero, suc, ◌+◌, ◌-◌, ◌<◌, ◌≤◌, Bool, List, [], ◌∷◌, ◌++◌, length, take, get_or, replicate, reverse, All, refl, sym, ap, ◌∙◌, arith, length-append}
+use Rattle.std.proofs.Common.{◌≡◌, ℕ, zero, suc, ◌+◌, ◌-◌, ◌<◌, ◌≤◌, List, [], ◌∷◌, ◌++◌, length, take, get_or, replicate, All, refl, sym, ap, ◌∙◌, arith, length-append}
 use Rattle.std.specs.List.{range_with_len}
 use Rattle.std.proofs.lemmas.List.FromFn.{length-range_with_len}
-use Rattle.std.proofs.lemmas.List.{map-append, append_assoc, append-nil, take_more, take_all, length-replicate, reverse-append}
+use Rattle.std.proofs.lemmas.List.{map-append, append_assoc, append-nil, take_more, take_all, length-replicate}
 use Rattle.std.proofs.lemmas.List.Elements.{All-nil, All-cons}
 use Rattle.lt_base.specs.declared.function.Decl.{Decl}
 use Rattle.lt_base.specs.Expression.{Expression, arguments_of}
-use Rattle.lt_base.specs.Calls.{called, arguments_called, equations_called}
 use Rattle.lt_base.specs.Checked.{count, EachUse, EachArgumentUse}
 use Rattle.lt_base.specs.Meaning.{ClockPairs, clock_of}
-use Rattle.lt_base.specs.Placed.{below}
-use Rattle.lt_expand.specs.Copies.{raise, Library, Copy, grown, arguments_grown, inlined, copies, copy_decl, copy_decls, copy_equation, copy_equations, input_equations, copied_decls, copied_equations, equations_grown, equations_inlined, equations_copies}
+use Rattle.lt_expand.specs.Copies.{Library, Copy, grown, arguments_grown, inlined, copies, copy_decl, copy_decls, copy_equation, copy_equations, input_equations, copied_decls, copied_equations, equations_grown, equations_inlined, equations_copies}
 use Rattle.lt_expand.specs.Walk.{InlinedTo, AllInlined, owners}
 use Rattle.lt_expand.proofs.Filled.{equations_filled, copied_length}
 use Rattle.lt_expand.proofs.Steps.{inline_length, decls_append, equations_append}
-
--- ---- clocks
-
-pub clock_more : (m : ℕ) (place steps : ClockPairs) (i : ℕ) (d : ℕ × Bool) → i < length steps → below (raise m) (reverse (take (i + 1) steps)) place ≡ ((get_or steps i d).0 + m, (get_or steps i d).1) ∷ below (raise m) (reverse (take i steps)) place
-clock_more m place steps i d l =
-    ap (λ s. below (raise m) (reverse s) place) (take_more steps i d l) ∙ ap (λ s. below (raise m) s place) (reverse-append (take i steps) (get_or steps i d ∷ []))
 
 -- ---- declarations
 
@@ -44,22 +36,6 @@ pub equations_more : (m : ℕ) (before qs : List (ℕ × Expression)) (i : ℕ) 
 equations_more m before qs i d l =
     append_assoc before (copy_equations m (take i qs)) (copy_equation m (get_or qs i d) ∷ [])
     ∙ ap (λ s. before ++ s) (sym (ap (copy_equations m) (take_more qs i d l) ∙ map-append (copy_equation m) (take i qs) (get_or qs i d ∷ [])))
-
--- ---- called functions
-
-called_snoc : (xs : List Expression) (x : Expression) → arguments_called (arguments_of (xs ++ x ∷ [])) ≡ arguments_called (arguments_of xs) ++ called x
-called_snoc [] x = append-nil (called x)
-called_snoc (y ∷ xs) x = ap (λ l. called y ++ l) (called_snoc xs x) ∙ sym (append_assoc (called y) (arguments_called (arguments_of xs)) (called x))
-
-pub called_more : (before : List ℕ) (xs : List Expression) (x : Expression) → (before ++ arguments_called (arguments_of xs)) ++ called x ≡ before ++ arguments_called (arguments_of (xs ++ x ∷ []))
-called_more before xs x = append_assoc before (arguments_called (arguments_of xs)) (called x) ∙ ap (λ s. before ++ s) (sym (called_snoc xs x))
-
-equations_called_snoc : (qs : List (ℕ × Expression)) (q : ℕ × Expression) → equations_called (qs ++ q ∷ []) ≡ equations_called qs ++ called q.1
-equations_called_snoc [] q = append-nil (called q.1)
-equations_called_snoc (p ∷ qs) q = ap (λ l. called p.1 ++ l) (equations_called_snoc qs q) ∙ sym (append_assoc (called p.1) (equations_called qs) (called q.1))
-
-pub equations_called_more : (qs : List (ℕ × Expression)) (i : ℕ) (d : ℕ × Expression) → i < length qs → equations_called (take i qs) ++ called (get_or qs i d).1 ≡ equations_called (take (i + 1) qs)
-equations_called_more qs i d l = sym (ap equations_called (take_more qs i d l) ∙ equations_called_snoc (take i qs) (get_or qs i d))
 
 -- ---- numbers
 
@@ -91,10 +67,6 @@ grown_room lib (x ∷ xs) (suc i) d l = let h = grown_room lib xs i d (omega ari
 -- ---- equations with copies
 
 module _ (lib : Library) where
-  grown_snoc : (qs : List (ℕ × Expression)) (q : ℕ × Expression) → equations_grown lib (qs ++ q ∷ []) ≡ equations_grown lib qs + grown lib q.1
-  grown_snoc [] q = omega arith
-  grown_snoc (p ∷ qs) q = let h = grown_snoc qs q in omega (arith, h)
-
   inlined_snoc : (n : ℕ) (qs : List (ℕ × Expression)) (q : ℕ × Expression) → equations_inlined lib n (qs ++ q ∷ []) ≡ equations_inlined lib n qs ++ (q.0, inlined lib (n + equations_grown lib qs) q.1) ∷ []
   inlined_snoc n [] q = ap (λ m. (q.0, inlined lib m q.1) ∷ []) (omega arith)
   inlined_snoc n (p ∷ qs) q =
@@ -118,10 +90,6 @@ module _ (lib : Library) where
 
     abbrev Eqs : Type 0
     Eqs = List (ℕ × Expression)
-
-    -- nothing is copied yet
-    pub all_none : (ds : List Decl) (origins : List ℕ) → ds ≡ known → origins ≡ range_with_len 0 N → AllInlined lib known [] ds [] [] origins
-    all_none ds origins p q = record { decls = p ∙ sym (append-nil known); eqs_are = refl; copied_are = refl; origins_are = q ∙ sym (append-nil (range_with_len 0 N)) }
 
     module _ (qs : Eqs) (ds : List Decl) (eqs copied : Eqs) (origins : List ℕ) (a : AllInlined lib known qs ds eqs copied origins) where
       abbrev cs : List Copy

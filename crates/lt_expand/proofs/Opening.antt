@@ -1,12 +1,18 @@
 -- The loop over the equations of a function, and the function that it makes.
-use Rattle.std.proofs.Common.{◌≡◌, ℕ, ◌+◌, ◌-◌, ◌^◌, ◌<◌, List, [], ◌∷◌, ◌++◌, length, take, get_or, replicate, sym, ap, ◌∙◌, subst, arith}
+use Rattle.std.proofs.Common.{◌≡◌, ℕ, zero, suc, ◌+◌, ◌-◌, ◌^◌, ◌<◌, List, [], ◌∷◌, ◌++◌, length, take, get_or, replicate, All, Result, Ok, Err, refl, sym, ap, ◌∙◌, subst, arith}
+use Rattle.std.specs.Prelude.{IfOk}
+use Rattle.std.specs.List.{range_with_len}
 use Rattle.std.proofs.lemmas.List.{take_more}
+use Rattle.lt_base.specs.declared.memory.Memory.{Memory}
 use Rattle.lt_base.specs.declared.function.Decl.{Decl}
-use Rattle.lt_base.specs.Expression.{Expression}
-use Rattle.lt_base.specs.Program.{Function}
+use Rattle.lt_base.specs.declared.expression.Expr.{Expr}
+use Rattle.lt_base.specs.Expression.{Expression, shape}
+use Rattle.lt_base.specs.Program.{Function, GoodFunction}
 use Rattle.lt_base.specs.Meaning.{clock_of}
+use Rattle.lt_base.proofs.Lookups.{all_found, left_below}
 use Rattle.lt_expand.specs.Copies.{Library, grown, equations_grown, opened}
-use Rattle.lt_expand.specs.Walk.{InlinedTo, AllInlined}
+use Rattle.lt_expand.specs.Walk.{InlinedTo, AllInlined, owners}
+use Rattle.lt_expand.proofs.Basics.{all_equations}
 use Rattle.lt_expand.proofs.Loops.{all_length, all_more, room_more}
 
 module _ (lib : Library) (known : List Decl) (items : List (ℕ × Expression)) (i : ℕ) (q : ℕ × Expression) (read : q ≡ get_or items i q) (inside : i < length items) (ds : List Decl) (eqs copied : List (ℕ × Expression)) (origins : List ℕ) (a : AllInlined lib known (take i items) ds eqs copied origins) where
@@ -24,6 +30,44 @@ module _ (lib : Library) (known : List Decl) (items : List (ℕ × Expression)) 
       subst (λ qs. AllInlined lib known qs ds' eqs' copied' origins') (ap (λ z. take i items ++ z ∷ []) read ∙ sym (take_more items i q inside))
       (all_more lib known (take i items) ds eqs copied origins a q ds' eqs' copied' origins' r t pushed_is n m left' k j h s)
 
-pub built : (lib : Library) (f : Function) (ds : List Decl) (eqs copied : List (ℕ × Expression)) (origins : List ℕ) → AllInlined lib f.decls f.eqs ds eqs copied origins → (all : List (ℕ × Expression)) → all ≡ eqs ++ copied → (let F : Function = record { name = f.name; decls = ds; n_in = f.n_in; outs = f.outs; eqs = all } in F) ≡ opened lib f
-built lib f ds eqs copied origins a all e =
-    λ i. record { name = f.name; decls = a.decls i; n_in = f.n_in; outs = f.outs; eqs = (e ∙ (λ j. a.eqs_are j ++ a.copied_are j)) i }
+-- ---- a declared clock that was read
+
+clock_read : (ds : List Decl) (x : ℕ) (d : Decl) → x < length ds → clock_of ds x ≡ (get_or ds x d).clock
+clock_read [] x d l = absurd (omega arith)
+clock_read (e ∷ ds) zero d l = refl
+clock_read (e ∷ ds) (suc x) d l = clock_read ds x d (omega arith)
+
+-- a right side at the declared clock of its variable
+pub side_inlined : (lib : Library) (known items : List Decl) (x left : ℕ) (d : Decl) (e side : Expression) (ds : List Decl) (es : List (ℕ × Expression)) (ds' : List Decl) (es' : List (ℕ × Expression)) → items ≡ known → left ≡ x → x < length known → d ≡ get_or items left d → side ≡ e → (r : Result Expr Memory) → IfOk r (λ r. InlinedTo lib d.clock side ds es ds' es' (shape r)) → IfOk r (λ r. InlinedTo lib (clock_of known x) e ds es ds' es' (shape r))
+side_inlined lib known items x left d e side ds es ds' es' p q l k s (Ok r) h =
+    let here : d ≡ get_or known x d = k ∙ (λ i. get_or (p i) (q i) d) in
+    let clock : d.clock ≡ clock_of known x = ap (λ (d : Decl). d.clock) here ∙ sym (clock_read known x d l) in
+    subst (λ ck. InlinedTo lib ck e ds es ds' es' (shape r)) clock (subst (λ a. InlinedTo lib d.clock a ds es ds' es' (shape r)) s h)
+side_inlined lib known items x left d e side ds es ds' es' p q l k s (Err w) h = h
+
+-- ---- the function that is made
+
+lefts_inside : (f : Function) → GoodFunction f → All (λ q. q.0 < length f.decls) f.eqs
+lefts_inside f good = all_equations (λ x e. x < length f.decls) f f.eqs (all_found f good) (λ x e h. left_below f good x e h)
+
+module _ (lib : Library) (f F : Function) (view : f ≡ F) where
+  pub open_lefts : GoodFunction F → All (λ q. q.0 < length f.decls) f.eqs
+  open_lefts good = subst (λ (g : Function). All (λ q. q.0 < length g.decls) g.eqs) (sym view) (lefts_inside F good)
+
+  module _ (name : List ℕ) (decls decls' : List Decl) (outs : List ℕ) (all all' eqs copied : List (ℕ × Expression)) (origins : List ℕ) (a : AllInlined lib f.decls f.eqs decls' eqs copied origins) (n : name ≡ f.name) (d : decls ≡ decls') (u : outs ≡ f.outs) (e' : all ≡ all') (e : all' ≡ eqs ++ copied) where
+    abbrev made : Function
+    made = record { name = name; decls = decls; n_in = f.n_in; outs = outs; eqs = all }
+
+    made_is : made ≡ opened lib F
+    made_is =
+        (λ i. record { name = n i; decls = (d ∙ a.decls) i; n_in = f.n_in; outs = u i; eqs = (e' ∙ e ∙ (λ j. a.eqs_are j ++ a.copied_are j)) i })
+        ∙ ap (opened lib) view
+
+    pub made_good : GoodFunction (opened lib F) → GoodFunction made
+    made_good = subst GoodFunction (sym made_is)
+
+    pub made_form : (g : Function) → g ≡ made → g ≡ opened lib F
+    made_form g p = p ∙ made_is
+
+    pub made_origins : (os : List ℕ) → os ≡ origins → os ≡ range_with_len 0 (length F.decls) ++ owners lib F.eqs
+    made_origins os p = p ∙ a.origins_are ∙ ap (λ (g : Function). range_with_len 0 (length g.decls) ++ owners lib g.eqs) view

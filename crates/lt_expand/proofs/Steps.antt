@@ -6,7 +6,7 @@ use Rattle.lt_base.specs.declared.operators.Un.{Un}
 use Rattle.lt_base.specs.declared.operators.Bin.{Bin}
 use Rattle.lt_base.specs.declared.operators.Imp.{Imp}
 use Rattle.lt_base.specs.declared.function.Decl.{Decl}
-use Rattle.lt_base.specs.Expression.{Expression, literal, variable, unary, binary, imported, choose, sampled, merged, delayed, follow, arrow, call, Arguments, no_arguments, argument, arguments_of}
+use Rattle.lt_base.specs.Expression.{Expression, variable, unary, binary, imported, choose, sampled, merged, delayed, follow, arrow, call, Arguments, no_arguments, argument, arguments_of}
 use Rattle.lt_base.specs.Meaning.{ClockPairs, outer}
 use Rattle.lt_expand.specs.Copies.{Library, Copy, grown, arguments_grown, inlined, arguments_inlined, copies, arguments_copies, copy_decls, input_equations, copy_equations, copied_decls, copied_equations, first_of}
 use Rattle.lt_expand.specs.Walk.{Adds, InlinedTo}
@@ -54,12 +54,6 @@ module _ (lib : Library) where
 
   pub inline_length : (ck : ClockPairs) (e : Expression) (ds : Decls) (es : Eqs) (ds' : Decls) (es' : Eqs) (e' : Expression) → To ck e ds es ds' es' e' → length ds' ≡ length ds + grown lib e
   inline_length ck e ds es ds' es' e' l = adds_length _ ds es ds' es' l.adds ∙ ap (λ k. length ds + k) (filled lib (length ds) ck e).all
-
-  pub inline_literal : (ck : ClockPairs) (v : Value) (ds : Decls) (es : Eqs) → To ck (literal v) ds es ds es (literal v)
-  inline_literal ck v ds es = record { form = refl; adds = adds_none ds es }
-
-  pub inline_variable : (ck : ClockPairs) (x : ℕ) (ds : Decls) (es : Eqs) → To ck (variable x) ds es ds es (variable x)
-  inline_variable ck x ds es = record { form = refl; adds = adds_none ds es }
 
   pub inline_unary : (ck : ClockPairs) (o : Un) (a a' : Expression) (ds ds' : Decls) (es es' : Eqs) → To ck a ds es ds' es' a' → To ck (unary o a) ds es ds' es' (unary o a')
   inline_unary ck o a a' ds ds' es es' l = record { form = ap (unary o) l.form; adds = l.adds }
@@ -130,10 +124,6 @@ module _ (lib : Library) where
   of_more : (xs : List Expression) (e : Expression) → arguments_of (xs ++ e ∷ []) ≡ arguments_more (arguments_of xs) e
   of_more [] e = refl
   of_more (x ∷ xs) e = ap (argument x) (of_more xs e)
-
-  grown_more : (args : Arguments) (e : Expression) → arguments_grown lib (arguments_more args e) ≡ arguments_grown lib args + grown lib e
-  grown_more no_arguments e = omega arith
-  grown_more (argument a args) e = let h = grown_more args e in omega (arith, h)
 
   inlined_more : (n : ℕ) (args : Arguments) (e : Expression) → arguments_inlined lib n (arguments_more args e) ≡ arguments_more (arguments_inlined lib n args) (inlined lib (n + arguments_grown lib args) e)
   inlined_more n no_arguments e = ap (λ m. argument (inlined lib m e) no_arguments) (omega arith)

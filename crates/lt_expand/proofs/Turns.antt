@@ -1,40 +1,17 @@
 -- One turn of each small loop, from what its calls say.
-use Rattle.std.proofs.Common.{◌≡◌, ℕ, ◌+◌, ◌^◌, ◌<◌, ◌≤◌, Bool, List, [], ◌∷◌, ◌++◌, length, map, take, get_or, reverse, Vec, Global, All, sym, ap, ◌∙◌, subst}
-use Rattle.std.proofs.lemmas.List.{map-append, append_assoc, take_more, take_all, reverse-append}
+use Rattle.std.proofs.Common.{◌≡◌, ℕ, ◌+◌, ◌^◌, ◌<◌, Bool, List, [], ◌∷◌, ◌++◌, length, map, take, get_or, reverse, All, sym, ap, ◌∙◌, subst}
+use Rattle.std.proofs.lemmas.List.{map-append, reverse-append}
 use Rattle.std.proofs.lemmas.List.Elements.{All-nil, All-cons, All-head, All-tail}
 use Rattle.lt_base.specs.declared.function.Decl.{Decl}
-use Rattle.lt_base.specs.declared.expression.Expr.{Expr, Call}
+use Rattle.lt_base.specs.declared.expression.Expr.{Expr}
 use Rattle.lt_base.specs.Expression.{Expression, arguments_of, shape}
-use Rattle.lt_base.specs.Calls.{called, arguments_called, equations_called}
 use Rattle.lt_base.specs.Meaning.{ClockPairs}
-use Rattle.lt_base.specs.Placed.{below}
-use Rattle.lt_base.proofs.Shape.{shape-Call}
-use Rattle.lt_expand.specs.Copies.{raise, copy_decl, copy_decls, copy_equation, copy_equations, input_equations}
-use Rattle.lt_expand.proofs.Loops.{clock_more, called_more, equations_called_more, decls_more, equations_more, inputs_more}
+use Rattle.lt_expand.specs.Copies.{copy_decl, copy_decls, copy_equation, copy_equations, input_equations}
+use Rattle.lt_expand.proofs.Loops.{decls_more, equations_more, inputs_more}
 
 -- an element of a list that is read
 pub all_item : {A : Type 0} (P : A → Type 0) (xs items : List A) (i : ℕ) (d : A) → All P xs → items ≡ xs → i < length items → d ≡ get_or items i d → P d
 all_item P xs items i d a e l r = subst P (sym r) (subst (All P) (sym e) a i d l)
-
-pub called_turn : (before now after : List ℕ) (items : List Expr) (i : ℕ) (a : Expr) → i < length items → a ≡ get_or items i a → now ≡ before ++ arguments_called (arguments_of (map shape (take i items))) → after ≡ now ++ called (shape a) → after ≡ before ++ arguments_called (arguments_of (map shape (take (i + 1) items)))
-called_turn before now after items i a l r n s =
-    let left : map shape (take i items) ++ shape a ∷ [] ≡ map shape (take (i + 1) items) =
-    sym (ap (map shape) (take_more items i a l) ∙ map-append shape (take i items) (get_or items i a ∷ []) ∙ ap (λ b. map shape (take i items) ++ shape b ∷ []) (sym r)) in
-    s
-    ∙ ap (λ z. z ++ called (shape a)) n
-    ∙ called_more before (map shape (take i items)) (shape a)
-    ∙ ap (λ z. before ++ arguments_called (arguments_of z)) left
-
-pub called_end : (old pushed now : List ℕ) (e : Expr) (g : ℕ) (args : Vec Expr Global) → e ≡ Call g args → (items : List Expr) → items ≡ args.items → (i : ℕ) → length items ≤ i → pushed ≡ old ++ g ∷ [] → now ≡ pushed ++ arguments_called (arguments_of (map shape (take i items))) → now ≡ old ++ called (shape e)
-called_end old pushed now e g args is items at i all p n =
-    n
-    ∙ (λ j. p j ++ arguments_called (arguments_of (map shape ((take_all i items all ∙ at) j))))
-    ∙ append_assoc old (g ∷ []) (arguments_called (arguments_of (map shape args.items)))
-    ∙ ap (λ z. old ++ called z) (sym (ap shape is ∙ shape-Call g args))
-
-pub called_by_turn : (now after : List ℕ) (items : List (ℕ × Expression)) (i : ℕ) (q : ℕ × Expression) (e : Expression) → i < length items → q ≡ get_or items i q → e ≡ q.1 → now ≡ equations_called (take i items) → after ≡ now ++ called e → after ≡ equations_called (take (i + 1) items)
-called_by_turn now after items i q e l r f n s =
-    s ∙ (λ j. n j ++ called ((f ∙ ap (λ (z : ℕ × Expression). z.1) r) j)) ∙ equations_called_more items i q l
 
 pub decls_turn : (m : ℕ) (place : ClockPairs) (items before now after : List Decl) (i : ℕ) (d r : Decl) → i < length items → d ≡ get_or items i d → r ≡ copy_decl m place d → now ≡ before ++ copy_decls m place (take i items) → after ≡ now ++ r ∷ [] → after ≡ before ++ copy_decls m place (take (i + 1) items)
 decls_turn m place items before now after i d r l read is n s =
@@ -57,13 +34,6 @@ inputs_turn m number before now after old new x r k is n s p l =
     ∙ ap (λ z. before ++ input_equations m (arguments_of z)) (sym (ap (map shape) p ∙ map-append shape old (x ∷ [])))
 
 -- ---- clocks
-
-pub clock_turn : (m : ℕ) (place items now after : ClockPairs) (i : ℕ) (d : ℕ × Bool) (n : ℕ) → i < length items → d ≡ get_or items i d → n ≡ d.0 + m → now ≡ below (raise m) (reverse (take i items)) place → after ≡ (n, d.1) ∷ now → after ≡ below (raise m) (reverse (take (i + 1) items)) place
-clock_turn m place items now after i d n l read k was s =
-    s
-    ∙ (λ j. (k j, d.1) ∷ was j)
-    ∙ ap (λ (z : ℕ × Bool). (z.0 + m, z.1) ∷ below (raise m) (reverse (take i items)) place) read
-    ∙ sym (clock_more m place items i d l)
 
 all_front : {A : Type 0} (P : A → Type 0) (xs ys : List A) → All P (xs ++ ys) → All P xs
 all_front P [] ys a = All-nil P

@@ -1,7 +1,7 @@
 -- The versions that are made, one after the other.
-use Rattle.std.proofs.Common.{◌≡◌, ◌≢◌, ℕ, zero, suc, ◌<◌, Bool, true, false, List, [], ◌∷◌, length, replicate, set, get_or, Option, Some, None, refl, sym, ap, ◌∙◌, subst, arith, eqb-true}
+use Rattle.std.proofs.Common.{◌≡◌, ◌≢◌, ℕ, suc, ◌<◌, Bool, true, false, List, [], ◌∷◌, length, set, get_or, Option, Some, None, refl, sym, ap, ◌∙◌, subst, arith, eqb-true}
 use Rattle.std.specs.Prelude.{nat_eq}
-use Rattle.std.proofs.lemmas.List.{get_or-set_same, get_or-set_other, length-set, length-replicate}
+use Rattle.std.proofs.lemmas.List.{get_or-set_same, get_or-set_other, length-set}
 use Rattle.std.proofs.lemmas.Bool.Decides.{nat_tests}
 use Rattle.lt_base.specs.Program.{Function}
 use Rattle.lt_base.specs.Dependence.{has}
@@ -16,11 +16,6 @@ some_version (Some G) F h = refl
 pub is_made : (versions : List (Option Function)) (g : ℕ) (F : Function) → made_of versions g ≡ Some F → IsMade versions g
 is_made versions g F h = some_version (made_of versions g) F h
 
-pub made_inside : (versions : List (Option Function)) (g : ℕ) (F : Function) → made_of versions g ≡ Some F → g < length versions
-made_inside [] g F h = absurd (cc)
-made_inside (o ∷ versions) zero F h = omega arith
-made_inside (o ∷ versions) (suc g) F h = let l = made_inside versions g F h in omega (arith, l)
-
 pub made_still : (before after : List (Option Function)) → KeepsVersions before after → (g : ℕ) → IsMade before g → IsMade after g
 made_still before after k g m = is_made after g _ (k g _ m)
 
@@ -29,18 +24,6 @@ keeps_all versions g F h = h
 
 pub keeps_more : (a b c : List (Option Function)) → KeepsVersions a b → KeepsVersions b c → KeepsVersions a c
 keeps_more a b c p q g F h = q g F (p g F h)
-
-none_there : (n g : ℕ) (F : Function) → get_or (replicate n None) g None ≡ Some F → ⊥
-none_there zero g F h = absurd (cc)
-none_there (suc n) zero F h = absurd (cc)
-none_there (suc n) (suc g) F h = none_there n g F h
-
--- nothing is made yet
-pub no_versions : (fs : List Function) (versions : List (Option Function)) → versions ≡ replicate (length fs) None → AreVersions fs versions
-no_versions fs versions e = record {
-  all = ap length e ∙ length-replicate (length fs) None;
-  are = λ g F h n w. absurd (none_there (length fs) g F (sym (ap (λ v. made_of v g) e) ∙ h));
-}
 
 -- ---- one more
 
@@ -60,16 +43,6 @@ module _ (versions : List (Option Function)) (g : ℕ) (F : Function) (inside : 
   pub set_made : IsMade more g
   set_made = is_made more g F set_here
 
-  pub set_keeps : made_of versions g ≡ None → KeepsVersions versions more
-  set_keeps none h G e = go (nat_eq h g) refl
-    where
-      other : made_of versions h ≡ None → ⊥
-      other n = absurd (cc)
-
-      go : (t : Bool) → nat_eq h g ≡ t → made_of more h ≡ Some G
-      go true t = absurd (other (ap (made_of versions) (eqb-true h g t) ∙ none))
-      go false t = set_there h t ∙ e
-
   pub set_are : (fs : List Function) → AreVersions fs versions → ((n : ℕ) → Within fs n g → F ≡ expanded fs n g) → AreVersions fs more
   set_are fs a is = record {
     all = length-set versions g (Some F) ∙ a.all;
@@ -83,6 +56,17 @@ module _ (versions : List (Option Function)) (g : ℕ) (F : Function) (inside : 
           let equal : F ≡ G = cc in
           sym equal ∙ is n (subst (Within fs n) same w) ∙ ap (expanded fs n) (sym same)
       go h G e n w false t = a.are h G (sym (set_there h t) ∙ e) n w
+
+-- what was there before the called functions of a function were made is there after that, and after the function too
+pub kept_over : (before between after : List (Option Function)) (g : ℕ) (F : Function) → g < length between → KeepsVersions before between → made_of before g ≡ None → after ≡ set between g (Some F) → KeepsVersions before after
+kept_over before between after g F inside k none s h G e = go (nat_eq h g) refl
+  where
+    other : made_of before h ≡ None → ⊥
+    other n = absurd (cc)
+
+    go : (t : Bool) → nat_eq h g ≡ t → made_of after h ≡ Some G
+    go true t = absurd (other (ap (made_of before) (eqb-true h g t) ∙ none))
+    go false t = ap (λ v. made_of v h) s ∙ set_there between g F inside h t ∙ k h G e
 
 -- ---- what the loop over the called functions has made
 

@@ -26,9 +26,6 @@ module _ (lib : Library) where
   abbrev w : ℕ → ℕ
   w g = weight_with none (lib g)
 
-  abbrev W : Expression → ℕ
-  W e = cost 1 none e
-
   mutual
     inlined_weight : (e : Expression) (n : ℕ) (ck : ClockPairs) → cost 1 none (inlined lib n e) + copies_weight (copies lib n ck e) ≡ cost 1 w e
     inlined_weight (literal v) n ck = refl

@@ -20,9 +20,17 @@ sum_side = binary Add (variable 0) (delayed (Number (pos 0)) (variable 1))
 abbrev pub sum : Function
 sum = record { name = 115 ∷ []; decls = on_base 97 IntTy ∷ on_base 98 IntTy ∷ []; n_in = 1; outs = 1 ∷ []; eqs = (1, sum_side) ∷ [] }
 
--- `y = merge c (s(x when c)) 1`
+-- `b = s(a) + s(s(a))`
+abbrev pub twice_side : Expression
+twice_side = binary Add (call 0 (argument (variable 0) no_arguments)) (call 0 (argument (call 0 (argument (variable 0) no_arguments)) no_arguments))
+
+-- `t`, which sums its input, and the sums again
+abbrev pub twice : Function
+twice = record { name = 116 ∷ []; decls = on_base 97 IntTy ∷ on_base 98 IntTy ∷ []; n_in = 1; outs = 1 ∷ []; eqs = (1, twice_side) ∷ [] }
+
+-- `y = merge c (t(x when c)) 1`
 abbrev pub caller_side : Expression
-caller_side = merged 0 (call 0 (argument (sampled (variable 1) 0 true) no_arguments)) (literal (Number (pos 1)))
+caller_side = merged 0 (call 1 (argument (sampled (variable 1) 0 true) no_arguments)) (literal (Number (pos 1)))
 
 -- `m`, which calls it where its first input is true
 abbrev pub caller : Function
@@ -35,4 +43,4 @@ caller = record {
 }
 
 abbrev pub summing : WholeProgram
-summing = record { funcs = sum ∷ caller ∷ []; main = 1 }
+summing = record { funcs = sum ∷ twice ∷ caller ∷ []; main = 2 }

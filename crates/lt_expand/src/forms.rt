@@ -1,9 +1,10 @@
-// Expressions from their parts.
+// Expressions and clocks from their parts.
 
-ghost use Rattle.std.specs.Prelude.{◌≡◌, IfOk};
+ghost use Rattle.std.specs.Prelude.{◌≡◌, ◌∷◌, IfOk};
 ghost use Rattle.lt_base.specs.Expression.{shape, unary, binary, imported, choose, sampled, merged, delayed, follow, arrow};
+ghost use Rattle.lt_base.specs.Meaning.{outer};
 
-use lt_base::{Bin, Expr, Imp, Memory, Un, Value};
+use lt_base::{Bin, Clock, Expr, Imp, List, Memory, Un, Value};
 use std::alloc::Global;
 
 pub(crate) fn unary(alloc: Global, op: Un, a: Expr) -> Result<Expr, Memory>
@@ -62,4 +63,22 @@ pub(crate) fn arrow(alloc: Global, a: Expr, b: Expr) -> Result<Expr, Memory>
     ensures { IfOk result (λ r. shape r ≡ arrow (shape a) (shape b)) }
 {
     Ok(Expr::Arrow(Box::new(alloc, a)?, Box::new(alloc, b)?))
+}
+
+/// The clock without its innermost pair.
+pub(crate) fn outer(clock: &Clock) -> Result<Clock, Memory>
+    ensures { IfOk result (λ r. r ≡ outer clock.now) }
+{
+    let mut steps = clock.steps.copy()?.into_vec();
+    let _ = steps.pop();
+    Ok(Clock {
+        steps: List::of(steps),
+    })
+}
+
+/// The clock at the instants of this one at which the variable has that truth value.
+pub(crate) fn deeper(clock: &Clock, variable: u32, polarity: bool) -> Result<Clock, Memory>
+    ensures { IfOk result (λ r. r ≡ (variable, polarity) ∷ clock.now) }
+{
+    clock.copy()?.deeper(variable, polarity)
 }

@@ -1,13 +1,15 @@
 //! Calls replaced by copies of the called functions.
 #![tactic(auto)]
 
-mod called;
 mod forms;
+mod function;
+mod inline;
 pub mod laws;
+mod library;
 mod paste;
+mod program;
 mod raised;
 #[cfg(test)]
 mod tests;
 
-pub use called::called_by;
-pub use paste::append_copy;
+pub use program::{TooMany, expand};

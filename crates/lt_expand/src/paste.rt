@@ -62,7 +62,7 @@ fn append_equations(
 
 /// Appends a copy of a function without calls, on the clock of a call's place, whose inputs have these equations. Gives the number
 /// of its output.
-pub fn append_copy(
+pub(crate) fn append_copy(
     alloc: Global,
     decls: &mut Vec<Decl>,
     eqs: &mut Vec<Equation>,

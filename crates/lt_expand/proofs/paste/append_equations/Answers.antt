@@ -1,4 +1,4 @@
-use Rattle.std.proofs.Common.{◌≡◌, ◌+◌, ◌-◌, ◌^◌, ◌<◌, arith, ap, sym, subst, ◌∙◌}
+use Rattle.std.proofs.Common.{◌+◌, ◌-◌, ◌^◌, ◌<◌, arith, ap, sym, subst, ◌∙◌}
 use Rattle.lt_base.specs.Program.{VarsBelow}
 use Rattle.lt_base.specs.Calls.{EachCall}
 use Rattle.lt_base.specs.Placed.{renamed}
