@@ -1,4 +1,4 @@
-use crate::{components, first_circular};
+use crate::{components, degrees, first_circular};
 use lt_base::List;
 use std::test::Fail;
 
@@ -29,6 +29,7 @@ fn names_of_components(rt: HostRuntime) -> Result<(), Fail> {
     second.push(0)?;
     second.push(2)?;
     let table = List::of(vec![in alloc; first, second, List::new(alloc)]?);
+    assert_eq!(rt; degrees(alloc, &table)?.as_slice(), [1, 2, 0].as_slice());
     let names = components(alloc, &table)?;
     assert_eq!(rt; names.len(), 3);
     assert_eq!(rt; names[0], names[1]);

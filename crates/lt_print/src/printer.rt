@@ -1,5 +1,5 @@
 // The canonical text of a tree.
-ghost use Rattle.std.specs.Prelude.{◌≡◌, ◌++◌, OnOk, IfOk, decimal, map};
+ghost use Rattle.std.specs.Prelude.{◌≡◌, ◌++◌, OnOk, IfOk, codes, decimal, map};
 ghost use Rattle.lt_tokens.specs.declared.token.Infix.TheVariants as meet;
 ghost use Rattle.lt_print.specs.Canonical.{value_form, led, arrow_left, level_of, bare, all_bare, placed, operator, truth_text, clock_text, text, texts, ty_text, clocks_text, decl_text, decls_text, local_lines, locals_text, equation_lines, node_text, canonical};
 ghost use Rattle.lt_print.specs.Printed.{is_number, is_literal, looks_led, head_text, body_text, comma_before, semicolon_before, local_line, equation_line};
@@ -60,25 +60,26 @@ fn own_level(t: &Term) -> u8
     }
 }
 
-fn symbol(o: Bin) -> &'static [u8]
-    ensures { result.now ≡ operator (meet.Operator o) }
+/// An operator between its two spaces.
+fn spaced(o: Bin) -> &'static [u8]
+    ensures { result.now ≡ codes " " ++ (operator (meet.Operator o) ++ codes " ") }
 {
     match o {
-        Bin::Add => b"+",
-        Bin::Sub => b"-",
-        Bin::Mul => b"*",
-        Bin::Div => b"div",
-        Bin::Mod => b"mod",
-        Bin::Eq => b"=",
-        Bin::Ne => b"<>",
-        Bin::Lt => b"<",
-        Bin::Le => b"<=",
-        Bin::Gt => b">",
-        Bin::Ge => b">=",
-        Bin::And => b"and",
-        Bin::Or => b"or",
-        Bin::Xor => b"xor",
-        Bin::Implies => b"=>",
+        Bin::Add => b" + ",
+        Bin::Sub => b" - ",
+        Bin::Mul => b" * ",
+        Bin::Div => b" div ",
+        Bin::Mod => b" mod ",
+        Bin::Eq => b" = ",
+        Bin::Ne => b" <> ",
+        Bin::Lt => b" < ",
+        Bin::Le => b" <= ",
+        Bin::Gt => b" > ",
+        Bin::Ge => b" >= ",
+        Bin::And => b" and ",
+        Bin::Or => b" or ",
+        Bin::Xor => b" xor ",
+        Bin::Implies => b" => ",
     }
 }
 
@@ -155,9 +156,7 @@ fn inside(out: &mut List<u8>, t: &Term) -> Result<(), Memory>
         }
         Term::Bin(o, a, b) => {
             show(out, left(Infix::Operator(*o)), a)?;
-            out.extend(b" ")?;
-            out.extend(symbol(*o))?;
-            out.extend(b" ")?;
+            out.extend(spaced(*o))?;
             show(out, right(Infix::Operator(*o)), b)
         }
         Term::If(c, a, b) => {

@@ -1,10 +1,11 @@
 // Canonical texts.
 
+use crate::laws::parse_of_print;
 use crate::print;
 use lt_syntax::parse;
 use std::alloc::Global;
 
-// The text of the tree that is parsed, if it is this one.
+// Whether this is the text of the tree that is parsed, also after it is copied, printed and parsed again.
 fn prints(alloc: Global, text: &[u8], canonical: &[u8]) -> bool {
     let Ok(tree) = parse(alloc, text) else {
         return false;
@@ -12,7 +13,10 @@ fn prints(alloc: Global, text: &[u8], canonical: &[u8]) -> bool {
     let Ok(copy) = tree.copy() else {
         return false;
     };
-    let Ok(printed) = print(alloc, &copy) else {
+    let Ok(again) = parse_of_print(alloc, &copy) else {
+        return false;
+    };
+    let Ok(printed) = print(alloc, &again) else {
         return false;
     };
     printed.as_slice() == canonical

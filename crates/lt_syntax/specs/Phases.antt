@@ -40,6 +40,11 @@ kind_of kind.TooDeep = parser.TooDeep
 abbrev pub state_of : Parser → parser.State
 state_of p = record { done = p.nodes; phase = phase_of p.phase (stack_of p.frames.items) (mode_of p.mode) }
 
+-- the right side of an equation is begun
+abbrev pub IsIn : Phase → Type 0
+IsIn (phase.In n x) = Unit {0}
+IsIn _ = ⊥
+
 -- the next phase, in which no form is begun, unless memory ran out
 abbrev pub Moves : Result Phase (Or Kind) → Result parser.Phase parser.Kind → Type 0
 Moves (Ok p) r = r ≡ Ok (phase_of p [] machine.Want)

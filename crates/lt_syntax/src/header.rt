@@ -9,7 +9,7 @@ ghost use Rattle.lt_syntax.specs.declared.tree.NodeText.{NodeText as OneNode};
 ghost use Rattle.lt_syntax.specs.Program.{declared};
 ghost use Rattle.lt_syntax.specs.Views.{mode_of, operand_of, stack_of, next_of};
 ghost use Rattle.std.specs.Global.{Box};
-ghost use Rattle.lt_syntax.specs.Phases.{phase_of, state_of, Moves, Steps, Fits};
+ghost use Rattle.lt_syntax.specs.Phases.{phase_of, state_of, IsIn, Moves, Steps, Fits};
 
 use crate::expression::go;
 use crate::frame::{Frame, Mode, Next, Operand};
@@ -478,52 +478,42 @@ fn is_too_deep(frames: &[Frame], mode: &Mode) -> bool
 }
 
 /// The right side of an equation goes on.
-fn goes_on(p: &mut Parser, n: Box<NodeText>, x: Name, mode: Mode) -> Result<(), Or<Kind>>
-    ensures { Steps result (state_of p.new) (parser.finish p.old.nodes (parser.checked LIMIT n.value x (machine.Go (stack_of p.old.frames.items) (mode_of mode)))) }
+fn goes_on(p: &mut Parser, mode: Mode) -> Result<(), Or<Kind>>
+    ensures { (n : Box OneNode) (x : List ℕ) → p.old.phase ≡ phases.In n x → Steps result (state_of p.new) (parser.finish p.old.nodes (parser.checked LIMIT n.value x (machine.Go (stack_of p.old.frames.items) (mode_of mode)))) }
 {
     if is_too_deep(&p.frames, &mode) {
         return Err(Or::Fault(Kind::TooDeep));
     }
     p.mode = mode;
-    p.phase = Phase::In(n, x);
     Ok(())
 }
 
 /// The right side of an equation ends.
-fn ends(p: &mut Parser, n: Box<NodeText>, x: Name, a: Operand) -> Result<(), Or<Kind>>
-    ensures { Steps result (state_of p.new) (parser.finish p.old.nodes (Ok (parser.Body (parser.add_equation n.value x (operand_of a).tree)))) }
+fn ends(p: &mut Parser, a: Operand) -> Result<(), Or<Kind>>
+    requires { IsIn p.old.phase }
+    ensures { (n : Box OneNode) (x : List ℕ) → p.old.phase ≡ phases.In n x → Steps result (state_of p.new) (parser.finish p.old.nodes (Ok (parser.Body (parser.add_equation n.value x (operand_of a).tree)))) }
 {
-    let mut n = n;
+    let Phase::In(mut n, x) = replace(&mut p.phase, Phase::Told) else {
+        unreachable!()
+    };
     n.eqs.push(EqText::new(x, Box::into_inner(a.term)))?;
     p.phase = Phase::Body(n);
     Ok(())
 }
 
-/// The right side of an equation goes on, or ends.
-fn went(p: &mut Parser, n: Box<NodeText>, x: Name, next: Next) -> Result<(), Or<Kind>>
-    ensures { Steps result (state_of p.new) (parser.finish p.old.nodes (parser.checked LIMIT n.value x (next_of next (stack_of p.old.frames.items)))) }
-{
-    match next {
-        Next::Bad => Err(Or::Fault(Kind::Unexpected)),
-        Next::Go(mode) => goes_on(p, n, x, mode),
-        Next::Done(a) => ends(p, n, x, a),
-    }
-}
-
-fn in_equation(
-    alloc: Global,
-    p: &mut Parser,
-    n: Box<NodeText>,
-    x: Name,
-    t: Token,
-) -> Result<(), Or<Kind>>
+/// A token in the right side of an equation.
+fn in_equation(alloc: Global, p: &mut Parser, t: Token) -> Result<(), Or<Kind>>
     requires small { IsSmall t }
-    requires room { Fits LIMIT (parser.In n.value x (stack_of p.old.frames.items) (mode_of p.old.mode)) }
-    ensures { Steps result (state_of p.new) (parser.finish p.old.nodes (parser.move LIMIT (parser.In n.value x (stack_of p.old.frames.items) (mode_of p.old.mode)) t)) }
+    requires inside { IsIn p.old.phase }
+    requires room { Fits LIMIT (state_of p.old).phase }
+    ensures { Steps result (state_of p.new) (parser.step LIMIT (state_of p.old) t) }
 {
     let mode = replace(&mut p.mode, Mode::Want);
-    let next = go(alloc, mode, &mut p.frames, t)?;
-    went(p, n, x, next)
+    match go(alloc, mode, &mut p.frames, t)? {
+        Next::Bad => Err(Or::Fault(Kind::Unexpected)),
+        Next::Go(mode) => goes_on(p, mode),
+        Next::Done(a) => ends(p, a),
+    }
 }
 
 /// Takes one token. Behind an error the parser is of no use.
@@ -532,8 +522,10 @@ pub fn step(alloc: Global, p: &mut Parser, t: Token) -> Result<(), Or<Kind>>
     requires room { Fits LIMIT (state_of p.old).phase }
     ensures { Steps result (state_of p.new) (parser.step LIMIT (state_of p.old) t) }
 {
+    if let Phase::In(_, _) = &p.phase {
+        return in_equation(alloc, p, t);
+    }
     match replace(&mut p.phase, Phase::Told) {
-        Phase::In(n, x) => in_equation(alloc, p, n, x, t),
         Phase::Body(n) => end_body(p, n, t),
         phase => moved(p, move_on(alloc, phase, t)),
     }

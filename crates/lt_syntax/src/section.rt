@@ -1,7 +1,7 @@
 // The parts of a node's declarations.
 
 /// Where a declaration stands.
-#[derive(Clone, Copy, Debug, PartialEq, Eq)]
+#[derive(Clone, Copy)]
 pub enum Section {
     Ins,
     Outs,

@@ -3,6 +3,8 @@
 
 mod bytes;
 mod front;
+#[cfg(test)]
+mod tests;
 mod token;
 mod word;
 
