@@ -3,3 +3,4 @@ pub mod Rooms
 pub mod Outcomes
 pub mod OneProgram
 pub mod OneFault
+pub mod Flattens

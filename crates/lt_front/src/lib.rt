@@ -5,10 +5,12 @@ mod causality;
 mod checked;
 mod checks;
 mod fault;
+mod flattening;
 
 pub use checked::Checked;
 pub use checks::front;
 pub use fault::ProgramFault;
+pub use flattening::flatten;
 
 #[cfg(test)]
 mod tests;

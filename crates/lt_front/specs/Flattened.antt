@@ -1,0 +1,58 @@
+-- The flat form of a program: the normal form of its expansion.
+use Rattle.std.specs.Prelude.{◌≡◌, ℕ, ◌<◌, ◌≤◌, Option, Some, None, List, [], ◌++◌, length, All, slice_index}
+use Rattle.lt_base.specs.declared.value.Value.{Value}
+use Rattle.lt_base.specs.declared.function.Decl.{Decl}
+use Rattle.lt_base.specs.Program.{Function, WholeProgram}
+use Rattle.lt_base.specs.Meaning.{function_of, stream_of}
+use Rattle.lt_base.specs.Typing.{TypedFunction}
+use Rattle.lt_base.specs.Clocking.{ClockedFunction}
+use Rattle.lt_base.specs.Dependence.{Causal}
+use Rattle.lt_expand.specs.Copies.{no_function, expansion}
+use Rattle.lt_expand.specs.Expansion.{origins_of}
+use Rattle.lt_norm.specs.Flat.{Originated, FlatFunction}
+use Rattle.lt_norm.specs.Lift.{normal_form}
+use Rattle.lt_norm.specs.NormalForm.{new_origins}
+
+-- a function, or one that does nothing where there is none
+abbrev pub function_or_none : Option Function → Function
+function_or_none None = no_function
+function_or_none (Some f) = f
+
+-- the function that is run
+abbrev pub main_function : WholeProgram → Function
+main_function p = function_or_none (function_of p.funcs p.main)
+
+-- the origins of the variables of its expansion
+abbrev pub expansion_origins : WholeProgram → List ℕ
+expansion_origins p = origins_of p.funcs (main_function p)
+
+-- copies of the called functions in place of calls, and then each delay alone on a right side; each variable with the variable of
+-- `main` in whose equation it arose
+unfoldable pub flat_of : WholeProgram → Originated
+flat_of p = record {
+  func = normal_form (expansion p);
+  origin = expansion_origins p ++ new_origins (expansion_origins p) (expansion p).decls (expansion p).eqs;
+}
+
+-- what a flat form keeps of the program's main function
+pub record KeepsMain (p : WholeProgram) (f : Originated) : Type 0 where
+  -- the inputs and the outputs are main's
+  pub inputs : f.func.n_in ≡ (main_function p).n_in
+  pub outputs : f.func.outs ≡ (main_function p).outs
+  -- the variables of main keep their numbers and declarations, and the new ones come after them
+  pub more : List Decl
+  pub declarations : f.func.decls ≡ (main_function p).decls ++ more
+  -- every variable of main keeps its stream, whatever the input rows
+  pub streams : (rows : List (List Value)) (x : ℕ) → x < length (main_function p).decls → stream_of [] f.func rows x ≡ stream_of p.funcs (main_function p) rows x
+  -- the checks pass again
+  pub typed : TypedFunction [] f.func
+  pub clocked : ClockedFunction [] f.func
+  pub causal : Causal f.func
+  -- no call, no `->`, and each delay is alone
+  pub flat : FlatFunction f.func
+  -- a variable of main is its own origin, and each variable has one of main's
+  pub each : length f.origin ≡ length f.func.decls
+  pub own : (x : ℕ) → x < length (main_function p).decls → slice_index f.origin x ≡ x
+  pub arose : All (λ x. x < length (main_function p).decls) f.origin
+  -- there are no more variables than the greatest weight
+  pub few : length f.func.decls ≤ 4096
