@@ -1,12 +1,10 @@
 -- Columns of cells, one more cell at a time.
 use Rattle.std.proofs.Common.{◌≡◌, ◌≢◌, ℕ, zero, suc, ◌+◌, ◌<◌, ◌≤◌, ◌⊎◌, inl, inr, List, [], ◌∷◌, ◌++◌, length, map, take, set, get_or, Option, Some, refl, sym, ap, ◌∙◌, arith, get_or-set_other, get_or-set_same}
 use Rattle.std.specs.Prelude.{slice_get}
-use Rattle.std.proofs.lemmas.List.{length-set, map-append, append_assoc}
+use Rattle.std.proofs.lemmas.List.{length-set}
 use Rattle.std.proofs.lemmas.Option.{get_or_from_slice_get}
 use Rattle.lt_base.specs.declared.value.Value.{Value}
 use Rattle.lt_base.specs.declared.value.Cell.{Cell}
-use Rattle.lt_base.specs.declared.value.Cell.TheVariants.{Absent}
-use Rattle.lt_meaning.specs.Ready.{cell_in, cells_in}
 use Rattle.lt_meaning.proofs.Running.{nat_same}
 use Rattle.lt_meaning.proofs.Instant.{set_same, set_other, at_index}
 
@@ -40,17 +38,22 @@ empty_next [] column h e (suc x) = refl
 empty_next (c ∷ columns) column h e zero = h 0
 empty_next (c ∷ columns) column h e (suc x) = empty_next columns column (λ y. h (suc y)) e x
 
--- one more cell in a row
-pub shown_next : (g : ℕ → Cell) (row : List Cell) (v : Cell) → ((y : ℕ) → y < length row → get_or row y Absent ≡ g y) → v ≡ g (length row) → (y : ℕ) → y < length row + 1 → get_or (row ++ v ∷ []) y Absent ≡ g y
-shown_next g [] v h is zero l = is
-shown_next g [] v h is (suc y) l = absurd (omega (arith, l))
-shown_next g (c ∷ row) v h is zero l = h 0 (omega arith)
-shown_next g (c ∷ row) v h is (suc y) l = shown_next (λ k. g (suc k)) row v (λ k m. h (suc k) (omega (arith, m))) is y (omega (arith, l))
+-- one more number in a list
+pub numbers_next : (g : ℕ → ℕ) (xs : List ℕ) (v : ℕ) → ((y : ℕ) → y < length xs → get_or xs y 0 ≡ g y) → v ≡ g (length xs) → (y : ℕ) → y < length xs + 1 → get_or (xs ++ v ∷ []) y 0 ≡ g y
+numbers_next g [] v h is zero l = is
+numbers_next g [] v h is (suc y) l = absurd (omega (arith, l))
+numbers_next g (x ∷ xs) v h is zero l = h 0 (omega arith)
+numbers_next g (x ∷ xs) v h is (suc y) l = numbers_next (λ k. g (suc k)) xs v (λ k m. h (suc k) (omega (arith, m))) is y (omega (arith, l))
 
--- a column with the cells of one row more
-pub waiting_more : (column : List Cell) (rows rows' : List (List Cell)) (row : List Cell) (x : ℕ) → rows' ≡ rows ++ row ∷ [] → column ++ cells_in rows' x ≡ (column ++ cells_in rows x) ++ cell_in row x ∷ []
-waiting_more column rows rows' row x e =
-    ap (λ r. column ++ cells_in r x) e ∙ ap (λ r. column ++ r) (map-append (λ (r : List Cell). cell_in r x) rows (row ∷ [])) ∙ sym (append_assoc column (cells_in rows x) (cell_in row x ∷ []))
+-- columns that have by place what a function gives
+pub columns_by_place : (h : ℕ → List Cell) (xs : List ℕ) (columns : List (List Cell)) → length columns ≡ length xs → ((i : ℕ) → i < length xs → get_or columns i [] ≡ h (get_or xs i 0)) → columns ≡ map h xs
+columns_by_place h [] [] n e = refl
+columns_by_place h [] (c ∷ columns) n e = absurd (omega (arith, n))
+columns_by_place h (x ∷ xs) [] n e = absurd (omega (arith, n))
+columns_by_place h (x ∷ xs) (c ∷ columns) n e =
+    let first : c ≡ h x = e 0 (omega arith) in
+    let rest = columns_by_place h xs columns (omega (arith, n)) (λ i l. e (suc i) (omega (arith, l))) in
+    λ i. first i ∷ rest i
 
 -- ---- a row that is put into the first cells
 

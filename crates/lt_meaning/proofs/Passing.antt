@@ -79,12 +79,15 @@ worked_good = record {
   inputs = omega arith;
   inputs_on_base = two (λ d. d.clock ≡ []) _ _ refl refl;
   clocks = declared (Pairs 8) _ _ _ _ _ _ _ _ base_8 base_8 on_8 on_8 base_8 on_8 base_8 base_8;
-  outs = All-nil (λ y. y < 8);
-  outs_once = λ x. omega arith;
+  outs = one (λ y. y < 8) 7 (omega arith);
+  outs_once = once;
   rights = sides (λ e. VarsBelow 8 e.1) _ _ _ _ _ _ (omega arith, omega arith) (omega arith) (omega arith, tt) (omega arith, tt) ((omega arith, tt), omega arith) (omega arith, (tt, omega arith));
   lefts = left;
 }
   where
+    once : (x : ℕ) → 0 + cond (nat_eq x 7) 1 0 ≤ 1
+    once x = grind (arith, nat_tests)
+
     left : (x : ℕ) → ◌≡◌ {A = ℕ} (0 + cond (nat_eq x 2) 1 0 + cond (nat_eq x 3) 1 0 + cond (nat_eq x 4) 1 0 + cond (nat_eq x 5) 1 0 + cond (nat_eq x 6) 1 0 + cond (nat_eq x 7) 1 0) (if nat_le 2 x && nat_lt x 8 then 1 else 0)
     left x = grind (arith, nat_tests)
 

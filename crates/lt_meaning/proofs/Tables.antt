@@ -4,7 +4,8 @@ use Rattle.std.specs.Prelude.{slice_get}
 use Rattle.std.specs.List.{All}
 use Rattle.std.specs.Option.{option_and_then}
 use Rattle.std.proofs.Math.Seq.{take-suc}
-use Rattle.std.proofs.lemmas.List.{map-append, reverse-append, length-map, length-append, length-take, take_all}
+use Rattle.std.proofs.lemmas.List.{map-append, reverse-append, length-map, length-append, length-take, take_all, get_or-map}
+use Rattle.std.proofs.lemmas.List.Elements.{All-get_or}
 use Rattle.std.proofs.lemmas.Option.{slice_get_within, get_or_from_slice_get}
 use Rattle.lt_base.specs.declared.value.Ty.{Ty}
 use Rattle.lt_base.specs.declared.value.Value.{Value}
@@ -13,7 +14,7 @@ use Rattle.lt_base.specs.declared.function.Decl.{Decl}
 use Rattle.lt_base.specs.Expression.{Expression, literal, variable, unary, binary, imported, choose, sampled, merged, delayed, follow, arrow, call, Arguments, no_arguments, argument}
 use Rattle.lt_base.specs.Program.{Function, GoodFunction, WholeProgram, GoodProgram}
 use Rattle.lt_base.specs.Inputs.{InputTable, entry_at}
-use Rattle.lt_base.specs.Meaning.{Row, Environment, clock_of, function_of, cell}
+use Rattle.lt_base.specs.Meaning.{Row, Environment, clock_of, function_of, cell, stream_of}
 use Rattle.lt_base.specs.Typing.{RowFits, AllFit, input_types, ty_at}
 use Rattle.lt_base.specs.Calls.{EachCall, EachArgumentCall}
 use Rattle.lt_base.specs.Solution.{Solves}
@@ -30,11 +31,11 @@ use Rattle.lt_meaning.specs.Plan.{inputs_of, inputs_at}
 use Rattle.lt_meaning.specs.Fine.{Passes}
 use Rattle.lt_meaning.specs.Planned.{PlanOf, PlanAt, Planned}
 use Rattle.lt_meaning.specs.Stands.{cells_of, Stands}
-use Rattle.lt_meaning.specs.Ready.{ArePlans, with_rows}
-use Rattle.lt_meaning.specs.Streams.{HasStreams, HasMainStreams, HasTypes, HasMainTypes, InputsFit, InputsFitMain}
+use Rattle.lt_meaning.specs.Ready.{ArePlans, AreOfMain}
+use Rattle.lt_meaning.specs.Streams.{main_of, streams_at, HasStreams, HasMainStreams, HasStreamsOf, HasOutputStreams, HasTypes, HasMainTypes, InputsFit, InputsFitMain}
 use Rattle.lt_meaning.proofs.Standing.{get_left, get_right}
 use Rattle.lt_meaning.proofs.Running.{nat_same}
-use Rattle.lt_meaning.proofs.Columns.{row_filled}
+use Rattle.lt_meaning.proofs.Columns.{row_filled, columns_by_place}
 
 -- ---- the plans
 
@@ -173,27 +174,50 @@ shown_more f x env es =
     let s : Environment → Cell = λ e. cell e (clock_of f.decls x) x in
     reverse-append (s env ∷ []) (map s es)
 
--- how far the table has come
-pub record Shown (p : WholeProgram) (plans : List Plan) (a : ArePlans p plans) (rows : List (List Value)) (k : ℕ) (state : State) (columns waiting : List (List Cell)) (f : Function) (es : List Environment) : Type 0 where
+-- how far the columns of these variables have come
+pub record Shown (p : WholeProgram) (plans : List Plan) (a : ArePlans p plans) (rows : List (List Value)) (k : ℕ) (state : State) (columns : List (List Cell)) (xs : List ℕ) (f : Function) (es : List Environment) : Type 0 where
   pub stands : Stands plans a.planned (length plans) state p.main (newest_first (take k rows)) es
-  pub number : length columns ≡ length f.decls
-  pub columns_are : (x : ℕ) → x < length f.decls → with_rows columns waiting x ≡ shown_by f x es
+  pub number : length columns ≡ length xs
+  pub columns_are : (i : ℕ) → i < length xs → get_or columns i [] ≡ shown_by f (get_or xs i 0) es
 
-pub has_main_streams : (p : WholeProgram) (plans : List Plan) (a : ArePlans p plans) (rows : List (List Value)) (k : ℕ) (state : State) (columns waiting table : List (List Cell)) (f : Function) (es : List Environment) → function_of p.funcs p.main ≡ Some f → length rows ≤ k
-    → Shown p plans a rows k state columns waiting f es → length table ≡ length columns → ((x : ℕ) → x < length columns → get_or table x [] ≡ with_rows columns waiting x) → HasMainStreams p rows table
-has_main_streams p plans a rows k state columns waiting table f es is all s size put =
+pub has_streams_of : (p : WholeProgram) (plans : List Plan) (a : ArePlans p plans) (rows : List (List Value)) (k : ℕ) (state : State) (columns : List (List Cell)) (xs : List ℕ) (f : Function) (es : List Environment) → main_of p ≡ Some f → length rows ≤ k
+    → All (λ x. x < length f.decls) xs → Shown p plans a rows k state columns xs f es → HasStreamsOf p rows xs columns
+has_streams_of p plans a rows k state columns xs f es is all below s =
     let program = a.planned.program in
     let there : function_of program.funcs p.main ≡ Some f = ap (λ (q : WholeProgram). function_of q.funcs p.main) a.is ∙ is in
     let causal = causal_function program a.planned.good a.planned.checked p.main f there in
     let clocked = clocked_function program a.planned.good a.planned.checked p.main f there in
     let whole : newest_first (take k rows) ≡ newest_first rows = ap newest_first (take_all k rows all) in
     let solves = subst (λ r. Solves (calls_of program.funcs) f es r) whole (solves_of plans a.planned (length plans) state p.main (newest_first (take k rows)) es f s.stands there) in
-    let number = s.number in
-    let streams : HasStreams program.funcs f rows table = record {
-      width = size ∙ number;
-      streams = λ x l. put x (omega (arith, l, number)) ∙ s.columns_are x l ∙ stream_is program.funcs f causal clocked rows es solves x l;
+    let each : (i : ℕ) → i < length xs → get_or columns i [] ≡ stream_of program.funcs f rows (get_or xs i 0) =
+    λ i l. s.columns_are i l ∙ stream_is program.funcs f causal clocked rows es solves (get_or xs i 0) (All-get_or (λ x. x < length f.decls) xs i 0 l below) in
+    let streams : columns ≡ streams_at program.funcs f rows xs = columns_by_place (stream_of program.funcs f rows) xs columns s.number each in
+    subst (λ o. MatchOption o ⊥ (λ f. columns ≡ streams_at p.funcs f rows xs)) (sym is) (subst (λ (q : WholeProgram). columns ≡ streams_at q.funcs f rows xs) a.is streams)
+
+pub of_main : (p : WholeProgram) (xs : List ℕ) (f : Function) → main_of p ≡ Some f → All (λ x. x < length f.decls) xs → AreOfMain p xs
+of_main p xs f is below = subst (λ o. MatchOption o ⊥ (λ f. All (λ x. x < length f.decls) xs)) (sym is) below
+
+pub below_main : (p : WholeProgram) (xs : List ℕ) (f : Function) → main_of p ≡ Some f → AreOfMain p xs → All (λ x. x < length f.decls) xs
+below_main p xs f is all = subst (λ o. MatchOption o ⊥ (λ f. All (λ x. x < length f.decls) xs)) is all
+
+streams_are : (p : WholeProgram) (rows : List (List Value)) (xs : List ℕ) (streams : List (List Cell)) (f : Function) → main_of p ≡ Some f → HasStreamsOf p rows xs streams → streams ≡ streams_at p.funcs f rows xs
+streams_are p rows xs streams f is has = subst (λ o. MatchOption o ⊥ (λ f. streams ≡ streams_at p.funcs f rows xs)) is has
+
+-- of the outputs
+pub output_streams_of : (p : WholeProgram) (rows : List (List Value)) (xs : List ℕ) (streams : List (List Cell)) (f : Function) → main_of p ≡ Some f → xs ≡ f.outs → HasStreamsOf p rows xs streams → HasOutputStreams p rows streams
+output_streams_of p rows xs streams f is outs has =
+    subst (λ o. MatchOption o ⊥ (λ f. streams ≡ streams_at p.funcs f rows f.outs)) (sym is) (streams_are p rows xs streams f is has ∙ ap (streams_at p.funcs f rows) outs)
+
+-- of all variables
+pub main_streams_of : (p : WholeProgram) (rows : List (List Value)) (xs : List ℕ) (table : List (List Cell)) (f : Function) → main_of p ≡ Some f → length xs ≡ length f.decls → ((x : ℕ) → x < length f.decls → get_or xs x 0 ≡ x)
+    → HasStreamsOf p rows xs table → HasMainStreams p rows table
+main_streams_of p rows xs table f is number each has =
+    let same = streams_are p rows xs table f is has in
+    let streams : HasStreams p.funcs f rows table = record {
+      width = ap length same ∙ length-map xs (stream_of p.funcs f rows) ∙ number;
+      streams = λ x l. ap (λ t. get_or t x []) same ∙ get_or-map (stream_of p.funcs f rows) xs x 0 [] (omega (arith, l, number)) ∙ ap (stream_of p.funcs f rows) (each x l);
     } in
-    subst (λ o. MatchOption o ⊥ (λ f. HasStreams p.funcs f rows table)) (sym is) (subst (λ (q : WholeProgram). HasStreams q.funcs f rows table) a.is streams)
+    subst (λ o. MatchOption o ⊥ (λ f. HasStreams p.funcs f rows table)) (sym is) streams
 
 pub fit_of : (p : WholeProgram) (inputs : InputTable) (f : Function) → function_of p.funcs p.main ≡ Some f → InputsFitMain p inputs → InputsFit f inputs
 fit_of p inputs f is fit = subst (λ o. MatchOption o ⊥ (λ f. InputsFit f inputs)) is fit

@@ -16,6 +16,10 @@ pub record HasStreams (fs : List Function) (f : Function) (rows : List (List Val
   pub width : length table ≡ length f.decls
   pub streams : (x : ℕ) → x < length f.decls → slice_index_or table x [] ≡ stream_of fs f rows x
 
+-- the streams of these variables of a function on these rows, in their order
+abbrev pub streams_at : List Function → Function → List (List Value) → List ℕ → List (List Cell)
+streams_at fs f rows xs = map (stream_of fs f rows) xs
+
 -- the function that is run, if there is one
 abbrev pub main_of : WholeProgram → Option Function
 main_of p = function_of p.funcs p.main
@@ -23,6 +27,14 @@ main_of p = function_of p.funcs p.main
 -- a table has the streams of main's variables on these rows
 abbrev pub HasMainStreams : WholeProgram → List (List Value) → List (List Cell) → Type 0
 HasMainStreams p rows table = MatchOption (main_of p) ⊥ (λ f. HasStreams p.funcs f rows table)
+
+-- a list has the streams of these variables of main on these rows, in their order
+abbrev pub HasStreamsOf : WholeProgram → List (List Value) → List ℕ → List (List Cell) → Type 0
+HasStreamsOf p rows xs streams = MatchOption (main_of p) ⊥ (λ f. streams ≡ streams_at p.funcs f rows xs)
+
+-- a list has the streams of main's outputs on these rows, in the order of the outputs
+abbrev pub HasOutputStreams : WholeProgram → List (List Value) → List (List Cell) → Type 0
+HasOutputStreams p rows streams = MatchOption (main_of p) ⊥ (λ f. streams ≡ streams_at p.funcs f rows f.outs)
 
 -- each variable's cells in a table have its type: a value wherever the variable is on the base clock
 abbrev pub HasTypes : Function → List (List Cell) → Type 0

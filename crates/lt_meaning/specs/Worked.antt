@@ -40,7 +40,7 @@ b_decl = record { name = codes "b"; ty = BoolTy; clock = [] }
 abbrev pub on_b : ClockPairs
 on_b = (1, true) ∷ []
 
--- `c = a when b; d = 0 fby c; e = sum(a); f = sum(c); g = (a + 1) fby a; h = a -> 10 + (0 fby h)`, with c, d and f on b
+-- `c = a when b; d = 0 fby c; e = sum(a); f = sum(c); g = (a + 1) fby a; h = a -> 10 + (0 fby h)`, with c, d and f on b; the output is h
 abbrev pub worked : Function
 worked = record {
   name = codes "main";
@@ -55,7 +55,7 @@ worked = record {
       ∷ int_on (codes "h") []
       ∷ [];
   n_in = 2;
-  outs = [];
+  outs = 7 ∷ [];
   eqs =
       (2, sampled (variable 0) 1 true)
       ∷ (3, delayed (Number (pos 0)) (variable 2))

@@ -8,11 +8,12 @@ mod plan;
 mod planning;
 mod program;
 mod showing;
+mod slot;
 mod starting;
 mod state;
 mod table;
 #[cfg(test)]
 mod tests;
 
-pub use program::{GREATEST_CELLS, StreamsFault, streams};
+pub use program::{GREATEST_CELLS, StreamsFault, output_streams, streams};
 pub use table::Table;

@@ -1,20 +1,20 @@
 // The streams of a program.
 
-ghost use Rattle.std.specs.Prelude.{◌≡◌, ◌<◌, ◌≤◌, ◌*◌, ◌-◌, ◌^◌, ℕ, [], Some, MatchResult, IfOk, OnOk, true, false, List as Items, length, min, slice_get, slice_index_or};
+ghost use Rattle.std.specs.Prelude.{◌≡◌, ◌<◌, ◌≤◌, ◌^◌, ℕ, [], Some, MatchResult, IfOk, true, false, length, slice_get, slice_index_or};
 ghost use Rattle.lt_base.specs.Or.{ForFault};
 ghost use Rattle.lt_base.specs.Inputs.{entry_at};
-ghost use Rattle.lt_base.specs.Sizes.{program_weight, cut};
 ghost use Rattle.lt_base.specs.Checked.{CheckedProgram};
-ghost use Rattle.lt_meaning.specs.Ready.{ArePlans};
-ghost use Rattle.lt_meaning.specs.Streams.{HasMainStreams, HasMainTypes, cell_count, InputsFitMain, HasRoom};
+ghost use Rattle.lt_meaning.specs.Ready.{ArePlans, AreOfMain};
+ghost use Rattle.lt_meaning.specs.Streams.{main_of, HasMainStreams, HasMainTypes, HasStreamsOf, HasOutputStreams, cell_count, InputsFitMain, HasRoom};
 
 use crate::Table;
 use crate::plan::Plan;
 use crate::planning::plan_of;
-use crate::showing::{TOGETHER, put_rows, row_of, settle};
+use crate::showing::show;
+use crate::slot::Slot;
 use crate::starting::start;
 use crate::state::run;
-use lt_base::{Cell, Inputs, List, Memory, Or, Program, Value, sizes};
+use lt_base::{Cell, Func, Inputs, List, Memory, Or, Program, sizes};
 use std::alloc::Global;
 
 /// The greatest number of cells: the weight of `main` for each row of inputs.
@@ -39,13 +39,78 @@ pub fn streams(alloc: Global, p: &Program, inputs: &Inputs) -> Result<Table, Or<
         (λ e. ForFault e (λ _. GREATEST_CELLS < cell_count p.now inputs.now.rows)) }
 {
     p.kept();
+    let variables = variables_of(alloc, main_function(p))?;
+    match chosen_streams(alloc, p, inputs, variables.as_slice()) {
+        Ok(columns) => Ok(Table::of(columns)),
+        Err(fault) => Err(fault),
+    }
+}
+
+/// The streams of the outputs of `main` alone, in the order of the outputs. It keeps no other cells than theirs.
+pub fn output_streams(
+    alloc: Global,
+    p: &Program,
+    inputs: &Inputs,
+) -> Result<List<List<Cell>>, Or<StreamsFault>>
+    requires checked { CheckedProgram p.now }
+    requires fit { InputsFitMain p.now inputs.now }
+    requires room { HasRoom p.now }
+    ensures value { IfOk result (λ streams. HasOutputStreams p.now inputs.now.rows streams) }
+    ensures limit { MatchResult result
+        (λ _. cell_count p.now inputs.now.rows ≤ GREATEST_CELLS)
+        (λ e. ForFault e (λ _. GREATEST_CELLS < cell_count p.now inputs.now.rows)) }
+{
+    let main = main_function(p);
+    main.kept();
+    chosen_streams(alloc, p, inputs, main.outs.as_slice())
+}
+
+// The streams of these variables of main.
+fn chosen_streams(
+    alloc: Global,
+    p: &Program,
+    inputs: &Inputs,
+    variables: &[u32],
+) -> Result<List<List<Cell>>, Or<StreamsFault>>
+    requires checked { CheckedProgram p.now }
+    requires fit { InputsFitMain p.now inputs.now }
+    requires room { HasRoom p.now }
+    requires variables { AreOfMain p.now variables.now }
+    ensures value { IfOk result (λ streams. HasStreamsOf p.now inputs.now.rows variables.now streams) }
+    ensures limit { MatchResult result
+        (λ _. cell_count p.now inputs.now.rows ≤ GREATEST_CELLS)
+        (λ e. ForFault e (λ _. GREATEST_CELLS < cell_count p.now inputs.now.rows)) }
+{
     let too_many = is_too_many(alloc, p, inputs)?;
     if too_many {
         return Err(Or::Fault(StreamsFault::TooMany));
     }
     let plans = plans_of(alloc, p)?;
-    let table = table_of(alloc, p, plans.as_slice(), inputs)?;
-    Ok(table)
+    let columns = columns_of(alloc, p, plans.as_slice(), inputs, variables)?;
+    Ok(List::of(columns))
+}
+
+// The function that is run.
+fn main_function(p: &Program) -> &Func
+    ensures { main_of p.now ≡ Some result.now }
+{
+    p.kept();
+    let number = p.main as usize;
+    &p.funcs.as_slice()[number]
+}
+
+// The numbers of a function's variables.
+fn variables_of(alloc: Global, f: &Func) -> Result<Vec<u32>, Memory>
+    requires { length f.now.decls < 2 ^ 32 }
+    ensures number { IfOk result (λ r. length r.items ≡ length f.now.decls) }
+    ensures each { IfOk result (λ r. (x : ℕ) → x < length f.now.decls → slice_index_or r.items x 0 ≡ x) }
+{
+    let number = f.variables();
+    let mut variables = Vec::with_capacity(alloc, number)?;
+    for x in 0..number as u32 {
+        variables.push(x)?;
+    }
+    Ok(variables)
 }
 
 // Whether the weight of `main` times the number of rows is above the limit.
@@ -72,32 +137,34 @@ fn plans_of(alloc: Global, p: &Program) -> Result<Vec<Plan>, Memory>
     Ok(plans)
 }
 
-// The streams of main's variables.
-fn table_of(alloc: Global, p: &Program, plans: &[Plan], inputs: &Inputs) -> Result<Table, Memory>
+// The streams of these variables of main, which may be fewer than all.
+fn columns_of(
+    alloc: Global,
+    p: &Program,
+    plans: &[Plan],
+    inputs: &Inputs,
+    variables: &[u32],
+) -> Result<Vec<List<Cell>>, Memory>
     requires plans { ArePlans p.now plans.now }
     requires fit { InputsFitMain p.now inputs.now }
-    ensures { IfOk result (λ table. HasMainStreams p.now inputs.now.rows table) }
+    requires variables { AreOfMain p.now variables.now }
+    ensures { IfOk result (λ columns. HasStreamsOf p.now inputs.now.rows variables.now columns.items) }
 {
-    p.kept();
     let number = p.main as usize;
-    let main = &p.funcs.as_slice()[number];
+    let main = main_function(p);
     let decls = main.decls.as_slice();
     let mut state = start(alloc, plans, number, plans.len())?;
-    let mut columns = columns_of(alloc, decls.len(), inputs.rows() as usize)?;
-    let mut shown = Vec::with_capacity(alloc, TOGETHER)?;
+    let mut columns = empty_columns(alloc, variables.len(), inputs.rows() as usize)?;
     for k in 0..inputs.rows() {
         load(inputs, main.n_in, k, &mut state.cells);
         run(plans, number, &mut state);
-        let row = row_of(alloc, decls, state.cells.as_slice())?;
-        shown.push(row)?;
-        settle(&mut columns, &mut shown)?;
+        show(&mut columns, variables, decls, state.cells.as_slice())?;
     }
-    put_rows(&mut columns, shown.as_slice())?;
-    Ok(Table::of(List::of(columns)))
+    Ok(columns)
 }
 
 // So many empty columns, each with room for the rows.
-fn columns_of(alloc: Global, number: usize, rows: usize) -> Result<Vec<List<Cell>>, Memory>
+fn empty_columns(alloc: Global, number: usize, rows: usize) -> Result<Vec<List<Cell>>, Memory>
     ensures number { IfOk result (λ r. length r.items ≡ number) }
     ensures empty { IfOk result (λ r. (x : ℕ) → slice_index_or r.items x [] ≡ []) }
 {
@@ -109,7 +176,7 @@ fn columns_of(alloc: Global, number: usize, rows: usize) -> Result<Vec<List<Cell
 }
 
 // Puts a row of inputs into the first cells.
-fn load(inputs: &Inputs, width: u32, k: u32, cells: &mut Vec<Option<Value>>)
+fn load(inputs: &Inputs, width: u32, k: u32, cells: &mut Vec<Slot>)
     requires row { k < length inputs.now.rows }
     requires width { inputs.now.width ≡ width }
     requires room { width ≤ length cells.old.items }
@@ -117,6 +184,6 @@ fn load(inputs: &Inputs, width: u32, k: u32, cells: &mut Vec<Option<Value>>)
     ensures row { (x : ℕ) → x < width → slice_get cells.new.items x ≡ Some (entry_at inputs.now.rows k x) }
 {
     for x in 0..width {
-        cells[x as usize] = Some(inputs.value(k, x));
+        cells[x as usize] = Slot::full(inputs.value(k, x));
     }
 }

@@ -5,8 +5,9 @@ ghost use Rattle.lt_meaning.specs.Plan.{action_form};
 ghost use Rattle.lt_meaning.specs.Stands.{CanStart, Starts, CanStartChild, ChildStarts};
 
 use crate::plan::{Action, Delay, Plan};
+use crate::slot::Slot;
 use crate::state::State;
-use lt_base::{Memory, Value};
+use lt_base::Memory;
 use std::alloc::Global;
 
 /// The function of this number before the first instant. Fewer than `left` calls nest in it.
@@ -52,23 +53,23 @@ fn child_of(
 }
 
 // So many absences.
-fn absent(alloc: Global, number: usize) -> Result<Vec<Option<Value>>, Memory>
+fn absent(alloc: Global, number: usize) -> Result<Vec<Slot>, Memory>
     ensures { IfOk result (λ r. length r.items ≡ number) }
 {
     let mut cells = Vec::with_capacity(alloc, number)?;
     for _cell in 0..number {
-        cells.push(None)?;
+        cells.push(Slot::empty())?;
     }
     Ok(cells)
 }
 
 // What the delays begin with.
-fn firsts(alloc: Global, delays: &Vec<Delay>) -> Result<Vec<Option<Value>>, Memory>
+fn firsts(alloc: Global, delays: &Vec<Delay>) -> Result<Vec<Slot>, Memory>
     ensures { IfOk result (λ r. r.items ≡ map (λ d. Some d.first) delays.now.items) }
 {
     let mut kept = Vec::with_capacity(alloc, delays.len())?;
     for delay in delays {
-        kept.push(Some(delay.first))?;
+        kept.push(Slot::full(delay.first))?;
     }
     Ok(kept)
 }

@@ -9,16 +9,16 @@ ghost use Rattle.lt_meaning.specs.Stands.{IsReady, Advances, CanAct, Acts, CanAn
 
 use crate::node::{Node, is_present};
 use crate::plan::{Action, Delay, Plan, Step};
-use lt_base::Value;
+use crate::slot::Slot;
 use std::mem::swap;
 
 /// Where a call has come: its cells, what its delays keep, and the calls within it.
 #[derive(Drop)]
 pub struct State {
-    pub cells: Vec<Option<Value>>,
-    pub kept: Vec<Option<Value>>,
+    pub cells: Vec<Slot>,
+    pub kept: Vec<Slot>,
     /// What the delays keep next.
-    pub next: Vec<Option<Value>>,
+    pub next: Vec<Slot>,
     /// For each step that is a call, where that call has come.
     pub children: Vec<Option<Box<State>>>,
 }
@@ -49,12 +49,7 @@ pub fn run(plans: &[Plan], g: usize, state: &mut State)
 }
 
 // What the delays keep next.
-fn advance(
-    delays: &[Delay],
-    cells: &[Option<Value>],
-    kept: &[Option<Value>],
-    next: &mut Vec<Option<Value>>,
-)
+fn advance(delays: &[Delay], cells: &[Slot], kept: &[Slot], next: &mut Vec<Slot>)
     requires kept { length kept.now ≡ length delays.now }
     requires next { length next.old.items ≡ length delays.now }
     ensures size { length next.new.items ≡ length next.old.items }
@@ -76,8 +71,8 @@ fn advance(
 fn take(
     plans: &[Plan],
     step: &Step,
-    kept: &[Option<Value>],
-    cells: &mut Vec<Option<Value>>,
+    kept: &[Slot],
+    cells: &mut Vec<Slot>,
     child: &mut Option<Box<State>>,
 )
     requires cell { step.now.cell < length cells.old.items }
@@ -100,10 +95,10 @@ fn take(
 fn action(
     plans: &[Plan],
     action: &Action,
-    cells: &[Option<Value>],
-    kept: &[Option<Value>],
+    cells: &[Slot],
+    kept: &[Slot],
     child: &mut Option<Box<State>>,
-) -> Option<Value>
+) -> Slot
     requires { CanAct plans.now (action_form action.now) child.old }
     ensures { Acts plans.now (action_form action.now) (entry cells.now) (entry kept.now) child.old child.new result }
 {
@@ -119,10 +114,10 @@ fn called(
     plans: &[Plan],
     function: usize,
     args: &Vec<Node>,
-    cells: &[Option<Value>],
-    kept: &[Option<Value>],
+    cells: &[Slot],
+    kept: &[Slot],
     child: &mut Option<Box<State>>,
-) -> Option<Value>
+) -> Slot
     requires { CanAnswer plans.now function (length args.now.items) child.old }
     ensures { Answers plans.now function (map (value_in (entry cells.now) (entry kept.now)) (map form args.now.items)) child.old child.new result }
 {
@@ -137,10 +132,10 @@ fn answer(
     plans: &[Plan],
     function: usize,
     args: &Vec<Node>,
-    cells: &[Option<Value>],
-    kept: &[Option<Value>],
+    cells: &[Slot],
+    kept: &[Slot],
     state: &mut State,
-) -> Option<Value>
+) -> Slot
     requires { CanRun plans.now function (length args.now.items) state.old }
     ensures { Runs plans.now function (map (value_in (entry cells.now) (entry kept.now)) (map form args.now.items)) state.old state.new result }
 {
@@ -151,12 +146,7 @@ fn answer(
 }
 
 // Puts the arguments' values into the first cells.
-fn fill(
-    args: &Vec<Node>,
-    cells: &[Option<Value>],
-    kept: &[Option<Value>],
-    to: &mut Vec<Option<Value>>,
-)
+fn fill(args: &Vec<Node>, cells: &[Slot], kept: &[Slot], to: &mut Vec<Slot>)
     requires { length args.now.items ≤ length to.old.items }
     ensures size { length to.new.items ≡ length to.old.items }
     ensures filled { take (length args.now.items) to.new.items ≡ map (value_in (entry cells.now) (entry kept.now)) (map form args.now.items) }

@@ -5,7 +5,7 @@ ghost use Rattle.lt_base.specs.declared.operators.Bin.TheVariants.{Add};
 ghost use Rattle.lt_base.specs.Expression.{shape, variable, binary, delayed};
 ghost use Rattle.lt_meaning.specs.Worked.{int_on, b_decl, sum, sum_of, follow_side, arrow_side, on_b, worked, worked_program, worked_inputs};
 
-use crate::streams;
+use crate::{output_streams, streams};
 use lt_base::{
     Bin, Cell, Clock, Decl, Equation, Expr, Func, Inputs, List, Memory, Name, Program, Ty, Value,
 };
@@ -128,7 +128,8 @@ fn program(alloc: Global) -> Result<Program, Memory>
     let name = Name::from_str(alloc, "main")?;
     let decls = decls(alloc)?;
     let eqs = equations(alloc)?;
-    let main = Func::new(name, decls, 2, List::new(alloc), eqs);
+    let outs = List::of(vec![in alloc; 7]?);
+    let main = Func::new(name, decls, 2, outs, eqs);
     let program = Program::new(List::of(vec![in alloc; sum, main]?), 1);
     Ok(program)
 }
@@ -171,5 +172,20 @@ fn streams_of_a_program(rt: HostRuntime) -> Result<(), Fail> {
         let want = WANT[x].map(|int| cell(int));
         assert_eq!(rt; table.column(2 + x as u32), want.as_slice(), "of {x}");
     }
+    Ok(())
+}
+
+#[test]
+fn streams_of_the_outputs(rt: HostRuntime) -> Result<(), Fail> {
+    let alloc = rt.alloc();
+    let program = program(alloc)?;
+    let inputs = inputs(alloc)?;
+    let streams = output_streams(alloc, &program, &inputs)?;
+    let streams = streams.as_slice();
+    assert_eq!(rt; streams.len(), 1);
+    assert_eq!(rt;
+        streams[0].as_slice(),
+        WANT[5].map(|int| cell(int)).as_slice()
+    );
     Ok(())
 }

@@ -1,4 +1,4 @@
-use Rattle.std.proofs.Common.{◌∙◌, Some, arith}
+use Rattle.std.proofs.Common.{◌∙◌, sym, arith}
 use Rattle.std.proofs.lemmas.List.{length-set}
 use Rattle.lt_base.specs.Inputs.{entry_at}
 use Rattle.lt_meaning.proofs.Columns.{row_next}
@@ -10,8 +10,8 @@ loop-x-preserved c =
     let room = c.requires.room in
     let l = c.loop-x-test.true in
     record {
-      size = length-set c.loop-x.cells.items c.loop-x.x (Some c.value.result) ∙ size;
-      row = row_next c.loop-x.cells.items c.loop-x.x (Some c.value.result) (entry_at c.args.inputs.now.rows c.args.k) c.loop-x.invariant.row (omega (arith, size, room, l)) c.value.ensures;
+      size = length-set c.loop-x.cells.items c.loop-x.x c.full.result ∙ size;
+      row = row_next c.loop-x.cells.items c.loop-x.x c.full.result (entry_at c.args.inputs.now.rows c.args.k) c.loop-x.invariant.row (omega (arith, size, room, l)) (c.value.ensures ∙ sym c.full.ensures);
     }
 
 pub returns-clause-row : goal.returns-clause-row

@@ -1,32 +1,51 @@
-use Rattle.std.proofs.Common.{List, sym, subst}
-use Rattle.lt_meaning.specs.declared.plan.Plan.{Plan}
-use Rattle.lt_meaning.specs.Ready.{ArePlans}
-use Rattle.lt_meaning.proofs.Tables.{main_types}
+use Rattle.std.proofs.Common.{◌≡◌, ◌<◌, List, ℕ, length, sym, subst, arith}
+use Rattle.std.specs.List.{All}
+use Rattle.std.proofs.lemmas.List.Elements.{All-from_get_or}
+use Rattle.lt_base.specs.declared.value.Cell.{Cell}
+use Rattle.lt_base.proofs.Lookups.{function_all}
+use Rattle.lt_meaning.specs.Streams.{NumbersFit, HasMainStreams, HasStreamsOf}
+use Rattle.lt_meaning.proofs.Tables.{main_types, main_streams_of, of_main}
 use Rattle.lt_meaning.proofs.program.streams.Goals as goal
 
-pub is_too_many-requires : goal.is_too_many-requires
-is_too_many-requires c = c.requires.checked
+pub variables_of-requires : goal.variables_of-requires
+variables_of-requires c =
+    let p = c.args.p.now in
+    (function_all NumbersFit p.funcs c.requires.room p.main c.main_function.result.now c.main_function.ensures).variables
 
-pub plans_of-requires-clause-checked : goal.plans_of-requires-clause-checked
-plans_of-requires-clause-checked c = c.requires.checked
+pub chosen_streams-requires-clause-checked : goal.chosen_streams-requires-clause-checked
+chosen_streams-requires-clause-checked c = c.requires.checked
 
-pub plans_of-requires-clause-room : goal.plans_of-requires-clause-room
-plans_of-requires-clause-room c = c.requires.room
+pub chosen_streams-requires-clause-fit : goal.chosen_streams-requires-clause-fit
+chosen_streams-requires-clause-fit c = c.requires.fit
 
-pub table_of-requires-clause-plans : goal.table_of-requires-clause-plans
-table_of-requires-clause-plans c = subst (λ (l : List Plan). ArePlans c.args.p.now l) (sym c.as_slice.ensures.value) c.in_ok-plans.ensures
+pub chosen_streams-requires-clause-room : goal.chosen_streams-requires-clause-room
+chosen_streams-requires-clause-room c = c.requires.room
 
-pub table_of-requires-clause-fit : goal.table_of-requires-clause-fit
-table_of-requires-clause-fit c = c.requires.fit
+pub chosen_streams-requires-clause-variables : goal.chosen_streams-requires-clause-variables
+chosen_streams-requires-clause-variables c =
+    let f = c.main_function.result.now in
+    let xs = c.in_ok-variables.variables.items in
+    let number = c.in_ok-variables.ensures.number in
+    let below : All (λ x. x < length f.decls) xs =
+    All-from_get_or (λ x. x < length f.decls) xs 0 (λ i l. let e = c.in_ok-variables.ensures.each i (omega (arith, l, number)) in omega (arith, e, l, number)) in
+    of_main c.args.p.now c.as_slice.result.now f c.main_function.ensures (subst (All (λ x. x < length f.decls)) (sym c.as_slice.ensures.value) below)
 
-pub returns-clause-value : goal.returns-clause-value
-returns-clause-value c = c.in_ok-table.ensures
+pub returns-in-Ok-clause-value : goal.returns-in-Ok-clause-value
+returns-in-Ok-clause-value c =
+    let p = c.args.p.now in
+    let rows = c.args.inputs.now.rows in
+    let xs = c.in_ok-variables.variables.items in
+    let has : HasStreamsOf p rows xs c.in-Ok.columns = subst (λ (l : List ℕ). HasStreamsOf p rows l c.in-Ok.columns) c.as_slice.ensures.value c.in-Ok.ensures.value in
+    subst (λ (t : List (List Cell)). HasMainStreams p rows t) (sym c.of.ensures)
+    (main_streams_of p rows xs c.in-Ok.columns c.main_function.result.now c.main_function.ensures c.in_ok-variables.ensures.number c.in_ok-variables.ensures.each has)
 
-pub returns-clause-types : goal.returns-clause-types
-returns-clause-types c = main_types c.args.p.now c.args.inputs.now c.in_ok-table.table c.kept.ensures c.requires.checked c.requires.fit c.in_ok-table.ensures
-
-pub returns-clause-limit : goal.returns-clause-limit
-returns-clause-limit c = c.in_ok-too_many.ensures.most c.if-too_many.false
-
-pub returns-then-too_many-clause-limit : goal.returns-then-too_many-clause-limit
-returns-then-too_many-clause-limit c = c.in_ok-too_many.ensures.more c.if-too_many.true
+pub returns-in-Ok-clause-types : goal.returns-in-Ok-clause-types
+returns-in-Ok-clause-types c =
+    let p = c.args.p.now in
+    let rows = c.args.inputs.now.rows in
+    let xs = c.in_ok-variables.variables.items in
+    let has : HasStreamsOf p rows xs c.in-Ok.columns = subst (λ (l : List ℕ). HasStreamsOf p rows l c.in-Ok.columns) c.as_slice.ensures.value c.in-Ok.ensures.value in
+    let streams : HasMainStreams p rows c.of.result =
+    subst (λ (t : List (List Cell)). HasMainStreams p rows t) (sym c.of.ensures)
+    (main_streams_of p rows xs c.in-Ok.columns c.main_function.result.now c.main_function.ensures c.in_ok-variables.ensures.number c.in_ok-variables.ensures.each has) in
+    main_types p c.args.inputs.now c.of.result c.kept.ensures c.requires.checked c.requires.fit streams
