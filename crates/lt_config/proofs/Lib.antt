@@ -8,3 +8,4 @@ pub mod GoodNodes
 pub mod Ascending
 pub mod Pairs
 pub mod Told
+pub mod OneSetup

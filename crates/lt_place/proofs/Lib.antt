@@ -1,0 +1,24 @@
+mod Listed
+mod Found
+mod Turns
+mod Inputs
+mod Verdicts
+pub mod First
+mod Numbering
+mod Vars
+mod Lists
+mod Assigned
+mod Seated
+mod Pushed
+mod Looked
+mod Marked
+mod Inside
+mod Judging
+mod Refused
+mod Crossed
+mod Crosses
+mod Steps
+mod Outs
+mod Parts
+mod Splitting
+mod Laid

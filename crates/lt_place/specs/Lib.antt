@@ -1,2 +1,10 @@
 pub mod Names
 pub mod Placement
+pub mod Origins
+pub mod Nodes
+pub mod Legal
+pub mod Faults
+pub mod Seats
+pub mod Reports
+pub mod Layout
+pub mod Spread

@@ -1,0 +1,9 @@
+use Rattle.std.proofs.Common.{◌<◌, ◌∙◌, ap, length, sym, subst, All}
+use Rattle.lt_place.specs.Origins.{count}
+use Rattle.lt_place.proofs.Inside.{lefts_below, origin_size}
+use Rattle.lt_place.proofs.judge.judged.Goals as goal
+
+pub push_lefts-requires : goal.push_lefts-requires
+push_lefts-requires c =
+    subst (λ n. All (λ q. q.0 < n) c.equations.result.now) (sym (origin_size c.args.f.now c.requires c.origins-origin.result.now c.origins-origin.ensures))
+    (subst (λ qs. All (λ q. q.0 < count c.args.f.now) qs) (sym c.equations.ensures) (lefts_below c.args.f.now c.kept.ensures.good))

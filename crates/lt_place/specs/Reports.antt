@@ -1,0 +1,74 @@
+-- What is read on other nodes, as the code keeps it.
+use Rattle.std.specs.Prelude.{◌≡◌, ◌⊎◌, ℕ, ◌<◌, ◌≤◌, Option, Some, None, List, [], ◌∷◌, ◌++◌, length, get_or, nat_eq, slice_index, MatchOption, if◌then◌else◌}
+use Rattle.lt_base.specs.Expression.{Expression, literal, variable, unary, binary, imported, choose, sampled, merged, delayed, follow, arrow, call}
+use Rattle.lt_norm.specs.Flat.{Originated}
+use Rattle.lt_place.specs.declared.placement.Placement.{Placement}
+use Rattle.lt_place.specs.declared.look.Look.{Look}
+use Rattle.lt_place.specs.declared.look.Look.TheVariants.{Clocks, Direct, Slow}
+use Rattle.lt_place.specs.declared.fault.PlaceFault.{PlaceFault}
+use Rattle.lt_place.specs.declared.fault.PlaceFault.TheVariants.{DirectCross, SlowCross, ClockElsewhere}
+use Rattle.lt_place.specs.Origins.{count}
+use Rattle.lt_place.specs.Nodes.{listings, nodes_of, EachKnown}
+use Rattle.lt_place.specs.Faults.{AllOnce, IsLowest, ReadsElsewhere, clock_reads, plain_reads, slow_reads}
+
+-- a way in which an equation reads variables
+abbrev pub looked : Look → Originated → ℕ → Expression → List ℕ
+looked Clocks f = clock_reads f
+looked Direct f = plain_reads f
+looked Slow f = slow_reads f
+
+-- the variables that have one equation for what reads and one for what is read
+abbrev pub Report : Type 0
+Report = ℕ × ℕ
+
+abbrev pub In : Report → List Report → Type 0
+In r [] = ⊥
+In r (s ∷ rs) = (r ≡ s) ⊎ In r rs
+
+-- what x reads of these on other nodes, by the origins
+abbrev pub elsewhere : List ℕ → List ℕ → ℕ → List ℕ → List Report
+elsewhere nodes origin x [] = []
+elsewhere nodes origin x (y ∷ ys) =
+    if nat_eq (slice_index nodes y) (slice_index nodes x) then elsewhere nodes origin x ys else (slice_index origin x, slice_index origin y) ∷ elsewhere nodes origin x ys
+
+-- so over these equations
+abbrev pub reports : (ℕ → Expression → List ℕ) → List ℕ → List ℕ → List (ℕ × Expression) → List Report
+reports read_by nodes origin [] = []
+reports read_by nodes origin (q ∷ qs) = elsewhere nodes origin q.0 (read_by q.0 q.1) ++ reports read_by nodes origin qs
+
+-- the lowest number that is reported at m, where one is
+abbrev pub LeastAt : List Report → ℕ → Option ℕ → Type 0
+LeastAt rs m None = (n : ℕ) → In (m, n) rs → ⊥
+LeastAt rs m (Some n) = In (m, n) rs × ((k : ℕ) → In (m, k) rs → n ≤ k)
+
+-- a table has it for each m
+abbrev pub HasLeast : List (Option ℕ) → List Report → Type 0
+HasLeast marks rs = (m : ℕ) → m < length marks → LeastAt rs m (get_or marks m None)
+
+-- a table has the lowest number that is read on another node, for each variable
+abbrev pub Marks : Originated → Placement → Look → List (Option ℕ) → Type 0
+Marks f p look marks =
+    (m : ℕ) → m < count f → MatchOption (get_or marks m None) ((n : ℕ) → ReadsElsewhere f p (looked look f) m n → ⊥) (λ n. IsLowest (ReadsElsewhere f p (looked look f) m) n)
+
+-- not a variable
+abbrev pub NotVariable : Expression → Type 0
+NotVariable (variable x) = ⊥
+NotVariable e = Unit {0}
+
+-- not a delay with a literal
+abbrev pub NotDelay : Expression → Type 0
+NotDelay (delayed v a) = ⊥
+NotDelay e = Unit {0}
+
+-- the names that a placement lists are without fault, and these are the nodes of the variables
+pub record IsAssigned (f : Originated) (p : Placement) (nodes : List ℕ) : Type 0 where
+  pub each : nodes ≡ nodes_of f p
+  pub once : AllOnce f p
+  pub known : EachKnown f (listings p)
+
+-- the fault at m's equation, where these are the lowest variables that it reads on other nodes
+abbrev pub fault_at : ℕ → Option ℕ → Option ℕ → Option ℕ → Option PlaceFault
+fault_at m (Some n) d s = Some (ClockElsewhere m n)
+fault_at m None (Some n) s = Some (DirectCross m n)
+fault_at m None None (Some n) = Some (SlowCross m n)
+fault_at m None None None = None

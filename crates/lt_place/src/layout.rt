@@ -1,0 +1,41 @@
+// A function on its nodes.
+
+use lt_base::{List, Name, Value};
+use lt_norm::Flat;
+
+/// What an input of a part is: an input of `main`, by its number, or a crossing, by its place in the list of all.
+#[derive(Clone, Copy, Debug, PartialEq, Eq)]
+pub enum Feed {
+    Input(u32),
+    Cross(u32),
+}
+
+/// A variable of one node that is read on another, by a variable whose equation is a delay of it: nodes and variables by their
+/// numbers, and the literal of the delay.
+#[derive(Clone, Copy, Debug, PartialEq, Eq)]
+pub struct Crossing {
+    pub from: u32,
+    pub to: u32,
+    pub first: Value,
+    pub var: u32,
+    pub reader: u32,
+}
+
+/// What one node runs: its equations without its crossings, whose readers are inputs. Its `origin` gives each variable's number in
+/// the whole function, `feeds` says what each input is, and `outs` are the variables that it gives out, by their numbers in the
+/// whole; the function has them as its outputs.
+#[derive(Drop)]
+pub struct Part {
+    pub flat: Flat,
+    pub feeds: List<Feed>,
+    pub outs: List<u32>,
+}
+
+/// The nodes by name, what each of them runs, the crossings in order of their readers, and the outputs of `main`.
+#[derive(Drop)]
+pub struct Layout {
+    pub names: List<Name>,
+    pub nodes: List<Part>,
+    pub cross: List<Crossing>,
+    pub outs: List<u32>,
+}

@@ -1,0 +1,139 @@
+// What stands in a part, under the part's own numbers.
+
+ghost use Rattle.std.specs.Prelude.{◌≡◌, ◌<◌, [], All, IfOk, length, map, filter, get_or};
+ghost use Rattle.lt_base.specs.Expression.{shape};
+ghost use Rattle.lt_base.specs.Program.{VarsBelow};
+ghost use Rattle.lt_base.specs.Calls.{EachCall};
+ghost use Rattle.lt_base.specs.Placed.{renamed, below};
+ghost use Rattle.lt_place.specs.Spread.{no_decl, own_of, own_decl, own_equation, stays};
+
+use crate::forms::{arrow, binary, choose, delayed, follow, imported, merged, sampled, unary};
+use lt_base::{Clock, Decl, Equation, Expr, Memory};
+use std::alloc::Global;
+
+/// An expression without calls, with these numbers for its variables.
+fn own_right(alloc: Global, own: &[u32], e: &Expr) -> Result<Expr, Memory>
+    requires callless { EachCall (λ g. ⊥) (shape e.now) }
+    requires inside { VarsBelow (length own.now) (shape e.now) }
+    ensures { IfOk result (λ r. shape r ≡ renamed (own_of own.now) (shape e.now)) }
+{
+    match e {
+        Expr::Lit(v) => Ok(Expr::Lit(*v)),
+        Expr::Var(x) => Ok(Expr::Var(own[*x as usize])),
+        Expr::Un(op, a) => {
+            let a = own_right(alloc, own, a)?;
+            unary(alloc, *op, a)
+        }
+        Expr::Bin(op, a, b) => {
+            let a = own_right(alloc, own, a)?;
+            let b = own_right(alloc, own, b)?;
+            binary(alloc, *op, a, b)
+        }
+        Expr::Imported(op, a, b) => {
+            let a = own_right(alloc, own, a)?;
+            let b = own_right(alloc, own, b)?;
+            imported(alloc, *op, a, b)
+        }
+        Expr::If(c, a, b) => {
+            let c = own_right(alloc, own, c)?;
+            let a = own_right(alloc, own, a)?;
+            let b = own_right(alloc, own, b)?;
+            choose(alloc, c, a, b)
+        }
+        Expr::When(a, x, polarity) => {
+            let a = own_right(alloc, own, a)?;
+            sampled(alloc, a, own[*x as usize], *polarity)
+        }
+        Expr::Merge(x, a, b) => {
+            let a = own_right(alloc, own, a)?;
+            let b = own_right(alloc, own, b)?;
+            merged(alloc, own[*x as usize], a, b)
+        }
+        Expr::Fby(v, a) => {
+            let a = own_right(alloc, own, a)?;
+            delayed(alloc, *v, a)
+        }
+        Expr::Follow(a, b) => {
+            let a = own_right(alloc, own, a)?;
+            let b = own_right(alloc, own, b)?;
+            follow(alloc, a, b)
+        }
+        Expr::Arrow(a, b) => {
+            let a = own_right(alloc, own, a)?;
+            let b = own_right(alloc, own, b)?;
+            arrow(alloc, a, b)
+        }
+        Expr::Call(_, _) => unreachable!(),
+    }
+}
+
+/// The clock with these numbers for its variables.
+fn own_clock(alloc: Global, own: &[u32], clock: &Clock) -> Result<Clock, Memory>
+    requires { All (λ p. p.0 < length own.now) clock.now }
+    ensures { IfOk result (λ r. r ≡ below (own_of own.now) clock.now []) }
+{
+    let mut new = Clock::base(alloc);
+    for step in clock.steps.as_slice() {
+        new = new.deeper(own[step.0 as usize], step.1)?;
+    }
+    Ok(new)
+}
+
+/// The declaration of a variable in a part.
+fn own_decl(alloc: Global, own: &[u32], decl: &Decl) -> Result<Decl, Memory>
+    requires { All (λ p. p.0 < length own.now) decl.now.clock }
+    ensures { IfOk result (λ r. r ≡ own_decl own.now decl.now) }
+{
+    let clock = own_clock(alloc, own, &decl.clock)?;
+    let name = decl.name.copy()?;
+    Ok(Decl {
+        name,
+        ty: decl.ty,
+        clock,
+    })
+}
+
+/// The declarations of these variables in a part.
+pub(crate) fn own_decls(
+    alloc: Global,
+    own: &[u32],
+    decls: &[Decl],
+    members: &[u32],
+) -> Result<Vec<Decl>, Memory>
+    requires clocks { All (λ d. All (λ p. p.0 < length own.now) d.clock) decls.now }
+    requires inside { All (λ x. x < length decls.now) members.now }
+    ensures { IfOk result (λ r. r.items ≡ map (λ x. own_decl own.now (get_or decls.now x no_decl)) members.now) }
+{
+    let mut new = Vec::with_capacity(alloc, members.len())?;
+    for x in members {
+        new.push(own_decl(alloc, own, &decls[*x as usize])?)?;
+    }
+    Ok(new)
+}
+
+/// The equations of node n that stay, in its part.
+pub(crate) fn own_equations(
+    alloc: Global,
+    own: &[u32],
+    nodes: &[u32],
+    fed: &[bool],
+    n: u32,
+    equations: &[Equation],
+) -> Result<Vec<Equation>, Memory>
+    requires nodes { length nodes.now ≡ length own.now }
+    requires fed { length fed.now ≡ length own.now }
+    requires lefts { All (λ q. q.0 < length own.now) equations.now }
+    requires callless { All (λ q. EachCall (λ g. ⊥) q.1) equations.now }
+    requires rights { All (λ q. VarsBelow (length own.now) q.1) equations.now }
+    ensures { IfOk result (λ r. r.items ≡ map (own_equation own.now) (filter (stays nodes.now fed.now n) equations.now)) }
+{
+    let mut new = Vec::new(alloc);
+    for equation in equations {
+        let left = equation.left() as usize;
+        if nodes[left] == n && !fed[left] {
+            let right = own_right(alloc, own, equation.right())?;
+            new.push(Equation::new(own[left], right))?;
+        }
+    }
+    Ok(new)
+}
