@@ -1,0 +1,14 @@
+//! Machines, which run a function one instant at a time.
+#![tactic(auto)]
+
+mod import;
+mod machine;
+mod operands;
+mod step_machine;
+mod stepping;
+#[cfg(test)]
+mod tests;
+
+pub use import::Import;
+pub use machine::Machine;
+pub use step_machine::StepMachine;
