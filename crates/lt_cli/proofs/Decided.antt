@@ -1,13 +1,15 @@
 -- All right outcomes of a command have one status.
-use Rattle.std.proofs.Common.{◌≡◌, ℕ, List, Bool, Option, ap}
+use Rattle.std.proofs.Common.{◌≡◌, ℕ, List, Bool, Option, refl, ap}
 use Rattle.std.specs.Prelude.{if◌then◌else◌}
 use Rattle.lt_front.specs.declared.fault.ProgramFault.{ProgramFault}
 use Rattle.lt_front.specs.Limits.{is_limit}
 use Rattle.lt_verdict.proofs.Decided.{HasOneKind}
-use Rattle.lt_run.specs.Loaded.{program_verdict, config_verdict}
+use Rattle.lt_run.specs.Loaded.{config_verdict}
+use Rattle.lt_run.specs.Setups.{check_verdict}
 use Rattle.lt_run.specs.Run.{meaning_verdict, run_verdict}
 use Rattle.lt_run.proofs.OneRun.{meaning_decided as one_meaning, run_decided as one_run}
-use Rattle.lt_run.proofs.OneLoad.{program_decided, config_decided}
+use Rattle.lt_run.proofs.OneLoad.{config_decided}
+use Rattle.lt_run.proofs.OneCheck.{check_decided as one_check}
 use Rattle.lt_cli.specs.declared.status.Status.TheVariants as status
 use Rattle.lt_cli.specs.Texts.{fault_status, program_status}
 
@@ -15,8 +17,8 @@ use Rattle.lt_cli.specs.Texts.{fault_status, program_status}
 tells_limits : (e f : ProgramFault) → is_limit e ≡ is_limit f → program_status e ≡ program_status f
 tells_limits e f same = ap (λ (b : Bool). if b then status.Limit else status.Program) same
 
-pub check_decided : (file : Option (List ℕ)) → HasOneKind fault_status (program_verdict file)
-check_decided file = (program_decided fault_status tells_limits file).faults
+pub check_decided : (named : List ℕ → Option (List ℕ)) (program : List ℕ) (config : Option (List ℕ)) → HasOneKind fault_status (check_verdict named program config)
+check_decided named program config = one_check fault_status tells_limits (λ f g main main'. refl) (λ f g names names' mixed mixed'. refl) named program config
 
 pub meaning_decided : (named : List ℕ → Option (List ℕ)) (program inputs : List ℕ) → HasOneKind fault_status (meaning_verdict named program inputs)
 meaning_decided named program inputs = one_meaning fault_status tells_limits named program inputs

@@ -3,7 +3,8 @@ use Rattle.std.proofs.Common.{◌≡◌, ℕ, List, Option, Some, None, ◌++◌
 use Rattle.lt_answer.specs.Answered.{Verdict}
 use Rattle.lt_plan.specs.Text.{plan_of}
 use Rattle.lt_run.specs.declared.fault.CommandFault.{CommandFault}
-use Rattle.lt_run.specs.Loaded.{program_verdict, config_verdict}
+use Rattle.lt_run.specs.Loaded.{config_verdict}
+use Rattle.lt_run.specs.Setups.{check_verdict}
 use Rattle.lt_run.specs.Run.{meaning_verdict, run_verdict}
 use Rattle.lt_words.specs.Reading.{Said, check, meaning, run, plan, command_of}
 use Rattle.lt_cli.specs.declared.refusal.Refusal.{Refusal}
@@ -25,7 +26,7 @@ not_words shown V (Err r) right is = fault_not_words right.0 (sym (ap refusal_st
 -- the status of the words comes with no command
 asks_nothing : (named : List ℕ → Option (List ℕ)) (said : Option Said) (outcome : Result (List ℕ) Refusal) → asked_verdict named said outcome → status_of outcome ≡ status.Words → said ≡ None
 asks_nothing named None outcome right is = refl
-asks_nothing named (Some (check program)) outcome right is = absurd (not_words checked_text (program_verdict (named program)) outcome right is)
+asks_nothing named (Some (check program config)) outcome right is = absurd (not_words checked_text (check_verdict named program config) outcome right is)
 asks_nothing named (Some (meaning program inputs)) outcome right is = absurd (not_words printed_text (meaning_verdict named program inputs) outcome right is)
 asks_nothing named (Some (run program inputs schedule)) outcome right is = absurd (not_words printed_text (run_verdict named program inputs schedule) outcome right is)
 asks_nothing named (Some (plan config horizon)) outcome right is = absurd (not_words (λ setup. plan_of setup horizon) (config_verdict (named config)) outcome right is)

@@ -48,6 +48,8 @@ no_row row.TooMany code not is = not.limit is
 reads_by_status : (f : CommandFault) (code : Status) → IsNoContent code → fault_status f ≡ code → f ≡ fault.Read
 reads_by_status (fault.Program f) code not is = absurd (no_program (is_limit f) code not is)
 reads_by_status (fault.Config f) code not is = absurd (not.setup is)
+reads_by_status (fault.Place f main) code not is = absurd (not.setup is)
+reads_by_status (fault.Timing f names mixed) code not is = absurd (not.setup is)
 reads_by_status (fault.Inputs f) code not is = absurd (no_inputs f.kind code not is)
 reads_by_status fault.TooManyCells code not is = absurd (not.limit is)
 reads_by_status (fault.Row n f) code not is = absurd (no_row f code not is)
@@ -98,6 +100,8 @@ outside_blames (Command f) is = ap command_blame (fault_reads f is)
 pub blamed_reads : (f : CommandFault) → command_blame f ≡ Reading → f ≡ fault.Read
 blamed_reads (fault.Program f) is = cc
 blamed_reads (fault.Config f) is = cc
+blamed_reads (fault.Place f main) is = cc
+blamed_reads (fault.Timing f names mixed) is = cc
 blamed_reads (fault.Inputs f) is = cc
 blamed_reads fault.TooManyCells is = cc
 blamed_reads (fault.Row n f) is = cc
@@ -114,6 +118,8 @@ pub not_linking : (r : Refusal) → blame_of r ≡ Linking → ⊥
 not_linking Words is = cc
 not_linking (Command (fault.Program f)) is = cc
 not_linking (Command (fault.Config f)) is = cc
+not_linking (Command (fault.Place f main)) is = cc
+not_linking (Command (fault.Timing f names mixed)) is = cc
 not_linking (Command (fault.Inputs f)) is = cc
 not_linking (Command fault.TooManyCells) is = cc
 not_linking (Command (fault.Row n f)) is = cc

@@ -8,7 +8,8 @@ use Rattle.lt_answer.specs.Answered.{Verdict}
 use Rattle.lt_verdict.specs.Rules.{Raised, Shown}
 use Rattle.lt_run.specs.declared.fault.CommandFault.{CommandFault}
 use Rattle.lt_run.specs.declared.printed.Printed.{Printed}
-use Rattle.lt_run.specs.Loaded.{program_verdict, config_verdict}
+use Rattle.lt_run.specs.Loaded.{config_verdict}
+use Rattle.lt_run.specs.Setups.{check_verdict}
 use Rattle.lt_run.specs.Run.{meaning_verdict, run_verdict}
 use Rattle.lt_cli.specs.declared.refusal.Refusal.{Refusal}
 use Rattle.lt_cli.specs.declared.refusal.Refusal.TheVariants.{Words, Command}
@@ -28,7 +29,7 @@ printed_text printed = outputs_text printed.names printed.cells
 
 -- a command on these files
 abbrev pub command_verdict : (named : List ℕ → Option (List ℕ)) → Said → Verdict (List ℕ) Refusal
-command_verdict named (check program) = text_verdict checked_text (program_verdict (named program))
+command_verdict named (check program config) = text_verdict checked_text (check_verdict named program config)
 command_verdict named (meaning program inputs) = text_verdict printed_text (meaning_verdict named program inputs)
 command_verdict named (run program inputs schedule) = text_verdict printed_text (run_verdict named program inputs schedule)
 command_verdict named (plan config horizon) = text_verdict (λ setup. plan_of setup horizon) (config_verdict (named config))

@@ -1,9 +1,16 @@
 -- The lines of refused files.
-use Rattle.std.specs.Prelude.{ℕ, List, ◌++◌, codes}
+use Rattle.std.specs.Prelude.{ℕ, Bool, true, false, List, [], ◌++◌, codes, slice_index_or}
 use Rattle.std.specs.Fmt.{decimal}
 use Rattle.lt_config.specs.declared.fault.ConfigKind.{ConfigKind}
 use Rattle.lt_config.specs.declared.fault.ConfigKind.TheVariants.{NotToml, Missing, WrongKind, UnknownKey, OutOfRange, BadName}
 use Rattle.lt_config.specs.declared.fault.ConfigFault.{ConfigFault}
+use Rattle.lt_base.specs.Program.{Function}
+use Rattle.lt_place.specs.declared.fault.PlaceFault.{PlaceFault}
+use Rattle.lt_place.specs.declared.fault.PlaceFault.TheVariants.{Unplaced, PlacedTwice, UnknownName, DirectCross, SlowCross, ClockElsewhere}
+use Rattle.lt_timing.specs.declared.fault.Which.{Which}
+use Rattle.lt_timing.specs.declared.fault.Which.TheVariants as which
+use Rattle.lt_timing.specs.declared.fault.TimingFault.{TimingFault}
+use Rattle.lt_run.specs.Main.{name_in}
 use Rattle.lt_inputs.specs.declared.fault.InputKind.{InputKind}
 use Rattle.lt_inputs.specs.declared.fault.InputKind.TheVariants as inputs
 use Rattle.lt_inputs.specs.declared.fault.InputFault.{InputFault}
@@ -24,6 +31,31 @@ config_line_of _ f = codes "config " ++ config_kind_text f.kind ++ codes ": " ++
 -- the line of a refused setup, without its line feed
 abbrev pub config_line : ConfigFault → List ℕ
 config_line f = config_line_of f.kind f
+
+-- the line of a refused placement, with variables by the names that this function declares
+abbrev pub place_line : Function → PlaceFault → List ℕ
+place_line main (Unplaced x) = codes "placement 1 Unplaced: " ++ name_in main x
+place_line main (PlacedTwice x) = codes "placement 2 PlacedTwice: " ++ name_in main x
+place_line main (UnknownName name) = codes "placement 3 UnknownName: " ++ name
+place_line main (DirectCross reader read) = codes "placement 4 DirectCross: " ++ name_in main reader ++ codes " reads " ++ name_in main read
+place_line main (SlowCross reader read) = codes "placement 5 SlowCross: " ++ name_in main reader ++ codes " reads " ++ name_in main read
+place_line main (ClockElsewhere x c) = codes "placement 6 ClockElsewhere: " ++ name_in main x ++ codes " on " ++ name_in main c
+
+-- a number and a name
+abbrev pub which_text : Which → List ℕ
+which_text which.Execute = codes "1 Execute"
+which_text which.Send = codes "2 Send"
+which_text which.First = codes "3 First"
+
+-- the node, where nodes differ
+abbrev pub at_node : (names : List (List ℕ)) → (mixed : Bool) → (node : ℕ) → List ℕ
+at_node names true node = codes " at " ++ slice_index_or names node []
+at_node names false node = []
+
+-- the line of a timing that is not accepted
+abbrev pub timing_line : TimingFault → (names : List (List ℕ)) → (mixed : Bool) → List ℕ
+timing_line f names mixed =
+    codes "timing " ++ which_text f.which ++ at_node names mixed f.node ++ codes ": " ++ decimal f.left ++ codes " is not above " ++ decimal f.right
 
 -- a kind's number and name
 abbrev pub inputs_kind_text : InputKind → List ℕ

@@ -1,6 +1,6 @@
 // What is printed for the words.
-ghost use Rattle.std.specs.Prelude.{◌<◌, ◌-◌, ◌^◌, map, string_bytes};
-ghost use Rattle.lt_words.specs.Reading.{check, meaning as ask_meaning, plan, run as ask_run};
+ghost use Rattle.std.specs.Prelude.{◌<◌, ◌-◌, ◌^◌, map, option_map, string_bytes};
+ghost use Rattle.lt_words.specs.Reading.{check as ask_check, meaning as ask_meaning, plan, run as ask_run};
 ghost use Rattle.lt_answer.specs.World.{alone};
 ghost use Rattle.lt_answer.specs.Answered.{Answered};
 ghost use Rattle.lt_cli.specs.Blamed.{blame_of};
@@ -12,7 +12,7 @@ use lt_base::{List, Or};
 use lt_io::Files;
 use lt_plan::plan_text;
 use lt_print::print;
-use lt_run::{load_config, load_program, meaning, run};
+use lt_run::{check, load_config, meaning, run};
 use lt_words::{Command, read_words};
 use std::alloc::Global;
 use std::mem::forget;
@@ -27,7 +27,7 @@ pub fn answer<F: Files>(
     ensures { Answered blame_of (words_verdict (F.state files.old).named (map string_bytes words.now)) (alone (F.state files.old)) (alone (F.state files.new)) result }
 {
     match read_words(alloc, words)? {
-        Some(Command::Check { program }) => check_answer(alloc, files, program),
+        Some(Command::Check { program, config }) => check_answer(alloc, files, program, config),
         Some(Command::Meaning { program, inputs }) => {
             meaning_answer(alloc, files, program, inputs)
         }
@@ -43,16 +43,17 @@ pub fn answer<F: Files>(
     }
 }
 
-// The canonical text of a program that passes all checks.
+// The canonical text of a program that passes all checks, with a setup's beside its own.
 fn check_answer<F: Files>(
     alloc: Global,
     files: &mut F,
     program: &str,
+    config: Option<&str>,
 ) -> Result<List<u8>, Or<Refusal>>
     requires { (F.state files.old).faults < 2 ^ 64 - 1 }
-    ensures { Answered blame_of (command_verdict (F.state files.old).named (check program.now)) (alone (F.state files.old)) (alone (F.state files.new)) result }
+    ensures { Answered blame_of (command_verdict (F.state files.old).named (ask_check program.now (option_map (λ s. s.now) config.entry))) (alone (F.state files.old)) (alone (F.state files.new)) result }
 {
-    match load_program(alloc, files, program) {
+    match check(alloc, files, program, config) {
         Ok(checked) => {
             let text = print(alloc, &checked.tree)?;
             // The call is nearly over: to take a large tree and its program apart would be a sixth of its time.

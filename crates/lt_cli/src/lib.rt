@@ -5,15 +5,19 @@ mod answer;
 mod config_line;
 mod inputs_line;
 mod numbers;
+mod place_line;
 mod print;
 mod refusal;
 mod schedule_line;
 mod status;
+mod timing_line;
 mod top;
 
 pub use refusal::Refusal;
 pub use status::Status;
 pub use top::ltta;
 
+#[cfg(test)]
+mod setup_tests;
 #[cfg(test)]
 mod tests;

@@ -7,7 +7,9 @@ ghost use Rattle.lt_run.specs.Plain.{one_node};
 use crate::Status;
 use crate::config_line::config_line;
 use crate::inputs_line::inputs_line;
+use crate::place_line::place_line;
 use crate::schedule_line::{offence_line, row_line};
+use crate::timing_line::timing_line;
 use lt_arch::Offence;
 use lt_base::{List, Memory};
 use lt_front::ProgramFault;
@@ -45,7 +47,7 @@ impl Refusal {
             Refusal::Words => {
                 List::from_slice(
                     alloc,
-                    b"words: usage: ltta check P | meaning P I | run P I S | plan C [--horizon H]",
+                    b"words: usage: ltta check P [C] | meaning P I | run P I S | plan C [--horizon H]",
                 )
             }
             Refusal::Command(fault) => fault_line(alloc, fault),
@@ -59,6 +61,8 @@ fn fault_status(fault: &CommandFault) -> Status
     match fault {
         CommandFault::Program(fault) => program_status(fault),
         CommandFault::Config(_) => Status::Setup,
+        CommandFault::Place { .. } => Status::Setup,
+        CommandFault::Timing { .. } => Status::Setup,
         CommandFault::Inputs(fault) => inputs_status(fault.kind),
         CommandFault::TooManyCells => Status::Limit,
         CommandFault::Row { row: _, fault } => row_status(*fault),
@@ -101,6 +105,12 @@ fn fault_line(alloc: Global, fault: &CommandFault) -> Result<List<u8>, Memory>
     match fault {
         CommandFault::Program(fault) => program_line(alloc, fault),
         CommandFault::Config(fault) => config_line(alloc, fault),
+        CommandFault::Place { fault, main } => place_line(alloc, main, fault),
+        CommandFault::Timing {
+            fault,
+            names,
+            mixed,
+        } => timing_line(alloc, *fault, names.as_slice(), *mixed),
         CommandFault::Inputs(fault) => inputs_line(alloc, *fault),
         CommandFault::TooManyCells => List::from_slice(alloc, b"limit: meaning cells 16000000"),
         CommandFault::Row { row, fault } => row_line(alloc, *row, *fault),

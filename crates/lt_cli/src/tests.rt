@@ -18,7 +18,7 @@ const SCHEDULE: &str = "time,event,place\n0,act,all\n4,act,all\n8,act,all\n12,en
 const SETUP: &str =
     "protocol = 'backpressure'\nperiod = [9, 11]\ndelay = [1, 4]\n[nodes]\na = ['x', 'u']\nb = ['v']\n";
 
-const USAGE: &str = "words: usage: ltta check P | meaning P I | run P I S | plan C [--horizon H]\n";
+const USAGE: &str = "words: usage: ltta check P [C] | meaning P I | run P I S | plan C [--horizon H]\n";
 
 // The cruise controller of the examples.
 const CRUISE: &str = "node limit(v: int) returns (r: int) let r = max(0, min(v, 100)); tel
@@ -45,21 +45,21 @@ const SAMPLED: &str =
 const SAMPLES: &str = "instant,x,c\n0,5,true\n1,6,false\n2,7,true\n";
 
 #[derive(Drop)]
-struct Ended {
-    status: Status,
-    out: List<u8>,
-    err: List<u8>,
+pub(crate) struct Ended {
+    pub status: Status,
+    pub out: List<u8>,
+    pub err: List<u8>,
 }
 
 // Which calls are to fail; 0 for none.
 #[derive(Clone, Copy, Drop)]
-struct Faults {
-    files: u64,
-    out: u64,
-    err: u64,
+pub(crate) struct Faults {
+    pub files: u64,
+    pub out: u64,
+    pub err: u64,
 }
 
-const NONE: Faults = Faults {
+pub(crate) const NONE: Faults = Faults {
     files: 0,
     out: 0,
     err: 0,
@@ -67,14 +67,14 @@ const NONE: Faults = Faults {
 
 // The contents of the files `p`, `i`, `s` and `c`.
 #[derive(Clone, Copy)]
-struct Texts<'a> {
-    program: &'a str,
-    inputs: &'a str,
-    schedule: &'a str,
-    setup: &'a str,
+pub(crate) struct Texts<'a> {
+    pub program: &'a str,
+    pub inputs: &'a str,
+    pub schedule: &'a str,
+    pub setup: &'a str,
 }
 
-const COUNTER: Texts = Texts {
+pub(crate) const COUNTER: Texts = Texts {
     program: PROGRAM,
     inputs: INPUTS,
     schedule: SCHEDULE,
@@ -126,7 +126,7 @@ fn sink(alloc: Global, fails: u64) -> Result<MemSink, Memory>
     Ok(MemSink::new(alloc, listed(alloc, fails)?))
 }
 
-fn call(alloc: Global, line: &str, texts: Texts, faults: Faults) -> Result<Ended, Memory>
+pub(crate) fn call(alloc: Global, line: &str, texts: Texts, faults: Faults) -> Result<Ended, Memory>
     requires files { faults.files < 2 ^ 64 - 1 }
     requires out { faults.out < 2 ^ 64 - 1 }
     requires err { faults.err < 2 ^ 64 - 1 }
@@ -282,7 +282,10 @@ fn files_are_refused_in_order(rt: HostRuntime) -> Result<(), Fail> {
         ("run q i s", COUNTER, Status::Outside, "fault: read\n"),
         ("run p q s", COUNTER, Status::Outside, "fault: read\n"),
         ("run p i q", COUNTER, Status::Outside, "fault: read\n"),
-        ("check p i", COUNTER, Status::Words, USAGE),
+        ("check p c c", COUNTER, Status::Words, USAGE),
+        ("check p q", COUNTER, Status::Outside, "fault: read\n"),
+        ("check q q", faulty, Status::Outside, "fault: read\n"),
+        ("check p q", faulty, Status::Program, unknown),
         ("meaning p", COUNTER, Status::Words, USAGE),
         ("meaning p i s", COUNTER, Status::Words, USAGE),
         ("run p i", COUNTER, Status::Words, USAGE),

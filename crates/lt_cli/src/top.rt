@@ -1,7 +1,8 @@
 // The top call.
 ghost use Rattle.std.specs.Prelude.{◌≡◌, ◌≢◌, ◌<◌, ◌-◌, ◌^◌, ◌++◌, ◌∷◌, [], ℕ, IfOk, List as Items, Option as Maybe, IsTrue, Some, map, string_bytes};
 ghost use Rattle.lt_plan.specs.Text.{plan_of};
-ghost use Rattle.lt_run.specs.Loaded.{program_verdict, config_verdict};
+ghost use Rattle.lt_run.specs.Loaded.{config_verdict};
+ghost use Rattle.lt_run.specs.Setups.{check_verdict};
 ghost use Rattle.lt_run.specs.Run.{meaning_verdict, run_verdict};
 ghost use Rattle.lt_words.specs.Reading.{command_of, check, meaning, plan, run};
 ghost use Rattle.lt_cli.specs.Clauses.{IsWordsExact, IsExact, IsOutsideCaused, IsWriteCaused, IsMissingExact};
@@ -40,8 +41,8 @@ pub fn ltta<F: Files, W: Fabric, O: Sink, E: Sink>(
         Tells old → IsQuiet old new → result ≢ Status.Memory → IsWordsExact (map string_bytes words.now) old new result }
     ensures check { let old : Objects = record { files = F.state files.old; fabric = W.state fabric.old; out = O.state out.old; err = E.state err.old } in
         let new : Objects = record { files = F.state files.new; fabric = W.state fabric.new; out = O.state out.new; err = E.state err.new } in
-        (program : Items ℕ) → command_of (map string_bytes words.now) ≡ Some (check program) → Tells old → IsQuiet old new → result ≢ Status.Memory
-        → IsExact checked_text (program_verdict (old.files.named program)) old new result }
+        (program : Items ℕ) (config : Maybe (Items ℕ)) → command_of (map string_bytes words.now) ≡ Some (check program config) → Tells old → IsQuiet old new → result ≢ Status.Memory
+        → IsExact checked_text (check_verdict old.files.named program config) old new result }
     ensures meaning { let old : Objects = record { files = F.state files.old; fabric = W.state fabric.old; out = O.state out.old; err = E.state err.old } in
         let new : Objects = record { files = F.state files.new; fabric = W.state fabric.new; out = O.state out.new; err = E.state err.new } in
         (program inputs : Items ℕ) → command_of (map string_bytes words.now) ≡ Some (meaning program inputs) → Tells old → IsQuiet old new → result ≢ Status.Memory
@@ -64,8 +65,8 @@ pub fn ltta<F: Files, W: Fabric, O: Sink, E: Sink>(
         result ≡ Status.Write → IsWriteCaused old new }
     ensures check_missing { let old : Objects = record { files = F.state files.old; fabric = W.state fabric.old; out = O.state out.old; err = E.state err.old } in
         let new : Objects = record { files = F.state files.new; fabric = W.state fabric.new; out = O.state out.new; err = E.state err.new } in
-        (program : Items ℕ) → command_of (map string_bytes words.now) ≡ Some (check program) → IsTrue old.files.sound → result ≢ Status.Memory
-        → IsMissingExact (program_verdict (old.files.named program)) old new }
+        (program : Items ℕ) (config : Maybe (Items ℕ)) → command_of (map string_bytes words.now) ≡ Some (check program config) → IsTrue old.files.sound → result ≢ Status.Memory
+        → IsMissingExact (check_verdict old.files.named program config) old new }
     ensures meaning_missing { let old : Objects = record { files = F.state files.old; fabric = W.state fabric.old; out = O.state out.old; err = E.state err.old } in
         let new : Objects = record { files = F.state files.new; fabric = W.state fabric.new; out = O.state out.new; err = E.state err.new } in
         (program inputs : Items ℕ) → command_of (map string_bytes words.now) ≡ Some (meaning program inputs) → IsTrue old.files.sound → result ≢ Status.Memory

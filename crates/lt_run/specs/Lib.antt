@@ -4,4 +4,5 @@ pub mod Loaded
 pub mod OneNode
 pub mod Plain
 pub mod Scheduled
+pub mod Setups
 pub mod Run

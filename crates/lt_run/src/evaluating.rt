@@ -1,29 +1,29 @@
-// The streams of a program on its inputs.
+// The streams of a program's outputs on its inputs.
 ghost use Rattle.std.specs.Prelude.{◌≤◌, IfOk, IfErr, OnOk};
 ghost use Rattle.lt_base.specs.Checked.{CheckedProgram};
 ghost use Rattle.lt_answer.specs.Answered.{Refuses};
-ghost use Rattle.lt_meaning.specs.Streams.{HasMainStreams, HasRoom, InputsFitMain, cell_count};
+ghost use Rattle.lt_meaning.specs.Streams.{HasOutputStreams, HasRoom, InputsFitMain, cell_count};
 ghost use Rattle.lt_run.specs.Main.{cells_verdict, most_cells};
 
 use crate::CommandFault;
-use lt_base::{Inputs, Or, Program};
-use lt_meaning::{StreamsFault, Table, streams};
+use lt_base::{Cell, Inputs, List, Or, Program};
+use lt_meaning::{StreamsFault, output_streams};
 use std::alloc::Global;
 
-/// The streams of all variables of `main`, unless they have too many cells.
+/// The streams of the outputs of `main`, unless the program has too many cells on these inputs.
 pub(crate) fn evaluate(
     alloc: Global,
     program: &Program,
     inputs: &Inputs,
-) -> Result<Table, Or<CommandFault>>
+) -> Result<List<List<Cell>>, Or<CommandFault>>
     requires checked { CheckedProgram program.now }
     requires fit { InputsFitMain program.now inputs.now }
     requires room { HasRoom program.now }
-    ensures streams { IfOk result (HasMainStreams program.now inputs.now.rows) }
+    ensures streams { IfOk result (HasOutputStreams program.now inputs.now.rows) }
     ensures few { OnOk result (cell_count program.now inputs.now.rows ≤ most_cells) }
     ensures refused { IfErr result (Refuses (cells_verdict program.now inputs.now.rows)) }
 {
-    match streams(alloc, program, inputs) {
+    match output_streams(alloc, program, inputs) {
         Ok(streams) => Ok(streams),
         Err(Or::Fault(StreamsFault::TooMany)) => Err(Or::Fault(CommandFault::TooManyCells)),
         Err(Or::Memory) => Err(Or::Memory),

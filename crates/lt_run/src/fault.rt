@@ -1,10 +1,13 @@
 // Why a command is refused.
 
 use lt_arch::Offence;
+use lt_base::{Func, List, Name};
 use lt_config::ConfigFault;
 use lt_front::ProgramFault;
 use lt_inputs::InputFault;
+use lt_place::PlaceFault;
 use lt_rows::RowFault;
+use lt_timing::TimingFault;
 
 /// A limit on the bytes of a file.
 #[derive(Clone, Copy, Debug, PartialEq, Eq)]
@@ -22,6 +25,14 @@ pub enum CommandFault {
     Program(ProgramFault),
     /// The setup is at fault.
     Config(ConfigFault),
+    /// The placement of the program's variables is not legal; beside the fault the function whose variables it names.
+    Place { fault: PlaceFault, main: Func },
+    /// The timing is not accepted; beside the fault the names of the nodes, and whether the setup's nodes or pairs differ.
+    Timing {
+        fault: TimingFault,
+        names: List<Name>,
+        mixed: bool,
+    },
     /// The inputs are at fault, or they have too many rows.
     Inputs(InputFault),
     /// The weight of `main` times the number of rows of inputs is above the limit on cells.

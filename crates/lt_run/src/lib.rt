@@ -8,9 +8,11 @@ mod loading;
 mod plain;
 mod printed;
 mod scheduling;
+mod setups;
 
 pub use commands::{meaning, run};
 pub use fault::{CommandFault, What};
 pub use loading::{load_config, load_inputs, load_program};
 pub use plain::plain_shape;
 pub use printed::Printed;
+pub use setups::check;

@@ -11,12 +11,16 @@ greatest_horizon = 1000000000000000
 abbrev pub text_rule : (id : Text) → Rule
 text_rule id = record (new_rule id) { required = true }
 
+-- a text that may be left out
+abbrev pub optional_rule : (id : Text) → Rule
+optional_rule id = new_rule id
+
 -- an option whose value is a whole number up to a bound
 abbrev pub number_rule : (id : Text) → (most : ℕ) → Rule
 number_rule id most = record (new_rule id) { long = Some id; parser = Some (parser.Unsigned 0 most) }
 
 abbrev pub check_app : App
-check_app = with_rule (new_app (codes "check")) (text_rule (codes "program"))
+check_app = with_rule (with_rule (new_app (codes "check")) (text_rule (codes "program"))) (optional_rule (codes "config"))
 
 abbrev pub meaning_app : App
 meaning_app = with_rule (with_rule (new_app (codes "meaning")) (text_rule (codes "program"))) (text_rule (codes "inputs"))

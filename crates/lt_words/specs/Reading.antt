@@ -9,13 +9,13 @@ use Rattle.lt_words.specs.Commands.{program_app}
 
 -- a command and its values
 pub data Said : Type 0 where
-  check : (program : Text) → Said
+  check : (program : Text) → (config : Option Text) → Said
   meaning : (program inputs : Text) → Said
   run : (program inputs schedule : Text) → Said
   plan : (config : Text) → (horizon : Option ℕ) → Said
 
 abbrev pub said_of : Command → Said
-said_of (Check program) = check program.now
+said_of (Check program config) = check program.now (option_map (λ s. s.now) config)
 said_of (Meaning program inputs) = meaning program.now inputs.now
 said_of (Run program inputs schedule) = run program.now inputs.now schedule.now
 said_of (Plan config horizon) = plan config.now horizon
@@ -30,7 +30,7 @@ number_at id rows = option_map number_text (first_of id rows)
 -- the command of this name, with the values that were found
 abbrev pub said_by : (name : Text) → List Row → Said
 said_by name rows =
-    if bytes_eq name (codes "check") then check (text_at (codes "program") rows)
+    if bytes_eq name (codes "check") then check (text_at (codes "program") rows) (first_of (codes "config") rows)
     else if bytes_eq name (codes "meaning") then meaning (text_at (codes "program") rows) (text_at (codes "inputs") rows)
     else if bytes_eq name (codes "run") then run (text_at (codes "program") rows) (text_at (codes "inputs") rows) (text_at (codes "schedule") rows)
     else plan (text_at (codes "config") rows) (number_at (codes "horizon") rows)

@@ -2,7 +2,7 @@
 ghost use Rattle.std.specs.Prelude.{◌≡◌, false, IfOk};
 ghost use Rattle.clap.specs.Words.{app_of, rule_of, with_rule, with_subcommand};
 ghost use Rattle.lt_words.specs.Local.{IsLocal};
-ghost use Rattle.lt_words.specs.Commands.{text_rule, number_rule};
+ghost use Rattle.lt_words.specs.Commands.{text_rule, optional_rule, number_rule};
 
 use clap::builder::ValueParser;
 use clap::{Arg, Command};
@@ -15,6 +15,14 @@ pub fn text<'a>(alloc: Global, id: &'a str) -> Arg<'a>
     ensures local { result.global ≡ false }
 {
     Arg::new(alloc, id).required(true)
+}
+
+/// A text that may be left out.
+pub fn optional_text<'a>(alloc: Global, id: &'a str) -> Arg<'a>
+    ensures rule { rule_of result ≡ optional_rule id.entry.now }
+    ensures local { result.global ≡ false }
+{
+    Arg::new(alloc, id)
 }
 
 /// An option `--ID` whose value is a whole number up to a bound.

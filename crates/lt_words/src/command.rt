@@ -3,9 +3,10 @@
 /// A command of the program, with the values that its words give. Files are named as in the words.
 #[derive(Drop)]
 pub enum Command<'a> {
-    /// Check a program, and print it in its canonical form.
+    /// Check a program, and with a setup also its placement and timing, and print it in its canonical form.
     Check {
         program: &'a str,
+        config: Option<&'a str>,
     },
     /// Print what a program's outputs are for these inputs.
     Meaning {

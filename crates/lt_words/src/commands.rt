@@ -4,7 +4,7 @@ ghost use Rattle.clap.specs.Words.{app_of};
 ghost use Rattle.lt_words.specs.Local.{IsLocal};
 ghost use Rattle.lt_words.specs.Commands.{check_app, meaning_app, run_app, plan_app, bare_app, program_app};
 
-use crate::arguments::{number, text, with_argument, with_command};
+use crate::arguments::{number, optional_text, text, with_argument, with_command};
 use clap::Command;
 use lt_base::Memory;
 use std::alloc::Global;
@@ -16,7 +16,8 @@ fn check<'a>(alloc: Global) -> Result<Command<'a>, Memory>
     ensures app { IfOk result (λ c. app_of c ≡ check_app) }
     ensures local { IfOk result IsLocal }
 {
-    with_argument(Command::new(alloc, "check"), text(alloc, "program"))
+    let command = with_argument(Command::new(alloc, "check"), text(alloc, "program"))?;
+    with_argument(command, optional_text(alloc, "config"))
 }
 
 fn meaning<'a>(alloc: Global) -> Result<Command<'a>, Memory>

@@ -44,7 +44,8 @@ fn command_of<'a>(name: &str, matches: &ArgMatches<'a>) -> Command<'a>
 {
     if name == "check" {
         let program = text_or_empty(matches, "program");
-        return Command::Check { program };
+        let config = text_at(matches, "config");
+        return Command::Check { program, config };
     }
     if name == "meaning" {
         let program = text_or_empty(matches, "program");

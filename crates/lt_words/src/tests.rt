@@ -24,7 +24,10 @@ fn summary(alloc: Global, line: &str) -> Result<String, Fail> {
 
 fn described(alloc: Global, command: &Command<'_>) -> Result<String, Fail> {
     let text = match command {
-        Command::Check { program } => format!(in alloc; "check of {program}")?,
+        Command::Check { program, config } => match config {
+            Some(config) => format!(in alloc; "check of {program} with {config}")?,
+            None => format!(in alloc; "check of {program}")?,
+        },
         Command::Meaning { program, inputs } => format!(in alloc; "{program} on {inputs}")?,
         Command::Run {
             program,
@@ -43,6 +46,8 @@ fn described(alloc: Global, command: &Command<'_>) -> Result<String, Fail> {
 fn lines_of_words(rt: HostRuntime) -> Result<(), Fail> {
     let rows = [
         ("check p", "check of p"),
+        ("check p c", "check of p with c"),
+        ("check p c x", ""),
         ("meaning p i", "p on i"),
         ("run p i s", "p on i by s"),
         ("plan c", "plan of c"),

@@ -1,6 +1,7 @@
 use Rattle.std.proofs.Common.{map}
 use Rattle.std.specs.Prelude.{string_bytes}
-use Rattle.lt_run.specs.Loaded.{program_verdict, config_verdict}
+use Rattle.lt_run.specs.Loaded.{config_verdict}
+use Rattle.lt_run.specs.Setups.{check_verdict}
 use Rattle.lt_run.specs.Run.{meaning_verdict, run_verdict}
 use Rattle.lt_cli.specs.Commands.{checked_text, printed_text}
 use Rattle.lt_words.specs.Reading.{check, meaning, run, plan}
@@ -16,9 +17,9 @@ pub returns-clause-words : goal.returns-clause-words
 returns-clause-words g c tells quiet enough = words_exact _ _ _ _ (gave _ _ _ _ c.perform.ensures tells quiet enough)
 
 pub returns-clause-check : goal.returns-clause-check
-returns-clause-check g c program asked tells quiet enough =
-    exact checked_text (program_verdict ((g.F.Files.state c.args.files.now).named program)) (check_decided ((g.F.Files.state c.args.files.now).named program)) _ _ _
-    (asked_gave (map string_bytes c.args.words.now) (check program) _ _ _ asked (gave _ _ _ _ c.perform.ensures tells quiet enough))
+returns-clause-check g c program config asked tells quiet enough =
+    exact checked_text (check_verdict (g.F.Files.state c.args.files.now).named program config) (check_decided (g.F.Files.state c.args.files.now).named program config) _ _ _
+    (asked_gave (map string_bytes c.args.words.now) (check program config) _ _ _ asked (gave _ _ _ _ c.perform.ensures tells quiet enough))
 
 pub returns-clause-meaning : goal.returns-clause-meaning
 returns-clause-meaning g c program inputs asked tells quiet enough =
@@ -42,9 +43,9 @@ pub returns-clause-write : goal.returns-clause-write
 returns-clause-write g c at = write_caused _ _ _ _ c.perform.ensures at
 
 pub returns-clause-check_missing : goal.returns-clause-check_missing
-returns-clause-check_missing g c program asked sound enough =
-    missing_exact checked_text (program_verdict ((g.F.Files.state c.args.files.now).named program)) (check_decided ((g.F.Files.state c.args.files.now).named program)) _ _ _ (g.met.F.Files.sound_tells c.args.files.now sound) sound enough
-    (asked_ran (map string_bytes c.args.words.now) (check program) _ _ _ asked c.perform.ensures)
+returns-clause-check_missing g c program config asked sound enough =
+    missing_exact checked_text (check_verdict (g.F.Files.state c.args.files.now).named program config) (check_decided (g.F.Files.state c.args.files.now).named program config) _ _ _ (g.met.F.Files.sound_tells c.args.files.now sound) sound enough
+    (asked_ran (map string_bytes c.args.words.now) (check program config) _ _ _ asked c.perform.ensures)
 
 pub returns-clause-meaning_missing : goal.returns-clause-meaning_missing
 returns-clause-meaning_missing g c program inputs asked sound enough =
