@@ -22,3 +22,4 @@ mod Outs
 mod Parts
 mod Splitting
 mod Laid
+mod Tested

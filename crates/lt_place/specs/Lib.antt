@@ -8,3 +8,4 @@ pub mod Seats
 pub mod Reports
 pub mod Layout
 pub mod Spread
+pub mod Fixtures
