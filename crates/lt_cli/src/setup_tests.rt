@@ -40,7 +40,8 @@ fn accepted_setups(rt: HostRuntime) -> Result<(), Fail> {
 #[test]
 fn delayed_arguments_cross(rt: HostRuntime) -> Result<(), Fail> {
     let alloc = rt.alloc();
-    let program = "node f(a: int) returns (b: int) let b = a; tel node main(x: int) returns (u: int; v: int) let u = f(0 fby v); v = x; tel";
+    let program =
+        "node f(a: int) returns (b: int) let b = a; tel node main(x: int) returns (u: int; v: int) let u = f(0 fby v); v = x; tel";
     let setup = format!(in alloc; "{BACK_PRESSURE}[nodes]\na = ['x', 'v']\nb = ['u']\n")?;
     let texts = Texts {
         program,
@@ -55,17 +56,47 @@ fn delayed_arguments_cross(rt: HostRuntime) -> Result<(), Fail> {
 #[test]
 fn placements_are_refused(rt: HostRuntime) -> Result<(), Fail> {
     let alloc = rt.alloc();
-    let late = "node main(x: int; c: bool) returns (y, w: int when c) let w = 0 fby y; y = x when c; tel";
+    let late =
+        "node main(x: int; c: bool) returns (y, w: int when c) let w = 0 fby y; y = x when c; tel";
     let direct = "node main(x: int) returns (u: int; v: int) let u = x; v = u + 1; tel";
-    let called = "node f(a: int) returns (b: int) let b = a; tel node main(x: int) returns (u: int; v: int) let u = f(v); v = x; tel";
+    let called =
+        "node f(a: int) returns (b: int) let b = a; tel node main(x: int) returns (u: int; v: int) let u = f(v); v = x; tel";
     let rows = [
-        (CROSSING, "a = ['x']\nb = ['v']\n", "placement 1 Unplaced: u\n"),
-        (CROSSING, "a = ['x', 'u']\nb = ['v', 'u']\n", "placement 2 PlacedTwice: u\n"),
-        (CROSSING, "a = ['x', 'u', 'z']\nb = ['v']\n", "placement 3 UnknownName: z\n"),
-        (direct, "a = ['x', 'u']\nb = ['v']\n", "placement 4 DirectCross: v reads u\n"),
-        (called, "a = ['x', 'v']\nb = ['u']\n", "placement 4 DirectCross: u reads v\n"),
-        (late, "a = ['x', 'y']\nb = ['c', 'w']\n", "placement 5 SlowCross: w reads y\n"),
-        (CLOCKED, "a = ['x', 'y']\nb = ['c', 'w']\n", "placement 6 ClockElsewhere: y on c\n"),
+        (
+            CROSSING,
+            "a = ['x']\nb = ['v']\n",
+            "placement 1 Unplaced: u\n",
+        ),
+        (
+            CROSSING,
+            "a = ['x', 'u']\nb = ['v', 'u']\n",
+            "placement 2 PlacedTwice: u\n",
+        ),
+        (
+            CROSSING,
+            "a = ['x', 'u', 'z']\nb = ['v']\n",
+            "placement 3 UnknownName: z\n",
+        ),
+        (
+            direct,
+            "a = ['x', 'u']\nb = ['v']\n",
+            "placement 4 DirectCross: v reads u\n",
+        ),
+        (
+            called,
+            "a = ['x', 'v']\nb = ['u']\n",
+            "placement 4 DirectCross: u reads v\n",
+        ),
+        (
+            late,
+            "a = ['x', 'y']\nb = ['c', 'w']\n",
+            "placement 5 SlowCross: w reads y\n",
+        ),
+        (
+            CLOCKED,
+            "a = ['x', 'y']\nb = ['c', 'w']\n",
+            "placement 6 ClockElsewhere: y on c\n",
+        ),
     ];
     for (program, nodes, err) in rows {
         let setup = format!(in alloc; "{BACK_PRESSURE}[nodes]\n{nodes}")?;

@@ -18,7 +18,8 @@ const SCHEDULE: &str = "time,event,place\n0,act,all\n4,act,all\n8,act,all\n12,en
 const SETUP: &str =
     "protocol = 'backpressure'\nperiod = [9, 11]\ndelay = [1, 4]\n[nodes]\na = ['x', 'u']\nb = ['v']\n";
 
-const USAGE: &str = "words: usage: ltta check P [C] | meaning P I | run P I S | plan C [--horizon H]\n";
+const USAGE: &str =
+    "words: usage: ltta check P [C] | meaning P I | run P I S | plan C [--horizon H]\n";
 
 // The cruise controller of the examples.
 const CRUISE: &str = "node limit(v: int) returns (r: int) let r = max(0, min(v, 100)); tel

@@ -26,7 +26,10 @@ pub enum CommandFault {
     /// The setup is at fault.
     Config(ConfigFault),
     /// The placement of the program's variables is not legal; beside the fault the function whose variables it names.
-    Place { fault: PlaceFault, main: Func },
+    Place {
+        fault: PlaceFault,
+        main: Func,
+    },
     /// The timing is not accepted; beside the fault the names of the nodes, and whether the setup's nodes or pairs differ.
     Timing {
         fault: TimingFault,
@@ -38,9 +41,15 @@ pub enum CommandFault {
     /// The weight of `main` times the number of rows of inputs is above the limit on cells.
     TooManyCells,
     /// The schedule's row is no event, its first line no header, or there are too many rows. Rows count from 1, and the header is row 0.
-    Row { row: u32, fault: RowFault },
+    Row {
+        row: u32,
+        fault: RowFault,
+    },
     /// The schedule's event is refused. Events count from 1, and a missing end is one past the last.
-    Offence { event: u32, offence: Offence },
+    Offence {
+        event: u32,
+        offence: Offence,
+    },
     /// A file has more bytes than its limit.
     Limit(What),
     /// A call on the files failed, and their count of faults rose.
