@@ -11,6 +11,7 @@ mod memory;
 mod name;
 mod operators;
 mod program;
+mod slot;
 mod steps;
 pub mod tables;
 #[cfg(test)]
@@ -27,6 +28,7 @@ pub use memory::{Memory, Or};
 pub use name::Name;
 pub use operators::{Bin, Imp, Un};
 pub use program::{Program, Sizes, Whole};
+pub use slot::Slot;
 pub use steps::Steps;
 pub use tables::{op1, op2};
 pub use value::{Cell, Ty, Value};

@@ -1,4 +1,3 @@
-pub mod Slots
 pub mod Form
 pub mod Plan
 pub mod Lift

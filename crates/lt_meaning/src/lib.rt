@@ -8,7 +8,6 @@ mod plan;
 mod planning;
 mod program;
 mod showing;
-mod slot;
 mod starting;
 mod state;
 mod table;

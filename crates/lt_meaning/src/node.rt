@@ -4,8 +4,7 @@ ghost use Rattle.std.specs.Prelude.{◌≡◌};
 ghost use Rattle.lt_base.specs.Meaning.{entry, present};
 ghost use Rattle.lt_meaning.specs.Form.{form, value_in};
 
-use crate::slot::Slot;
-use lt_base::{Bin, Clock, Imp, Un, Value};
+use lt_base::{Bin, Clock, Imp, Slot, Un, Value};
 
 /// An expression whose delays and calls have cells of their own.
 #[derive(Drop)]

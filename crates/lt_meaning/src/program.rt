@@ -11,10 +11,9 @@ use crate::Table;
 use crate::plan::Plan;
 use crate::planning::plan_of;
 use crate::showing::show;
-use crate::slot::Slot;
 use crate::starting::start;
 use crate::state::run;
-use lt_base::{Cell, Func, Inputs, List, Memory, Or, Program, sizes};
+use lt_base::{Cell, Func, Inputs, List, Memory, Or, Program, Slot, sizes};
 use std::alloc::Global;
 
 /// The greatest number of cells: the weight of `main` for each row of inputs.

@@ -6,8 +6,7 @@ ghost use Rattle.lt_base.specs.Meaning.{entry, cell as cell_of};
 ghost use Rattle.lt_meaning.specs.Ready.{cell_at_place};
 
 use crate::node::{at, is_present};
-use crate::slot::Slot;
-use lt_base::{Cell, Clock, Decl, List, Memory};
+use lt_base::{Cell, Clock, Decl, List, Memory, Slot};
 
 /// Puts what these variables have at an instant into their columns.
 pub fn show(

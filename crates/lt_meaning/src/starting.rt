@@ -5,9 +5,8 @@ ghost use Rattle.lt_meaning.specs.Plan.{action_form};
 ghost use Rattle.lt_meaning.specs.Stands.{CanStart, Starts, CanStartChild, ChildStarts};
 
 use crate::plan::{Action, Delay, Plan};
-use crate::slot::Slot;
 use crate::state::State;
-use lt_base::Memory;
+use lt_base::{Memory, Slot};
 use std::alloc::Global;
 
 /// The function of this number before the first instant. Fewer than `left` calls nest in it.

@@ -9,7 +9,7 @@ ghost use Rattle.lt_meaning.specs.Stands.{IsReady, Advances, CanAct, Acts, CanAn
 
 use crate::node::{Node, is_present};
 use crate::plan::{Action, Delay, Plan, Step};
-use crate::slot::Slot;
+use lt_base::Slot;
 use std::mem::swap;
 
 /// Where a call has come: its cells, what its delays keep, and the calls within it.
