@@ -112,28 +112,6 @@ fn push_all(args: &[Expr], to: &mut List<u32>) -> Result<(), Memory>
     Ok(())
 }
 
-/// The variables and delays of a function.
-fn own_weight(f: &Func) -> u64
-    ensures { result ≡ cut (weight_with nothing f.now) }
-{
-    let mut sum = f.decls.as_slice().len() as u64;
-    'equations: for equation in f.eqs.as_slice() {
-        sum = sum.saturating_add(delays(equation.right()));
-    }
-    sum
-}
-
-/// The expression parts of a function.
-fn own_parts(f: &Func) -> u64
-    ensures { result ≡ cut (sum_by (λ e. parts e.1) f.now.eqs) }
-{
-    let mut sum = 0u64;
-    'equations: for equation in f.eqs.as_slice() {
-        sum = sum.saturating_add(equation.right().parts());
-    }
-    sum
-}
-
 /// The functions that a function calls, in text order; one that is called twice stands there twice.
 pub fn calls_of(alloc: Global, f: &Func) -> Result<List<u32>, Memory>
     ensures { IfOk result (λ list. list ≡ equations_called f.now.eqs) }
@@ -145,6 +123,28 @@ pub fn calls_of(alloc: Global, f: &Func) -> Result<List<u32>, Memory>
     Ok(list)
 }
 
+/// The share of a function. The three walks over an equation come one after another, while it is in the cache.
+fn share_of<'a>(alloc: Global, function: &'a Func) -> Result<Share<'a>, Memory>
+    ensures function { IfOk result (λ s. s.function.now ≡ function.now) }
+    ensures share { IfOk result IsShare }
+{
+    let mut weight = function.decls.as_slice().len() as u64;
+    let mut parts = 0u64;
+    let mut calls = List::new(alloc);
+    'equations: for equation in function.eqs.as_slice() {
+        let right = equation.right();
+        weight = weight.saturating_add(delays(right));
+        parts = parts.saturating_add(right.parts());
+        push_calls(right, &mut calls)?;
+    }
+    Ok(Share {
+        function,
+        weight,
+        parts,
+        calls,
+    })
+}
+
 /// The shares of functions.
 fn shares<'a>(alloc: Global, functions: &'a [Func]) -> Result<Vec<Share<'a>>, Memory>
     ensures functions { IfOk result (λ shares. map (λ s. s.function.now) shares.items ≡ functions.now) }
@@ -152,12 +152,7 @@ fn shares<'a>(alloc: Global, functions: &'a [Func]) -> Result<Vec<Share<'a>>, Me
 {
     let mut shares = Vec::with_capacity(alloc, functions.len())?;
     'functions: for function in functions {
-        shares.push(Share {
-            function,
-            weight: own_weight(function),
-            parts: own_parts(function),
-            calls: calls_of(alloc, function)?,
-        })?;
+        shares.push(share_of(alloc, function)?)?;
     }
     Ok(shares)
 }

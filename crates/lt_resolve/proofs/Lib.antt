@@ -10,6 +10,7 @@ pub mod Order
 pub mod Sites
 pub mod Edges
 pub mod Distinct
+pub mod Used
 mod Lefts
 pub mod Below
 pub mod Good

@@ -8,7 +8,7 @@ use Rattle.lt_resolve.specs.declared.fault.NameKind.{NameKind}
 use Rattle.lt_resolve.specs.declared.fault.NameKind.TheVariants as kind
 use Rattle.lt_resolve.specs.declared.fault.NameFault.{NameFault}
 use Rattle.lt_resolve.specs.declared.checks.Check.{Check}
-use Rattle.lt_resolve.specs.declared.checks.Check.TheVariants.{NoEquation, TwoEquations, EquationForInput, Variables, Inputs, Outputs}
+use Rattle.lt_resolve.specs.declared.checks.Check.TheVariants.{NoEquation, TwoEquations, EquationForInput, Inputs, Outputs}
 use Rattle.lt_resolve.specs.Names.{Name}
 use Rattle.lt_resolve.specs.Uses.{Site}
 use Rattle.lt_resolve.specs.Faults.{no_equation_in, two_equations_in, input_equation_in, above, size}
@@ -18,22 +18,23 @@ abbrev pub found : Check → NodeText → Option Name
 found NoEquation n = no_equation_in n
 found TwoEquations n = two_equations_in n
 found EquationForInput n = input_equation_in n
-found Variables n = above 4096 (size n) (codes "variables")
 found Inputs n = above 64 (length n.ins) (codes "inputs")
 found Outputs n = above 64 (length n.outs) (codes "outputs")
+
+-- the word of variables, where a function has too many of them and of delays
+abbrev pub variables_limit : NodeText → Option Name
+variables_limit n = above 4096 (size n) (codes "variables")
 
 -- the kind of fault that it shows
 abbrev pub kind_of : Check → NameKind
 kind_of NoEquation = kind.NoEquation
 kind_of TwoEquations = kind.TwoEquations
 kind_of EquationForInput = kind.EquationForInput
-kind_of Variables = kind.Limit
 kind_of Inputs = kind.Limit
 kind_of Outputs = kind.Limit
 
 -- the check is of a kind of its own
 abbrev pub IsWhole : Check → Type 0
-IsWhole Variables = ⊥
 IsWhole Inputs = ⊥
 IsWhole Outputs = ⊥
 IsWhole _ = Unit {0}

@@ -1,6 +1,7 @@
 -- What the expressions of a tree read and call, in text order.
-use Rattle.std.specs.Prelude.{ℕ, ◌+◌, ◌||◌, is_some, Option, Some, None, List, [], ◌∷◌, ◌++◌, if◌then◌else◌}
+use Rattle.std.specs.Prelude.{ℕ, ◌+◌, ◌-◌, ◌^◌, min, ◌||◌, is_some, Option, Some, None, List, [], ◌∷◌, ◌++◌, if◌then◌else◌}
 use Rattle.std.specs.Option.{option_or}
+use Rattle.std.specs.List.{sum_by}
 use Rattle.lt_syntax.specs.declared.tree.NodeText.{NodeText}
 use Rattle.lt_syntax.specs.Tree.{Tm, Lit, Var, Unary, Binary, Choice, Sampled, Merged, Delayed, Followed, Arrow, Call, Tms, Nil, Cons}
 use Rattle.lt_resolve.specs.Names.{Name, number_of, among, if_missing}
@@ -96,3 +97,7 @@ abbrev mutual
   pub argument_delays : Tms → ℕ
   argument_delays Nil = 0
   argument_delays (Cons a args) = delays a + argument_delays args
+
+-- the delays in all right sides, cut at the greatest number of 64 bits
+abbrev pub all_delays : List (Name × Tm) → ℕ
+all_delays eqs = min (sum_by (λ q. delays q.1) eqs) (2 ^ 64 - 1)

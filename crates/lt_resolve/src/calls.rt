@@ -45,9 +45,17 @@ impl<'a> Call<'a> {
     }
 }
 
+/// What the equations of functions use: the calls, in text order, and for each function its delays, cut at the greatest
+/// number.
+#[derive(Drop)]
+pub struct Uses<'a> {
+    pub calls: Vec<Call<'a>>,
+    pub delays: Vec<u64>,
+}
+
 /// Appends the calls in a term, in text order.
 #[cycle(collect)]
-fn collect<'a>(
+pub fn collect<'a>(
     functions: &Names,
     caller: u32,
     term: &'a Term,
@@ -108,33 +116,6 @@ fn collect_arguments<'a>(
         collect(functions, caller, a, calls)?;
     }
     Ok(())
-}
-
-/// Appends the calls in equations.
-fn collect_equations<'a>(
-    functions: &Names,
-    caller: u32,
-    eqs: &'a List<EqText>,
-    calls: &mut Vec<Call<'a>>,
-) -> Result<(), Memory>
-    ensures { OnOk result (calls.new.items ≡ calls.old.items ++ equation_sites functions.now caller eqs.now) }
-{
-    'eqs: for eq in eqs.as_slice() {
-        collect(functions, caller, eq.right(), calls)?;
-    }
-    Ok(())
-}
-
-/// All calls of the tree, in text order.
-pub fn calls_of<'a>(alloc: Global, tables: &Tables<'a>) -> Result<Vec<Call<'a>>, Memory>
-    requires { length tables.now < 2 ^ 32 }
-    ensures { IfOk result (λ calls. calls.items ≡ sites tables.now) }
-{
-    let mut calls = Vec::new(alloc);
-    'scopes: for (i, scope) in tables.scopes().iter().enumerate() {
-        collect_equations(tables.functions(), i as u32, &scope.node().eqs, &mut calls)?;
-    }
-    Ok(calls)
 }
 
 /// How many arguments a call has to have.
@@ -221,13 +202,13 @@ fn no_recursion(alloc: Global, tables: &Tables, calls: &[Call]) -> Result<(), Or
 }
 
 /// Refuses the first fault of calls.
-pub fn check_calls(alloc: Global, tables: &Tables) -> Result<(), Or<NameFault>>
+pub fn check_calls(alloc: Global, tables: &Tables, calls: &[Call]) -> Result<(), Or<NameFault>>
     requires room { length tables.now < 2 ^ 32 }
+    requires calls { calls.now ≡ sites tables.now }
     requires cleared { Cleared tables.now 6 }
     ensures { Passes tables.now 9 result }
 {
-    let calls = calls_of(alloc, tables)?;
-    right_counts(alloc, tables, &calls)?;
-    one_output(alloc, tables, &calls)?;
-    no_recursion(alloc, tables, &calls)
+    right_counts(alloc, tables, calls)?;
+    one_output(alloc, tables, calls)?;
+    no_recursion(alloc, tables, calls)
 }

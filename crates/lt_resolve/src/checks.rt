@@ -1,9 +1,10 @@
 // The faults that are looked for in one function after another.
-ghost use Rattle.std.specs.Prelude.{◌≡◌, ◌<◌, ◌^◌, ◌-◌, length};
+ghost use Rattle.std.specs.Prelude.{◌≡◌, ◌<◌, ◌^◌, ◌-◌, length, map};
 ghost use Rattle.lt_resolve.specs.Scopes.{functions};
 ghost use Rattle.lt_resolve.specs.Faults.{first_in, above, number, no_main, functions_limit};
 ghost use Rattle.lt_resolve.specs.Told.{Tells, Shows, Cleared, Passes};
-ghost use Rattle.lt_resolve.specs.Checks.{found, kind_of, IsWhole};
+ghost use Rattle.lt_resolve.specs.Uses.{all_delays};
+ghost use Rattle.lt_resolve.specs.Checks.{found, kind_of, variables_limit, IsWhole};
 
 use crate::fault::{NameFault, NameKind};
 use crate::scope::Scope;
@@ -17,7 +18,6 @@ enum Check {
     NoEquation,
     TwoEquations,
     EquationForInput,
-    Variables,
     Inputs,
     Outputs,
 }
@@ -29,7 +29,7 @@ fn kind_of(check: Check) -> NameKind
         Check::NoEquation => NameKind::NoEquation,
         Check::TwoEquations => NameKind::TwoEquations,
         Check::EquationForInput => NameKind::EquationForInput,
-        Check::Variables | Check::Inputs | Check::Outputs => NameKind::Limit,
+        Check::Inputs | Check::Outputs => NameKind::Limit,
     }
 }
 
@@ -52,7 +52,6 @@ fn check_one<'a>(alloc: Global, check: Check, scope: &Scope<'a>) -> Result<(), O
         Check::NoEquation => scope.no_equation(alloc),
         Check::TwoEquations => scope.two_equations(alloc),
         Check::EquationForInput => scope.input_equation(),
-        Check::Variables => within(4096, scope.size(), "variables"),
         Check::Inputs => within(64, scope.node().ins.len() as u64, "inputs"),
         Check::Outputs => within(64, scope.node().outs.len() as u64, "outputs"),
     }
@@ -113,14 +112,30 @@ fn few_functions(alloc: Global, tables: &Tables) -> Result<(), Or<NameFault>>
     }
 }
 
-/// Refuses a quantity that passes its limit.
-pub fn check_limits(alloc: Global, tables: &Tables) -> Result<(), Or<NameFault>>
+/// Refuses the first function with too many variables and delays.
+fn few_variables(alloc: Global, tables: &Tables, delays: &[u64]) -> Result<(), Or<NameFault>>
     requires room { length tables.now < 2 ^ 32 }
+    requires delays { delays.now ≡ map (λ n. all_delays n.eqs) tables.now }
+    ensures { Shows NameKind.Limit (λ o. o ≡ first_in (λ _. variables_limit) 0 tables.now) result }
+{
+    'scopes: for (i, scope) in tables.scopes().iter().enumerate() {
+        match within(4096, scope.size(delays[i]), "variables") {
+            Ok(()) => {}
+            Err(error) => return Err(located(alloc, NameKind::Limit, i, error)),
+        }
+    }
+    Ok(())
+}
+
+/// Refuses a quantity that passes its limit.
+pub fn check_limits(alloc: Global, tables: &Tables, delays: &[u64]) -> Result<(), Or<NameFault>>
+    requires room { length tables.now < 2 ^ 32 }
+    requires delays { delays.now ≡ map (λ n. all_delays n.eqs) tables.now }
     requires cleared { Cleared tables.now 9 }
     ensures { Passes tables.now 10 result }
 {
     few_functions(alloc, tables)?;
-    check_all(alloc, Check::Variables, tables)?;
+    few_variables(alloc, tables, delays)?;
     check_all(alloc, Check::Inputs, tables)?;
     check_all(alloc, Check::Outputs, tables)
 }

@@ -1,17 +1,15 @@
 // How many delays stand in a term.
 ghost use Rattle.std.specs.Prelude.{◌≡◌, ◌^◌, ◌-◌, min, map};
-ghost use Rattle.std.specs.List.{sum_by};
 ghost use Rattle.lt_syntax.specs.Tree.{tms};
 ghost use Rattle.lt_syntax.specs.Views.{tm_of};
 ghost use Rattle.lt_resolve.specs.Uses.{delays, argument_delays};
 
-use lt_base::List;
-use lt_syntax::{EqText, Term};
+use lt_syntax::Term;
 
 /// The delays in a term, cut at the greatest number: a `fby` behind an expression counts twice, a `fby` behind a literal
 /// and a `->` once.
 #[cycle(delays)]
-fn delays(term: &Term) -> u64
+pub fn delays(term: &Term) -> u64
     ensures { result ≡ min (delays (tm_of term.now)) (2 ^ 64 - 1) }
 {
     match term {
@@ -38,17 +36,6 @@ fn argument_delays(args: &[Term]) -> u64
     let mut sum = 0u64;
     'arguments: for a in args {
         sum = sum.saturating_add(delays(a));
-    }
-    sum
-}
-
-/// The delays in all right sides, cut at the greatest number.
-pub fn all_delays(eqs: &List<EqText>) -> u64
-    ensures { result ≡ min (sum_by (λ q. delays q.1) eqs.now) (2 ^ 64 - 1) }
-{
-    let mut sum = 0u64;
-    'eqs: for eq in eqs.as_slice() {
-        sum = sum.saturating_add(delays(eq.right()));
     }
     sum
 }

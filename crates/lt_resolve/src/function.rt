@@ -1,13 +1,16 @@
 // Names to numbers in declarations, equations and functions.
-ghost use Rattle.std.specs.Prelude.{◌≡◌, ◌++◌, ◌+◌, ◌<◌, ◌^◌, IfOk, OnOk, List, length, reverse};
+ghost use Rattle.std.specs.Prelude.{◌≡◌, ◌++◌, ◌∷◌, [], ◌+◌, ◌<◌, ◌^◌, IfOk, OnOk, List, length, reverse};
 ghost use Rattle.lt_syntax.specs.declared.tree.DeclText.{DeclText as OneDecl};
 ghost use Rattle.lt_resolve.specs.Names.{first_some};
 ghost use Rattle.lt_resolve.specs.Faults.{unknown_clock, unknown_declared, unknown_equation, unknown_in};
 ghost use Rattle.lt_resolve.specs.Told.{Tells};
 ghost use Rattle.lt_base.specs.Program.{GoodFunction};
 ghost use Rattle.lt_resolve.specs.Named.{IsPair, IsDeclared, Along, numbers};
+ghost use Rattle.lt_resolve.specs.Uses.{equation_sites, all_delays};
 ghost use Rattle.lt_resolve.specs.Drafts.{IsDraftEquation, IsDraft, completed};
 
+use crate::calls::{Uses, collect};
+use crate::delays::delays;
 use crate::expression::expression;
 use crate::names::Names;
 use crate::scope::Scope;
@@ -75,19 +78,28 @@ fn equation<'t>(
     Ok(Equation::new(left, right))
 }
 
+/// The equations, and what they use. The walks over an equation come one after another, while it is in the cache.
 fn equations<'t>(
     alloc: Global,
     variables: &Names,
     functions: &Names,
+    caller: u32,
     eqs: &'t List<EqText>,
+    uses: &mut Uses<'t>,
 ) -> Result<Vec<Equation>, Or<&'t str>>
     ensures told { Tells (first_some (unknown_equation variables.now functions.now) eqs.now) result }
     ensures named { IfOk result (λ list. Along (IsDraftEquation variables.now functions.now) eqs.now list.items) }
+    ensures calls { OnOk result (uses.new.calls.items ≡ uses.old.calls.items ++ equation_sites functions.now caller eqs.now) }
+    ensures delays { OnOk result (uses.new.delays.items ≡ uses.old.delays.items ++ all_delays eqs.now ∷ []) }
 {
     let mut list = Vec::with_capacity(alloc, eqs.len())?;
+    let mut sum = 0u64;
     'eqs: for eq in eqs.as_slice() {
         list.push(equation(alloc, variables, functions, eq)?)?;
+        collect(functions, caller, eq.right(), &mut uses.calls)?;
+        sum = sum.saturating_add(delays(eq.right()));
     }
+    uses.delays.push(sum)?;
     Ok(list)
 }
 
@@ -99,15 +111,19 @@ pub struct Draft<'a> {
     eqs: List<Equation>,
 }
 
-/// The function with its names replaced by numbers; refuses the first name that has none.
+/// The function with its names replaced by numbers, and what its equations use; refuses the first name that has no number.
 pub fn draft_of<'a>(
     alloc: Global,
     functions: &Names,
+    caller: u32,
     scope: &Scope<'a>,
+    uses: &mut Uses<'a>,
 ) -> Result<Draft<'a>, Or<&'a str>>
     ensures told { Tells (unknown_in functions.now scope.now) result }
     ensures node { IfOk result (λ d. d.node.now ≡ scope.now) }
     ensures draft { IfOk result (IsDraft functions.now) }
+    ensures calls { OnOk result (uses.new.calls.items ≡ uses.old.calls.items ++ equation_sites functions.now caller scope.now.eqs) }
+    ensures delays { OnOk result (uses.new.delays.items ≡ uses.old.delays.items ++ all_delays scope.now.eqs ∷ []) }
 {
     let node = scope.node();
     let variables = scope.variables();
@@ -115,7 +131,7 @@ pub fn draft_of<'a>(
     declare(alloc, variables, &node.ins, &mut decls)?;
     declare(alloc, variables, &node.outs, &mut decls)?;
     declare(alloc, variables, &node.locals, &mut decls)?;
-    let eqs = equations(alloc, variables, functions, &node.eqs)?;
+    let eqs = equations(alloc, variables, functions, caller, &node.eqs, uses)?;
     Ok(Draft {
         node,
         decls: List::of(decls),

@@ -8,7 +8,7 @@ ghost use Rattle.lt_resolve.specs.Drafts.{AreDrafts};
 ghost use Rattle.lt_resolve.specs.Right.{IsRightTree};
 ghost use Rattle.lt_resolve.specs.Resolves.{Resolves};
 
-use crate::calls::check_calls;
+use crate::calls::{Uses, check_calls};
 use crate::checks::{check_functions, check_limits};
 use crate::drafts::drafts;
 use crate::fault::NameFault;
@@ -50,9 +50,13 @@ pub fn resolve(alloc: Global, t: &Tree) -> Result<Program, Or<NameFault>>
 {
     t.kept();
     let tables = Tables::of(alloc, t)?;
-    let drafts = drafts(alloc, &tables)?;
+    let mut uses = Uses {
+        calls: Vec::new(alloc),
+        delays: Vec::new(alloc),
+    };
+    let drafts = drafts(alloc, &tables, &mut uses)?;
     check_functions(alloc, &tables)?;
-    check_calls(alloc, &tables)?;
-    check_limits(alloc, &tables)?;
+    check_calls(alloc, &tables, &uses.calls)?;
+    check_limits(alloc, &tables, &uses.delays)?;
     Ok(program(alloc, &tables, drafts)?)
 }

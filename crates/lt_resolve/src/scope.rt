@@ -3,9 +3,9 @@ ghost use Rattle.std.specs.Prelude.{◌≡◌, ◌++◌, ◌∷◌, [], ◌^◌,
 ghost use Rattle.lt_resolve.specs.Names.{among, if_missing, if_among, repeated, first_some};
 ghost use Rattle.lt_resolve.specs.Scopes.{names_of, variables, lefts};
 ghost use Rattle.lt_resolve.specs.Faults.{no_equation_in, two_equations_in, input_equation_in, size};
+ghost use Rattle.lt_resolve.specs.Uses.{all_delays};
 ghost use Rattle.lt_resolve.specs.Told.{Tells};
 
-use crate::delays::all_delays;
 use crate::names::Names;
 use lt_base::{List, Memory, Or};
 use lt_syntax::{DeclText, EqText, NodeText};
@@ -141,8 +141,9 @@ impl<'a> Scope<'a> {
         Ok(())
     }
 
-    /// The number of its variables and delays, cut at the greatest number.
-    pub fn size(&self) -> u64
+    /// The number of its variables and of these, its delays, cut at the greatest number.
+    pub fn size(&self, delays: u64) -> u64
+        requires { delays ≡ all_delays self.now.eqs }
         ensures { result ≡ min (size self.now) (2 ^ 64 - 1) }
     {
         let ins = self.node.ins.len() as u64;
@@ -150,6 +151,6 @@ impl<'a> Scope<'a> {
         let locals = self.node.locals.len() as u64;
         ins.saturating_add(outs)
             .saturating_add(locals)
-            .saturating_add(all_delays(&self.node.eqs))
+            .saturating_add(delays)
     }
 }

@@ -1,5 +1,7 @@
 -- What the values in memory stand for.
-use Rattle.std.specs.Prelude.{ℕ, List, [], ◌∷◌, map, reverse}
+use Rattle.std.specs.Prelude.{ℕ, Bool, true, false, List, [], ◌∷◌, map, reverse, Option, Some, None}
+use Rattle.lt_base.specs.declared.operators.Un.TheVariants.{Neg}
+use Rattle.lt_base.specs.declared.value.Value.{Value}
 use Rattle.lt_syntax.specs.declared.term.Term.{Term}
 use Rattle.lt_syntax.specs.declared.term.Term.TheOpen.{Term-F, Lit, Var, Un, Bin, If, When, Merge, Fby, Follow, Arrow, Call}
 use Rattle.lt_syntax.specs.declared.term.Term.TheFolds.{fold-Term}
@@ -31,8 +33,19 @@ tm_step (Call f v) = tree.Call f (tms v.items)
 abbrev pub tm_of : Term → Tm
 tm_of = fold-Term Tm tm_step
 
+-- the value of a term whose text is a literal
+abbrev pub value_of : Tm → Option Value
+value_of (tree.Lit v) = Some v
+value_of (tree.Unary Neg a) = machine.negative (value_of a)
+value_of _ = None
+
+-- the value, where the text is a literal
+abbrev pub lead_of : Bool → Tm → Option Value
+lead_of true t = value_of t
+lead_of false t = None
+
 abbrev pub operand_of : code.Operand → machine.Operand
-operand_of a = record { tree = tm_of a.term.value; height = a.height; lead = a.lead }
+operand_of a = record { tree = tm_of a.term.value; height = a.height; lead = lead_of a.literal (tm_of a.term.value) }
 
 abbrev pub frame_of : Frame → machine.Frame
 frame_of frame.AfterMinus = machine.AfterMinus

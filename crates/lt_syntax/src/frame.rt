@@ -3,19 +3,19 @@ ghost use Rattle.std.specs.Prelude.{◌≡◌, ◌+◌, ◌<◌, ◌≤◌, ◌^
 ghost use Rattle.lt_tokens.specs.Text.{greatest};
 ghost use Rattle.lt_syntax.specs.Grammar.{joined, left_height};
 ghost use Rattle.lt_syntax.specs.Machine as machine;
-ghost use Rattle.lt_syntax.specs.Views.{frame_of, operand_of, tm_of};
+ghost use Rattle.lt_syntax.specs.Views.{frame_of, operand_of, tm_of, value_of};
 
 use crate::term::Term;
 use lt_base::{Memory, Name, Un, Value};
 use lt_tokens::Infix;
 use std::alloc::Global;
 
-/// A whole operand: its tree, the height of its text, and its value where the text is a literal.
+/// A whole operand: its tree, the height of its text, and whether the text is a literal, which may have `-` before it.
 #[derive(Drop)]
 pub struct Operand {
     pub term: Box<Term>,
     pub height: u32,
-    pub lead: Option<Value>,
+    pub literal: bool,
 }
 
 /// A form that is begun, and waits for its next part.
@@ -56,11 +56,10 @@ pub fn number(alloc: Global, n: u64) -> Result<Operand, Memory>
     requires { n ≤ greatest }
     ensures { IfOk result (λ r. operand_of r ≡ machine.number_of n) }
 {
-    let value = Value::Int(n as i64);
     Ok(Operand {
-        term: Box::new(alloc, Term::Lit(value))?,
+        term: Box::new(alloc, Term::Lit(Value::Int(n as i64)))?,
         height: 1,
-        lead: Some(value),
+        literal: true,
     })
 }
 
@@ -70,7 +69,7 @@ pub fn truth(alloc: Global, b: bool) -> Result<Operand, Memory>
     Ok(Operand {
         term: Box::new(alloc, Term::Lit(Value::Bool(b)))?,
         height: 1,
-        lead: Some(Value::Bool(b)),
+        literal: true,
     })
 }
 
@@ -80,7 +79,7 @@ pub fn variable(alloc: Global, x: Name) -> Result<Operand, Memory>
     Ok(Operand {
         term: Box::new(alloc, Term::Var(x))?,
         height: 1,
-        lead: None,
+        literal: false,
     })
 }
 
@@ -92,7 +91,7 @@ pub fn call(alloc: Global, f: Name, xs: Vec<Term>, h: u32) -> Result<Operand, Me
     Ok(Operand {
         term: Box::new(alloc, Term::Call(f, xs))?,
         height: h.max(1) + 1,
-        lead: None,
+        literal: false,
     })
 }
 
@@ -106,6 +105,24 @@ fn negative(lead: Option<Value>) -> Option<Value>
     }
 }
 
+/// The value of a term whose text is a literal.
+fn value_of(t: &Term) -> Option<Value>
+    ensures { result ≡ value_of (tm_of t.now) }
+{
+    match t {
+        Term::Lit(v) => Some(*v),
+        Term::Un(Un::Neg, a) => negative(value_of(a)),
+        _ => None,
+    }
+}
+
+/// Its value, where its text is a literal.
+fn lead(a: &Operand) -> Option<Value>
+    ensures { result ≡ (operand_of a.now).lead }
+{
+    if a.literal { value_of(&a.term) } else { None }
+}
+
 fn after_minus(alloc: Global, b: Operand) -> Result<Operand, Memory>
     requires { (machine.complete machine.AfterMinus (operand_of b)).height < 2 ^ 32 }
     ensures { IfOk result (λ r. operand_of r ≡ machine.complete machine.AfterMinus (operand_of b)) }
@@ -113,7 +130,7 @@ fn after_minus(alloc: Global, b: Operand) -> Result<Operand, Memory>
     Ok(Operand {
         term: Box::new(alloc, Term::Un(Un::Neg, b.term))?,
         height: b.height + 1,
-        lead: negative(b.lead),
+        literal: b.literal,
     })
 }
 
@@ -124,35 +141,33 @@ fn after_not(alloc: Global, b: Operand) -> Result<Operand, Memory>
     Ok(Operand {
         term: Box::new(alloc, Term::Un(Un::Not, b.term))?,
         height: b.height + 1,
-        lead: None,
+        literal: false,
     })
 }
 
 /// The height of a left side: a literal to the left of `fby` or `->` has 1.
 pub fn left_height(o: Infix, a: &Operand) -> u32
-    ensures { result ≡ left_height o a.now.lead a.now.height }
+    ensures { result ≡ left_height o (operand_of a.now).lead a.now.height }
 {
     match o {
         Infix::Operator(_) => a.height,
-        Infix::Fby | Infix::Arrow => { if a.lead.is_some() { 1 } else { a.height } }
+        Infix::Fby | Infix::Arrow => { if lead(a).is_some() { 1 } else { a.height } }
     }
 }
 
-fn joined(
-    alloc: Global,
-    o: Infix,
-    lead: Option<Value>,
-    a: Box<Term>,
-    b: Box<Term>,
-) -> Result<Term, Memory>
-    ensures { IfOk result (λ r. tm_of r ≡ joined o lead (tm_of a.value) (tm_of b.value)) }
+fn joined(alloc: Global, o: Infix, a: Operand, b: Box<Term>) -> Result<Term, Memory>
+    ensures { IfOk result (λ r. tm_of r ≡ joined o (operand_of a).lead (tm_of a.term.value) (tm_of b.value)) }
 {
-    match (o, lead) {
-        (Infix::Operator(bin), _) => Ok(Term::Bin(bin, a, b)),
-        (Infix::Fby, Some(value)) => Ok(Term::Fby(value, b)),
-        (Infix::Fby, None) => Ok(Term::Follow(a, b)),
-        (Infix::Arrow, Some(value)) => Ok(Term::Arrow(Box::new(alloc, Term::Lit(value))?, b)),
-        (Infix::Arrow, None) => Ok(Term::Arrow(a, b)),
+    match o {
+        Infix::Operator(bin) => Ok(Term::Bin(bin, a.term, b)),
+        Infix::Fby => match lead(&a) {
+            Some(value) => Ok(Term::Fby(value, b)),
+            None => Ok(Term::Follow(a.term, b)),
+        },
+        Infix::Arrow => match lead(&a) {
+            Some(value) => Ok(Term::Arrow(Box::new(alloc, Term::Lit(value))?, b)),
+            None => Ok(Term::Arrow(a.term, b)),
+        },
     }
 }
 
@@ -162,9 +177,9 @@ fn after_infix(alloc: Global, o: Infix, a: Operand, b: Operand) -> Result<Operan
 {
     let height = left_height(o, &a).max(b.height) + 1;
     Ok(Operand {
-        term: Box::new(alloc, joined(alloc, o, a.lead, a.term, b.term)?)?,
+        term: Box::new(alloc, joined(alloc, o, a, b.term)?)?,
         height,
-        lead: None,
+        literal: false,
     })
 }
 
@@ -176,7 +191,7 @@ fn after_else(alloc: Global, c: Operand, a: Operand, b: Operand) -> Result<Opera
     Ok(Operand {
         term: Box::new(alloc, Term::If(c.term, a.term, b.term))?,
         height,
-        lead: None,
+        literal: false,
     })
 }
 
@@ -188,7 +203,7 @@ fn second_part(alloc: Global, c: Name, a: Operand, b: Operand) -> Result<Operand
     Ok(Operand {
         term: Box::new(alloc, Term::Merge(c, a.term, b.term))?,
         height,
-        lead: None,
+        literal: false,
     })
 }
 
@@ -215,7 +230,7 @@ pub fn paren(b: Operand) -> Operand
     Operand {
         term: b.term,
         height: b.height + 1,
-        lead: None,
+        literal: false,
     }
 }
 
@@ -226,6 +241,6 @@ pub fn sampled(alloc: Global, a: Operand, c: Name, b: bool) -> Result<Operand, M
     Ok(Operand {
         term: Box::new(alloc, Term::When(a.term, c, b))?,
         height: a.height + 1,
-        lead: None,
+        literal: false,
     })
 }

@@ -516,6 +516,19 @@ fn in_equation(alloc: Global, p: &mut Parser, t: Token) -> Result<(), Or<Kind>>
     }
 }
 
+/// A name in the right side of an equation. Where an operand must begin, it changes the mode alone.
+fn name_in_equation(alloc: Global, p: &mut Parser, x: Name) -> Result<(), Or<Kind>>
+    requires inside { IsIn p.old.phase }
+    requires room { Fits LIMIT (state_of p.old).phase }
+    ensures { Steps result (state_of p.new) (parser.step LIMIT (state_of p.old) (token.Ident x)) }
+{
+    if let Mode::Want = &p.mode {
+        p.mode = Mode::Named(x);
+        return Ok(());
+    }
+    in_equation(alloc, p, Token::Ident(x))
+}
+
 /// Takes one token. Behind an error the parser is of no use.
 pub fn step(alloc: Global, p: &mut Parser, t: Token) -> Result<(), Or<Kind>>
     requires small { IsSmall t }
@@ -523,7 +536,10 @@ pub fn step(alloc: Global, p: &mut Parser, t: Token) -> Result<(), Or<Kind>>
     ensures { Steps result (state_of p.new) (parser.step LIMIT (state_of p.old) t) }
 {
     if let Phase::In(_, _) = &p.phase {
-        return in_equation(alloc, p, t);
+        return match t {
+            Token::Ident(x) => name_in_equation(alloc, p, x),
+            t => in_equation(alloc, p, t),
+        };
     }
     match replace(&mut p.phase, Phase::Told) {
         Phase::Body(n) => end_body(p, n, t),

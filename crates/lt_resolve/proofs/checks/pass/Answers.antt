@@ -1,7 +1,7 @@
 use Rattle.std.proofs.Common.{◌≡◌, suc, ◌-◌, Option, List, refl}
 use Rattle.lt_syntax.specs.declared.tree.NodeText.{NodeText}
 use Rattle.lt_resolve.specs.declared.checks.Check.{Check}
-use Rattle.lt_resolve.specs.declared.checks.Check.TheVariants.{NoEquation, TwoEquations, EquationForInput, Variables, Inputs, Outputs}
+use Rattle.lt_resolve.specs.declared.checks.Check.TheVariants.{NoEquation, TwoEquations, EquationForInput, Inputs, Outputs}
 use Rattle.lt_resolve.specs.Faults.{Occurrence, first_in, First, number}
 use Rattle.lt_resolve.specs.Checks.{found, kind_of, IsWhole}
 use Rattle.lt_resolve.proofs.Order.{passes, shows_as}
@@ -11,7 +11,6 @@ whole_first : (check : Check) → IsWhole check → (t : List NodeText) (o : Opt
 whole_first NoEquation w t o h = h
 whole_first TwoEquations w t o h = h
 whole_first EquationForInput w t o h = h
-whole_first Variables w t o h = absurd w
 whole_first Inputs w t o h = absurd w
 whole_first Outputs w t o h = absurd w
 
@@ -19,7 +18,6 @@ next_number : (check : Check) → number (kind_of check) ≡ suc (number (kind_o
 next_number NoEquation = refl
 next_number TwoEquations = refl
 next_number EquationForInput = refl
-next_number Variables = refl
 next_number Inputs = refl
 next_number Outputs = refl
 
