@@ -1,29 +1,28 @@
 -- The flat form of a checked program keeps what its main function does.
-use Rattle.std.proofs.Common.{◌≡◌, ◌∙◌, ℕ, zero, suc, ◌+◌, ◌<◌, ◌≤◌, List, [], ◌∷◌, ◌++◌, length, replicate, Option, Some, None, refl, sym, ap, subst, arith, append_assoc, length-append}
+use Rattle.std.proofs.Common.{◌≡◌, ◌∙◌, ℕ, zero, suc, ◌+◌, ◌<◌, ◌≤◌, List, [], ◌∷◌, ◌++◌, length, replicate, Option, Some, refl, sym, ap, subst, arith, append_assoc, length-append}
 use Rattle.std.specs.Prelude.{All, IfOk, Result, Ok, Err, slice_index, slice_index_or}
 use Rattle.std.specs.List.{range_with_len}
 use Rattle.std.proofs.lemmas.List.Elements.{All-nil, All-cons, All-head, All-tail}
 use Rattle.lt_base.specs.declared.memory.Memory.{Memory}
 use Rattle.lt_base.specs.declared.program.Whole.{Whole}
-use Rattle.lt_base.specs.declared.value.Value.{Value}
 use Rattle.lt_base.specs.declared.function.Decl.{Decl}
 use Rattle.lt_base.specs.Expression.{Expression}
 use Rattle.lt_base.specs.Program.{Function, WholeProgram, GoodFunction, GoodProgram}
-use Rattle.lt_base.specs.Meaning.{function_of, calls, stream_of}
+use Rattle.lt_base.specs.Meaning.{function_of, stream_of}
 use Rattle.lt_base.specs.Checked.{CheckedProgram}
-use Rattle.lt_base.specs.Sizes.{weight_with, program_weight}
 use Rattle.lt_base.proofs.Defined.{good_function}
 use Rattle.lt_norm.specs.Flat.{Originated}
 use Rattle.lt_norm.specs.Lift.{normal_form}
-use Rattle.lt_norm.specs.NormalForm.{NormalFormOf, new_origins, right_places}
+use Rattle.lt_norm.specs.NormalForm.{NormalFormOf, new_origins}
 use Rattle.lt_norm.proofs.Loop.{lefts_inside}
-use Rattle.lt_norm.proofs.NormalForms.{normal_is, normal_flat}
+use Rattle.lt_norm.proofs.NormalForms.{normal_is, normal_good}
 use Rattle.lt_expand.specs.Copies.{expansion}
 use Rattle.lt_expand.specs.Expansion.{ExpansionOf, ProgramExpansion, origins_of, new_origins as copy_origins}
 use Rattle.lt_expand.proofs.Expanded.{expands, within_all}
 use Rattle.lt_expand.proofs.Lawful.{programs_expand}
-use Rattle.lt_front.specs.Checked.{IsWithin}
+use Rattle.lt_front.specs.Examined.{IsWithin}
 use Rattle.lt_front.specs.Flattened.{function_or_none, main_function, expansion_origins, flat_of, KeepsMain}
+use Rattle.lt_front.proofs.FlatSizes.{flat_weight, flat_parts, flat_pairs}
 
 -- ---- lists of origins
 
@@ -111,6 +110,9 @@ module _ (p : WholeProgram) (good : GoodProgram p) (checked : CheckedProgram p) 
         (lifted_arose (λ y. y < length f.decls) (expansion_origins p) (expansion p).decls (expansion p).eqs o_arose
         (subst (λ k. All (λ q. q.0 < k) (expansion p).eqs) (sym o_each) (lefts_inside (expansion p) F_good)))
 
+    few : length (normal_form (expansion p)).decls ≤ 4096
+    few = let w = n.within in let s = x.weight in let m = within.weight in omega (arith, w, s, m)
+
     kept : KeepsMain p (record { func = normal_form (expansion p); origin = expansion_origins p ++ new_origins (expansion_origins p) (expansion p).decls (expansion p).eqs })
     kept = record {
       inputs = n.inputs ∙ k.inputs ∙ sym (ap (λ (g : Function). g.n_in) main_is);
@@ -129,7 +131,10 @@ module _ (p : WholeProgram) (good : GoodProgram p) (checked : CheckedProgram p) 
       each = n.each o_each;
       own = λ y l. own_at y (subst (λ (g : Function). y < length g.decls) main_is l);
       arose = subst (λ (g : Function). All (λ y. y < length g.decls) (expansion_origins p ++ new_origins (expansion_origins p) (expansion p).decls (expansion p).eqs)) (sym main_is) all_arose;
-      few = (let w = n.within in let s = x.weight in let m = within.weight in omega (arith, w, s, m));
+      few = few;
+      slots = (let w = flat_weight (normal_form (expansion p)) (normal_good (expansion p) F_good k.typed k.clocked k.causal) n.flat in omega (arith, w, few));
+      parts = (let s = flat_parts (expansion p) in let e = x.parts in let m = within.parts in omega (arith, s, e, m));
+      pairs = flat_pairs (normal_form (expansion p)).decls n.clocked.clocks few;
     }
 
   found_main : (i : ℕ) (fs : List Function) → i < length fs → (f : Function) × (function_of fs i ≡ Some f)

@@ -3,4 +3,5 @@ pub mod Rooms
 pub mod Outcomes
 pub mod OneProgram
 pub mod OneFault
+pub mod FlatSizes
 pub mod Flattens

@@ -16,7 +16,7 @@ use Rattle.lt_resolve.specs.Faults.{Occurrence, First, IsFirstFault, number}
 use Rattle.lt_front.specs.declared.fault.ProgramFault.{ProgramFault}
 use Rattle.lt_front.specs.declared.fault.ProgramFault.TheVariants as fault
 use Rattle.lt_front.specs.Limits.{is_limit, is_limit_kind}
-use Rattle.lt_front.specs.Front.{syntax_verdict, name_verdict, IsTypeFault, IsClockFault, IsCycle, IsTooMany, fits_verdict, causal_verdict, clocked_verdict, typed_verdict, front_verdict}
+use Rattle.lt_front.specs.Front.{syntax_verdict, name_verdict, IsTypeFault, IsClockFault, IsCycle, IsTooMany, fits_verdict, causal_verdict, clocked_verdict, typed_verdict, examine_verdict}
 use Rattle.lt_verdict.proofs.Decided.{HasOneOutcome, of_rule, and_then_one}
 use Rattle.lt_front.proofs.OneProgram.{one_program}
 
@@ -171,7 +171,7 @@ typed_decided t p =
     and_then_one is_limit _ _ (of_rule is_limit _ (IsTypeFault t p) (λ e f q r. type_no_limit t p e q ∙ sym (type_no_limit t p f r))) (λ _. clocked_decided t p)
 
 -- all right faults are limits, or none is, and then no program is right; and at most one program is
-pub front_decided : (bytes : List ℕ) → HasOneOutcome is_limit (front_verdict bytes)
-unfolding front_verdict
+pub front_decided : (bytes : List ℕ) → HasOneOutcome is_limit (examine_verdict bytes)
+unfolding examine_verdict
 front_decided bytes =
     and_then_one is_limit _ _ (syntax_decided bytes) (λ t. and_then_one is_limit _ _ (names_decided t) (λ p. typed_decided t p))

@@ -12,7 +12,7 @@ use Rattle.lt_syntax.specs.declared.tree.NodeText.{NodeText}
 use Rattle.lt_resolve.specs.Names.{Name}
 use Rattle.lt_resolve.specs.Named.{Along, IsFunction}
 use Rattle.lt_resolve.specs.Resolves.{IsResolved}
-use Rattle.lt_front.specs.Checked.{HasRoom}
+use Rattle.lt_front.specs.Examined.{HasRoom}
 use Rattle.lt_front.specs.Causality.{IsFirstCycle}
 use Rattle.lt_front.proofs.Lengths.{IsFew}
 

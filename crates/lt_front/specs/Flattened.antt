@@ -1,12 +1,15 @@
 -- The flat form of a program: the normal form of its expansion.
 use Rattle.std.specs.Prelude.{◌≡◌, ℕ, ◌<◌, ◌≤◌, Option, Some, None, List, [], ◌++◌, length, All, slice_index}
+use Rattle.std.specs.List.{sum_by}
 use Rattle.lt_base.specs.declared.value.Value.{Value}
 use Rattle.lt_base.specs.declared.function.Decl.{Decl}
+use Rattle.lt_base.specs.Expression.{parts as expression_parts}
 use Rattle.lt_base.specs.Program.{Function, WholeProgram}
 use Rattle.lt_base.specs.Meaning.{function_of, stream_of}
 use Rattle.lt_base.specs.Typing.{TypedFunction}
 use Rattle.lt_base.specs.Clocking.{ClockedFunction}
 use Rattle.lt_base.specs.Dependence.{Causal}
+use Rattle.lt_base.specs.Sizes.{weight_with}
 use Rattle.lt_expand.specs.Copies.{no_function, expansion}
 use Rattle.lt_expand.specs.Expansion.{origins_of}
 use Rattle.lt_norm.specs.Flat.{Originated, FlatFunction}
@@ -56,3 +59,9 @@ pub record KeepsMain (p : WholeProgram) (f : Originated) : Type 0 where
   pub arose : All (λ x. x < length (main_function p).decls) f.origin
   -- there are no more variables than the greatest weight
   pub few : length f.func.decls ≤ 4096
+  -- with its delays, of which an equation has at most one, it has at most twice as many slots
+  pub slots : weight_with (λ _. 0) f.func ≤ 8192
+  -- it has at most eight times the greatest number of expression parts
+  pub parts : sum_by (λ q. expression_parts q.1) f.func.eqs ≤ 2097152
+  -- the declared clocks together have no more pairs than the greatest weight times itself
+  pub pairs : sum_by (λ (d : Decl). length d.clock) f.func.decls ≤ 16777216

@@ -15,7 +15,7 @@ use Rattle.lt_front.specs.declared.fault.ProgramFault.{ProgramFault}
 use Rattle.lt_front.specs.declared.fault.ProgramFault.TheVariants as fault
 use Rattle.lt_answer.specs.Answered.{Verdict, AndThen}
 use Rattle.lt_verdict.specs.Rules.{OfRule}
-use Rattle.lt_front.specs.Checked.{CheckedText, IsWithin}
+use Rattle.lt_front.specs.Examined.{ExaminedText, IsWithin}
 use Rattle.lt_front.specs.Causality.{IsFirstCycle}
 
 -- the bytes spell a tree, or else no tree, and then the fault is at the first place that shows it
@@ -48,22 +48,22 @@ IsTooMany p (fault.TooMany s) = (s.weight ≡ cut (program_weight p)) × (s.part
 IsTooMany p _ = ⊥
 
 -- the program within its limits
-abbrev pub fits_verdict : List NodeText → WholeProgram → Verdict CheckedText ProgramFault
+abbrev pub fits_verdict : List NodeText → WholeProgram → Verdict ExaminedText ProgramFault
 fits_verdict t p (Ok c) = IsWithin p × (c ≡ record { tree = t; program = p })
 fits_verdict t p (Err e) = (IsWithin p → ⊥) × IsTooMany p e
 
-abbrev pub causal_verdict : List NodeText → WholeProgram → Verdict CheckedText ProgramFault
+abbrev pub causal_verdict : List NodeText → WholeProgram → Verdict ExaminedText ProgramFault
 causal_verdict t p = AndThen (OfRule (CausalProgram p) (IsCycle t p)) (λ _. fits_verdict t p)
 
-abbrev pub clocked_verdict : List NodeText → WholeProgram → Verdict CheckedText ProgramFault
+abbrev pub clocked_verdict : List NodeText → WholeProgram → Verdict ExaminedText ProgramFault
 clocked_verdict t p = AndThen (OfRule (ClockedProgram p) (IsClockFault t p)) (λ _. causal_verdict t p)
 
-abbrev pub typed_verdict : List NodeText → WholeProgram → Verdict CheckedText ProgramFault
+abbrev pub typed_verdict : List NodeText → WholeProgram → Verdict ExaminedText ProgramFault
 typed_verdict t p = AndThen (OfRule (TypedProgram p) (IsTypeFault t p)) (λ _. clocked_verdict t p)
 
-abbrev pub resolved_verdict : List NodeText → Verdict CheckedText ProgramFault
+abbrev pub resolved_verdict : List NodeText → Verdict ExaminedText ProgramFault
 resolved_verdict t = AndThen (name_verdict t) (λ p. typed_verdict t p)
 
 -- syntax, names, types, clocks, causality and sizes
-unfoldable pub front_verdict : List ℕ → Verdict CheckedText ProgramFault
-front_verdict bytes = AndThen (syntax_verdict bytes) (λ t. resolved_verdict t)
+unfoldable pub examine_verdict : List ℕ → Verdict ExaminedText ProgramFault
+examine_verdict bytes = AndThen (syntax_verdict bytes) (λ t. resolved_verdict t)

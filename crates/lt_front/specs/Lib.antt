@@ -1,5 +1,6 @@
-pub mod Checked
+pub mod Examined
 pub mod Causality
 pub mod Front
 pub mod Limits
 pub mod Flattened
+pub mod Checked

@@ -1,15 +1,19 @@
-// Programs that passed all checks.
-ghost use Rattle.lt_front.specs.Checked.{IsChecked};
+// Programs that passed all checks, with their flat forms.
+ghost use Rattle.std.specs.Prelude.{◌≡◌};
+ghost use Rattle.lt_front.specs.Checked.{IsChecked, examined_part};
 
+use crate::Examined;
 use lt_base::Program;
+use lt_norm::Flat;
 use lt_syntax::Tree;
 use std::marker::Model;
 
-/// A program that passed all checks, beside the tree of its text.
+/// A program that passed all checks, beside the tree of its text and its flat form.
 #[derive(Drop)]
 pub struct Checked {
     pub tree: Tree,
     pub program: Program,
+    pub flat: Flat,
 }
 
 impl Model for Checked {
@@ -19,9 +23,9 @@ impl Model for Checked {
 
     ghost coded = { coded_checked };
 
-    ghost view = { λ c. record { tree = c.tree; program = c.program } };
+    ghost view = { λ c. record { tree = c.tree; program = c.program; flat = c.flat } };
 
-    ghost invariant = { λ c. IsChecked (record { tree = c.tree; program = c.program }) };
+    ghost invariant = { λ c. IsChecked (record { tree = c.tree; program = c.program; flat = c.flat }) };
 }
 
 impl Checked {
@@ -30,5 +34,15 @@ impl Checked {
         ensures { IsChecked self.now }
     {
         let _ = &self.tree;
+    }
+
+    /// The same program and tree, without the flat form.
+    pub fn examined(self) -> Examined
+        ensures { result ≡ examined_part self }
+    {
+        Examined {
+            tree: self.tree,
+            program: self.program,
+        }
     }
 }

@@ -4,12 +4,12 @@ ghost use Rattle.lt_base.specs.Clocking.{ClockedProgram};
 ghost use Rattle.lt_base.specs.Dependence.{CausalProgram};
 ghost use Rattle.lt_base.specs.Typing.{TypedProgram};
 ghost use Rattle.lt_resolve.specs.Resolves.{IsResolved};
-ghost use Rattle.lt_front.specs.Checked.{HasRoom};
+ghost use Rattle.lt_front.specs.Examined.{HasRoom};
 ghost use Rattle.lt_answer.specs.Answered.{Settles};
-ghost use Rattle.lt_front.specs.Front.{front_verdict, resolved_verdict, typed_verdict, clocked_verdict, causal_verdict, fits_verdict};
+ghost use Rattle.lt_front.specs.Front.{examine_verdict, resolved_verdict, typed_verdict, clocked_verdict, causal_verdict, fits_verdict};
 
 use crate::causality::causality;
-use crate::{Checked, ProgramFault};
+use crate::{Examined, ProgramFault};
 use lt_base::{Or, Program};
 use lt_check::{clocks, sizes, types};
 use lt_resolve::resolve;
@@ -23,10 +23,10 @@ const GREATEST_WEIGHT: u64 = 4_096;
 const MOST_PARTS: u64 = 262_144;
 
 /// The program of a text: syntax, names, types, clocks, the causality of each function and the sizes are checked in this order.
-#[tactic(auto, unfolding(crate::specs::Front::front_verdict))]
-pub fn front(alloc: Global, bytes: &[u8]) -> Result<Checked, Or<ProgramFault>>
+#[tactic(auto, unfolding(crate::specs::Front::examine_verdict))]
+pub fn examine(alloc: Global, bytes: &[u8]) -> Result<Examined, Or<ProgramFault>>
     requires { length bytes.now < 2 ^ 32 }
-    ensures { Settles (front_verdict bytes.now) result }
+    ensures { Settles (examine_verdict bytes.now) result }
 {
     match parse(alloc, bytes) {
         Ok(tree) => resolved(alloc, tree),
@@ -35,7 +35,7 @@ pub fn front(alloc: Global, bytes: &[u8]) -> Result<Checked, Or<ProgramFault>>
 }
 
 // The names, and what follows.
-fn resolved(alloc: Global, tree: Tree) -> Result<Checked, Or<ProgramFault>>
+fn resolved(alloc: Global, tree: Tree) -> Result<Examined, Or<ProgramFault>>
     requires { HasRoom tree }
     ensures { Settles (resolved_verdict tree) result }
 {
@@ -47,7 +47,7 @@ fn resolved(alloc: Global, tree: Tree) -> Result<Checked, Or<ProgramFault>>
 }
 
 // The types, and what follows.
-fn typed(alloc: Global, tree: Tree, program: Program) -> Result<Checked, Or<ProgramFault>>
+fn typed(alloc: Global, tree: Tree, program: Program) -> Result<Examined, Or<ProgramFault>>
     requires room { HasRoom tree }
     requires resolved { IsResolved tree program }
     ensures { Settles (typed_verdict tree program) result }
@@ -59,7 +59,7 @@ fn typed(alloc: Global, tree: Tree, program: Program) -> Result<Checked, Or<Prog
 }
 
 // The clocks, and what follows.
-fn clocked(alloc: Global, tree: Tree, program: Program) -> Result<Checked, Or<ProgramFault>>
+fn clocked(alloc: Global, tree: Tree, program: Program) -> Result<Examined, Or<ProgramFault>>
     requires room { HasRoom tree }
     requires resolved { IsResolved tree program }
     requires typed { TypedProgram program }
@@ -73,7 +73,7 @@ fn clocked(alloc: Global, tree: Tree, program: Program) -> Result<Checked, Or<Pr
 }
 
 // The causality, and what follows.
-fn ordered(alloc: Global, tree: Tree, program: Program) -> Result<Checked, Or<ProgramFault>>
+fn ordered(alloc: Global, tree: Tree, program: Program) -> Result<Examined, Or<ProgramFault>>
     requires room { HasRoom tree }
     requires resolved { IsResolved tree program }
     requires typed { TypedProgram program }
@@ -92,7 +92,7 @@ fn ordered(alloc: Global, tree: Tree, program: Program) -> Result<Checked, Or<Pr
 }
 
 // The sizes.
-fn measured(alloc: Global, tree: Tree, program: Program) -> Result<Checked, Or<ProgramFault>>
+fn measured(alloc: Global, tree: Tree, program: Program) -> Result<Examined, Or<ProgramFault>>
     requires room { HasRoom tree }
     requires resolved { IsResolved tree program }
     requires typed { TypedProgram program }
@@ -104,5 +104,5 @@ fn measured(alloc: Global, tree: Tree, program: Program) -> Result<Checked, Or<P
     if sizes.weight > GREATEST_WEIGHT || sizes.parts > MOST_PARTS {
         return Err(Or::Fault(ProgramFault::TooMany(sizes)));
     }
-    Ok(Checked { tree, program })
+    Ok(Examined { tree, program })
 }

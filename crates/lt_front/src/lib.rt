@@ -1,16 +1,18 @@
-//! A program's text through all checks, from its bytes to a program that has a meaning.
+//! A program's text through all checks, from its bytes to a program that has a meaning, and to its flat form.
 #![tactic(auto)]
 
 mod causality;
 mod checked;
 mod checks;
+mod examined;
 mod fault;
 mod flattening;
 
 pub use checked::Checked;
-pub use checks::front;
+pub use checks::examine;
+pub use examined::Examined;
 pub use fault::ProgramFault;
-pub use flattening::flatten;
+pub use flattening::front;
 
 #[cfg(test)]
 mod tests;

@@ -1,5 +1,5 @@
 // Programs, and the checks that refuse them.
-use crate::{ProgramFault, front};
+use crate::{Checked, ProgramFault, examine, front};
 use lt_base::{Memory, Or};
 use std::alloc::{AllocError, Global};
 use std::test::Fail;
@@ -21,7 +21,7 @@ fn refuses(alloc: Global, text: &str, check: &str) -> Result<bool, Memory> {
     if text.len() > 10_000 {
         return Ok(false);
     }
-    match front(alloc, text.as_bytes()) {
+    match examine(alloc, text.as_bytes()) {
         Ok(_) => Ok(check == "none"),
         Err(Or::Fault(fault)) => Ok(check_of(&fault) == check),
         Err(Or::Memory) => Err(Memory),
@@ -101,6 +101,53 @@ fn limits_may_be_met(rt: HostRuntime) -> Result<(), Fail> {
     for (main, check) in rows {
         let text = doubled(alloc, main)?;
         assert!(rt; refuses(alloc, text.as_str(), check)?, "{main}");
+    }
+    Ok(())
+}
+
+/// The number of variables of a flat form.
+fn variables(checked: &Checked) -> usize {
+    let flat = &checked.flat;
+    let decls = &flat.func.decls;
+    decls.len()
+}
+
+/// Whether the flat form of the text's program has that many variables, also when it is made again.
+fn flat_has(alloc: Global, text: &str, count: usize) -> Result<bool, Memory> {
+    if text.len() > 10_000 {
+        return Ok(false);
+    }
+    match front(alloc, text.as_bytes()) {
+        Ok(checked) => {
+            let first = variables(&checked);
+            let again = checked.examined().flatten(alloc)?;
+            Ok(first == count && variables(&again) == count)
+        }
+        Err(Or::Fault(_)) => Ok(false),
+        Err(Or::Memory) => Err(Memory),
+    }
+}
+
+#[test]
+fn a_flat_form_has_copies_and_inner_delays(rt: HostRuntime) -> Result<(), Fail> {
+    let alloc = rt.alloc();
+    let rows = [
+        ("node main(x: int) returns (y: int) let y = x; tel", 2),
+        (
+            "node main(x: int) returns (y: int) let y = 0 fby (y + x); tel",
+            2,
+        ),
+        (
+            "node main(x: int) returns (y: int) let y = x + (0 fby y); tel",
+            3,
+        ),
+        (
+            "node main(x: int) returns (y: int) let y = f(x); tel node f(x: int) returns (y: int) let y = x + (0 fby y); tel",
+            5,
+        ),
+    ];
+    for (text, count) in rows {
+        assert!(rt; flat_has(alloc, text, count)?, "{text}");
     }
     Ok(())
 }

@@ -1,7 +1,7 @@
 // Texts of programs, and the lines of their faults.
 use crate::program_line;
 use lt_base::{List, Memory, Or};
-use lt_front::front;
+use lt_front::examine;
 use std::alloc::Global;
 use std::test::Fail;
 
@@ -10,7 +10,7 @@ fn line(alloc: Global, text: &str) -> Result<List<u8>, Memory> {
     if text.len() > 10_000 {
         return Ok(List::new(alloc));
     }
-    match front(alloc, text.as_bytes()) {
+    match examine(alloc, text.as_bytes()) {
         Ok(_) => Ok(List::new(alloc)),
         Err(Or::Fault(fault)) => program_line(alloc, &fault),
         Err(Or::Memory) => Err(Memory),
