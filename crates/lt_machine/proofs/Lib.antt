@@ -1,3 +1,5 @@
 mod Slots
 mod Presence
 mod Stood
+mod Filled
+mod Lines

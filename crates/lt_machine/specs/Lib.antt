@@ -1,3 +1,4 @@
 pub mod Follows
 pub mod StepMachine
 pub mod Numbers
+pub mod Values

@@ -1,14 +1,18 @@
 //! Machines, which run a function one instant at a time.
 #![tactic(auto)]
 
+mod evaluation;
 mod import;
 mod machine;
 mod operands;
 mod step_machine;
 mod stepping;
+mod table_machine;
+mod tables;
 #[cfg(test)]
 mod tests;
 
 pub use import::Import;
 pub use machine::Machine;
 pub use step_machine::StepMachine;
+pub use table_machine::TableMachine;

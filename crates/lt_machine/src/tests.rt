@@ -1,4 +1,4 @@
-// Three functions on a machine.
+// Three functions on both machines.
 ghost use Rattle.std.specs.Prelude.{◌≡◌, ◌<◌, ◌≤◌, ◌*◌, ◌^◌, [], length, IfOk};
 ghost use Rattle.lt_base.specs.Expression.{shape, variable, binary, imported, sampled, delayed};
 ghost use Rattle.lt_base.specs.Program.{Function};
@@ -9,7 +9,7 @@ ghost use Rattle.lt_step.specs.Size.{extent};
 ghost use Rattle.lt_step.specs.Fixtures.{highest, nameless, running, sometimes};
 ghost use Rattle.lt_step.specs.Compile.{CodeOf};
 
-use crate::{Import, Machine, StepMachine};
+use crate::{Import, Machine, StepMachine, TableMachine};
 use lt_base::tables::imp;
 use lt_base::{
     Bin, Cell, Clock, Decl, Equation, Expr, Func, Imp, List, Memory, Name, Steps, Ty, Value,
@@ -184,14 +184,65 @@ fn sometimes_code(alloc: Global) -> Result<Code, Memory>
     Ok(code)
 }
 
-// The cells of a machine with one input and one output.
-fn cells_of<M: Machine, L: Ledger>(
-    alloc: Global,
-    machine: &mut M,
-    values: &[i64],
-    blank: Blank,
-) -> Result<Vec<Cell>, Memory>
-    requires left { length values.now ≤ M.left machine.old }
+// The table of the function, whose causality is checked first.
+fn tabled(alloc: Global, flat: &Flat) -> Result<TableMachine, Memory>
+    requires variables { length flat.now.func.decls < 2 ^ 32 }
+    requires equations { length flat.now.func.eqs < 2 ^ 32 }
+    ensures stands { IfOk result (λ m. ⟦<TableMachine as Machine>⟧.stands m flat.now.func []) }
+    ensures left { IfOk result (λ m. ⟦<TableMachine as Machine>⟧.left m ≡ 3) }
+{
+    match causal(alloc, &flat.func) {
+        Ok(_) => TableMachine::start(alloc, flat, 3),
+        Err(_) => Err(Memory),
+    }
+}
+
+fn running_table(alloc: Global) -> Result<TableMachine, Memory>
+    ensures stands { IfOk result (λ m. ⟦<TableMachine as Machine>⟧.stands m running []) }
+    ensures left { IfOk result (λ m. ⟦<TableMachine as Machine>⟧.left m ≡ 3) }
+{
+    let flat = running(alloc)?;
+    let machine = tabled(alloc, &flat)?;
+    Ok(machine)
+}
+
+fn highest_table(alloc: Global) -> Result<TableMachine, Memory>
+    ensures stands { IfOk result (λ m. ⟦<TableMachine as Machine>⟧.stands m highest []) }
+    ensures left { IfOk result (λ m. ⟦<TableMachine as Machine>⟧.left m ≡ 3) }
+{
+    let flat = highest(alloc)?;
+    let machine = tabled(alloc, &flat)?;
+    Ok(machine)
+}
+
+fn sometimes_table(alloc: Global) -> Result<TableMachine, Memory>
+    ensures stands { IfOk result (λ m. ⟦<TableMachine as Machine>⟧.stands m sometimes []) }
+    ensures left { IfOk result (λ m. ⟦<TableMachine as Machine>⟧.left m ≡ 3) }
+{
+    let flat = sometimes(alloc)?;
+    let machine = tabled(alloc, &flat)?;
+    Ok(machine)
+}
+
+// What `running` and `highest` give for each value.
+const SUMS: [(i64, i64); 3] = [(1, 0), (2, 1), (3, 3)];
+
+const HIGHEST: [(i64, i64); 3] = [(2, 2), (1, 2), (5, 5)];
+
+// What `sometimes` gives for each value and truth value, where it gives something.
+const SOMETIMES: [(i64, bool, Option<(i64, i64)>); 3] = [
+    (5, true, Some((5, 0))),
+    (6, false, None),
+    (7, true, Some((7, 5))),
+];
+
+fn int(n: i64) -> Cell {
+    Cell::Here(Value::Int(n))
+}
+
+// Whether a machine with one input and one output gives these cells.
+fn gives<M: Machine, L: Ledger>(machine: &mut M, rows: &[(i64, i64)], blank: Blank) -> bool
+    requires left { length rows.now ≤ M.left machine.old }
     requires inputs { M.inputs machine.old ≡ 1 }
     requires outputs { M.outputs machine.old ≡ 1 }
     requires name { blank.name ≡ L.name }
@@ -199,24 +250,32 @@ fn cells_of<M: Machine, L: Ledger>(
     requires some { 0 < blank.parts }
 {
     let mut steps = Steps::<L>::new(blank);
-    let mut cells = Vec::new(alloc);
-    for value in values {
-        let ins = [Value::Int(*value)];
+    for (x, y) in rows {
+        let ins = [Value::Int(*x)];
         let mut outs = [Cell::Absent];
         machine.step(&ins, &mut outs, &mut steps);
-        cells.push(outs[0])?;
+        if outs[0] != int(*y) {
+            return false;
+        }
     }
-    Ok(cells)
+    true
 }
 
-// The cells of a machine with an int and a truth value as inputs, and two outputs.
-fn pairs_of<M: Machine, L: Ledger>(
-    alloc: Global,
+// The cells of both outputs.
+fn pair(cells: Option<(i64, i64)>) -> [Cell; 2] {
+    match cells {
+        None => [Cell::Absent, Cell::Absent],
+        Some((y, w)) => [int(y), int(w)],
+    }
+}
+
+// Whether a machine with an int and a truth value as inputs, and two outputs, gives these cells.
+fn gives_pairs<M: Machine, L: Ledger>(
     machine: &mut M,
-    values: &[(i64, bool)],
+    rows: &[(i64, bool, Option<(i64, i64)>)],
     blank: Blank,
-) -> Result<Vec<(Cell, Cell)>, Memory>
-    requires left { length values.now ≤ M.left machine.old }
+) -> bool
+    requires left { length rows.now ≤ M.left machine.old }
     requires inputs { M.inputs machine.old ≡ 2 }
     requires outputs { M.outputs machine.old ≡ 2 }
     requires name { blank.name ≡ L.name }
@@ -224,52 +283,58 @@ fn pairs_of<M: Machine, L: Ledger>(
     requires some { 0 < blank.parts }
 {
     let mut steps = Steps::<L>::new(blank);
-    let mut cells = Vec::new(alloc);
-    for (x, c) in values {
+    for (x, c, cells) in rows {
         let ins = [Value::Int(*x), Value::Bool(*c)];
         let mut outs = [Cell::Absent, Cell::Absent];
         machine.step(&ins, &mut outs, &mut steps);
-        cells.push((outs[0], outs[1]))?;
+        if outs != pair(*cells) {
+            return false;
+        }
     }
-    Ok(cells)
-}
-
-fn int(n: i64) -> Cell {
-    Cell::Here(Value::Int(n))
+    true
 }
 
 #[test]
-fn sums_of_what_came_before(rt: HostRuntime) -> Result<(), Fail> {
+fn code_gives_sums_of_what_came_before(rt: HostRuntime) -> Result<(), Fail> {
     let code = running_code(rt.alloc())?;
-    let import = Import::new(imp);
-    let mut machine = StepMachine::start(rt.alloc(), code, import, 3)?;
-    let cells = cells_of::<_, Brand>(rt.alloc(), &mut machine, &[1, 2, 3], Blank::new(1))?;
-    assert_eq!(rt; cells.as_slice(), [int(0), int(1), int(3)].as_slice());
+    let mut machine = StepMachine::start(rt.alloc(), code, Import::new(imp), 3)?;
+    assert!(rt; gives::<_, Brand>(&mut machine, &SUMS, Blank::new(1)));
     Ok(())
 }
 
 #[test]
-fn the_highest_so_far(rt: HostRuntime) -> Result<(), Fail> {
+fn table_gives_sums_of_what_came_before(rt: HostRuntime) -> Result<(), Fail> {
+    let mut machine = running_table(rt.alloc())?;
+    assert!(rt; gives::<_, Brand>(&mut machine, &SUMS, Blank::new(1)));
+    Ok(())
+}
+
+#[test]
+fn code_gives_the_highest_so_far(rt: HostRuntime) -> Result<(), Fail> {
     let code = highest_code(rt.alloc())?;
-    let import = Import::new(imp);
-    let mut machine = StepMachine::start(rt.alloc(), code, import, 3)?;
-    let cells = cells_of::<_, Brand>(rt.alloc(), &mut machine, &[2, 1, 5], Blank::new(1))?;
-    assert_eq!(rt; cells.as_slice(), [int(2), int(2), int(5)].as_slice());
+    let mut machine = StepMachine::start(rt.alloc(), code, Import::new(imp), 3)?;
+    assert!(rt; gives::<_, Brand>(&mut machine, &HIGHEST, Blank::new(1)));
     Ok(())
 }
 
 #[test]
-fn a_delay_waits_for_its_clock(rt: HostRuntime) -> Result<(), Fail> {
+fn table_gives_the_highest_so_far(rt: HostRuntime) -> Result<(), Fail> {
+    let mut machine = highest_table(rt.alloc())?;
+    assert!(rt; gives::<_, Brand>(&mut machine, &HIGHEST, Blank::new(1)));
+    Ok(())
+}
+
+#[test]
+fn a_delay_in_code_waits_for_its_clock(rt: HostRuntime) -> Result<(), Fail> {
     let code = sometimes_code(rt.alloc())?;
-    let import = Import::new(imp);
-    let mut machine = StepMachine::start(rt.alloc(), code, import, 3)?;
-    let rows = [(5, true), (6, false), (7, true)];
-    let cells = pairs_of::<_, Brand>(rt.alloc(), &mut machine, &rows, Blank::new(1))?;
-    let expected = [
-        (int(5), int(0)),
-        (Cell::Absent, Cell::Absent),
-        (int(7), int(5)),
-    ];
-    assert_eq!(rt; cells.as_slice(), expected.as_slice());
+    let mut machine = StepMachine::start(rt.alloc(), code, Import::new(imp), 3)?;
+    assert!(rt; gives_pairs::<_, Brand>(&mut machine, &SOMETIMES, Blank::new(1)));
+    Ok(())
+}
+
+#[test]
+fn a_delay_in_a_table_waits_for_its_clock(rt: HostRuntime) -> Result<(), Fail> {
+    let mut machine = sometimes_table(rt.alloc())?;
+    assert!(rt; gives_pairs::<_, Brand>(&mut machine, &SOMETIMES, Blank::new(1)));
     Ok(())
 }
