@@ -9,7 +9,7 @@ use Rattle.lt_base.specs.Inputs.{InputTable}
 use Rattle.lt_answer.specs.World.{World, Blames}
 use Rattle.lt_answer.specs.Answered.{Answered, Verdict, AndThen, Refuses}
 use Rattle.lt_answer.proofs.Stages.{settles, refuses, runs_short, calm_itself, goes_on, stops}
-use Rattle.lt_front.specs.Checked.{CheckedText}
+use Rattle.lt_front.specs.Examined.{ExaminedText}
 use Rattle.lt_meaning.specs.Streams.{cell_count}
 use Rattle.lt_run.specs.declared.fault.CommandFault.{CommandFault}
 use Rattle.lt_run.specs.Blamed.{command_blame}
@@ -22,8 +22,8 @@ err_is (Ok x) e is = absurd is
 err_is (Err f) e is = ap (λ g. Err g) is
 
 -- a step that loads an equal program
-pub checked_is : (V : Verdict CheckedText CommandFault) (a b : World) (k l : CheckedText) → k ≡ l → Answered command_blame V a b (Ok l) → Answered command_blame V a b (Ok k)
-checked_is V a b k l is answered = subst (λ (t : CheckedText). Answered command_blame V a b (Ok t)) (sym is) answered
+pub checked_is : (V : Verdict ExaminedText CommandFault) (a b : World) (k l : ExaminedText) → k ≡ l → Answered command_blame V a b (Ok l) → Answered command_blame V a b (Ok k)
+checked_is V a b k l is answered = subst (λ (t : ExaminedText). Answered command_blame V a b (Ok t)) (sym is) answered
 
 -- the limit on cells is a step that touches nothing
 cells_refused : (p : WholeProgram) (rows : List (List Value)) (w : World) (e : Or CommandFault) → Refuses (cells_verdict p rows) e → Answered command_blame (cells_verdict p rows) w w (Err e)
@@ -31,14 +31,14 @@ cells_refused p rows w (Fault f) refused = refuses w f (subst (λ (g : CommandFa
 cells_refused p rows w Memory refused = runs_short w
 
 -- the first steps of a command, and then the next
-abbrev pub Loads : {T : Type 0} → (named : List ℕ → Option (List ℕ)) (program inputs : List ℕ) → (CheckedText → InputTable → Verdict T CommandFault) → Verdict T CommandFault
+abbrev pub Loads : {T : Type 0} → (named : List ℕ → Option (List ℕ)) (program inputs : List ℕ) → (ExaminedText → InputTable → Verdict T CommandFault) → Verdict T CommandFault
 Loads named program inputs next =
     AndThen (program_verdict (named program)) (λ checked.
     AndThen (inputs_verdict checked.program (named inputs)) (λ table.
     AndThen (cells_verdict checked.program table.rows) (λ few.
     next checked table)))
 
-module _ {T : Type 0} (next : CheckedText → InputTable → Verdict T CommandFault) (named : List ℕ → Option (List ℕ)) (program inputs : List ℕ) (a b : World) (checked : CheckedText)
+module _ {T : Type 0} (next : ExaminedText → InputTable → Verdict T CommandFault) (named : List ℕ → Option (List ℕ)) (program inputs : List ℕ) (a b : World) (checked : ExaminedText)
     (first : Answered command_blame (program_verdict (named program)) a b (Ok checked)) where
   -- the inputs are refused
   pub inputs_stop : (c : World) (e : Or CommandFault) → Answered command_blame (inputs_verdict checked.program (named inputs)) b c (Err e) → Answered command_blame (Loads named program inputs next) a c (Err e)

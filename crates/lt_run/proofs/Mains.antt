@@ -8,7 +8,7 @@ use Rattle.lt_base.specs.Inputs.{InputTable}
 use Rattle.lt_base.specs.Meaning.{function_of}
 use Rattle.lt_base.specs.Behaviour.{RowsFit}
 use Rattle.lt_resolve.specs.Resolves.{IsSmall}
-use Rattle.lt_front.specs.Checked.{CheckedText, IsChecked}
+use Rattle.lt_front.specs.Examined.{ExaminedText, IsExamined}
 use Rattle.lt_front.proofs.Rooms.{equations_fit}
 use Rattle.lt_meaning.specs.Streams.{main_of, InputsFit, InputsFitMain, NumbersFit, HasRoom}
 use Rattle.lt_run.specs.Main.{main_in}
@@ -42,5 +42,5 @@ numbers_fit (f ∷ fs) small few =
     (numbers_fit fs (All-tail IsSmall f fs small) (All-tail (λ g. length g.eqs < 2 ^ 32) f fs few))
 
 -- the variables and equations of a checked program are numbered in 32 bits
-pub has_room : (c : CheckedText) → IsChecked c → HasRoom c.program
+pub has_room : (c : ExaminedText) → IsExamined c → HasRoom c.program
 has_room c checked = numbers_fit c.program.funcs checked.resolved.small (equations_fit c.tree c.program checked.room checked.resolved)

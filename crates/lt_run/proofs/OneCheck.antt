@@ -1,10 +1,9 @@
 -- A check with a setup leaves one refusal, up to its kind.
-use Rattle.std.proofs.Common.{◌≡◌, ◌∙◌, ℕ, Bool, List, Option, Some, None, Ok, Err, refl, sym, ap}
+use Rattle.std.proofs.Common.{◌≡◌, ◌∙◌, ℕ, Bool, List, Option, Some, None, Ok, refl, sym, ap}
 use Rattle.lt_base.specs.Program.{Function}
 use Rattle.lt_config.specs.declared.config.Config.{Config}
-use Rattle.lt_config.specs.declared.fault.ConfigFault.{ConfigFault}
 use Rattle.lt_config.proofs.OneSetup.{one_setup}
-use Rattle.lt_front.specs.Checked.{CheckedText}
+use Rattle.lt_front.specs.Examined.{ExaminedText}
 use Rattle.lt_front.specs.Flattened.{flat_of}
 use Rattle.lt_place.specs.declared.fault.PlaceFault.{PlaceFault}
 use Rattle.lt_place.specs.Legal.{Legal}
@@ -15,27 +14,27 @@ use Rattle.lt_run.specs.declared.fault.What.TheVariants.{ConfigBytes}
 use Rattle.lt_run.specs.declared.fault.CommandFault.{CommandFault}
 use Rattle.lt_run.specs.declared.fault.CommandFault.TheVariants as fault
 use Rattle.lt_run.specs.Loaded.{whole_verdict, setup_verdict, config_verdict}
-use Rattle.lt_run.specs.Setups.{IsPlaceFault, IsTimingFault, placed_verdict, accepted_verdict, with_setup_verdict, check_verdict}
-use Rattle.lt_run.proofs.OneLoad.{whole_decided, program_decided, setup_decided}
-use Rattle.lt_run.proofs.OneRun.{TellsLimits}
+use Rattle.lt_run.specs.Setups.{IsPlaceFault, IsTimingFault, placed_verdict, accepted_verdict, check_verdict}
+use Rattle.lt_run.proofs.OneLoad.{TellsLimits, whole_decided, program_decided, setup_decided}
 
 one_config : (bytes : List ℕ) (x y : Config) → setup_verdict bytes (Ok x) → setup_verdict bytes (Ok y) → x ≡ y
 one_config bytes x y p q = one_setup x y (let same = sym p ∙ q in cc)
 
-config_once : {K : Type 0} (kind : CommandFault → K) (file : Option (List ℕ)) → HasOneOutcome kind (config_verdict file)
+pub config_once : {K : Type 0} (kind : CommandFault → K) (file : Option (List ℕ)) → HasOneOutcome kind (config_verdict file)
 config_once kind file =
     and_then_one kind (whole_verdict ConfigBytes file) _ (whole_decided kind ConfigBytes file)
     (λ bytes. raised_one (λ e. fault.Config e) kind (setup_verdict bytes) (record { faults = setup_decided (λ e. kind (fault.Config e)) bytes; one_value = one_config bytes }))
 
-pub place_fault : (checked : CheckedText) (setup : Config) (e : CommandFault) → IsPlaceFault checked setup e → (f : PlaceFault) × (main : Function) × (e ≡ fault.Place f main)
+pub place_fault : (checked : ExaminedText) (setup : Config) (e : CommandFault) → IsPlaceFault checked setup e → (f : PlaceFault) × (main : Function) × (e ≡ fault.Place f main)
 place_fault checked setup (fault.Program f) is = absurd is
 place_fault checked setup (fault.Config f) is = absurd is
 place_fault checked setup (fault.Place f main) is = (f, main, refl)
 place_fault checked setup (fault.Timing f names mixed) is = absurd is
 place_fault checked setup (fault.Inputs f) is = absurd is
+place_fault checked setup fault.SeveralNodes is = absurd is
 place_fault checked setup fault.TooManyCells is = absurd is
 place_fault checked setup (fault.Row n f) is = absurd is
-place_fault checked setup (fault.Offence event offence) is = absurd is
+place_fault checked setup (fault.Offence event offence shape) is = absurd is
 place_fault checked setup (fault.Limit what) is = absurd is
 place_fault checked setup fault.Read is = absurd is
 
@@ -45,9 +44,10 @@ timing_fault setup (fault.Config f) is = absurd is
 timing_fault setup (fault.Place f main) is = absurd is
 timing_fault setup (fault.Timing f names mixed) is = (f, names, mixed, refl)
 timing_fault setup (fault.Inputs f) is = absurd is
+timing_fault setup fault.SeveralNodes is = absurd is
 timing_fault setup fault.TooManyCells is = absurd is
 timing_fault setup (fault.Row n f) is = absurd is
-timing_fault setup (fault.Offence event offence) is = absurd is
+timing_fault setup (fault.Offence event offence shape) is = absurd is
 timing_fault setup (fault.Limit what) is = absurd is
 timing_fault setup fault.Read is = absurd is
 
@@ -58,27 +58,29 @@ MergesPlaces kind = (f g : PlaceFault) (main main' : Function) → kind (fault.P
 abbrev pub MergesTimings : {K : Type 0} → (CommandFault → K) → Type 0
 MergesTimings kind = (f g : TimingFault) (names names' : List (List ℕ)) (mixed mixed' : Bool) → kind (fault.Timing f names mixed) ≡ kind (fault.Timing g names' mixed')
 
-module _ {K : Type 0} (kind : CommandFault → K) (along : TellsLimits kind) (places : MergesPlaces kind) (timings : MergesTimings kind) where
-  placed_decided : (checked : CheckedText) (setup : Config) → HasOneOutcome kind (placed_verdict checked setup)
+module _ {K : Type 0} (kind : CommandFault → K) (places : MergesPlaces kind) where
+  pub placed_decided : (checked : ExaminedText) (setup : Config) → HasOneOutcome kind (placed_verdict checked setup)
   placed_decided checked setup =
       of_rule kind (Legal (flat_of checked.program) setup.placement) (IsPlaceFault checked setup) (λ e f p q.
       let a = place_fault checked setup e p in
       let b = place_fault checked setup f q in
       ap kind a.2 ∙ places a.0 b.0 a.1 b.1 ∙ sym (ap kind b.2))
 
-  accepted_decided : (setup : Config) → HasOneOutcome kind (accepted_verdict setup)
+module _ {K : Type 0} (kind : CommandFault → K) (timings : MergesTimings kind) where
+  pub accepted_decided : (setup : Config) → HasOneOutcome kind (accepted_verdict setup)
   accepted_decided setup =
       of_rule kind (Accepts setup.timing) (IsTimingFault setup) (λ e f p q.
       let a = timing_fault setup e p in
       let b = timing_fault setup f q in
       ap kind a.3 ∙ timings a.0 b.0 a.1 b.1 a.2 b.2 ∙ sym (ap kind b.3))
 
+module _ {K : Type 0} (kind : CommandFault → K) (along : TellsLimits kind) (places : MergesPlaces kind) (timings : MergesTimings kind) where
   -- right refusals are of one kind, and then no program is right
   pub check_decided : (named : List ℕ → Option (List ℕ)) (program : List ℕ) (config : Option (List ℕ)) → HasOneKind kind (check_verdict named program config)
   check_decided named program None = (program_decided kind along (named program)).faults
   check_decided named program (Some config) =
       and_then kind _ _ (program_decided kind along (named program)) (λ checked.
       and_then kind _ _ (config_once kind (named config)) (λ setup.
-      and_then kind _ _ (placed_decided checked setup) (λ placed.
-      and_then kind _ _ (accepted_decided setup) (λ accepted.
+      and_then kind _ _ (placed_decided kind places checked setup) (λ placed.
+      and_then kind _ _ (accepted_decided kind timings setup) (λ accepted.
       (exactly kind (Ok checked)).faults))))

@@ -4,7 +4,7 @@ use Rattle.lt_config.specs.declared.config.Config.{Config}
 use Rattle.lt_config.specs.declared.fault.ConfigFault.{ConfigFault}
 use Rattle.lt_front.specs.declared.fault.ProgramFault.{ProgramFault}
 use Rattle.lt_front.specs.Limits.{is_limit}
-use Rattle.lt_front.specs.Front.{front_verdict}
+use Rattle.lt_front.specs.Front.{examine_verdict}
 use Rattle.lt_front.proofs.OneFault.{front_decided}
 use Rattle.lt_verdict.proofs.Decided.{HasOneKind, HasOneOutcome, of_form, of_file, and_then, raised, and_then_one, raised_one, coarser}
 use Rattle.lt_run.specs.declared.fault.What.{What}
@@ -18,10 +18,13 @@ unfolding whole_verdict
 whole_decided kind what file = of_file kind fault.Read file _ (λ bytes. of_form kind (IsWithin (limit_of what) bytes) (fault.Limit what) (λ x y p q. p.same ∙ sym q.same))
 
 -- a kind that tells a limit that is passed from other faults of a program
-pub program_decided : {K : Type 0} (kind : CommandFault → K) → ((e f : ProgramFault) → is_limit e ≡ is_limit f → kind (fault.Program e) ≡ kind (fault.Program f)) → (file : Option (List ℕ)) → HasOneOutcome kind (program_verdict file)
+abbrev pub TellsLimits : {K : Type 0} → (CommandFault → K) → Type 0
+TellsLimits kind = (e f : ProgramFault) → is_limit e ≡ is_limit f → kind (fault.Program e) ≡ kind (fault.Program f)
+
+pub program_decided : {K : Type 0} (kind : CommandFault → K) → TellsLimits kind → (file : Option (List ℕ)) → HasOneOutcome kind (program_verdict file)
 program_decided kind along file =
     and_then_one kind (whole_verdict ProgramBytes file) _ (whole_decided kind ProgramBytes file)
-    (λ bytes. raised_one (λ e. fault.Program e) kind (front_verdict bytes) (coarser is_limit (λ e. kind (fault.Program e)) (front_verdict bytes) along (front_decided bytes)))
+    (λ bytes. raised_one (λ e. fault.Program e) kind (examine_verdict bytes) (coarser is_limit (λ e. kind (fault.Program e)) (examine_verdict bytes) along (front_decided bytes)))
 
 one_setup_fault : (bytes : List ℕ) (e f : ConfigFault) → setup_verdict bytes (Err e) → setup_verdict bytes (Err f) → e ≡ f
 one_setup_fault bytes e f p q = let same = sym p ∙ q in cc

@@ -3,8 +3,6 @@ use Rattle.std.proofs.Common.{◌≡◌, ◌≤◌, ℕ, List, Option, sym, ap, 
 use Rattle.lt_base.specs.declared.value.Value.{Value}
 use Rattle.lt_base.specs.declared.value.Cell.{Cell}
 use Rattle.lt_base.specs.Program.{WholeProgram}
-use Rattle.lt_front.specs.declared.fault.ProgramFault.{ProgramFault}
-use Rattle.lt_front.specs.Limits.{is_limit}
 use Rattle.lt_inputs.specs.Inputs.{inputs_of}
 use Rattle.lt_meaning.specs.Streams.{cell_count}
 use Rattle.lt_verdict.specs.Rules.{Exactly}
@@ -16,7 +14,9 @@ use Rattle.lt_run.specs.Main.{main_in, most_cells, cells_verdict}
 use Rattle.lt_run.specs.Loaded.{whole_verdict, inputs_verdict}
 use Rattle.lt_run.specs.Run.{printed_verdict, meaning_verdict, run_verdict}
 use Rattle.lt_run.proofs.Judging.{schedule_decided}
-use Rattle.lt_run.proofs.OneLoad.{whole_decided, program_decided}
+use Rattle.lt_run.proofs.OneLoad.{TellsLimits, whole_decided, program_decided}
+use Rattle.lt_run.proofs.OneCheck.{MergesPlaces, MergesTimings}
+use Rattle.lt_run.proofs.OneSetting.{setting_decided}
 
 inputs_decided : {K : Type 0} (kind : CommandFault → K) (p : WholeProgram) (file : Option (List ℕ)) → HasOneOutcome kind (inputs_verdict p file)
 inputs_decided kind p file =
@@ -30,10 +30,6 @@ cells_decided kind p rows =
 no_fault : {K : Type 0} (kind : CommandFault → K) (p : WholeProgram) (cells : List (List Cell)) → HasOneKind kind (printed_verdict p cells)
 no_fault kind p cells = record { one_kind = λ e f p q. absurd p; not_both = λ e x p q. p }
 
--- a kind that tells a limit that is passed from other faults of a program
-abbrev pub TellsLimits : {K : Type 0} → (CommandFault → K) → Type 0
-TellsLimits kind = (e f : ProgramFault) → is_limit e ≡ is_limit f → kind (fault.Program e) ≡ kind (fault.Program f)
-
 -- right refusals are of one kind, and then nothing is right to print
 pub meaning_decided : {K : Type 0} (kind : CommandFault → K) → TellsLimits kind → (named : List ℕ → Option (List ℕ)) (program inputs : List ℕ) → HasOneKind kind (meaning_verdict named program inputs)
 meaning_decided kind along named program inputs =
@@ -42,10 +38,11 @@ meaning_decided kind along named program inputs =
     and_then kind _ _ (cells_decided kind checked.program table.rows) (λ few.
     no_fault kind checked.program _)))
 
-pub run_decided : {K : Type 0} (kind : CommandFault → K) → TellsLimits kind → (named : List ℕ → Option (List ℕ)) (program inputs schedule : List ℕ) → HasOneKind kind (run_verdict named program inputs schedule)
-run_decided kind along named program inputs schedule =
+pub run_decided : {K : Type 0} (kind : CommandFault → K) → TellsLimits kind → MergesPlaces kind → MergesTimings kind → (named : List ℕ → Option (List ℕ)) (program inputs schedule : List ℕ) (config : Option (List ℕ))
+    → HasOneKind kind (run_verdict named program inputs schedule config)
+run_decided kind along places timings named program inputs schedule config =
     and_then kind _ _ (program_decided kind along (named program)) (λ checked.
+    and_then kind _ _ (setting_decided kind places timings named checked config) (λ setting.
     and_then kind _ _ (inputs_decided kind checked.program (named inputs)) (λ table.
-    and_then kind _ _ (cells_decided kind checked.program table.rows) (λ few.
-    and_then kind _ _ (schedule_decided kind _ (named schedule)) (λ executed.
+    and_then kind _ _ (schedule_decided kind setting _ (named schedule)) (λ executed.
     no_fault kind checked.program _))))

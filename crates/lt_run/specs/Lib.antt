@@ -5,4 +5,6 @@ pub mod OneNode
 pub mod Plain
 pub mod Scheduled
 pub mod Setups
+pub mod Setting
+pub mod Columns
 pub mod Run

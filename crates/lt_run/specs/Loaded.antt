@@ -2,8 +2,8 @@
 use Rattle.std.specs.Prelude.{◌≡◌, ◌≤◌, ℕ, List, length, Option, Ok, Err}
 use Rattle.lt_answer.specs.Answered.{Verdict, AndThen, OfForm, OfFile}
 use Rattle.lt_verdict.specs.Rules.{Raised, Exactly}
-use Rattle.lt_front.specs.Checked.{CheckedText}
-use Rattle.lt_front.specs.Front.{front_verdict}
+use Rattle.lt_front.specs.Examined.{ExaminedText}
+use Rattle.lt_front.specs.Front.{examine_verdict}
 use Rattle.lt_base.specs.Program.{WholeProgram}
 use Rattle.lt_base.specs.Inputs.{InputTable}
 use Rattle.lt_inputs.specs.Inputs.{inputs_of}
@@ -33,8 +33,8 @@ unfoldable pub whole_verdict : What → Option (List ℕ) → Verdict (List ℕ)
 whole_verdict what file = OfFile fault.Read file (λ bytes. OfForm (IsWithin (limit_of what) bytes) (fault.Limit what))
 
 -- the program of a file, through all checks
-abbrev pub program_verdict : Option (List ℕ) → Verdict CheckedText CommandFault
-program_verdict file = AndThen (whole_verdict ProgramBytes file) (λ bytes. Raised (λ e. fault.Program e) (front_verdict bytes))
+abbrev pub program_verdict : Option (List ℕ) → Verdict ExaminedText CommandFault
+program_verdict file = AndThen (whole_verdict ProgramBytes file) (λ bytes. Raised (λ e. fault.Program e) (examine_verdict bytes))
 
 -- the setup of some bytes
 abbrev pub setup_verdict : List ℕ → Verdict Config ConfigFault

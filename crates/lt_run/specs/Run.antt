@@ -7,6 +7,7 @@ use Rattle.lt_run.specs.declared.fault.CommandFault.{CommandFault}
 use Rattle.lt_run.specs.declared.printed.Printed.{Printed}
 use Rattle.lt_run.specs.Main.{output_names, output_streams, cells_verdict}
 use Rattle.lt_run.specs.Loaded.{program_verdict, inputs_verdict}
+use Rattle.lt_run.specs.Setting.{setting_verdict}
 use Rattle.lt_run.specs.Scheduled.{schedule_verdict}
 
 -- what is printed: main's outputs, with these cells
@@ -31,11 +32,11 @@ meaning_verdict named program inputs =
     AndThen (cells_verdict checked.program table.rows) (λ few.
     printed_verdict checked.program (output_streams checked.program table.rows))))
 
--- the same, and then the schedule for as many rows of inputs, and of each stream the cells of the executed instants
-abbrev pub run_verdict : (named : List ℕ → Option (List ℕ)) (program inputs schedule : List ℕ) → Verdict Printed CommandFault
-run_verdict named program inputs schedule =
+-- the program, the setting, the inputs and the schedule for as many rows of inputs, in this order, and of each output's stream the cells of the executed instants
+abbrev pub run_verdict : (named : List ℕ → Option (List ℕ)) (program inputs schedule : List ℕ) → (config : Option (List ℕ)) → Verdict Printed CommandFault
+run_verdict named program inputs schedule config =
     AndThen (program_verdict (named program)) (λ checked.
+    AndThen (setting_verdict named checked config) (λ setting.
     AndThen (inputs_verdict checked.program (named inputs)) (λ table.
-    AndThen (cells_verdict checked.program table.rows) (λ few.
-    AndThen (schedule_verdict (length table.rows) (named schedule)) (λ executed.
+    AndThen (schedule_verdict setting (length table.rows) (named schedule)) (λ executed.
     printed_verdict checked.program (first_cells executed (output_streams checked.program table.rows))))))

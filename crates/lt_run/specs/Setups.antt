@@ -1,6 +1,6 @@
 -- A program with a setup: its placement is legal, and its timing is accepted.
 use Rattle.std.specs.Prelude.{◌≡◌, ℕ, List, Option, Some, None, Ok}
-use Rattle.lt_front.specs.Checked.{CheckedText}
+use Rattle.lt_front.specs.Examined.{ExaminedText}
 use Rattle.lt_front.specs.Flattened.{flat_of}
 use Rattle.lt_place.specs.Legal.{Legal}
 use Rattle.lt_place.specs.Faults as placement
@@ -16,7 +16,7 @@ use Rattle.lt_run.specs.Main.{main_in}
 use Rattle.lt_run.specs.Loaded.{program_verdict, config_verdict}
 
 -- the first fault of a placement, beside the function whose variables it names
-abbrev pub IsPlaceFault : CheckedText → Config → CommandFault → Type 0
+abbrev pub IsPlaceFault : ExaminedText → Config → CommandFault → Type 0
 IsPlaceFault checked setup (fault.Place f main) = placement.IsFirstFault (flat_of checked.program) setup.placement f × (main ≡ main_in checked.program)
 IsPlaceFault checked setup _ = ⊥
 
@@ -26,7 +26,7 @@ IsTimingFault setup (fault.Timing f names mixed) = timing.IsFirstFault setup.tim
 IsTimingFault setup _ = ⊥
 
 -- the placement of a program's flat form is legal
-abbrev pub placed_verdict : CheckedText → Config → Verdict (Unit {0}) CommandFault
+abbrev pub placed_verdict : ExaminedText → Config → Verdict (Unit {0}) CommandFault
 placed_verdict checked setup = OfRule (Legal (flat_of checked.program) setup.placement) (IsPlaceFault checked setup)
 
 -- the timing is accepted
@@ -34,7 +34,7 @@ abbrev pub accepted_verdict : Config → Verdict (Unit {0}) CommandFault
 accepted_verdict setup = OfRule (Accepts setup.timing) (IsTimingFault setup)
 
 -- a program, its setup, the placement and the timing, in this order
-abbrev pub with_setup_verdict : (named : List ℕ → Option (List ℕ)) (program config : List ℕ) → Verdict CheckedText CommandFault
+abbrev pub with_setup_verdict : (named : List ℕ → Option (List ℕ)) (program config : List ℕ) → Verdict ExaminedText CommandFault
 with_setup_verdict named program config =
     AndThen (program_verdict (named program)) (λ checked.
     AndThen (config_verdict (named config)) (λ setup.
@@ -43,6 +43,6 @@ with_setup_verdict named program config =
     Exactly (Ok checked)))))
 
 -- a program alone, or with a setup
-abbrev pub check_verdict : (named : List ℕ → Option (List ℕ)) (program : List ℕ) → (config : Option (List ℕ)) → Verdict CheckedText CommandFault
+abbrev pub check_verdict : (named : List ℕ → Option (List ℕ)) (program : List ℕ) → (config : Option (List ℕ)) → Verdict ExaminedText CommandFault
 check_verdict named program None = program_verdict (named program)
 check_verdict named program (Some config) = with_setup_verdict named program config

@@ -1,6 +1,6 @@
 // Why a command is refused.
 
-use lt_arch::Offence;
+use lt_arch::{Offence, Shape};
 use lt_base::{Func, List, Name};
 use lt_config::ConfigFault;
 use lt_front::ProgramFault;
@@ -36,6 +36,8 @@ pub enum CommandFault {
         names: List<Name>,
         mixed: bool,
     },
+    /// The setup has more than one node, and a run on several is not built.
+    SeveralNodes,
     /// The inputs are at fault, or they have too many rows.
     Inputs(InputFault),
     /// The weight of `main` times the number of rows of inputs is above the limit on cells.
@@ -45,10 +47,12 @@ pub enum CommandFault {
         row: u32,
         fault: RowFault,
     },
-    /// The schedule's event is refused. Events count from 1, and a missing end is one past the last.
+    /// The schedule's event is refused. Events count from 1, and a missing end is one past the last. Beside the offence the
+    /// shape whose nodes it names.
     Offence {
         event: u32,
         offence: Offence,
+        shape: Shape,
     },
     /// A file has more bytes than its limit.
     Limit(What),

@@ -10,7 +10,7 @@ ghost use Rattle.lt_run.specs.Main.{main_in};
 use crate::{CommandFault, What};
 use lt_base::{Func, Inputs, List, Or, Program};
 use lt_config::{Config, read_config};
-use lt_front::{Checked, front};
+use lt_front::{Examined, examine};
 use lt_inputs::read_inputs;
 use lt_io::{Files, Whole, read_file};
 use std::alloc::Global;
@@ -60,12 +60,12 @@ pub fn load_program<F: Files>(
     alloc: Global,
     files: &mut F,
     name: &str,
-) -> Result<Checked, Or<CommandFault>>
+) -> Result<Examined, Or<CommandFault>>
     requires { (F.state files.old).faults < 2 ^ 64 - 1 }
     ensures { Answered command_blame (program_verdict ((F.state files.old).named name.now)) (alone (F.state files.old)) (alone (F.state files.new)) result }
 {
     let bytes = fetch_within(alloc, files, name, What::ProgramBytes)?;
-    match front(alloc, bytes.as_slice()) {
+    match examine(alloc, bytes.as_slice()) {
         Ok(checked) => Ok(checked),
         Err(e) => Err(e.map(CommandFault::Program)),
     }

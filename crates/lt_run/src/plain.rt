@@ -7,7 +7,7 @@ use lt_base::{List, Memory, Name};
 use std::alloc::Global;
 
 /// One node, `all`, and no channel.
-pub fn plain_shape(alloc: Global) -> Result<Shape, Memory>
+pub(crate) fn plain_shape(alloc: Global) -> Result<Shape, Memory>
     ensures { IfOk result (λ shape. shape ≡ one_node) }
 {
     let mut nodes = List::new(alloc);

@@ -1,5 +1,5 @@
 // What a command prints of a program's streams.
-ghost use Rattle.std.specs.Prelude.{◌≡◌, ◌≤◌, All, IfOk, length, map, take};
+ghost use Rattle.std.specs.Prelude.{◌≡◌, IfOk, length, map};
 ghost use Rattle.lt_run.specs.Main.{name_in};
 
 use lt_base::{Cell, Func, List, Memory, Name};
@@ -13,26 +13,16 @@ pub struct Printed {
     ghost paired: { length names ≡ length cells },
 }
 
-/// The outputs of a function, each with the cells of the first instants of its stream.
-pub(crate) fn print(
-    alloc: Global,
-    main: &Func,
-    streams: &List<List<Cell>>,
-    instants: u32,
-) -> Result<Printed, Memory>
-    requires width { length streams.now ≡ length main.now.outs }
-    requires long { All (λ stream. instants ≤ length stream) streams.now }
+/// The outputs of a function, with these cells.
+pub(crate) fn print(alloc: Global, main: &Func, cells: List<List<Cell>>) -> Result<Printed, Memory>
+    requires width { length cells ≡ length main.now.outs }
     ensures names { IfOk result (λ printed. printed.names ≡ map (name_in main.now) main.now.outs) }
-    ensures cells { IfOk result (λ printed. printed.cells ≡ map (take instants) streams.now) }
+    ensures cells { IfOk result (λ printed. printed.cells ≡ cells) }
 {
     main.kept();
     let mut names = List::new(alloc);
     for y in main.outs.as_slice() {
         names.push(main.decls.as_slice()[*y as usize].name.copy()?)?;
-    }
-    let mut cells = List::new(alloc);
-    for stream in streams.as_slice() {
-        cells.push(List::from_slice(alloc, &stream.as_slice()[..instants as usize])?)?;
     }
     Ok(Printed { names, cells })
 }

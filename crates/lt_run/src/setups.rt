@@ -1,5 +1,6 @@
 // A program with its setup.
 ghost use Rattle.std.specs.Prelude.{◌<◌, ◌-◌, ◌^◌, option_map};
+ghost use Rattle.lt_front.specs.Checked.{examined_part};
 ghost use Rattle.lt_answer.specs.World.{alone};
 ghost use Rattle.lt_answer.specs.Answered.{Answered, Settles};
 ghost use Rattle.lt_run.specs.Blamed.{command_blame};
@@ -9,7 +10,7 @@ use crate::loading::main_of;
 use crate::{CommandFault, load_config, load_program};
 use lt_base::Or;
 use lt_config::Config;
-use lt_front::{Checked, flatten};
+use lt_front::{Checked, Examined};
 use lt_io::Files;
 use lt_place::legal_nodes;
 use lt_timing::accepts;
@@ -22,7 +23,7 @@ pub fn check<F: Files>(
     files: &mut F,
     program: &str,
     config: Option<&str>,
-) -> Result<Checked, Or<CommandFault>>
+) -> Result<Examined, Or<CommandFault>>
     requires { (F.state files.old).faults < 2 ^ 64 - 1 }
     ensures { Answered command_blame (check_verdict (F.state files.old).named program.now (option_map (λ s. s.now) config.entry))
         (alone (F.state files.old)) (alone (F.state files.new)) result }
@@ -38,24 +39,28 @@ fn check_with<F: Files>(
     files: &mut F,
     program: &str,
     config: &str,
-) -> Result<Checked, Or<CommandFault>>
+) -> Result<Examined, Or<CommandFault>>
     requires { (F.state files.old).faults < 2 ^ 64 - 1 }
     ensures { Answered command_blame (with_setup_verdict (F.state files.old).named program.now config.now)
         (alone (F.state files.old)) (alone (F.state files.new)) result }
 {
-    let checked = load_program(alloc, files, program)?;
+    let checked = load_program(alloc, files, program)?.flatten(alloc)?;
     let setup = load_config(alloc, files, config)?;
     placed(alloc, &checked, &setup)?;
     accepted(alloc, &setup)?;
-    Ok(checked)
+    Ok(checked.examined())
 }
 
-// Whether the placement is legal.
-fn placed(alloc: Global, checked: &Checked, setup: &Config) -> Result<(), Or<CommandFault>>
-    ensures { Settles (placed_verdict checked.now setup.now) result }
+/// Whether the placement is legal.
+pub(crate) fn placed(
+    alloc: Global,
+    checked: &Checked,
+    setup: &Config,
+) -> Result<(), Or<CommandFault>>
+    ensures { Settles (placed_verdict (examined_part checked.now) setup.now) result }
 {
-    let flat = flatten(alloc, checked)?;
-    match legal_nodes(alloc, &flat, &setup.placement) {
+    checked.kept();
+    match legal_nodes(alloc, &checked.flat, &setup.placement) {
         Ok(_) => Ok(()),
         Err(Or::Fault(fault)) => {
             let main = main_of(&checked.program).copy()?;
@@ -65,8 +70,8 @@ fn placed(alloc: Global, checked: &Checked, setup: &Config) -> Result<(), Or<Com
     }
 }
 
-// Whether the timing is accepted.
-fn accepted(alloc: Global, setup: &Config) -> Result<(), Or<CommandFault>>
+/// Whether the timing is accepted.
+pub(crate) fn accepted(alloc: Global, setup: &Config) -> Result<(), Or<CommandFault>>
     ensures { Settles (accepted_verdict setup.now) result }
 {
     match accepts(&setup.timing) {

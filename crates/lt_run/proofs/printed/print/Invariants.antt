@@ -4,6 +4,3 @@ use Rattle.lt_run.proofs.printed.print.Given as goal
 
 abbrev pub invariant-loop-y : goal.invariant-loop-y
 invariant-loop-y l = l.names ≡ map (name_in l.main) (take l.y-index l.main.outs)
-
-abbrev pub invariant-loop-stream : goal.invariant-loop-stream
-invariant-loop-stream l = l.cells ≡ map (take l.instants) (take l.stream-index l.streams)

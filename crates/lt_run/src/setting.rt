@@ -1,0 +1,99 @@
+// Where a run takes place.
+ghost use Rattle.std.specs.Prelude.{◌≡◌, ◌<◌, ◌-◌, ◌^◌, [], IfOk, option_map, length};
+ghost use Rattle.lt_place.specs.Placement.{node_names};
+ghost use Rattle.lt_judge.specs.Judged.{IsOneNode};
+ghost use Rattle.lt_front.specs.Checked.{examined_part};
+ghost use Rattle.lt_answer.specs.World.{alone};
+ghost use Rattle.lt_answer.specs.Answered.{Answered, Settles};
+ghost use Rattle.lt_run.specs.Blamed.{command_blame};
+ghost use Rattle.lt_run.specs.Setting.{IsSettingOf, one_node_verdict, setting_verdict, config_setting_verdict};
+ghost use Rattle.lt_run.specs.Plain.{plain_setting};
+
+use crate::plain::{plain_shape, plain_timing};
+use crate::setups::{accepted, placed};
+use crate::{CommandFault, load_config};
+use lt_arch::{Shape, Timing};
+use lt_base::{List, Memory, Or};
+use lt_config::Config;
+use lt_front::Checked;
+use lt_io::Files;
+use std::alloc::Global;
+
+/// The nodes with their channels, and their bounds of time.
+#[derive(Drop)]
+pub(crate) struct Setting {
+    pub shape: Shape,
+    pub timing: Timing,
+}
+
+/// The plain setting, or that of a setup's file: the placement is legal, on one node, and the timing is accepted, in this order.
+pub(crate) fn read_setting<F: Files>(
+    alloc: Global,
+    files: &mut F,
+    checked: &Checked,
+    config: Option<&str>,
+) -> Result<Setting, Or<CommandFault>>
+    requires { (F.state files.old).faults < 2 ^ 64 - 1 }
+    ensures answered { Answered command_blame (setting_verdict (F.state files.old).named (examined_part checked.now) (option_map (λ s. s.now) config.entry))
+        (alone (F.state files.old)) (alone (F.state files.new)) result }
+    ensures one { IfOk result (λ setting. IsOneNode setting.shape setting.timing) }
+{
+    match config {
+        Some(config) => read_setup(alloc, files, checked, config),
+        None => Ok(plain_setting(alloc)?),
+    }
+}
+
+// The setting of a run without a setup.
+fn plain_setting(alloc: Global) -> Result<Setting, Memory>
+    ensures { IfOk result (λ setting. setting ≡ plain_setting) }
+{
+    Ok(Setting {
+        shape: plain_shape(alloc)?,
+        timing: plain_timing(alloc)?,
+    })
+}
+
+// The setting of a setup's file.
+fn read_setup<F: Files>(
+    alloc: Global,
+    files: &mut F,
+    checked: &Checked,
+    config: &str,
+) -> Result<Setting, Or<CommandFault>>
+    requires { (F.state files.old).faults < 2 ^ 64 - 1 }
+    ensures answered { Answered command_blame (config_setting_verdict (F.state files.old).named (examined_part checked.now) config.now)
+        (alone (F.state files.old)) (alone (F.state files.new)) result }
+    ensures one { IfOk result (λ setting. IsOneNode setting.shape setting.timing) }
+{
+    let setup = load_config(alloc, files, config)?;
+    placed(alloc, checked, &setup)?;
+    one_node(&setup)?;
+    accepted(alloc, &setup)?;
+    Ok(setting_of(alloc, setup)?)
+}
+
+// Whether a setup has one node.
+fn one_node(setup: &Config) -> Result<(), Or<CommandFault>>
+    ensures { Settles (one_node_verdict setup.now) result }
+{
+    if setup.placement.node_count() == 1 {
+        Ok(())
+    } else {
+        Err(Or::Fault(CommandFault::SeveralNodes))
+    }
+}
+
+// The only node of a setup, with its timing.
+fn setting_of(alloc: Global, setup: Config) -> Result<Setting, Memory>
+    requires { length (node_names setup.placement) ≡ 1 }
+    ensures { IfOk result (IsSettingOf setup) }
+{
+    Ok(Setting {
+        shape: Shape {
+            nodes: setup.placement.names(alloc)?,
+            channels: List::new(alloc),
+        },
+        timing: setup.timing,
+    })
+}
