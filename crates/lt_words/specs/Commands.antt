@@ -26,7 +26,7 @@ abbrev pub meaning_app : App
 meaning_app = with_rule (with_rule (new_app (codes "meaning")) (text_rule (codes "program"))) (text_rule (codes "inputs"))
 
 abbrev pub run_app : App
-run_app = with_rule (with_rule (with_rule (new_app (codes "run")) (text_rule (codes "program"))) (text_rule (codes "inputs"))) (text_rule (codes "schedule"))
+run_app = with_rule (with_rule (with_rule (with_rule (new_app (codes "run")) (text_rule (codes "program"))) (text_rule (codes "inputs"))) (text_rule (codes "schedule"))) (optional_rule (codes "config"))
 
 abbrev pub plan_app : App
 plan_app = with_rule (with_rule (new_app (codes "plan")) (text_rule (codes "config"))) (number_rule (codes "horizon") greatest_horizon)

@@ -1,5 +1,5 @@
 -- What the words say.
-use Rattle.std.specs.Prelude.{ℕ, List, [], ◌∷◌, Option, Some, None, option_map, unwrap_or, codes, if◌then◌else◌}
+use Rattle.std.specs.Prelude.{ℕ, List, [], ◌∷◌, Option, None, option_map, unwrap_or, codes, if◌then◌else◌}
 use Rattle.std.specs.Str.{bytes_eq}
 use Rattle.clap.specs.Words.{Row, Text, first_of, subcommand_of, fault_of}
 use Rattle.lt_words.specs.declared.command.Command.{Command}
@@ -11,13 +11,13 @@ use Rattle.lt_words.specs.Commands.{program_app}
 pub data Said : Type 0 where
   check : (program : Text) → (config : Option Text) → Said
   meaning : (program inputs : Text) → Said
-  run : (program inputs schedule : Text) → Said
+  run : (program inputs schedule : Text) → (config : Option Text) → Said
   plan : (config : Text) → (horizon : Option ℕ) → Said
 
 abbrev pub said_of : Command → Said
 said_of (Check program config) = check program.now (option_map (λ s. s.now) config)
 said_of (Meaning program inputs) = meaning program.now inputs.now
-said_of (Run program inputs schedule) = run program.now inputs.now schedule.now
+said_of (Run program inputs schedule config) = run program.now inputs.now schedule.now (option_map (λ s. s.now) config)
 said_of (Plan config horizon) = plan config.now horizon
 
 -- the values that were found for an argument
@@ -32,7 +32,7 @@ abbrev pub said_by : (name : Text) → List Row → Said
 said_by name rows =
     if bytes_eq name (codes "check") then check (text_at (codes "program") rows) (first_of (codes "config") rows)
     else if bytes_eq name (codes "meaning") then meaning (text_at (codes "program") rows) (text_at (codes "inputs") rows)
-    else if bytes_eq name (codes "run") then run (text_at (codes "program") rows) (text_at (codes "inputs") rows) (text_at (codes "schedule") rows)
+    else if bytes_eq name (codes "run") then run (text_at (codes "program") rows) (text_at (codes "inputs") rows) (text_at (codes "schedule") rows) (first_of (codes "config") rows)
     else plan (text_at (codes "config") rows) (number_at (codes "horizon") rows)
 
 -- what the words say, where `clap` reads a command

@@ -13,11 +13,12 @@ pub enum Command<'a> {
         program: &'a str,
         inputs: &'a str,
     },
-    /// Run a program on these inputs by this schedule.
+    /// Run a program on these inputs by this schedule, and where there is a setup, as it says.
     Run {
         program: &'a str,
         inputs: &'a str,
         schedule: &'a str,
+        config: Option<&'a str>,
     },
     /// Print the least countdowns and the cycles of a setup, and the bounds for a horizon in ticks.
     Plan {

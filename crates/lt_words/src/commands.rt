@@ -34,7 +34,8 @@ fn run<'a>(alloc: Global) -> Result<Command<'a>, Memory>
 {
     let command = with_argument(Command::new(alloc, "run"), text(alloc, "program"))?;
     let command = with_argument(command, text(alloc, "inputs"))?;
-    with_argument(command, text(alloc, "schedule"))
+    let needed = with_argument(command, text(alloc, "schedule"))?;
+    with_argument(needed, optional_text(alloc, "config"))
 }
 
 fn plan<'a>(alloc: Global) -> Result<Command<'a>, Memory>

@@ -60,6 +60,7 @@ fn command_of<'a>(name: &str, matches: &ArgMatches<'a>) -> Command<'a>
             program,
             inputs,
             schedule,
+            config: text_at(matches, "config"),
         };
     }
     let config = text_or_empty(matches, "config");

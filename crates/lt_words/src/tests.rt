@@ -33,7 +33,13 @@ fn described(alloc: Global, command: &Command<'_>) -> Result<String, Fail> {
             program,
             inputs,
             schedule,
-        } => format!(in alloc; "{program} on {inputs} by {schedule}")?,
+            config,
+        } => match config {
+            Some(config) => {
+                format!(in alloc; "{program} on {inputs} by {schedule} with {config}")?
+            }
+            None => format!(in alloc; "{program} on {inputs} by {schedule}")?,
+        },
         Command::Plan { config, horizon } => match horizon {
             Some(horizon) => format!(in alloc; "plan of {config} to {horizon}")?,
             None => format!(in alloc; "plan of {config}")?,
@@ -50,6 +56,7 @@ fn lines_of_words(rt: HostRuntime) -> Result<(), Fail> {
         ("check p c x", ""),
         ("meaning p i", "p on i"),
         ("run p i s", "p on i by s"),
+        ("run p i s c", "p on i by s with c"),
         ("plan c", "plan of c"),
         ("plan c --horizon 1000", "plan of c to 1000"),
         ("plan --horizon=0 c", "plan of c to 0"),
@@ -60,7 +67,8 @@ fn lines_of_words(rt: HostRuntime) -> Result<(), Fail> {
         ("check -- --help", "check of --help"),
         ("check help", "check of help"),
         ("run p i", ""),
-        ("run p i s x", ""),
+        ("run p i s c x", ""),
+        ("run p i s --config c", ""),
         ("check", ""),
         ("check --help", ""),
         ("help", ""),

@@ -1,7 +1,6 @@
-use Rattle.std.proofs.Common.{◌≡◌, ℕ, ◌+◌, ◌-◌, ◌*◌, ◌/◌, ◌≤◌, ◌<◌, List, [], ◌∷◌, length, drop, get_or, Option, Some, None, refl, sym, ap, ◌∙◌, arith, drop-cons, add-one}
-use Rattle.std.proofs.lemmas.List.{drop_all}
-use Rattle.lt_words.specs.Numbers.{number_of, up_to}
-use Rattle.lt_words.proofs.Digits.{at_start, at_end, is_digit-true, is_digit-low, is_digit-high, one_more, no_digit, too_large, read_rest}
+use Rattle.std.proofs.Common.{◌≡◌, ℕ, ◌+◌, ◌-◌, ◌*◌, ◌<◌, List, ◌∷◌, length, drop, get_or, sym, ap, ◌∙◌, arith, drop-cons, add-one}
+use Rattle.lt_words.specs.Numbers.{up_to}
+use Rattle.lt_words.proofs.Digits.{at_start, is_digit-true, is_digit-low, is_digit-high, one_more, no_digit, too_large, read_rest}
 use Rattle.lt_words.proofs.numbers.number.Goals as goal
 use Rattle.lt_words.proofs.numbers.number.Goals.{then-byte-lt48-via-then-byte-lt48, then-byte-lt48-via-else-byte-lt48+then-byte-gt57}
 

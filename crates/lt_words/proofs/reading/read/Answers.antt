@@ -1,4 +1,4 @@
-use Rattle.std.proofs.Common.{◌≡◌, true, false, refl, sym, ap, ap₂, ◌∙◌, map, string_bytes}
+use Rattle.std.proofs.Common.{◌∙◌, map, string_bytes}
 use Rattle.clap.specs.Words.{app_of}
 use Rattle.std.proofs.lemmas.Bool.{false≢true}
 use Rattle.lt_words.proofs.Simple.{met_one, refused_words}
