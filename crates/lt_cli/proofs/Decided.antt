@@ -23,8 +23,9 @@ check_decided named program config = one_check fault_status tells_limits (λ f g
 pub meaning_decided : (named : List ℕ → Option (List ℕ)) (program inputs : List ℕ) → HasOneKind fault_status (meaning_verdict named program inputs)
 meaning_decided named program inputs = one_meaning fault_status tells_limits named program inputs
 
-pub run_decided : (named : List ℕ → Option (List ℕ)) (program inputs schedule : List ℕ) → HasOneKind fault_status (run_verdict named program inputs schedule)
-run_decided named program inputs schedule = one_run fault_status tells_limits named program inputs schedule
+pub run_decided : (named : List ℕ → Option (List ℕ)) (program inputs schedule : List ℕ) (config : Option (List ℕ)) → HasOneKind fault_status (run_verdict named program inputs schedule config)
+run_decided named program inputs schedule config =
+    one_run fault_status tells_limits (λ f g main main'. refl) (λ f g names names' mixed mixed'. refl) named program inputs schedule config
 
 pub plan_decided : (file : Option (List ℕ)) → HasOneKind fault_status (config_verdict file)
 plan_decided file = config_decided fault_status file

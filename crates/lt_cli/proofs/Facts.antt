@@ -28,7 +28,7 @@ asks_nothing : (named : List ℕ → Option (List ℕ)) (said : Option Said) (ou
 asks_nothing named None outcome right is = refl
 asks_nothing named (Some (check program config)) outcome right is = absurd (not_words checked_text (check_verdict named program config) outcome right is)
 asks_nothing named (Some (meaning program inputs)) outcome right is = absurd (not_words printed_text (meaning_verdict named program inputs) outcome right is)
-asks_nothing named (Some (run program inputs schedule)) outcome right is = absurd (not_words printed_text (run_verdict named program inputs schedule) outcome right is)
+asks_nothing named (Some (run program inputs schedule config)) outcome right is = absurd (not_words printed_text (run_verdict named program inputs schedule config) outcome right is)
 asks_nothing named (Some (plan config horizon)) outcome right is = absurd (not_words (λ setup. plan_of setup horizon) (config_verdict (named config)) outcome right is)
 
 pub words_exact : (words : List (List ℕ)) (old new : Objects) (ends : Status) → Gave (words_verdict old.files.named words) old new ends → IsWordsExact words old new ends

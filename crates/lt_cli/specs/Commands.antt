@@ -1,7 +1,7 @@
 -- What is right to print for the words and the bytes of the files.
 use Rattle.std.specs.Prelude.{◌≡◌, ℕ, List, Option, Some, None, Err}
 use Rattle.lt_print.specs.Canonical.{canonical}
-use Rattle.lt_front.specs.Checked.{CheckedText}
+use Rattle.lt_front.specs.Examined.{ExaminedText}
 use Rattle.lt_plan.specs.Text.{plan_of}
 use Rattle.lt_words.specs.Reading.{Said, check, meaning, run, plan, command_of}
 use Rattle.lt_answer.specs.Answered.{Verdict}
@@ -20,7 +20,7 @@ abbrev pub text_verdict : {T : Type 0} → (T → List ℕ) → Verdict T Comman
 text_verdict shown V = Raised (λ fault. Command fault) (Shown shown V)
 
 -- a program in its canonical form
-abbrev pub checked_text : CheckedText → List ℕ
+abbrev pub checked_text : ExaminedText → List ℕ
 checked_text checked = canonical checked.tree
 
 -- the cells of outputs
@@ -31,7 +31,7 @@ printed_text printed = outputs_text printed.names printed.cells
 abbrev pub command_verdict : (named : List ℕ → Option (List ℕ)) → Said → Verdict (List ℕ) Refusal
 command_verdict named (check program config) = text_verdict checked_text (check_verdict named program config)
 command_verdict named (meaning program inputs) = text_verdict printed_text (meaning_verdict named program inputs)
-command_verdict named (run program inputs schedule) = text_verdict printed_text (run_verdict named program inputs schedule)
+command_verdict named (run program inputs schedule config) = text_verdict printed_text (run_verdict named program inputs schedule config)
 command_verdict named (plan config horizon) = text_verdict (λ setup. plan_of setup horizon) (config_verdict (named config))
 
 -- of the words a command's text or refusal, or that they say none

@@ -36,8 +36,9 @@ pub fn answer<F: Files>(
                 program,
                 inputs,
                 schedule,
+                config,
             },
-        ) => run_answer(alloc, files, program, inputs, schedule),
+        ) => run_answer(alloc, files, program, inputs, schedule, config),
         Some(Command::Plan { config, horizon }) => plan_answer(alloc, files, config, horizon),
         None => Err(Or::Fault(Refusal::Words)),
     }
@@ -81,19 +82,20 @@ fn meaning_answer<F: Files>(
     }
 }
 
-// The outputs of a run.
+// The outputs of a run, with a setup as it says.
 fn run_answer<F: Files>(
     alloc: Global,
     files: &mut F,
     program: &str,
     inputs: &str,
     schedule: &str,
+    config: Option<&str>,
 ) -> Result<List<u8>, Or<Refusal>>
     requires { (F.state files.old).faults < 2 ^ 64 - 1 }
-    ensures { Answered blame_of (command_verdict (F.state files.old).named (ask_run program.now inputs.now schedule.now))
+    ensures { Answered blame_of (command_verdict (F.state files.old).named (ask_run program.now inputs.now schedule.now (option_map (λ s. s.now) config.entry)))
         (alone (F.state files.old)) (alone (F.state files.new)) result }
 {
-    match run(alloc, files, program, inputs, schedule) {
+    match run(alloc, files, program, inputs, schedule, config) {
         Ok(printed) => Ok(outputs_text(alloc, printed.names.as_slice(), printed.cells.as_slice())?),
         Err(e) => Err(e.map(Refusal::Command)),
     }

@@ -18,6 +18,8 @@ pub use status::Status;
 pub use top::ltta;
 
 #[cfg(test)]
+mod run_tests;
+#[cfg(test)]
 mod setup_tests;
 #[cfg(test)]
 mod tests;

@@ -1,8 +1,6 @@
 // Why a command is refused.
 ghost use Rattle.std.specs.Prelude.{◌≡◌, IfOk};
 ghost use Rattle.lt_cli.specs.Texts.{fault_line, fault_status, inputs_status, limit_line, line_of, program_status, refusal_status, row_status};
-ghost use Rattle.lt_cli.specs.ScheduleLines.{offence_line};
-ghost use Rattle.lt_run.specs.Plain.{one_node};
 
 use crate::Status;
 use crate::config_line::config_line;
@@ -10,12 +8,11 @@ use crate::inputs_line::inputs_line;
 use crate::place_line::place_line;
 use crate::schedule_line::{offence_line, row_line};
 use crate::timing_line::timing_line;
-use lt_arch::Offence;
 use lt_base::{List, Memory};
 use lt_front::ProgramFault;
 use lt_inputs::InputKind;
 use lt_rows::RowFault;
-use lt_run::{CommandFault, What, plain_shape};
+use lt_run::{CommandFault, What};
 use lt_texts::program_line;
 use std::alloc::Global;
 
@@ -47,7 +44,7 @@ impl Refusal {
             Refusal::Words => {
                 List::from_slice(
                     alloc,
-                    b"words: usage: ltta check P [C] | meaning P I | run P I S | plan C [--horizon H]",
+                    b"words: usage: ltta check P [C] | meaning P I | run P I S [C] | plan C [--horizon H]",
                 )
             }
             Refusal::Command(fault) => fault_line(alloc, fault),
@@ -63,6 +60,7 @@ fn fault_status(fault: &CommandFault) -> Status
         CommandFault::Config(_) => Status::Setup,
         CommandFault::Place { .. } => Status::Setup,
         CommandFault::Timing { .. } => Status::Setup,
+        CommandFault::SeveralNodes => Status::Setup,
         CommandFault::Inputs(fault) => inputs_status(fault.kind),
         CommandFault::TooManyCells => Status::Limit,
         CommandFault::Row { row: _, fault } => row_status(*fault),
@@ -111,21 +109,18 @@ fn fault_line(alloc: Global, fault: &CommandFault) -> Result<List<u8>, Memory>
             names,
             mixed,
         } => timing_line(alloc, *fault, names.as_slice(), *mixed),
+        CommandFault::SeveralNodes => List::from_slice(alloc, b"not built: nodes"),
         CommandFault::Inputs(fault) => inputs_line(alloc, *fault),
         CommandFault::TooManyCells => List::from_slice(alloc, b"limit: meaning cells 16000000"),
         CommandFault::Row { row, fault } => row_line(alloc, *row, *fault),
-        CommandFault::Offence { event, offence } => plain_offence(alloc, *event, *offence),
+        CommandFault::Offence {
+            event,
+            offence,
+            shape,
+        } => offence_line(alloc, shape, *event, *offence),
         CommandFault::Limit(what) => limit_line(alloc, *what),
         CommandFault::Read => List::from_slice(alloc, b"fault: read"),
     }
-}
-
-// The line of an offence on the one node of a run without a setup.
-fn plain_offence(alloc: Global, event: u32, offence: Offence) -> Result<List<u8>, Memory>
-    ensures { IfOk result (λ line. line ≡ offence_line one_node event offence) }
-{
-    let shape = plain_shape(alloc)?;
-    offence_line(alloc, &shape, event, offence)
 }
 
 fn limit_line(alloc: Global, what: What) -> Result<List<u8>, Memory>

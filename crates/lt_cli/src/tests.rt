@@ -18,8 +18,8 @@ const SCHEDULE: &str = "time,event,place\n0,act,all\n4,act,all\n8,act,all\n12,en
 const SETUP: &str =
     "protocol = 'backpressure'\nperiod = [9, 11]\ndelay = [1, 4]\n[nodes]\na = ['x', 'u']\nb = ['v']\n";
 
-const USAGE: &str =
-    "words: usage: ltta check P [C] | meaning P I | run P I S | plan C [--horizon H]\n";
+pub(crate) const USAGE: &str =
+    "words: usage: ltta check P [C] | meaning P I | run P I S [C] | plan C [--horizon H]\n";
 
 // The cruise controller of the examples.
 const CRUISE: &str = "node limit(v: int) returns (r: int) let r = max(0, min(v, 100)); tel
@@ -326,13 +326,21 @@ fn faulty_inputs_are_refused(rt: HostRuntime) -> Result<(), Fail> {
 
 // A program and inputs that are made.
 #[derive(Drop)]
-struct Made {
+pub(crate) struct Made {
     program: String,
     inputs: String,
 }
 
 impl Made {
-    fn texts<'a>(&'a self) -> Texts<'a> {
+    /// A program of so many functions beside `main`, of a weight of twice 2 to their number, and so many rows of inputs.
+    pub(crate) fn of(alloc: Global, functions: u32, rows: u32) -> Result<Made, Memory> {
+        Ok(Made {
+            program: doubling(alloc, functions)?,
+            inputs: long_inputs(alloc, rows)?,
+        })
+    }
+
+    pub(crate) fn texts<'a>(&'a self) -> Texts<'a> {
         Texts {
             program: self.program.as_str(),
             inputs: self.inputs.as_str(),
@@ -376,17 +384,13 @@ fn limits_are_told(rt: HostRuntime) -> Result<(), Fail> {
         ("run p i s", 1, 100_001, "limit: input rows 100000\n"),
         // A weight of 4096, and one row more than there may be.
         ("meaning p i", 11, 3_907, "limit: meaning cells 16000000\n"),
-        ("run p i s", 11, 3_907, "limit: meaning cells 16000000\n"),
         // A weight of 8192.
         ("check p", 12, 1, "limit: weight 4096\n"),
         ("meaning p i", 12, 1, "limit: weight 4096\n"),
         ("run p i s", 12, 1, "limit: weight 4096\n"),
     ];
     for (line, functions, count, err) in rows {
-        let made = Made {
-            program: doubling(alloc, functions)?,
-            inputs: long_inputs(alloc, count)?,
-        };
+        let made = Made::of(alloc, functions, count)?;
         let ended = call(alloc, line, made.texts(), NONE)?;
         assert_eq!(rt; ended.status, Status::Limit, "{line}");
         assert_eq!(rt; ended.out.as_slice(), b"".as_slice(), "{line}");

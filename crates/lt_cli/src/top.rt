@@ -49,8 +49,8 @@ pub fn ltta<F: Files, W: Fabric, O: Sink, E: Sink>(
         → IsExact printed_text (meaning_verdict old.files.named program inputs) old new result }
     ensures run { let old : Objects = record { files = F.state files.old; fabric = W.state fabric.old; out = O.state out.old; err = E.state err.old } in
         let new : Objects = record { files = F.state files.new; fabric = W.state fabric.new; out = O.state out.new; err = E.state err.new } in
-        (program inputs schedule : Items ℕ) → command_of (map string_bytes words.now) ≡ Some (run program inputs schedule) → Tells old → IsQuiet old new → result ≢ Status.Memory
-        → IsExact printed_text (run_verdict old.files.named program inputs schedule) old new result }
+        (program inputs schedule : Items ℕ) (config : Maybe (Items ℕ)) → command_of (map string_bytes words.now) ≡ Some (run program inputs schedule config) → Tells old → IsQuiet old new → result ≢ Status.Memory
+        → IsExact printed_text (run_verdict old.files.named program inputs schedule config) old new result }
     ensures plan { let old : Objects = record { files = F.state files.old; fabric = W.state fabric.old; out = O.state out.old; err = E.state err.old } in
         let new : Objects = record { files = F.state files.new; fabric = W.state fabric.new; out = O.state out.new; err = E.state err.new } in
         (config : Items ℕ) (horizon : Maybe ℕ) → command_of (map string_bytes words.now) ≡ Some (plan config horizon) → Tells old → IsQuiet old new → result ≢ Status.Memory
@@ -73,8 +73,8 @@ pub fn ltta<F: Files, W: Fabric, O: Sink, E: Sink>(
         → IsMissingExact (meaning_verdict old.files.named program inputs) old new }
     ensures run_missing { let old : Objects = record { files = F.state files.old; fabric = W.state fabric.old; out = O.state out.old; err = E.state err.old } in
         let new : Objects = record { files = F.state files.new; fabric = W.state fabric.new; out = O.state out.new; err = E.state err.new } in
-        (program inputs schedule : Items ℕ) → command_of (map string_bytes words.now) ≡ Some (run program inputs schedule) → IsTrue old.files.sound → result ≢ Status.Memory
-        → IsMissingExact (run_verdict old.files.named program inputs schedule) old new }
+        (program inputs schedule : Items ℕ) (config : Maybe (Items ℕ)) → command_of (map string_bytes words.now) ≡ Some (run program inputs schedule config) → IsTrue old.files.sound → result ≢ Status.Memory
+        → IsMissingExact (run_verdict old.files.named program inputs schedule config) old new }
     ensures plan_missing { let old : Objects = record { files = F.state files.old; fabric = W.state fabric.old; out = O.state out.old; err = E.state err.old } in
         let new : Objects = record { files = F.state files.new; fabric = W.state fabric.new; out = O.state out.new; err = E.state err.new } in
         (config : Items ℕ) (horizon : Maybe ℕ) → command_of (map string_bytes words.now) ≡ Some (plan config horizon) → IsTrue old.files.sound → result ≢ Status.Memory

@@ -27,9 +27,9 @@ returns-clause-meaning g c program inputs asked tells quiet enough =
     (asked_gave (map string_bytes c.args.words.now) (meaning program inputs) _ _ _ asked (gave _ _ _ _ c.perform.ensures tells quiet enough))
 
 pub returns-clause-run : goal.returns-clause-run
-returns-clause-run g c program inputs schedule asked tells quiet enough =
-    exact printed_text (run_verdict (g.F.Files.state c.args.files.now).named program inputs schedule) (run_decided (g.F.Files.state c.args.files.now).named program inputs schedule) _ _ _
-    (asked_gave (map string_bytes c.args.words.now) (run program inputs schedule) _ _ _ asked (gave _ _ _ _ c.perform.ensures tells quiet enough))
+returns-clause-run g c program inputs schedule config asked tells quiet enough =
+    exact printed_text (run_verdict (g.F.Files.state c.args.files.now).named program inputs schedule config) (run_decided (g.F.Files.state c.args.files.now).named program inputs schedule config) _ _ _
+    (asked_gave (map string_bytes c.args.words.now) (run program inputs schedule config) _ _ _ asked (gave _ _ _ _ c.perform.ensures tells quiet enough))
 
 pub returns-clause-plan : goal.returns-clause-plan
 returns-clause-plan g c config horizon asked tells quiet enough =
@@ -53,9 +53,9 @@ returns-clause-meaning_missing g c program inputs asked sound enough =
     (asked_ran (map string_bytes c.args.words.now) (meaning program inputs) _ _ _ asked c.perform.ensures)
 
 pub returns-clause-run_missing : goal.returns-clause-run_missing
-returns-clause-run_missing g c program inputs schedule asked sound enough =
-    missing_exact printed_text (run_verdict (g.F.Files.state c.args.files.now).named program inputs schedule) (run_decided (g.F.Files.state c.args.files.now).named program inputs schedule) _ _ _ (g.met.F.Files.sound_tells c.args.files.now sound) sound enough
-    (asked_ran (map string_bytes c.args.words.now) (run program inputs schedule) _ _ _ asked c.perform.ensures)
+returns-clause-run_missing g c program inputs schedule config asked sound enough =
+    missing_exact printed_text (run_verdict (g.F.Files.state c.args.files.now).named program inputs schedule config) (run_decided (g.F.Files.state c.args.files.now).named program inputs schedule config) _ _ _ (g.met.F.Files.sound_tells c.args.files.now sound) sound enough
+    (asked_ran (map string_bytes c.args.words.now) (run program inputs schedule config) _ _ _ asked c.perform.ensures)
 
 pub returns-clause-plan_missing : goal.returns-clause-plan_missing
 returns-clause-plan_missing g c config horizon asked sound enough =
