@@ -4,6 +4,7 @@ ghost use Rattle.std.specs.Prelude.{◌≡◌, nat_abs, pos};
 ghost use Rattle.std.specs.Int.{IsGcd};
 ghost use Rattle.lt_base.specs.Operators.{op1 as op1_table, op2 as op2_table, ints, truths, imp as imp_table, quotient, remainder, gcd as gcd_of};
 
+use crate::slot::Slot;
 use crate::{Bin, Imp, Un, Value};
 
 /// An operator of one operand, and none exactly where the operand's type is wrong.
@@ -29,22 +30,22 @@ fn remainder(a: i64, b: i64) -> i64
     if b == 0 { a } else { a.wrapping_rem(b) }
 }
 
-fn on_ints(op: Bin, a: i64, b: i64) -> Option<Value>
+pub(crate) fn on_ints(op: Bin, a: i64, b: i64) -> Slot
     ensures { result ≡ ints op a b }
 {
     match op {
-        Bin::Add => Some(Value::Int(a.wrapping_add(b))),
-        Bin::Sub => Some(Value::Int(a.wrapping_sub(b))),
-        Bin::Mul => Some(Value::Int(a.wrapping_mul(b))),
-        Bin::Div => Some(Value::Int(quotient(a, b))),
-        Bin::Mod => Some(Value::Int(remainder(a, b))),
-        Bin::Eq => Some(Value::Bool(a == b)),
-        Bin::Ne => Some(Value::Bool(a != b)),
-        Bin::Lt => Some(Value::Bool(a < b)),
-        Bin::Le => Some(Value::Bool(a <= b)),
-        Bin::Gt => Some(Value::Bool(a > b)),
-        Bin::Ge => Some(Value::Bool(a >= b)),
-        Bin::And | Bin::Or | Bin::Xor | Bin::Implies => None,
+        Bin::Add => Slot::number(a.wrapping_add(b)),
+        Bin::Sub => Slot::number(a.wrapping_sub(b)),
+        Bin::Mul => Slot::number(a.wrapping_mul(b)),
+        Bin::Div => Slot::number(quotient(a, b)),
+        Bin::Mod => Slot::number(remainder(a, b)),
+        Bin::Eq => Slot::truth_value(a == b),
+        Bin::Ne => Slot::truth_value(a != b),
+        Bin::Lt => Slot::truth_value(a < b),
+        Bin::Le => Slot::truth_value(a <= b),
+        Bin::Gt => Slot::truth_value(a > b),
+        Bin::Ge => Slot::truth_value(a >= b),
+        Bin::And | Bin::Or | Bin::Xor | Bin::Implies => Slot::empty(),
     }
 }
 
@@ -67,7 +68,7 @@ pub fn op2(op: Bin, a: Value, b: Value) -> Option<Value>
     ensures { result ≡ op2_table op a b }
 {
     match (a, b) {
-        (Value::Int(a), Value::Int(b)) => on_ints(op, a, b),
+        (Value::Int(a), Value::Int(b)) => on_ints(op, a, b).value(),
         (Value::Bool(a), Value::Bool(b)) => on_truths(op, a, b),
         _ => None,
     }
