@@ -58,6 +58,7 @@ one_behaviour p good checked g f e rows fits =
     let all = defined p good checked g f e rs (fit_reverse (input_types f) (map (map Some) rows) fits) in
     record {
       behaviour = environments C f rs;
+      meant = refl;
       holds = environments_solve C f causal rs;
       defined = all;
       only = means C fs f causal (clocked_function p good checked g f e) rs;

@@ -16,6 +16,5 @@ pub mod Weighing
 pub mod Behaviour
 pub mod Defined
 mod Cuts
-mod Fixtures
 pub mod Shape
 mod Wrapping

@@ -7,7 +7,7 @@ use Rattle.lt_base.specs.declared.value.Cell.{Cell}
 use Rattle.lt_base.specs.declared.value.Cell.TheVariants.{Absent, Here}
 use Rattle.lt_base.specs.Value.{ty_of}
 use Rattle.lt_base.specs.Program.{Function, WholeProgram, GoodProgram}
-use Rattle.lt_base.specs.Meaning.{ClockPairs, Environment, Row, Callee, clock_of, function_of, calls, cell, stream_of}
+use Rattle.lt_base.specs.Meaning.{ClockPairs, Environment, Row, Callee, clock_of, function_of, calls, cell, stream_of, environments}
 use Rattle.lt_base.specs.Typing.{ty_at, input_types, AllFit}
 use Rattle.lt_base.specs.Dependence.{Causal}
 use Rattle.lt_base.specs.Order.{Ranked}
@@ -39,6 +39,8 @@ CellFits (p ∷ ck) t Absent = Unit {0}
 pub record OneBehaviour (fs : List Function) (f : Function) (rows : List (List Value)) : Type 0 where
   -- the values of the variables at each instant, newest first
   pub behaviour : List Environment
+  -- they are the ones that the meaning gives
+  pub meant : behaviour ≡ environments (calls_of fs) f (newest_first rows)
   -- every equation holds wherever its variable is present
   pub holds : Solves (calls_of fs) f behaviour (newest_first rows)
   -- every variable has a value of its type wherever it is present

@@ -14,8 +14,6 @@ mod program;
 mod slot;
 mod steps;
 pub mod tables;
-#[cfg(test)]
-mod tests;
 mod value;
 mod weights;
 

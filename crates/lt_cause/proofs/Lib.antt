@@ -6,4 +6,3 @@ mod Picked
 mod Cycles
 mod Turns
 pub mod Places
-mod Fixture

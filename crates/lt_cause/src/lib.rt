@@ -7,6 +7,3 @@ mod dependence;
 mod sorting;
 
 pub use causality::{Cycle, Order, causal};
-
-#[cfg(test)]
-mod tests;

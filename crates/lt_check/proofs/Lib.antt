@@ -6,4 +6,3 @@ mod ClockLemmas
 mod AtLemmas
 mod ClockedLemmas
 mod Shares
-pub mod Fixture

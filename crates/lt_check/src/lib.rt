@@ -11,6 +11,3 @@ mod typing;
 pub use clocking::{ClockFault, clocks};
 pub use sizing::{calls_of, sizes};
 pub use typing::{TypeFault, types};
-
-#[cfg(test)]
-mod tests;

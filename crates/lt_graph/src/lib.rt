@@ -9,6 +9,3 @@ mod table;
 pub use circular::first_circular;
 pub use strong::components;
 pub use table::{degrees, leads_to};
-
-#[cfg(test)]
-mod tests;

@@ -5,6 +5,3 @@ pub mod laws;
 mod printer;
 
 pub use printer::print;
-
-#[cfg(test)]
-mod tests;

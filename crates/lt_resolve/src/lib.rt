@@ -13,8 +13,6 @@ mod names;
 mod program;
 mod scope;
 mod tables;
-#[cfg(test)]
-mod tests;
 
 pub use fault::{NameFault, NameKind};
 pub use program::resolve;

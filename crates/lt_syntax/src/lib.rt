@@ -11,8 +11,6 @@ mod read;
 mod section;
 mod stack;
 mod term;
-#[cfg(test)]
-mod tests;
 mod tree;
 
 pub use fault::{SyntaxFault, SyntaxKind};

@@ -18,6 +18,9 @@ pub enum Front {
     BadNumber,
 }
 
+/// The greatest number of the language.
+const GREATEST: u128 = 9223372036854775807;
+
 /// The value of some digits, if it is a number of the language.
 fn value(digits: &[u8]) -> Option<u64>
     ensures { MatchOption result (text.greatest < text.value_on 0 digits.now) (λ n. (n ≡ text.value_on 0 digits.now) × (n ≤ text.greatest)) }
@@ -25,7 +28,7 @@ fn value(digits: &[u8]) -> Option<u64>
     let mut n: u64 = 0;
     for d in digits {
         let next = u128::from(n) * 10 + u128::from(d.saturating_sub(48));
-        if next > 9223372036854775807 {
+        if next > GREATEST {
             return None;
         }
         n = next as u64;

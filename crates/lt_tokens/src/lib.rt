@@ -3,8 +3,6 @@
 
 mod bytes;
 mod front;
-#[cfg(test)]
-mod tests;
 mod token;
 mod word;
 
