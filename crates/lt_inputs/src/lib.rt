@@ -5,8 +5,6 @@ mod fault;
 mod inputs;
 mod records;
 mod rows;
-#[cfg(test)]
-mod tests;
 mod values;
 
 pub use fault::{InputFault, InputKind};

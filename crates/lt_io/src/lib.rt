@@ -33,6 +33,3 @@ pub use repeat_files::RepeatFiles;
 pub use sink::Sink;
 pub use tight_fabric::TightFabric;
 pub use transfer::{Whole, read_file, write_all};
-
-#[cfg(test)]
-mod tests;

@@ -6,8 +6,6 @@ mod command;
 mod commands;
 mod numbers;
 mod reading;
-#[cfg(test)]
-mod tests;
 
 pub use command::Command;
 pub use reading::read_words;

@@ -1,0 +1,14 @@
+//! Tests of what stands between the files and a program: the objects of the outside, the checks of a program and the lines of
+//! its faults, and what inputs, schedules, setups and words read as.
+#![tactic(auto)]
+
+#[cfg(test)]
+mod fixtures;
+#[cfg(test)]
+mod inputs;
+#[cfg(test)]
+mod io;
+#[cfg(test)]
+mod rows;
+#[cfg(test)]
+mod words;
