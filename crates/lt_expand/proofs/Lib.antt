@@ -29,6 +29,4 @@ pub mod Lower
 pub mod Calling
 pub mod Turns
 pub mod Opening
-pub mod Examples
 pub mod Copying
-pub mod Passes

@@ -1,4 +1,3 @@
 pub mod Copies
 pub mod Expansion
 pub mod Walk
-pub mod Fixtures

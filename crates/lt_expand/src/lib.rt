@@ -9,7 +9,5 @@ mod library;
 mod paste;
 mod program;
 mod raised;
-#[cfg(test)]
-mod tests;
 
 pub use program::{TooMany, expand};

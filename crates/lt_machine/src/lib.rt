@@ -9,8 +9,6 @@ mod step_machine;
 mod stepping;
 mod table_machine;
 mod tables;
-#[cfg(test)]
-mod tests;
 
 pub use import::Import;
 pub use machine::Machine;

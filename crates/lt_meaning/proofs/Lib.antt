@@ -16,4 +16,3 @@ pub mod Running
 pub mod Keeping
 pub mod Instant
 pub mod Answering
-pub mod Passing

@@ -7,4 +7,3 @@ pub mod Planned
 pub mod Stands
 pub mod Ready
 pub mod Streams
-pub mod Worked

@@ -48,6 +48,10 @@ HasMainTypes p table = MatchOption (main_of p) ⊥ (λ f. HasTypes f table)
 abbrev pub cell_count : WholeProgram → List (List Value) → ℕ
 cell_count p rows = program_weight p * length rows
 
+-- the most cells that may count
+abbrev pub most_cells : ℕ
+most_cells = 16000000
+
 -- a column for each input of a function, and in each row values of the inputs' types
 pub record InputsFit (f : Function) (inputs : InputTable) : Type 0 where
   pub width : inputs.width ≡ f.n_in

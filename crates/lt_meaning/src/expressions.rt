@@ -113,7 +113,7 @@ fn wait<'a>(
     Ok(Node::Kept(number))
 }
 
-// A call with a cell and a step.
+// A call with a cell and a step of its own, and so with a state of its own: no two calls share one.
 fn call(
     to: &mut Lifter<'_>,
     clock: &Clock,

@@ -11,8 +11,6 @@ mod showing;
 mod starting;
 mod state;
 mod table;
-#[cfg(test)]
-mod tests;
 
 pub use program::{GREATEST_CELLS, StreamsFault, output_streams, streams};
 pub use table::Table;

@@ -5,7 +5,7 @@ ghost use Rattle.lt_base.specs.Or.{ForFault};
 ghost use Rattle.lt_base.specs.Inputs.{entry_at};
 ghost use Rattle.lt_base.specs.Checked.{CheckedProgram};
 ghost use Rattle.lt_meaning.specs.Ready.{ArePlans, AreOfMain};
-ghost use Rattle.lt_meaning.specs.Streams.{main_of, HasMainStreams, HasMainTypes, HasStreamsOf, HasOutputStreams, cell_count, InputsFitMain, HasRoom};
+ghost use Rattle.lt_meaning.specs.Streams.{main_of, HasMainStreams, HasMainTypes, HasStreamsOf, HasOutputStreams, cell_count, most_cells, InputsFitMain, HasRoom};
 
 use crate::Table;
 use crate::plan::Plan;
@@ -34,8 +34,8 @@ pub fn streams(alloc: Global, p: &Program, inputs: &Inputs) -> Result<Table, Or<
     ensures value { IfOk result (λ table. HasMainStreams p.now inputs.now.rows table) }
     ensures types { IfOk result (λ table. HasMainTypes p.now table) }
     ensures limit { MatchResult result
-        (λ _. cell_count p.now inputs.now.rows ≤ GREATEST_CELLS)
-        (λ e. ForFault e (λ _. GREATEST_CELLS < cell_count p.now inputs.now.rows)) }
+        (λ _. cell_count p.now inputs.now.rows ≤ most_cells)
+        (λ e. ForFault e (λ _. most_cells < cell_count p.now inputs.now.rows)) }
 {
     p.kept();
     let variables = variables_of(alloc, main_function(p))?;
@@ -56,8 +56,8 @@ pub fn output_streams(
     requires room { HasRoom p.now }
     ensures value { IfOk result (λ streams. HasOutputStreams p.now inputs.now.rows streams) }
     ensures limit { MatchResult result
-        (λ _. cell_count p.now inputs.now.rows ≤ GREATEST_CELLS)
-        (λ e. ForFault e (λ _. GREATEST_CELLS < cell_count p.now inputs.now.rows)) }
+        (λ _. cell_count p.now inputs.now.rows ≤ most_cells)
+        (λ e. ForFault e (λ _. most_cells < cell_count p.now inputs.now.rows)) }
 {
     let main = main_function(p);
     main.kept();
@@ -77,8 +77,8 @@ fn chosen_streams(
     requires variables { AreOfMain p.now variables.now }
     ensures value { IfOk result (λ streams. HasStreamsOf p.now inputs.now.rows variables.now streams) }
     ensures limit { MatchResult result
-        (λ _. cell_count p.now inputs.now.rows ≤ GREATEST_CELLS)
-        (λ e. ForFault e (λ _. GREATEST_CELLS < cell_count p.now inputs.now.rows)) }
+        (λ _. cell_count p.now inputs.now.rows ≤ most_cells)
+        (λ e. ForFault e (λ _. most_cells < cell_count p.now inputs.now.rows)) }
 {
     let too_many = is_too_many(alloc, p, inputs)?;
     if too_many {
@@ -115,8 +115,8 @@ fn variables_of(alloc: Global, f: &Func) -> Result<Vec<u32>, Memory>
 // Whether the weight of `main` times the number of rows is above the limit.
 fn is_too_many(alloc: Global, p: &Program, inputs: &Inputs) -> Result<bool, Memory>
     requires { CheckedProgram p.now }
-    ensures more { IfOk result (λ b. b ≡ true → GREATEST_CELLS < cell_count p.now inputs.now.rows) }
-    ensures most { IfOk result (λ b. b ≡ false → cell_count p.now inputs.now.rows ≤ GREATEST_CELLS) }
+    ensures more { IfOk result (λ b. b ≡ true → most_cells < cell_count p.now inputs.now.rows) }
+    ensures most { IfOk result (λ b. b ≡ false → cell_count p.now inputs.now.rows ≤ most_cells) }
 {
     let weight = sizes(alloc, p)?.weight;
     Ok(weight.saturating_mul(u64::from(inputs.rows())) > GREATEST_CELLS)

@@ -7,7 +7,7 @@ ghost use Rattle.lt_meaning.specs.Form.{form, value_in};
 ghost use Rattle.lt_meaning.specs.Plan.{action_form};
 ghost use Rattle.lt_meaning.specs.Stands.{IsReady, Advances, CanAct, Acts, CanAnswer, Answers, CanRun, Runs};
 
-use crate::node::{Node, is_present};
+use crate::node::{Node, at, is_present};
 use crate::plan::{Action, Delay, Plan, Step};
 use lt_base::Slot;
 use std::mem::swap;
@@ -48,6 +48,18 @@ pub fn run(plans: &[Plan], g: usize, state: &mut State)
     swap(&mut state.kept, &mut state.next);
 }
 
+// What a delay keeps next: its right side's value where its clock is present, and else what it kept.
+#[inline(always)]
+fn newest(delay: &Delay, j: usize, cells: &[Slot], kept: &[Slot]) -> Slot
+    ensures { result ≡ (if present (entry cells.now) delay.now.clock then value_in (entry cells.now) (entry kept.now) (form delay.now.right) else entry kept.now j) }
+{
+    if is_present(&delay.clock, cells) {
+        delay.right.value(cells, kept)
+    } else {
+        at(kept, j)
+    }
+}
+
 // What the delays keep next.
 fn advance(delays: &[Delay], cells: &[Slot], kept: &[Slot], next: &mut Vec<Slot>)
     requires kept { length kept.now ≡ length delays.now }
@@ -56,13 +68,7 @@ fn advance(delays: &[Delay], cells: &[Slot], kept: &[Slot], next: &mut Vec<Slot>
     ensures next { (j : ℕ) (d : DelayAt) → slice_get delays.now j ≡ Some d → entry next.new.items j ≡ (if present (entry cells.now) d.clock then value_in (entry cells.now) (entry kept.now) (form d.right) else entry kept.now j) }
 {
     for j in 0..delays.len() {
-        let delay = &delays[j];
-        let newest = if is_present(&delay.clock, cells) {
-            delay.right.value(cells, kept)
-        } else {
-            kept[j]
-        };
-        next[j] = newest;
+        next[j] = newest(&delays[j], j, cells, kept);
     }
 }
 

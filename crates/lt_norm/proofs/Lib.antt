@@ -10,5 +10,3 @@ pub mod Steps
 pub mod Loop
 pub mod Found
 pub mod Built
-pub mod Examples
-pub mod Passes

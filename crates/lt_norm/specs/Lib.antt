@@ -3,4 +3,3 @@ pub mod Lift
 pub mod Flat
 pub mod NormalForm
 pub mod Walk
-pub mod Fixtures

@@ -8,8 +8,6 @@ mod kinds;
 mod lift;
 mod plain;
 mod right;
-#[cfg(test)]
-mod tests;
 
 pub use equations::normal;
 pub use flat::Flat;

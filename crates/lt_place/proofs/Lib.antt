@@ -22,4 +22,3 @@ mod Outs
 mod Parts
 mod Splitting
 mod Laid
-mod Tested

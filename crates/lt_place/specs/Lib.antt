@@ -8,4 +8,3 @@ pub mod Seats
 pub mod Reports
 pub mod Layout
 pub mod Spread
-pub mod Fixtures

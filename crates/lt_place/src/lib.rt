@@ -20,8 +20,6 @@ mod placing;
 mod reads;
 mod seats;
 mod spread;
-#[cfg(test)]
-mod tests;
 mod view;
 
 pub use fault::PlaceFault;
