@@ -6,6 +6,7 @@ pub mod Legal
 pub mod Faults
 pub mod Seats
 pub mod Reports
+pub mod Sizes
 pub mod Layout
 pub mod Spread
 pub mod Fixtures
