@@ -19,6 +19,8 @@ mod Crossed
 mod Crosses
 mod Steps
 mod Outs
+mod Sizes
+pub mod Compilable
 mod Parts
 mod Splitting
 mod Laid

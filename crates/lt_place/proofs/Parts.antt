@@ -8,7 +8,7 @@ use Rattle.std.proofs.lemmas.Bool.{cases_eq, cases_lt, cases_Bool}
 use Rattle.std.proofs.lemmas.Bool.Decides.{nat_tests}
 use Rattle.lt_base.specs.declared.value.Ty.TheVariants.{Bool as BoolTy}
 use Rattle.lt_base.specs.declared.function.Decl.{Decl}
-use Rattle.lt_base.specs.Expression.{Expression}
+use Rattle.lt_base.specs.Expression.{Expression, parts}
 use Rattle.lt_base.specs.Program.{Function, GoodFunction, VarsBelow}
 use Rattle.lt_base.specs.Meaning.{ClockPairs, clock_of, right_of}
 use Rattle.lt_base.specs.Typing.{ty_at, type_of, TypedFunction}
@@ -30,10 +30,12 @@ use Rattle.lt_place.specs.declared.placement.Placement.{Placement}
 use Rattle.lt_place.specs.declared.layout.Feed.{Feed}
 use Rattle.lt_place.specs.declared.layout.Layout.{Layout}
 use Rattle.lt_place.specs.Nodes.{nodes_of, node_of}
+use Rattle.lt_place.specs.Sizes.{IsNoLarger}
 use Rattle.lt_place.specs.Layout.{IsPartOf, Gives, FeedFits, crossing_of}
 use Rattle.lt_place.proofs.Lists.{clock_map, ty_map, name_map, clock_get, ty_get, name_get, clock_beyond, each_of_all, all_below, each_clock_both, Was, was, all_kept, all_take, lefts_kept, lefts_none}
 use Rattle.lt_place.proofs.Inside.{clocks_below, lefts_below}
 use Rattle.lt_place.proofs.Outs.{outs_in, outs_out, outs_ascend, outs_once}
+use Rattle.lt_place.proofs.Sizes.{delays, delays_renamed, parts_renamed, length_below, length_picked, sum_picked, sum_made}
 use Rattle.lt_place.proofs.Turns.{var_at}
 use Rattle.lt_place.proofs.Vars.{EachVar, each_var_map, flat_callless, flat_renamed, vars_below, renamed_back, below_back, read_back, clock_back, type_renamed, clocked_renamed, well_renamed}
 
@@ -356,6 +358,18 @@ module _ (f : Originated) (good : GoodFunction f.func) (flat : FlatFunction f.fu
     lefts = one_each;
   }
 
+  -- ---- sizes
+
+  no_larger : IsNoLarger F f.func
+  no_larger = record {
+    variables = (let m = many in let l = h.few in omega (arith, m, l, size));
+    equations = length_picked (own_equation own) (stays nodes fed n) f.func.eqs;
+    delays = sum_picked (own_equation own) (stays nodes fed n) (λ (q : ℕ × Expression). delays q.1) (λ q. delays_renamed s q.1) f.func.eqs;
+    parts = sum_picked (own_equation own) (stays nodes fed n) (λ (q : ℕ × Expression). parts q.1) (λ q. parts_renamed s q.1) f.func.eqs;
+    pairs = sum_made (λ (d : Decl). length d.clock) f.func.decls no_decl (λ (d : Decl). length d.clock) (λ x. own_decl own (get_or f.func.decls x no_decl)) (λ x. length_below s (get_or f.func.decls x no_decl).clock) members
+        (λ i j a b e. sym (back i a) ∙ ap s e ∙ back j b) (λ i l. (inside i l).0);
+  }
+
   -- ---- the function that was made
 
   pub made : (G : Function) → G.name ≡ f.func.name → G.decls ≡ decls → G.n_in ≡ inputs → G.outs ≡ map s outs → G.eqs ≡ eqs → G ≡ F
@@ -442,6 +456,7 @@ module _ (f : Originated) (good : GoodFunction f.func) (flat : FlatFunction f.fu
       causal = causal z;
       good = is_good;
       flat = is_flat;
+      no_larger = no_larger;
     }
 
     -- an equation that is not a crossing is one of the part

@@ -19,6 +19,7 @@ use Rattle.lt_place.specs.declared.placement.Placement.{Placement}
 use Rattle.lt_place.specs.Origins.{count, name_of, origin_of}
 use Rattle.lt_place.specs.Nodes.{node_of}
 use Rattle.lt_place.specs.Placement.{node_names}
+use Rattle.lt_place.specs.Sizes.{IsNoLarger, HasCodeRoom, IsCompilable}
 
 abbrev pub no_part : Part
 no_part = record { flat = record { func = record { name = []; decls = []; n_in = 0; outs = []; eqs = [] }; origin = [] }; feeds = []; outs = [] }
@@ -88,6 +89,8 @@ pub record IsPartOf (f : Originated) (p : Placement) (l : Layout) (n : ℕ) (q :
   pub causal : Causal q.flat.func
   pub good : GoodFunction q.flat.func
   pub flat : FlatFunction q.flat.func
+  -- it is no larger than the whole
+  pub no_larger : IsNoLarger q.flat.func f.func
 
 -- the layout of a function under a placement
 pub record IsLayoutOf (f : Originated) (p : Placement) (l : Layout) : Type 0 where
@@ -100,3 +103,16 @@ pub record IsLayoutOf (f : Originated) (p : Placement) (l : Layout) : Type 0 whe
   pub equations : (x : ℕ) (e : Expression) → right_of f.func.eqs x ≡ Some e →
       ((c : ℕ) × (c < length l.cross) × ((crossing_of l c).reader ≡ x))
       ⊎ ((n : ℕ) × (k : ℕ) × (n < length l.nodes) × (k < count (part_of l n).flat) × (origin_of (part_of l n).flat k ≡ x) × (d : Expression) × (right_of (part_of l n).flat.func.eqs k ≡ Some d) × (renamed (origin_of (part_of l n).flat) d ≡ e))
+
+-- the layout is one of this function under some placement, and the function passes the checks
+pub record IsPlaced (f : Originated) (l : Layout) : Type 0 where
+  pub placement : Placement
+  pub layout : IsLayoutOf f placement l
+  pub good : GoodFunction f.func
+  pub typed : TypedFunction [] f.func
+  pub clocked : ClockedFunction [] f.func
+  pub causal : Causal f.func
+
+-- each part of a placed function compiles, where the function has room for its code
+abbrev pub PartsCompile : Type 0
+PartsCompile = (f : Originated) (l : Layout) (n : ℕ) → IsPlaced f l → HasCodeRoom f.func → n < length l.nodes → IsCompilable (part_of l n).flat.func

@@ -6,5 +6,6 @@ pub mod Legal
 pub mod Faults
 pub mod Seats
 pub mod Reports
+pub mod Sizes
 pub mod Layout
 pub mod Spread

@@ -1,6 +1,8 @@
 // A function on its nodes.
 
-use lt_base::{List, Name, Value};
+ghost use Rattle.std.specs.Prelude.{◌≡◌, IfOk};
+
+use lt_base::{Duplicate, List, Memory, Name, Value};
 use lt_norm::Flat;
 
 /// What an input of a part is: an input of `main`, by its number, or a crossing, by its place in the list of all.
@@ -38,4 +40,49 @@ pub struct Layout {
     pub nodes: List<Part>,
     pub cross: List<Crossing>,
     pub outs: List<u32>,
+}
+
+impl Duplicate for Feed {
+    fn duplicate(&self) -> Result<Feed, Memory> {
+        Ok(*self)
+    }
+}
+
+impl Duplicate for Crossing {
+    fn duplicate(&self) -> Result<Crossing, Memory> {
+        Ok(*self)
+    }
+}
+
+impl Part {
+    /// An equal part.
+    pub fn copy(&self) -> Result<Part, Memory>
+        ensures { IfOk result (λ copy. copy ≡ self.now) }
+    {
+        Ok(Part {
+            flat: self.flat.copy()?,
+            feeds: self.feeds.copy()?,
+            outs: self.outs.copy()?,
+        })
+    }
+}
+
+impl Duplicate for Part {
+    fn duplicate(&self) -> Result<Part, Memory> {
+        self.copy()
+    }
+}
+
+impl Layout {
+    /// An equal layout.
+    pub fn copy(&self) -> Result<Layout, Memory>
+        ensures { IfOk result (λ copy. copy ≡ self.now) }
+    {
+        Ok(Layout {
+            names: self.names.copy()?,
+            nodes: self.nodes.copy()?,
+            cross: self.cross.copy()?,
+            outs: self.outs.copy()?,
+        })
+    }
 }

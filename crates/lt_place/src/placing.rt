@@ -10,7 +10,7 @@ ghost use Rattle.lt_place.specs.Origins.{HasOrigins, count};
 ghost use Rattle.lt_place.specs.Nodes.{nodes_of};
 ghost use Rattle.lt_place.specs.Legal.{Legal};
 ghost use Rattle.lt_place.specs.Faults.{IsFirstFault};
-ghost use Rattle.lt_place.specs.Layout.{IsLayoutOf};
+ghost use Rattle.lt_place.specs.Layout.{IsLayoutOf, IsPlaced};
 ghost use Rattle.lt_place.specs.Spread.{AllBuilt, IsSpread, IsLocal};
 
 use crate::assign::assign;
@@ -48,7 +48,8 @@ fn layout(alloc: Global, f: &Flat, p: &Placement, nodes: Vec<u32>) -> Result<Lay
     requires names { length (node_names p.now) < 2 ^ 32 }
     requires nodes { nodes.items ≡ nodes_of f.now p.now }
     requires legal { Legal f.now p.now }
-    ensures { IfOk result (λ l. IsLayoutOf f.now p.now l) }
+    ensures layout { IfOk result (λ l. IsLayoutOf f.now p.now l) }
+    ensures placed { IfOk result (λ l. IsPlaced f.now l) }
 {
     kept(f);
     let names = p.names(alloc)?;
@@ -105,6 +106,7 @@ pub fn place(alloc: Global, f: &Flat, p: &Placement) -> Result<Layout, Or<PlaceF
     requires nodes { length (node_names p.now) < 2 ^ 32 }
     ensures legal { OnOk result (Legal f.now p.now) }
     ensures layout { IfOk result (λ l. IsLayoutOf f.now p.now l) }
+    ensures placed { IfOk result (λ l. IsPlaced f.now l) }
     ensures first { IfErr result (λ e. ForFault e (IsFirstFault f.now p.now)) }
     ensures refused { IfErr result (λ e. ForFault e (λ fault. Legal f.now p.now → ⊥)) }
 {
