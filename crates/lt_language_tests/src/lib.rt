@@ -1,0 +1,21 @@
+//! Tests of the crates that read, check and order programs.
+#![tactic(auto)]
+
+#[cfg(test)]
+mod base;
+#[cfg(test)]
+mod cause;
+#[cfg(test)]
+mod check;
+#[cfg(test)]
+mod graph;
+#[cfg(test)]
+mod names;
+#[cfg(test)]
+mod print;
+#[cfg(test)]
+mod programs;
+#[cfg(test)]
+mod syntax;
+#[cfg(test)]
+mod tokens;
