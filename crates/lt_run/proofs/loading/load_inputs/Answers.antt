@@ -53,9 +53,9 @@ returns-in-Ok-clause-fit g c =
     (c.in-Ok.ensures.width ∙ ap (λ (f : Function). f.n_in) c.main_of.ensures)
     (subst (λ (f : Function). RowsFit f c.in-Ok.table.rows) c.main_of.ensures c.in-Ok.ensures.fit)
 
-pub returns-in-Err-clause-answered : goal.returns-in-Err-clause-answered
+pub returns-clause-answered : goal.returns-clause-answered
 unfolding inputs_verdict
-returns-in-Err-clause-answered g c =
+returns-clause-answered g c =
     let bytes = c.as_slice.result.now in
     let main = c.main_of.result.now in
     last_step command_blame (whole_verdict InputsBytes ((g.F.Files.state c.args.files.now).named c.args.name.now)) (λ names bytes. read_verdict (main_in c.args.program.now) bytes) _ _ c.in_ok-bytes.bytes (Err c.map.result)

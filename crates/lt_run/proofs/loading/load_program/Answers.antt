@@ -34,9 +34,9 @@ returns-in-Ok g c =
     last_step command_blame (whole_verdict ProgramBytes ((g.F.Files.state c.args.files.now).named c.args.name.now)) (λ names bytes. read_verdict bytes) _ _ c.in_ok-bytes.bytes (Ok c.in-Ok.checked)
     c.in_ok-bytes.ensures.answered (read_content c.in_ok-bytes.bytes) (read_at _ _ c.as_slice.ensures (Ok c.in-Ok.checked) c.in-Ok.ensures)
 
-pub returns-in-Err : goal.returns-in-Err
+pub returns : goal.returns
 unfolding program_verdict
-returns-in-Err g c =
+returns g c =
     last_step command_blame (whole_verdict ProgramBytes ((g.F.Files.state c.args.files.now).named c.args.name.now)) (λ names bytes. read_verdict bytes) _ _ c.in_ok-bytes.bytes (Err c.map.result)
     c.in_ok-bytes.ensures.answered (read_content c.in_ok-bytes.bytes)
     (read_at _ _ c.as_slice.ensures (Err c.map.result) (raised_refusal (λ e. fault.Program e) (examine_verdict c.as_slice.result.now) c.in-Err.e c.map.result c.map.ensures c.in-Err.ensures))
