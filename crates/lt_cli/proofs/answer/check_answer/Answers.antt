@@ -9,7 +9,7 @@ pub returns-in_err-text-in-Ok : goal.returns-in_err-text-in-Ok
 returns-in_err-text-in-Ok g c =
     not_shown checked_text (check_verdict (g.F.Files.state c.args.files.now).named c.args.program.now (option_map (λ s. s.now) c.args.config)) _ _ c.in-Ok.checked _ c.from_residual.ensures.1 c.in-Ok.ensures
 
-pub returns-in_ok-text-in-Ok : goal.returns-in-Ok
+pub returns-in_ok-text-in-Ok : goal.returns-in_ok-text-in-Ok
 returns-in_ok-text-in-Ok g c =
     text_shown checked_text (check_verdict (g.F.Files.state c.args.files.now).named c.args.program.now (option_map (λ s. s.now) c.args.config)) _ _ c.in-Ok.checked c.in_ok-text-in-Ok.text c.in-Ok.ensures
     (c.in_ok-text-in-Ok.ensures.text ∙ ap checked_text c.checked.view_is)
