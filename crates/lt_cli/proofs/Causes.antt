@@ -98,4 +98,5 @@ module _ {T : Type 0} (shown : T → List ℕ) (V : Verdict T CommandFault) (one
 
 -- the verdict of the command that the words say
 pub asked_ran : (words : List (List ℕ)) (said : Said) (old new : Objects) (ends : Status) → command_of words ≡ Some said → Ran (words_verdict old.files.named words) old new ends → Ran (command_verdict old.files.named said) old new ends
+unfolding words_verdict
 asked_ran words said old new ends is ran = subst (λ (s : Option Said). Ran (asked_verdict old.files.named s) old new ends) is ran

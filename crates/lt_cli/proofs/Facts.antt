@@ -32,6 +32,7 @@ asks_nothing named (Some (run program inputs schedule config)) outcome right is 
 asks_nothing named (Some (plan config horizon)) outcome right is = absurd (not_words (λ setup. plan_of setup horizon) (config_verdict (named config)) outcome right is)
 
 pub words_exact : (words : List (List ℕ)) (old new : Objects) (ends : Status) → Gave (words_verdict old.files.named words) old new ends → IsWordsExact words old new ends
+unfolding words_verdict
 words_exact words old new ends g =
     let named = old.files.named in
     let none : ends ≡ status.Words → command_of words ≡ None = λ at. asks_nothing named (command_of words) g.outcome g.right (sym g.status ∙ at) in
@@ -47,6 +48,7 @@ words_exact words old new ends g =
 
 -- the verdict of the command that the words say
 pub asked_gave : (words : List (List ℕ)) (said : Said) (old new : Objects) (ends : Status) → command_of words ≡ Some said → Gave (words_verdict old.files.named words) old new ends → Gave (command_verdict old.files.named said) old new ends
+unfolding words_verdict
 asked_gave words said old new ends is g = record {
   outcome = g.outcome;
   right = subst (λ (s : Option Said). asked_verdict old.files.named s g.outcome) is g.right;

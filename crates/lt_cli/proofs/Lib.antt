@@ -6,5 +6,6 @@ pub mod Exact
 pub mod Decided
 pub mod Facts
 pub mod Causes
+pub mod Performed
 pub mod Texts
 pub mod Missing

@@ -39,5 +39,5 @@ abbrev pub asked_verdict : (named : List ℕ → Option (List ℕ)) → Option S
 asked_verdict named None outcome = outcome ≡ Err Words
 asked_verdict named (Some said) outcome = command_verdict named said outcome
 
-abbrev pub words_verdict : (named : List ℕ → Option (List ℕ)) → (words : List (List ℕ)) → Verdict (List ℕ) Refusal
+unfoldable pub words_verdict : (named : List ℕ → Option (List ℕ)) → (words : List (List ℕ)) → Verdict (List ℕ) Refusal
 words_verdict named words = asked_verdict named (command_of words)

@@ -1,6 +1,6 @@
 // What is printed for the words.
 ghost use Rattle.std.specs.Prelude.{◌<◌, ◌-◌, ◌^◌, map, option_map, string_bytes};
-ghost use Rattle.lt_words.specs.Reading.{check as ask_check, meaning as ask_meaning, plan, run as ask_run};
+ghost use Rattle.lt_words.specs.Reading.{check as ask_check, meaning as ask_meaning, plan, run as ask_run, said_of};
 ghost use Rattle.lt_answer.specs.World.{alone};
 ghost use Rattle.lt_answer.specs.Answered.{Answered};
 ghost use Rattle.lt_cli.specs.Blamed.{blame_of};
@@ -26,21 +26,32 @@ pub fn answer<F: Files>(
     requires { (F.state files.old).faults < 2 ^ 64 - 1 }
     ensures { Answered blame_of (words_verdict (F.state files.old).named (map string_bytes words.now)) (alone (F.state files.old)) (alone (F.state files.new)) result }
 {
-    match read_words(alloc, words)? {
-        Some(Command::Check { program, config }) => check_answer(alloc, files, program, config),
-        Some(Command::Meaning { program, inputs }) => {
-            meaning_answer(alloc, files, program, inputs)
-        }
-        Some(
-            Command::Run {
-                program,
-                inputs,
-                schedule,
-                config,
-            },
-        ) => run_answer(alloc, files, program, inputs, schedule, config),
-        Some(Command::Plan { config, horizon }) => plan_answer(alloc, files, config, horizon),
+    let command = read_words(alloc, words)?;
+    match command {
+        Some(command) => command_answer(alloc, files, command),
         None => Err(Or::Fault(Refusal::Words)),
+    }
+}
+
+// What is printed for a command.
+fn command_answer<F: Files>(
+    alloc: Global,
+    files: &mut F,
+    command: Command<'_>,
+) -> Result<List<u8>, Or<Refusal>>
+    requires { (F.state files.old).faults < 2 ^ 64 - 1 }
+    ensures { Answered blame_of (command_verdict (F.state files.old).named (said_of command.entry)) (alone (F.state files.old)) (alone (F.state files.new)) result }
+{
+    match command {
+        Command::Check { program, config } => check_answer(alloc, files, program, config),
+        Command::Meaning { program, inputs } => meaning_answer(alloc, files, program, inputs),
+        Command::Run {
+            program,
+            inputs,
+            schedule,
+            config,
+        } => run_answer(alloc, files, program, inputs, schedule, config),
+        Command::Plan { config, horizon } => plan_answer(alloc, files, config, horizon),
     }
 }
 

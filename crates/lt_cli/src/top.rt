@@ -1,16 +1,11 @@
 // The top call.
-ghost use Rattle.std.specs.Prelude.{◌≡◌, ◌≢◌, ◌<◌, ◌-◌, ◌^◌, ◌++◌, ◌∷◌, [], ℕ, IfOk, List as Items, Option as Maybe, IsTrue, Some, map, string_bytes};
-ghost use Rattle.lt_plan.specs.Text.{plan_of};
-ghost use Rattle.lt_run.specs.Loaded.{config_verdict};
-ghost use Rattle.lt_run.specs.Setups.{check_verdict};
-ghost use Rattle.lt_run.specs.Run.{meaning_verdict, run_verdict};
-ghost use Rattle.lt_words.specs.Reading.{command_of, check, meaning, plan, run};
-ghost use Rattle.lt_cli.specs.Clauses.{IsWordsExact, IsExact, IsOutsideCaused, IsWriteCaused, IsMissingExact};
-ghost use Rattle.lt_cli.specs.Objects.{Objects, IsQuiet, Tells};
+ghost use Rattle.std.specs.Prelude.{◌≡◌, ◌<◌, ◌-◌, ◌^◌, ◌++◌, ◌∷◌, [], IfOk, map, string_bytes};
+ghost use Rattle.lt_cli.specs.Clauses.{Performs};
+ghost use Rattle.lt_cli.specs.Objects.{Objects};
 ghost use Rattle.lt_cli.specs.Ran.{Ran};
 ghost use Rattle.lt_cli.specs.Texts.{refusal_status, line_of};
 ghost use Rattle.lt_cli.specs.Written.{Written};
-ghost use Rattle.lt_cli.specs.Commands.{checked_text, printed_text, words_verdict};
+ghost use Rattle.lt_cli.specs.Commands.{words_verdict};
 
 use crate::answer::answer;
 use crate::{Refusal, Status};
@@ -33,57 +28,9 @@ pub fn ltta<F: Files, W: Fabric, O: Sink, E: Sink>(
     requires empty { (W.state fabric.old).kinds ≡ [] }
     requires out { (O.state out.old).faults < 2 ^ 64 - 1 }
     requires err { (E.state err.old).faults < 2 ^ 64 - 1 }
-
-    // Where the objects tell what they hold, no count rose and memory was found: each status exactly
-    // where it is right, with its text or its line.
-    ensures words { let old : Objects = record { files = F.state files.old; fabric = W.state fabric.old; out = O.state out.old; err = E.state err.old } in
+    ensures { let old : Objects = record { files = F.state files.old; fabric = W.state fabric.old; out = O.state out.old; err = E.state err.old } in
         let new : Objects = record { files = F.state files.new; fabric = W.state fabric.new; out = O.state out.new; err = E.state err.new } in
-        Tells old → IsQuiet old new → result ≢ Status.Memory → IsWordsExact (map string_bytes words.now) old new result }
-    ensures check { let old : Objects = record { files = F.state files.old; fabric = W.state fabric.old; out = O.state out.old; err = E.state err.old } in
-        let new : Objects = record { files = F.state files.new; fabric = W.state fabric.new; out = O.state out.new; err = E.state err.new } in
-        (program : Items ℕ) (config : Maybe (Items ℕ)) → command_of (map string_bytes words.now) ≡ Some (check program config) → Tells old → IsQuiet old new → result ≢ Status.Memory
-        → IsExact checked_text (check_verdict old.files.named program config) old new result }
-    ensures meaning { let old : Objects = record { files = F.state files.old; fabric = W.state fabric.old; out = O.state out.old; err = E.state err.old } in
-        let new : Objects = record { files = F.state files.new; fabric = W.state fabric.new; out = O.state out.new; err = E.state err.new } in
-        (program inputs : Items ℕ) → command_of (map string_bytes words.now) ≡ Some (meaning program inputs) → Tells old → IsQuiet old new → result ≢ Status.Memory
-        → IsExact printed_text (meaning_verdict old.files.named program inputs) old new result }
-    ensures run { let old : Objects = record { files = F.state files.old; fabric = W.state fabric.old; out = O.state out.old; err = E.state err.old } in
-        let new : Objects = record { files = F.state files.new; fabric = W.state fabric.new; out = O.state out.new; err = E.state err.new } in
-        (program inputs schedule : Items ℕ) (config : Maybe (Items ℕ)) → command_of (map string_bytes words.now) ≡ Some (run program inputs schedule config) → Tells old → IsQuiet old new → result ≢ Status.Memory
-        → IsExact printed_text (run_verdict old.files.named program inputs schedule config) old new result }
-    ensures plan { let old : Objects = record { files = F.state files.old; fabric = W.state fabric.old; out = O.state out.old; err = E.state err.old } in
-        let new : Objects = record { files = F.state files.new; fabric = W.state fabric.new; out = O.state out.new; err = E.state err.new } in
-        (config : Items ℕ) (horizon : Maybe ℕ) → command_of (map string_bytes words.now) ≡ Some (plan config horizon) → Tells old → IsQuiet old new → result ≢ Status.Memory
-        → IsExact (λ setup. plan_of setup horizon) (config_verdict (old.files.named config)) old new result }
-
-    // What a status says of the outside.
-    ensures outside { let old : Objects = record { files = F.state files.old; fabric = W.state fabric.old; out = O.state out.old; err = E.state err.old } in
-        let new : Objects = record { files = F.state files.new; fabric = W.state fabric.new; out = O.state out.new; err = E.state err.new } in
-        result ≡ Status.Outside → IsOutsideCaused old new }
-    ensures write { let old : Objects = record { files = F.state files.old; fabric = W.state fabric.old; out = O.state out.old; err = E.state err.old } in
-        let new : Objects = record { files = F.state files.new; fabric = W.state fabric.new; out = O.state out.new; err = E.state err.new } in
-        result ≡ Status.Write → IsWriteCaused old new }
-    ensures check_missing { let old : Objects = record { files = F.state files.old; fabric = W.state fabric.old; out = O.state out.old; err = E.state err.old } in
-        let new : Objects = record { files = F.state files.new; fabric = W.state fabric.new; out = O.state out.new; err = E.state err.new } in
-        (program : Items ℕ) (config : Maybe (Items ℕ)) → command_of (map string_bytes words.now) ≡ Some (check program config) → IsTrue old.files.sound → result ≢ Status.Memory
-        → IsMissingExact (check_verdict old.files.named program config) old new }
-    ensures meaning_missing { let old : Objects = record { files = F.state files.old; fabric = W.state fabric.old; out = O.state out.old; err = E.state err.old } in
-        let new : Objects = record { files = F.state files.new; fabric = W.state fabric.new; out = O.state out.new; err = E.state err.new } in
-        (program inputs : Items ℕ) → command_of (map string_bytes words.now) ≡ Some (meaning program inputs) → IsTrue old.files.sound → result ≢ Status.Memory
-        → IsMissingExact (meaning_verdict old.files.named program inputs) old new }
-    ensures run_missing { let old : Objects = record { files = F.state files.old; fabric = W.state fabric.old; out = O.state out.old; err = E.state err.old } in
-        let new : Objects = record { files = F.state files.new; fabric = W.state fabric.new; out = O.state out.new; err = E.state err.new } in
-        (program inputs schedule : Items ℕ) (config : Maybe (Items ℕ)) → command_of (map string_bytes words.now) ≡ Some (run program inputs schedule config) → IsTrue old.files.sound → result ≢ Status.Memory
-        → IsMissingExact (run_verdict old.files.named program inputs schedule config) old new }
-    ensures plan_missing { let old : Objects = record { files = F.state files.old; fabric = W.state fabric.old; out = O.state out.old; err = E.state err.old } in
-        let new : Objects = record { files = F.state files.new; fabric = W.state fabric.new; out = O.state out.new; err = E.state err.new } in
-        (config : Items ℕ) (horizon : Maybe ℕ) → command_of (map string_bytes words.now) ≡ Some (plan config horizon) → IsTrue old.files.sound → result ≢ Status.Memory
-        → IsMissingExact (config_verdict (old.files.named config)) old new }
-
-    // All of it: what was to be printed, how far it was, and whose count rose.
-    ensures ran { let old : Objects = record { files = F.state files.old; fabric = W.state fabric.old; out = O.state out.old; err = E.state err.old } in
-        let new : Objects = record { files = F.state files.new; fabric = W.state fabric.new; out = O.state out.new; err = E.state err.new } in
-        Ran (words_verdict old.files.named (map string_bytes words.now)) old new result }
+        Performs (map string_bytes words.now) old new result }
 {
     perform(alloc, words, files, fabric, out, err)
 }

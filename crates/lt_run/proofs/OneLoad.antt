@@ -22,6 +22,7 @@ abbrev pub TellsLimits : {K : Type 0} → (CommandFault → K) → Type 0
 TellsLimits kind = (e f : ProgramFault) → is_limit e ≡ is_limit f → kind (fault.Program e) ≡ kind (fault.Program f)
 
 pub program_decided : {K : Type 0} (kind : CommandFault → K) → TellsLimits kind → (file : Option (List ℕ)) → HasOneOutcome kind (program_verdict file)
+unfolding program_verdict
 program_decided kind along file =
     and_then_one kind (whole_verdict ProgramBytes file) _ (whole_decided kind ProgramBytes file)
     (λ bytes. raised_one (λ e. fault.Program e) kind (examine_verdict bytes) (coarser is_limit (λ e. kind (fault.Program e)) (examine_verdict bytes) along (front_decided bytes)))
@@ -36,5 +37,6 @@ pub setup_decided : {K : Type 0} (kind : ConfigFault → K) (bytes : List ℕ) �
 setup_decided kind bytes = record { one_kind = λ e f p q. ap kind (one_setup_fault bytes e f p q); not_both = no_setup_and_fault bytes }
 
 pub config_decided : {K : Type 0} (kind : CommandFault → K) (file : Option (List ℕ)) → HasOneKind kind (config_verdict file)
+unfolding config_verdict
 config_decided kind file =
     and_then kind (whole_verdict ConfigBytes file) _ (whole_decided kind ConfigBytes file) (λ bytes. raised (λ e. fault.Config e) kind (setup_verdict bytes) (setup_decided (λ e. kind (fault.Config e)) bytes))

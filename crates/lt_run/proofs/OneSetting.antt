@@ -8,13 +8,15 @@ use Rattle.lt_arch.specs.Ends.{HasEnds}
 use Rattle.lt_front.specs.Examined.{ExaminedText}
 use Rattle.lt_place.specs.Placement.{node_names}
 use Rattle.lt_config.specs.declared.config.Config.{Config}
-use Rattle.lt_verdict.proofs.Decided.{HasOneOutcome, of_rule, exactly, and_then_one}
+use Rattle.lt_verdict.proofs.Decided.{HasOneOutcome, exactly, and_then_one}
 use Rattle.lt_run.specs.declared.fault.CommandFault.{CommandFault}
 use Rattle.lt_run.specs.declared.fault.CommandFault.TheVariants as fault
 use Rattle.lt_run.specs.declared.setting.Setting.{Setting}
 use Rattle.lt_run.specs.Plain.{plain_setting}
-use Rattle.lt_run.specs.Setting.{IsSettingOf, one_node_verdict, set_verdict, setting_verdict}
-use Rattle.lt_run.proofs.OneCheck.{MergesPlaces, MergesTimings, config_once, placed_decided, accepted_decided}
+use Rattle.lt_run.specs.Loaded.{config_verdict}
+use Rattle.lt_run.specs.Setups.{placed_verdict, accepted_verdict}
+use Rattle.lt_run.specs.Setting.{IsSettingOf, one_node_verdict, set_verdict, chosen_verdict, config_setting_verdict, setting_verdict}
+use Rattle.lt_run.proofs.OneCheck.{MergesPlaces, MergesTimings, config_once, passes_decided, placed_decided, accepted_decided}
 use denote.Struct.Props.{props}
 
 -- a shape without what it keeps
@@ -54,14 +56,23 @@ module _ {K : Type 0} (kind : CommandFault → K) where
   set_once setup = record { faults = record { one_kind = λ e f p q. absurd p; not_both = λ e x p q. p }; one_value = one_setting setup }
 
   one_node_decided : (setup : Config) → HasOneOutcome kind (one_node_verdict setup)
-  one_node_decided setup = of_rule kind (length (node_names setup.placement) ≡ 1) (λ e. e ≡ fault.SeveralNodes) (λ e f p q. ap kind (p ∙ sym q))
+  unfolding one_node_verdict
+  one_node_decided setup = passes_decided kind setup (length (node_names setup.placement) ≡ 1) (λ e. e ≡ fault.SeveralNodes) (λ e f p q. ap kind (p ∙ sym q))
+
+  chosen_decided : MergesPlaces kind → MergesTimings kind → (checked : ExaminedText) (setup : Config) → HasOneOutcome kind (chosen_verdict checked setup)
+  unfolding chosen_verdict
+  chosen_decided places timings checked setup =
+      and_then_one kind (placed_verdict checked setup) _ (placed_decided kind places checked setup) (λ legal.
+      and_then_one kind (one_node_verdict legal) _ (one_node_decided legal) (λ single.
+      and_then_one kind (accepted_verdict single) _ (accepted_decided kind timings single) (λ timed.
+      set_once timed)))
+
+  config_setting_decided : MergesPlaces kind → MergesTimings kind → (named : List ℕ → Option (List ℕ)) (checked : ExaminedText) (config : List ℕ) → HasOneOutcome kind (config_setting_verdict named checked config)
+  unfolding config_setting_verdict
+  config_setting_decided places timings named checked config =
+      and_then_one kind (config_verdict (named config)) (λ setup. chosen_verdict checked setup) (config_once kind (named config)) (λ setup. chosen_decided places timings checked setup)
 
   -- right refusals are of one kind, and then no setting is right; and at most one setting is
   pub setting_decided : MergesPlaces kind → MergesTimings kind → (named : List ℕ → Option (List ℕ)) (checked : ExaminedText) (config : Option (List ℕ)) → HasOneOutcome kind (setting_verdict named checked config)
   setting_decided places timings named checked None = exactly kind (Ok plain_setting)
-  setting_decided places timings named checked (Some config) =
-      and_then_one kind _ _ (config_once kind (named config)) (λ setup.
-      and_then_one kind _ _ (placed_decided kind places checked setup) (λ placed.
-      and_then_one kind _ _ (one_node_decided setup) (λ one.
-      and_then_one kind _ _ (accepted_decided kind timings setup) (λ accepted.
-      set_once setup))))
+  setting_decided places timings named checked (Some config) = config_setting_decided places timings named checked config

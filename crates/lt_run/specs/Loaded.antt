@@ -3,6 +3,7 @@ use Rattle.std.specs.Prelude.{◌≡◌, ◌≤◌, ℕ, List, length, Option, O
 use Rattle.lt_answer.specs.Answered.{Verdict, AndThen, OfForm, OfFile}
 use Rattle.lt_verdict.specs.Rules.{Raised, Exactly}
 use Rattle.lt_front.specs.Examined.{ExaminedText}
+use Rattle.lt_front.specs.Checked.{CheckedText, examined_part}
 use Rattle.lt_front.specs.Front.{examine_verdict}
 use Rattle.lt_base.specs.Program.{WholeProgram}
 use Rattle.lt_base.specs.Inputs.{InputTable}
@@ -33,8 +34,13 @@ unfoldable pub whole_verdict : What → Option (List ℕ) → Verdict (List ℕ)
 whole_verdict what file = OfFile fault.Read file (λ bytes. OfForm (IsWithin (limit_of what) bytes) (fault.Limit what))
 
 -- the program of a file, through all checks
-abbrev pub program_verdict : Option (List ℕ) → Verdict ExaminedText CommandFault
+unfoldable pub program_verdict : Option (List ℕ) → Verdict ExaminedText CommandFault
 program_verdict file = AndThen (whole_verdict ProgramBytes file) (λ bytes. Raised (λ e. fault.Program e) (examine_verdict bytes))
+
+-- a program with its flat form, by a verdict on programs
+abbrev pub Flattened : Verdict ExaminedText CommandFault → Verdict CheckedText CommandFault
+Flattened V (Ok checked) = V (Ok (examined_part checked))
+Flattened V (Err e) = V (Err e)
 
 -- the setup of some bytes
 abbrev pub setup_verdict : List ℕ → Verdict Config ConfigFault
@@ -42,9 +48,9 @@ setup_verdict bytes (Ok config) = config_of bytes ≡ Ok (setup_in config)
 setup_verdict bytes (Err e) = config_of bytes ≡ Err e
 
 -- the setup of a file
-abbrev pub config_verdict : Option (List ℕ) → Verdict Config CommandFault
+unfoldable pub config_verdict : Option (List ℕ) → Verdict Config CommandFault
 config_verdict file = AndThen (whole_verdict ConfigBytes file) (λ bytes. Raised (λ e. fault.Config e) (setup_verdict bytes))
 
 -- the inputs of a program's main function in a file
-abbrev pub inputs_verdict : WholeProgram → Option (List ℕ) → Verdict InputTable CommandFault
+unfoldable pub inputs_verdict : WholeProgram → Option (List ℕ) → Verdict InputTable CommandFault
 inputs_verdict p file = AndThen (whole_verdict InputsBytes file) (λ bytes. Raised (λ e. fault.Inputs e) (Exactly (inputs_of (main_in p) bytes)))

@@ -4,13 +4,13 @@ ghost use Rattle.lt_answer.specs.World.{alone};
 ghost use Rattle.lt_answer.specs.Answered.{Answered};
 ghost use Rattle.lt_meaning.specs.Streams.{InputsFitMain};
 ghost use Rattle.lt_run.specs.Blamed.{command_blame};
-ghost use Rattle.lt_run.specs.Loaded.{limit_of, whole_verdict, program_verdict, config_verdict, inputs_verdict};
+ghost use Rattle.lt_run.specs.Loaded.{Flattened, limit_of, whole_verdict, program_verdict, config_verdict, inputs_verdict};
 ghost use Rattle.lt_run.specs.Main.{main_in};
 
 use crate::{CommandFault, What};
 use lt_base::{Func, Inputs, List, Or, Program};
 use lt_config::{Config, read_config};
-use lt_front::{Examined, examine};
+use lt_front::{Checked, Examined, examine};
 use lt_inputs::read_inputs;
 use lt_io::{Files, Whole, read_file};
 use std::alloc::Global;
@@ -69,6 +69,19 @@ pub fn load_program<F: Files>(
         Ok(checked) => Ok(checked),
         Err(e) => Err(e.map(CommandFault::Program)),
     }
+}
+
+/// Reads a program's file as `load_program` does, and puts the program into its flat form.
+pub(crate) fn load_flat<F: Files>(
+    alloc: Global,
+    files: &mut F,
+    name: &str,
+) -> Result<Checked, Or<CommandFault>>
+    requires { (F.state files.old).faults < 2 ^ 64 - 1 }
+    ensures { Answered command_blame (Flattened (program_verdict ((F.state files.old).named name.now))) (alone (F.state files.old)) (alone (F.state files.new)) result }
+{
+    let examined = load_program(alloc, files, name)?;
+    Ok(examined.flatten(alloc)?)
 }
 
 /// Reads a setup's file.

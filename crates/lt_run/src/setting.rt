@@ -6,7 +6,7 @@ ghost use Rattle.lt_front.specs.Checked.{examined_part};
 ghost use Rattle.lt_answer.specs.World.{alone};
 ghost use Rattle.lt_answer.specs.Answered.{Answered, Settles};
 ghost use Rattle.lt_run.specs.Blamed.{command_blame};
-ghost use Rattle.lt_run.specs.Setting.{IsSettingOf, one_node_verdict, setting_verdict, config_setting_verdict};
+ghost use Rattle.lt_run.specs.Setting.{IsSettingOf, chosen_verdict, one_node_verdict, setting_verdict, config_setting_verdict};
 ghost use Rattle.lt_run.specs.Plain.{plain_setting};
 
 use crate::plain::{plain_shape, plain_timing};
@@ -67,18 +67,27 @@ fn read_setup<F: Files>(
     ensures one { IfOk result (λ setting. IsOneNode setting.shape setting.timing) }
 {
     let setup = load_config(alloc, files, config)?;
-    placed(alloc, checked, &setup)?;
-    one_node(&setup)?;
-    accepted(alloc, &setup)?;
-    Ok(setting_of(alloc, setup)?)
+    chosen(alloc, checked, setup)
 }
 
-// Whether a setup has one node.
-fn one_node(setup: &Config) -> Result<(), Or<CommandFault>>
-    ensures { Settles (one_node_verdict setup.now) result }
+// The setting of a setup: the placement is legal, on one node, and the timing is accepted, in this order.
+fn chosen(alloc: Global, checked: &Checked, setup: Config) -> Result<Setting, Or<CommandFault>>
+    ensures answered { Settles (chosen_verdict (examined_part checked.now) setup) result }
+    ensures one { IfOk result (λ setting. IsOneNode setting.shape setting.timing) }
+{
+    let legal = placed(alloc, checked, setup)?;
+    let single = one_node(legal)?;
+    let timed = accepted(alloc, single)?;
+    Ok(setting_of(alloc, timed)?)
+}
+
+// The setup, if it has one node.
+#[tactic(auto, unfolding(crate::specs::Setting::one_node_verdict))]
+fn one_node(setup: Config) -> Result<Config, Or<CommandFault>>
+    ensures { Settles (one_node_verdict setup) result }
 {
     if setup.placement.node_count() == 1 {
-        Ok(())
+        Ok(setup)
     } else {
         Err(Or::Fault(CommandFault::SeveralNodes))
     }

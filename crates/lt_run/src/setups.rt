@@ -4,9 +4,9 @@ ghost use Rattle.lt_front.specs.Checked.{examined_part};
 ghost use Rattle.lt_answer.specs.World.{alone};
 ghost use Rattle.lt_answer.specs.Answered.{Answered, Settles};
 ghost use Rattle.lt_run.specs.Blamed.{command_blame};
-ghost use Rattle.lt_run.specs.Setups.{accepted_verdict, check_verdict, placed_verdict, with_setup_verdict};
+ghost use Rattle.lt_run.specs.Setups.{accepted_verdict, check_verdict, fitted_verdict, fitting_verdict, placed_verdict, with_setup_verdict};
 
-use crate::loading::main_of;
+use crate::loading::{load_flat, main_of};
 use crate::{CommandFault, load_config, load_program};
 use lt_base::Or;
 use lt_config::Config;
@@ -44,24 +44,47 @@ fn check_with<F: Files>(
     ensures { Answered command_blame (with_setup_verdict (F.state files.old).named program.now config.now)
         (alone (F.state files.old)) (alone (F.state files.new)) result }
 {
-    let checked = load_program(alloc, files, program)?.flatten(alloc)?;
-    let setup = load_config(alloc, files, config)?;
-    placed(alloc, &checked, &setup)?;
-    accepted(alloc, &setup)?;
+    let checked = load_flat(alloc, files, program)?;
+    check_setup(alloc, files, &checked, config)?;
     Ok(checked.examined())
 }
 
-/// Whether the placement is legal.
+// The setup of a file, for a program that passed all checks.
+fn check_setup<F: Files>(
+    alloc: Global,
+    files: &mut F,
+    checked: &Checked,
+    config: &str,
+) -> Result<Config, Or<CommandFault>>
+    requires { (F.state files.old).faults < 2 ^ 64 - 1 }
+    ensures { Answered command_blame (fitted_verdict (F.state files.old).named config.now (examined_part checked.now))
+        (alone (F.state files.old)) (alone (F.state files.new)) result }
+{
+    let setup = load_config(alloc, files, config)?;
+    fitting(alloc, checked, setup)
+}
+
+// The setup, if the program's placement by it is legal and its timing is accepted, in this order.
+fn fitting(alloc: Global, checked: &Checked, setup: Config) -> Result<Config, Or<CommandFault>>
+    ensures { Settles (fitting_verdict (examined_part checked.now) setup) result }
+{
+    let legal = placed(alloc, checked, setup)?;
+    let timed = accepted(alloc, legal)?;
+    Ok(timed)
+}
+
+/// The setup, if the program's placement by it is legal.
+#[tactic(auto, unfolding(crate::specs::Setups::placed_verdict))]
 pub(crate) fn placed(
     alloc: Global,
     checked: &Checked,
-    setup: &Config,
-) -> Result<(), Or<CommandFault>>
-    ensures { Settles (placed_verdict (examined_part checked.now) setup.now) result }
+    setup: Config,
+) -> Result<Config, Or<CommandFault>>
+    ensures { Settles (placed_verdict (examined_part checked.now) setup) result }
 {
     checked.kept();
     match legal_nodes(alloc, &checked.flat, &setup.placement) {
-        Ok(_) => Ok(()),
+        Ok(_) => Ok(setup),
         Err(Or::Fault(fault)) => {
             let main = main_of(&checked.program).copy()?;
             Err(Or::Fault(CommandFault::Place { fault, main }))
@@ -70,12 +93,13 @@ pub(crate) fn placed(
     }
 }
 
-/// Whether the timing is accepted.
-pub(crate) fn accepted(alloc: Global, setup: &Config) -> Result<(), Or<CommandFault>>
-    ensures { Settles (accepted_verdict setup.now) result }
+/// The setup, if its timing is accepted.
+#[tactic(auto, unfolding(crate::specs::Setups::accepted_verdict))]
+pub(crate) fn accepted(alloc: Global, setup: Config) -> Result<Config, Or<CommandFault>>
+    ensures { Settles (accepted_verdict setup) result }
 {
     match accepts(&setup.timing) {
-        Ok(()) => Ok(()),
+        Ok(()) => Ok(setup),
         Err(fault) => {
             let names = setup.placement.names(alloc)?;
             Err(Or::Fault(CommandFault::Timing {

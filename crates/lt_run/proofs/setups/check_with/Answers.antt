@@ -1,48 +1,43 @@
+use Rattle.std.proofs.Common.{◌≡◌, List, Option, ℕ, Result, Ok, sym, ap}
+use Rattle.lt_answer.specs.Answered.{Verdict, AndThen, Settles}
+use Rattle.lt_verdict.specs.Rules.{Exactly}
 use Rattle.lt_front.specs.Checked.{examined_part}
-use Rattle.lt_answer.proofs.Stages.{renamed}
-use Rattle.lt_run.specs.Loaded.{config_verdict}
-use Rattle.lt_run.specs.Setups.{with_setup_verdict}
-use Rattle.lt_run.proofs.Loads.{err_is, checked_is}
-use Rattle.lt_run.proofs.Settings.{timed, setup_stops, placed_stops, placed_on, timed_refused, all_timed, no_flat_form, then_setup}
+use Rattle.lt_front.specs.Examined.{ExaminedText}
+use Rattle.lt_run.specs.declared.fault.CommandFault.{CommandFault}
+use Rattle.lt_run.specs.Blamed.{command_blame}
+use Rattle.lt_run.specs.Loaded.{program_verdict}
+use Rattle.lt_run.specs.Setups.{fitted_verdict, with_setup_verdict}
+use Rattle.lt_run.proofs.Flats.{flat_value, flat_fault}
+use Rattle.lt_run.proofs.Steps.{Names, counts_on, refused_step, next_step, last_step}
 use Rattle.lt_run.proofs.setups.check_with.Goals as goal
 
+-- what is left of a check once the program is read
+abbrev rest : List ℕ → Names → ExaminedText → Verdict ExaminedText CommandFault
+rest config names checked = AndThen (fitted_verdict names config checked) (λ fitting. Exactly (Ok checked))
+
+same_value : (x y : ExaminedText) → y ≡ x → Settles {T = ExaminedText} {E = CommandFault} (Exactly (Ok x)) (Ok y)
+same_value x y is = ap (λ (t : ExaminedText). Ok t) (sym is)
+
 pub returns-in_err-checked : goal.returns-in_err-checked
+unfolding with_setup_verdict
 returns-in_err-checked g c =
-    let named = (g.F.Files.state c.args.files.now).named in
-    rw (err_is _ _ c.from_residual-in_err-checked.ensures.1) (no_flat_form named c.args.program.now c.args.config.now _ _ c.in_ok-load_program.field-0 c.in_ok-load_program.ensures)
+    refused_step command_blame (program_verdict ((g.F.Files.state c.args.files.now).named c.args.program.now)) (rest c.args.config.now) _ _ _ _ c.from_residual.ensures.1
+    (flat_fault _ _ _ _ c.in_err-checked.ensures)
 
-pub returns-in_err-setup : goal.returns-in_err-setup
-returns-in_err-setup g c =
-    let named = (g.F.Files.state c.args.files.now).named in
-    let k = examined_part c.in_ok-checked.checked in
-    let first = checked_is _ _ _ k _ c.in_ok-checked.ensures c.in_ok-load_program.ensures in
-    let setup = renamed (λ names. config_verdict (names c.args.config.now)) _ named _ _ _ c.in_ok-load_program.ensures.keeps.files.named c.in_err-setup.ensures in
-    rw (err_is _ _ c.from_residual-in_err-setup.ensures.1) (then_setup named c.args.program.now c.args.config.now _ _ k first _ _ (setup_stops (timed k) named k c.args.config.now _ _ _ setup))
+pub check_setup-requires : goal.check_setup-requires
+check_setup-requires g c = counts_on _ _ c.in_ok-checked.ensures.cause.files c.requires
 
-pub returns-in_err-placed : goal.returns-in_err-placed
-returns-in_err-placed g c =
-    let named = (g.F.Files.state c.args.files.now).named in
+pub returns-in_err-check_setup : goal.returns-in_err-check_setup
+unfolding with_setup_verdict
+returns-in_err-check_setup g c =
     let k = examined_part c.in_ok-checked.checked in
-    let first = checked_is _ _ _ k _ c.in_ok-checked.ensures c.in_ok-load_program.ensures in
-    let setup = renamed (λ names. config_verdict (names c.args.config.now)) _ named _ _ _ c.in_ok-load_program.ensures.keeps.files.named c.in_ok-setup.ensures in
-    rw (err_is _ _ c.from_residual-in_err-placed.ensures.1)
-    (then_setup named c.args.program.now c.args.config.now _ _ k first _ _ (placed_stops (timed k) named k c.args.config.now _ _ c.in_ok-setup.setup setup _ c.in_err-placed.ensures))
-
-pub returns-in_err-accepted : goal.returns-in_err-accepted
-returns-in_err-accepted g c =
-    let named = (g.F.Files.state c.args.files.now).named in
-    let k = examined_part c.in_ok-checked.checked in
-    let first = checked_is _ _ _ k _ c.in_ok-checked.ensures c.in_ok-load_program.ensures in
-    let setup = renamed (λ names. config_verdict (names c.args.config.now)) _ named _ _ _ c.in_ok-load_program.ensures.keeps.files.named c.in_ok-setup.ensures in
-    rw (err_is _ _ c.from_residual-in_err-accepted.ensures.1)
-    (then_setup named c.args.program.now c.args.config.now _ _ k first _ _
-    (placed_on (timed k) named k c.args.config.now _ _ c.in_ok-setup.setup setup c.in_ok-placed.ensures _ (timed_refused k c.in_ok-setup.setup _ _ c.in_err-accepted.ensures)))
+    next_step command_blame (program_verdict ((g.F.Files.state c.args.files.now).named c.args.program.now)) (rest c.args.config.now) _ _ k _ (flat_value _ _ _ _ c.in_ok-checked.ensures) _
+    (refused_step command_blame _ (λ names fitting. Exactly (Ok k)) _ _ _ _ c.from_residual-in_err-check_setup.ensures.1 c.in_err-check_setup.ensures)
 
 pub returns : goal.returns
+unfolding with_setup_verdict
 returns g c =
-    let named = (g.F.Files.state c.args.files.now).named in
     let k = examined_part c.in_ok-checked.checked in
-    let first = checked_is _ _ _ k _ c.in_ok-checked.ensures c.in_ok-load_program.ensures in
-    let setup = renamed (λ names. config_verdict (names c.args.config.now)) _ named _ _ _ c.in_ok-load_program.ensures.keeps.files.named c.in_ok-setup.ensures in
-    let all = then_setup named c.args.program.now c.args.config.now _ _ k first _ _ (placed_on (timed k) named k c.args.config.now _ _ c.in_ok-setup.setup setup c.in_ok-placed.ensures _ (all_timed k c.in_ok-setup.setup _ c.in_ok-accepted.ensures)) in
-    checked_is (with_setup_verdict named c.args.program.now c.args.config.now) _ _ c.examined.result k c.examined.ensures all
+    next_step command_blame (program_verdict ((g.F.Files.state c.args.files.now).named c.args.program.now)) (rest c.args.config.now) _ _ k _ (flat_value _ _ _ _ c.in_ok-checked.ensures) _
+    (last_step command_blame _ (λ names fitting. Exactly (Ok k)) _ _ c.in_ok-check_setup.field-0 (Ok c.examined.result) c.in_ok-check_setup.ensures (λ e wrong. cc)
+    (same_value k c.examined.result c.examined.ensures))

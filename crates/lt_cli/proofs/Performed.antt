@@ -1,0 +1,83 @@
+-- All that holds of a call of `ltta`, from what it printed and whose count rose.
+use Rattle.std.proofs.Common.{◌≡◌, ◌≢◌, ℕ, IsTrue, List, Option, Some}
+use Rattle.lt_plan.specs.Text.{plan_of}
+use Rattle.lt_run.specs.Loaded.{config_verdict}
+use Rattle.lt_run.specs.Setups.{check_verdict}
+use Rattle.lt_run.specs.Run.{meaning_verdict, run_verdict}
+use Rattle.lt_words.specs.Reading.{Said, check, meaning, run, plan, command_of}
+use Rattle.lt_cli.specs.declared.status.Status.{Status}
+use Rattle.lt_cli.specs.declared.status.Status.TheVariants as status
+use Rattle.lt_cli.specs.Commands.{checked_text, printed_text, command_verdict, words_verdict}
+use Rattle.lt_cli.specs.Objects.{Objects, IsQuiet, Tells}
+use Rattle.lt_cli.specs.Ran.{Ran}
+use Rattle.lt_cli.specs.Clauses.{Performs, IsExact, IsMissingExact}
+use Rattle.lt_cli.proofs.Gave.{Gave, gave}
+use Rattle.lt_cli.proofs.Facts.{words_exact, asked_gave}
+use Rattle.lt_cli.proofs.Exact.{exact}
+use Rattle.lt_cli.proofs.Causes.{outside_caused, write_caused, missing_exact, asked_ran}
+use Rattle.lt_cli.proofs.Decided.{check_decided, meaning_decided, run_decided, plan_decided}
+
+module _ (asked : List (List ℕ)) (old new : Objects) (ends : Status) (ran : Ran (words_verdict old.files.named asked) old new ends) where
+  -- what was printed for the command that the words say
+  given : (said : Said) → command_of asked ≡ Some said → Tells old → IsQuiet old new → ends ≢ status.Memory → Gave (command_verdict old.files.named said) old new ends
+  given said is tells quiet enough = asked_gave asked said old new ends is (gave (words_verdict old.files.named asked) old new ends ran tells quiet enough)
+
+  check_exact : (program : List ℕ) (config : Option (List ℕ)) → command_of asked ≡ Some (check program config) → Tells old → IsQuiet old new → ends ≢ status.Memory
+      → IsExact checked_text (check_verdict old.files.named program config) old new ends
+  check_exact program config is tells quiet enough =
+      exact checked_text (check_verdict old.files.named program config) (check_decided old.files.named program config) old new ends (given (check program config) is tells quiet enough)
+
+  meaning_exact : (program inputs : List ℕ) → command_of asked ≡ Some (meaning program inputs) → Tells old → IsQuiet old new → ends ≢ status.Memory
+      → IsExact printed_text (meaning_verdict old.files.named program inputs) old new ends
+  meaning_exact program inputs is tells quiet enough =
+      exact printed_text (meaning_verdict old.files.named program inputs) (meaning_decided old.files.named program inputs) old new ends (given (meaning program inputs) is tells quiet enough)
+
+  run_exact : (program inputs schedule : List ℕ) (config : Option (List ℕ)) → command_of asked ≡ Some (run program inputs schedule config) → Tells old → IsQuiet old new → ends ≢ status.Memory
+      → IsExact printed_text (run_verdict old.files.named program inputs schedule config) old new ends
+  run_exact program inputs schedule config is tells quiet enough =
+      exact printed_text (run_verdict old.files.named program inputs schedule config) (run_decided old.files.named program inputs schedule config) old new ends
+      (given (run program inputs schedule config) is tells quiet enough)
+
+  plan_exact : (config : List ℕ) (horizon : Option ℕ) → command_of asked ≡ Some (plan config horizon) → Tells old → IsQuiet old new → ends ≢ status.Memory
+      → IsExact (λ setup. plan_of setup horizon) (config_verdict (old.files.named config)) old new ends
+  plan_exact config horizon is tells quiet enough =
+      exact (λ setup. plan_of setup horizon) (config_verdict (old.files.named config)) (plan_decided (old.files.named config)) old new ends (given (plan config horizon) is tells quiet enough)
+
+  module _ (tells : IsTrue old.files.sound → IsTrue old.files.told) where
+    check_missing : (program : List ℕ) (config : Option (List ℕ)) → command_of asked ≡ Some (check program config) → IsTrue old.files.sound → ends ≢ status.Memory
+        → IsMissingExact (check_verdict old.files.named program config) old new
+    check_missing program config is sound enough =
+        missing_exact checked_text (check_verdict old.files.named program config) (check_decided old.files.named program config) old new ends (tells sound) sound enough
+        (asked_ran asked (check program config) old new ends is ran)
+
+    meaning_missing : (program inputs : List ℕ) → command_of asked ≡ Some (meaning program inputs) → IsTrue old.files.sound → ends ≢ status.Memory → IsMissingExact (meaning_verdict old.files.named program inputs) old new
+    meaning_missing program inputs is sound enough =
+        missing_exact printed_text (meaning_verdict old.files.named program inputs) (meaning_decided old.files.named program inputs) old new ends (tells sound) sound enough
+        (asked_ran asked (meaning program inputs) old new ends is ran)
+
+    run_missing : (program inputs schedule : List ℕ) (config : Option (List ℕ)) → command_of asked ≡ Some (run program inputs schedule config) → IsTrue old.files.sound → ends ≢ status.Memory
+        → IsMissingExact (run_verdict old.files.named program inputs schedule config) old new
+    run_missing program inputs schedule config is sound enough =
+        missing_exact printed_text (run_verdict old.files.named program inputs schedule config) (run_decided old.files.named program inputs schedule config) old new ends (tells sound) sound enough
+        (asked_ran asked (run program inputs schedule config) old new ends is ran)
+
+    plan_missing : (config : List ℕ) (horizon : Option ℕ) → command_of asked ≡ Some (plan config horizon) → IsTrue old.files.sound → ends ≢ status.Memory → IsMissingExact (config_verdict (old.files.named config)) old new
+    plan_missing config horizon is sound enough =
+        missing_exact (λ setup. plan_of setup horizon) (config_verdict (old.files.named config)) (plan_decided (old.files.named config)) old new ends (tells sound) sound enough
+        (asked_ran asked (plan config horizon) old new ends is ran)
+
+    pub performed : Performs asked old new ends
+    performed = record {
+      words = λ told quiet enough. words_exact asked old new ends (gave (words_verdict old.files.named asked) old new ends ran told quiet enough);
+      check = check_exact;
+      meaning = meaning_exact;
+      run = run_exact;
+      plan = plan_exact;
+      outside = λ at. outside_caused (words_verdict old.files.named asked) old new ends ran at;
+      write = λ at. write_caused (words_verdict old.files.named asked) old new ends ran at;
+      check_missing = check_missing;
+      meaning_missing = meaning_missing;
+      run_missing = run_missing;
+      plan_missing = plan_missing;
+      ran = ran;
+    }
