@@ -16,10 +16,3 @@ mod top;
 pub use refusal::Refusal;
 pub use status::Status;
 pub use top::ltta;
-
-#[cfg(test)]
-mod run_tests;
-#[cfg(test)]
-mod setup_tests;
-#[cfg(test)]
-mod tests;

@@ -7,8 +7,6 @@ mod countdowns;
 mod fault;
 pub mod laws;
 mod sides;
-#[cfg(test)]
-mod tests;
 
 pub use acceptance::accepts;
 pub use bounds::{bound, cycle};

@@ -1,0 +1,10 @@
+-- The words of the next call are text.
+use denote.Text.{Utf8}
+use denote.Shadow.{shadow}
+use Rattle.lt_commands_tests.proofs.script.holds.Given as goal
+
+abbrev pub invariant-loop-line : goal.invariant-loop-line
+invariant-loop-line g l =
+    (goal.iterator-loop-line g).can_next l.line-iterator ×
+    (goal.iterator-loop-line g).is_finite l.line-iterator ×
+    shadow (Utf8 l.words)

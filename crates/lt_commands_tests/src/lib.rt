@@ -1,0 +1,21 @@
+//! Tests of the top call: scripts of whole calls over objects in memory, with what they write and how they end.
+#![tactic(auto)]
+
+#[cfg(test)]
+mod calls;
+#[cfg(test)]
+mod limits;
+#[cfg(test)]
+mod order;
+#[cfg(test)]
+mod outside;
+#[cfg(test)]
+mod programs;
+#[cfg(test)]
+mod script;
+#[cfg(test)]
+mod setups;
+#[cfg(test)]
+mod streams;
+#[cfg(test)]
+mod texts;

@@ -1,0 +1,135 @@
+// Files at a limit, and past it.
+
+use crate::script::holds;
+use std::test::Fail;
+
+const BYTES: &str = "\
+p {1048577* }
+> check p
+8 limit: program bytes 1048576/
+p {1048576* }
+> check p
+2 syntax 3 Unexpected at byte 1048576/
+p node main(x: int) returns (y: int) let y = 0 fby (y + x); tel
+c {262145*/}
+> check p c
+8 limit: config bytes 262144/
+c {262144*/}
+> check p c
+3 config 2 Missing: protocol/
+i {67108865*/}
+> meaning p i
+8 limit: inputs bytes 67108864/
+i instant,x/0,1/1,2/2,3/
+s {1073741825*/}
+> run p i s
+8 limit: schedule bytes 1073741824/
+";
+
+const PROGRAMS: &str = "\
+- as many functions as there may be, and one more
+p {63*node f#(a: int) returns (b: int) let b = a; tel }node main(x: int) returns (y: int) let y = x; tel
+> check p
+0 {63*node f#(a: int) returns (b: int)/let/  b = a;/tel/}node main(x: int) returns (y: int)/let/  y = x;/tel/
+p {64*node f#(a: int) returns (b: int) let b = a; tel }node main(x: int) returns (y: int) let y = x; tel
+> check p
+8 limit: functions 64/
+- delays are variables too
+p node main(x: int) returns (y: int) var {2047*v#: int; }let y = x; {2047*v# = 0 fby x; }tel
+> check p
+0 node main(x: int) returns (y: int)/var/{2047*  v#: int;/}let/  y = x;/{2047*  v# = 0 fby x;/}tel/
+p node main(x: int) returns (y: int) var {2047*v#: int; }let y = 0 fby x; {2047*v# = 0 fby x; }tel
+> check p
+8 limit: variables 4096/
+p node main(x: int{63*; x#: int}) returns (y: int) let y = x; tel
+> check p
+0 node main(x: int{63*; x#: int}) returns (y: int)/let/  y = x;/tel/
+p node main(x: int{64*; x#: int}) returns (y: int) let y = x; tel
+> check p
+8 limit: inputs 64/
+p node main(x: int) returns (y: int{63*; y#: int}) let y = x; {63*y# = x; }tel
+> check p
+0 node main(x: int) returns (y: int{63*; y#: int})/let/  y = x;/{63*  y# = x;/}tel/
+p node main(x: int) returns (y: int{64*; y#: int}) let y = x; {64*y# = x; }tel
+> check p
+8 limit: outputs 64/
+";
+
+const SIZES: &str = "\
+- functions that each call the one before twice
+p node f0(a: int) returns (b: int) let b = a; tel {10*node f@(a: int) returns (b: int) let b = f#(a) + f#(a); tel }node main(x: int) returns (y: int) let y = f10(x); tel
+> check p
+0 node f0(a: int) returns (b: int)/let/  b = a;/tel/{10*node f@(a: int) returns (b: int)/let/  b = f#(a) + f#(a);/tel/}node main(x: int) returns (y: int)/let/  y = f10(x);/tel/
+p node f0(a: int) returns (b: int) let b = a; tel {11*node f@(a: int) returns (b: int) let b = f#(a) + f#(a); tel }node main(x: int) returns (y: int) let y = f11(x); tel
+> check p
+8 limit: weight 4096/
+> meaning p i
+8 limit: weight 4096/
+> run p i s
+8 limit: weight 4096/
+- the first of them adds its input up
+p node f0(a: int) returns (b: int) let b = a{127* + a}; tel {10*node f@(a: int) returns (b: int) let b = f#(a) + f#(a); tel }node main(x: int) returns (y: int) let y = f10(x); tel
+> check p
+8 limit: parts 262144/
+- the height of an expression, and the place of its two hundredth parenthesis or sign
+p node main(x: int) returns (y: int) let y = {199*(}x{199*)}; tel
+> check p
+0 node main(x: int) returns (y: int)/let/  y = x;/tel/
+p node main(x: int) returns (y: int) let y = {200*(}x{200*)}; tel
+> check p
+2 syntax 4 TooDeep at byte 242/
+p node main(x: int) returns (y: int) let y = x{199* + x}; tel
+> check p
+0 node main(x: int) returns (y: int)/let/  y = x{199* + x};/tel/
+p node main(x: int) returns (y: int) let y = x{200* + x}; tel
+> check p
+2 syntax 4 TooDeep at byte 841/
+- nodes
+p node main(x: int) returns (y: int) let y = x; tel
+c protocol = 'backpressure'/period = [9, 11]/delay = [1, 4]/[nodes]/a = ['x', 'y']/{31*n# = []/}
+> check p c
+0 node main(x: int) returns (y: int)/let/  y = x;/tel/
+c protocol = 'backpressure'/period = [9, 11]/delay = [1, 4]/[nodes]/a = ['x', 'y']/{32*n# = []/}
+> check p c
+3 config 5 OutOfRange: nodes/
+";
+
+const ROWS: &str = "\
+i instant,x/{100001*#,1/}
+> meaning p i
+8 limit: input rows 100000/
+> run p i s
+8 limit: input rows 100000/
+- an activation at each tick
+i instant,x/0,1/1,2/2,3/
+s time,event,place/{5000001*#,act,all/}
+> run p i s
+8 limit: events 5000000/
+- a meaning has a limit on its cells; a run makes a step for each instant that is executed, whatever the rows are
+p node f0(a: int) returns (b: int) let b = a; tel {10*node f@(a: int) returns (b: int) let b = f#(a) + f#(a); tel }node main(x: int) returns (y: int) let y = f10(x); tel
+i instant,x/{3907*#,1/}
+s time,event,place/0,act,all/4,act,all/8,act,all/12,end,/
+> meaning p i
+8 limit: meaning cells 16000000/
+> run p i s
+0 y: 1024 1024/
+";
+
+#[test]
+fn limits_on_bytes(rt: HostRuntime) -> Result<(), Fail> {
+    holds(&rt, rt.alloc(), BYTES)?;
+    Ok(())
+}
+
+#[test]
+fn limits_on_programs(rt: HostRuntime) -> Result<(), Fail> {
+    holds(&rt, rt.alloc(), PROGRAMS)?;
+    holds(&rt, rt.alloc(), SIZES)?;
+    Ok(())
+}
+
+#[test]
+fn limits_on_rows(rt: HostRuntime) -> Result<(), Fail> {
+    holds(&rt, rt.alloc(), ROWS)?;
+    Ok(())
+}

@@ -1,0 +1,157 @@
+// What is refused first, and schedules that are refused.
+
+use crate::script::holds;
+use std::test::Fail;
+
+const WORDS: &str = "\
+> run p i
+1 words: usage: ltta check P [C] | meaning P I | run P I S [C] | plan C [--horizon H]/
+> check p c c
+1 words: usage: ltta check P [C] | meaning P I | run P I S [C] | plan C [--horizon H]/
+> meaning p
+1 words: usage: ltta check P [C] | meaning P I | run P I S [C] | plan C [--horizon H]/
+> run p i s c c
+1 words: usage: ltta check P [C] | meaning P I | run P I S [C] | plan C [--horizon H]/
+> plan
+1 words: usage: ltta check P [C] | meaning P I | run P I S [C] | plan C [--horizon H]/
+> plan c --horizon -1
+1 words: usage: ltta check P [C] | meaning P I | run P I S [C] | plan C [--horizon H]/
+> walk p i s
+1 words: usage: ltta check P [C] | meaning P I | run P I S [C] | plan C [--horizon H]/
+> help
+1 words: usage: ltta check P [C] | meaning P I | run P I S [C] | plan C [--horizon H]/
+";
+
+const FILES: &str = "\
+- each file in its turn, where it is missing
+> check q
+6 fault: read/
+> check p q
+6 fault: read/
+> meaning q i
+6 fault: read/
+> meaning p q
+6 fault: read/
+> run q i s
+6 fault: read/
+> run p q s
+6 fault: read/
+> run p i q
+6 fault: read/
+> plan q
+6 fault: read/
+- a setup before the inputs, and the inputs before a schedule
+i instant,y/
+s time,event/
+> run p i s q
+6 fault: read/
+> run p i s
+4 inputs 2 Header at row 0/
+> run p i q c
+4 inputs 2 Header at row 0/
+> meaning p i
+4 inputs 2 Header at row 0/
+- the form of a setup, its placement and then how many nodes there are, before the inputs
+p node main(x: int) returns (u: int; v: int) let u = x + (0 fby v); v = 10 + (0 fby u); tel
+c protocol =
+> run p q q c
+3 config 1 NotToml/
+c protocol = 'backpressure'/period = [9, 11]/delay = [1, 4]/[nodes]/a = ['x']/b = ['v']/
+> run p q q c
+3 placement 1 Unplaced: u/
+c protocol = 'timebased'/period = [9, 11]/delay = [1, 4]/send = 2/execute = 3/[nodes]/a = ['x', 'u']/b = ['v']/
+> run p q q c
+3 not built: nodes/
+- the program before all
+p node main(x: int) returns (y: int) let y = z; tel
+> check p q
+2 name 2 Unknown in node main: z/
+> meaning p q
+2 name 2 Unknown in node main: z/
+> run p q q q
+2 name 2 Unknown in node main: z/
+";
+
+const INPUTS: &str = "\
+i
+> meaning p i
+4 inputs 2 Header at row 0/
+i instant,x/0,1/1/
+> run p i s
+4 inputs 1 NotCsv at row 2/
+i instant,x/1,1/
+> meaning p i
+4 inputs 3 Instant at row 1/
+i instant,x/0,1/1,true/
+> meaning p i
+4 inputs 4 Value at row 2/
+";
+
+const SCHEDULES: &str = "\
+s time,event,node/0,act,all/
+> run p i s
+5 schedule 1 Header at row 0/
+s time,event,place/1000000000000001,act,all/
+> run p i s
+5 schedule 2 Time at row 1/
+s time,event,place/0,fly,all/4,act,all/12,end,/
+> run p i s
+5 schedule 3 Kind at row 1/
+s time,event,place/0,data,all>all/4,act,all/12,end,/
+> run p i s
+5 schedule 4 UnknownPlace at row 1/
+s time,event/0,act,all/4,act,all/12,end,/
+> run p i s
+5 schedule 5 NotCsv at row 0/
+- a line that is too long
+s time,event,place/{4097*x}
+> run p i s
+5 schedule 5 NotCsv at row 1/
+- the first deadline is the horizon
+s time,event,place/1000,end,/
+> run p i s
+5 schedule offence at event 1: NodeOverdue all/
+s time,event,place/5,act,all/5,act,all/6,end,/
+> run p i s
+5 schedule offence at event 2: TooSoon all/
+s time,event,place/4,act,all/3,act,all/4,end,/
+> run p i s
+5 schedule offence at event 2: Backwards/
+s time,event,place/0,act,all/4,act,all/8,act,all/
+> run p i s
+5 schedule offence at event 4: NoEnd/
+s time,event,place/0,act,all/4,act,all/8,act,all/12,end,/13,act,all/
+> run p i s
+5 schedule offence at event 5: AfterEnd/
+- the node and the bounds of a setup
+c protocol = 'backpressure'/period = [9, 11]/delay = [1, 4]/[nodes]/b = ['x', 'y']/
+> run p i s c
+5 schedule 4 UnknownPlace at row 1/
+s time,event,place/5,act,b/13,act,b/14,end,/
+> run p i s c
+5 schedule offence at event 2: TooSoon b/
+s time,event,place/12,act,b/13,end,/
+> run p i s c
+5 schedule offence at event 1: NodeOverdue b/
+c protocol = 'timebased'/period = [1, 10]/delay = [1, 4]/send = 2/execute = 1/[nodes]/b = ['x', 'y']/
+s time,event,place/0,act,b/10,end,/
+> run p i s c
+5 schedule offence at event 2: NodeOverdue b/
+s time,event,place/0,act,b/
+> run p i s c
+5 schedule offence at event 2: NoEnd/
+";
+
+#[test]
+fn the_first_fault_is_told(rt: HostRuntime) -> Result<(), Fail> {
+    holds(&rt, rt.alloc(), WORDS)?;
+    holds(&rt, rt.alloc(), FILES)?;
+    Ok(())
+}
+
+#[test]
+fn rows_are_refused(rt: HostRuntime) -> Result<(), Fail> {
+    holds(&rt, rt.alloc(), INPUTS)?;
+    holds(&rt, rt.alloc(), SCHEDULES)?;
+    Ok(())
+}

@@ -1,0 +1,36 @@
+// A node with periods from 9 to 11 beside one with periods from 20 to 22.
+
+use crate::fixtures::{quick, two_nodes};
+use lt_arch::{NodeTime, Protocol};
+use lt_timing::{TimingFault, Which, accepts, bound, cycle, least};
+use std::test::Fail;
+
+#[test]
+fn a_quick_and_a_slow_node(rt: HostRuntime) -> Result<(), Fail> {
+    let alloc = rt.alloc();
+    let slow = NodeTime {
+        tmin: 20,
+        tmax: 22,
+        send: 2,
+        execute: 1,
+    };
+    let timing = two_nodes(alloc, quick(3), slow, Protocol::TimeBased)?;
+    assert_eq!(rt; accepts(&timing), Ok(()));
+    assert_eq!(rt; (least(&timing, 0), least(&timing, 1)), ((3, 4), (2, 1)));
+    assert_eq!(rt; (cycle(&timing, 0), cycle(&timing, 1)), (77, 66));
+    assert_eq!(rt;
+        (bound(&timing, 0, 1000), bound(&timing, 1, 1000)),
+        (13, 15)
+    );
+    let timing = two_nodes(alloc, quick(2), slow, Protocol::TimeBased)?;
+    let fault = TimingFault {
+        which: Which::Send,
+        node: 0,
+        left: 55,
+        right: 59,
+    };
+    assert_eq!(rt; accepts(&timing), Err(fault));
+    let timing = two_nodes(alloc, quick(3), slow, Protocol::BackPressure)?;
+    assert_eq!(rt; (cycle(&timing, 0), bound(&timing, 1, 1000)), (52, 19));
+    Ok(())
+}
