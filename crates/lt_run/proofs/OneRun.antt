@@ -6,14 +6,14 @@ use Rattle.lt_base.specs.Program.{WholeProgram}
 use Rattle.lt_base.specs.Inputs.{InputTable}
 use Rattle.lt_front.specs.Examined.{ExaminedText}
 use Rattle.lt_inputs.specs.Inputs.{inputs_of}
-use Rattle.lt_meaning.specs.Streams.{cell_count}
+use Rattle.lt_meaning.specs.Streams.{cell_count, most_cells}
 use Rattle.lt_verdict.specs.Rules.{Exactly}
 use Rattle.lt_verdict.proofs.Decided.{HasOneKind, HasOneOutcome, of_rule, exactly, and_then, and_then_one, raised_one}
 use Rattle.lt_run.specs.declared.fault.What.TheVariants.{InputsBytes}
 use Rattle.lt_run.specs.declared.fault.CommandFault.{CommandFault}
 use Rattle.lt_run.specs.declared.fault.CommandFault.TheVariants as fault
 use Rattle.lt_run.specs.declared.setting.Setting.{Setting}
-use Rattle.lt_run.specs.Main.{main_in, most_cells, cells_verdict, output_streams}
+use Rattle.lt_run.specs.Main.{main_in, cells_verdict, output_streams}
 use Rattle.lt_run.specs.Loaded.{whole_verdict, program_verdict, inputs_verdict}
 use Rattle.lt_run.specs.Scheduled.{schedule_verdict}
 use Rattle.lt_run.specs.Setting.{setting_verdict}

@@ -8,13 +8,13 @@ use Rattle.lt_answer.specs.World.{World}
 use Rattle.lt_answer.specs.Answered.{Answered, Refuses, Settles}
 use Rattle.lt_front.specs.Checked.{CheckedText}
 use Rattle.lt_front.specs.Examined.{ExaminedText}
-use Rattle.lt_meaning.specs.Streams.{InputsFitMain, cell_count}
+use Rattle.lt_meaning.specs.Streams.{InputsFitMain, cell_count, most_cells}
 use Rattle.lt_run.specs.declared.fault.CommandFault.{CommandFault}
 use Rattle.lt_run.specs.declared.printed.Printed.{Printed}
 use Rattle.lt_run.specs.declared.setting.Setting.{Setting}
 use Rattle.lt_run.specs.Blamed.{command_blame}
 use Rattle.lt_run.specs.Loaded.{inputs_verdict}
-use Rattle.lt_run.specs.Main.{most_cells, cells_verdict, output_streams}
+use Rattle.lt_run.specs.Main.{cells_verdict, output_streams}
 use Rattle.lt_run.specs.Run.{printed_verdict, streams_verdict}
 use Rattle.lt_run.specs.Scheduled.{schedule_verdict}
 use Rattle.lt_run.proofs.Steps.{stop_settled, then_settled}

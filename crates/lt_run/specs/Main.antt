@@ -6,7 +6,7 @@ use Rattle.lt_base.specs.Program.{Function, WholeProgram}
 use Rattle.lt_base.specs.Meaning.{stream_of}
 use Rattle.lt_answer.specs.Answered.{Verdict}
 use Rattle.lt_verdict.specs.Rules.{OfRule}
-use Rattle.lt_meaning.specs.Streams.{cell_count}
+use Rattle.lt_meaning.specs.Streams.{cell_count, most_cells}
 use Rattle.lt_run.specs.declared.fault.CommandFault.{CommandFault}
 use Rattle.lt_run.specs.declared.fault.CommandFault.TheVariants as fault
 
@@ -29,10 +29,6 @@ output_names p = map (name_in (main_in p)) (main_in p).outs
 -- the streams of the outputs on these rows of inputs
 abbrev pub output_streams : WholeProgram → List (List Value) → List (List Cell)
 output_streams p rows = map (stream_of p.funcs (main_in p) rows) (main_in p).outs
-
--- the most cells
-abbrev pub most_cells : ℕ
-most_cells = 16000000
 
 -- not too many cells count, or they are too many
 abbrev pub cells_verdict : WholeProgram → List (List Value) → Verdict (Unit {0}) CommandFault

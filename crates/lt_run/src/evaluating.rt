@@ -2,8 +2,8 @@
 ghost use Rattle.std.specs.Prelude.{◌≤◌, IfOk, IfErr, OnOk};
 ghost use Rattle.lt_base.specs.Checked.{CheckedProgram};
 ghost use Rattle.lt_answer.specs.Answered.{Refuses};
-ghost use Rattle.lt_meaning.specs.Streams.{HasOutputStreams, HasRoom, InputsFitMain, cell_count};
-ghost use Rattle.lt_run.specs.Main.{cells_verdict, most_cells};
+ghost use Rattle.lt_meaning.specs.Streams.{HasOutputStreams, HasRoom, InputsFitMain, cell_count, most_cells};
+ghost use Rattle.lt_run.specs.Main.{cells_verdict};
 
 use crate::CommandFault;
 use lt_base::{Cell, Inputs, List, Or, Program};
