@@ -1,0 +1,159 @@
+-- A delivery, by what code has.
+use Rattle.std.proofs.Common.{◌≤◌, ◌≡◌, ◌≢◌, inl, inr, ℕ, ◌<◌, Bool, not, List, map, [], ◌∷◌, ◌++◌, length, set, Option, Some, None, cond, nat_eq, refl, sym, ap, ◌∙◌, subst, arith, length-set}
+use Rattle.std.specs.Prelude.{slice_index_or}
+use Rattle.std.specs.List.{slice_get}
+use Rattle.std.proofs.lemmas.Bool.Decides.{eqb_tells}
+use Rattle.std.proofs.lemmas.List.{get_or-set_same, get_or-set_other}
+use Rattle.std.proofs.lemmas.Option.{slice_get-get_or}
+use Rattle.lt_base.specs.declared.value.Value.{Value}
+use Rattle.lt_base.specs.Program.{Function}
+use Rattle.lt_arch.specs.declared.event.Event.TheVariants.{Del}
+use Rattle.lt_arch.specs.declared.shape.Shape.{Shape}
+use Rattle.lt_arch.specs.declared.timing.Timing.{Timing}
+use Rattle.lt_arch.specs.State.{State, Phase}
+use Rattle.lt_arch.specs.Readers.{chan_count}
+use Rattle.lt_arch.specs.Step.{offence_of, too_early}
+use Rattle.lt_arch.specs.Times.{Times, HasTimes, in_transit}
+use Rattle.lt_arch.proofs.Facts.{clear}
+use Rattle.lt_io.specs.declared.message.Message.{Message}
+use Rattle.lt_io.specs.FabricState.{FabricState}
+use Rattle.lt_net.specs.Net.{NetState, Lists, state_of}
+use Rattle.lt_link.specs.Inbox.{InboxState, no_inbox}
+use Rattle.lt_net.specs.Stands.{Stands}
+use Rattle.lt_net.specs.Event.{GoesOn, Happens, Holds, HeldBy, HasKinds, IsTaken}
+use Rattle.lt_net.specs.Net.{types_for}
+use Rattle.lt_base.specs.Value.{ty_of}
+use Rattle.lt_net.specs.Kept.{Kept}
+use Rattle.lt_net.specs.Receives.{Receives}
+use Rattle.lt_net.proofs.DeliveryStands.{delivered_stands}
+use Rattle.lt_net.proofs.EndStands.{Passes}
+use Rattle.lt_arch.specs.declared.limits.TheConstants.{GREATEST_TIME}
+
+not_early : (c dmin at : ℕ) (xs : List ℕ) → too_early c dmin at xs ≡ None → xs ≢ []
+not_early c dmin at [] h = absurd (cc)
+not_early c dmin at (x ∷ xs) h = λ e. absurd (cc)
+
+held_some : (v : Option ℕ) (last : Bool) (ms : List Message) → in_transit v ≢ [] → HeldBy v last ms → ms ≢ []
+held_some None last ms h held = absurd (h refl)
+held_some (Some at) last [] h held = elim held [ ]
+held_some (Some at) last (m ∷ ms) h held = λ e. absurd (cc)
+
+held_cons : (v : Option ℕ) (last : Bool) (m : Message) (ms : List Message) → HeldBy v last (m ∷ ms) → (m.bit ≡ not last) × (ms ≡ [])
+held_cons None last m ms held = absurd (cc)
+held_cons (Some at) last m ms held = held
+
+module _ {C M : Type 0} (phase : C → Phase) (stands : M → Function → List (List Value) → Type 0) (made left : M → ℕ) (net : NetState C M) (kept : Kept phase stands made left net)
+    (ch at : ℕ) (timely : at ≤ GREATEST_TIME) (below : ch < chan_count net.shape) (passes : (s : Shape) (t : Timing) (st : State) → HasTimes net.watch s t st → offence_of s t st (Del ch at) ≡ None) where
+  here : ch < length net.watch.sends
+  here = omega (arith, below, kept.sized.sends)
+
+  clear_of : (ls : Lists) → Stands phase stands made left net ls → Passes net.shape net.timing (state_of net ls) (Del ch at)
+  clear_of ls s = (timely, passes net.shape net.timing (state_of net ls) s.times)
+
+  pub some_there : (old : FabricState) → Holds net old → old.transit ch ≢ []
+  some_there old holds =
+      let found = kept.standing in
+      let s = found.1 in
+      let own = (clear net.shape net.timing (state_of net found.0) (Del ch at) (clear_of found.0 s).1).own in
+      held_some (slice_index_or net.watch.sends ch None) _ (old.transit ch)
+      (subst (λ xs. xs ≢ []) (s.times.transit ch below) (not_early ch _ at _ own)) (holds.transit ch below)
+
+  module _ (old new : FabricState) (holds : Holds net old) (kinds : HasKinds net old) (ibs : List InboxState) (received : Receives net.inboxes ibs old new ch) (w : Times) (watch : w ≡ record net.watch { sends = set net.watch.sends ch None; latest = Some at }) where
+    abbrev box : InboxState
+    box = slice_index_or net.inboxes ch no_inbox
+
+    at_box : slice_get net.inboxes ch ≡ Some box
+    at_box = slice_get-get_or net.inboxes ch no_inbox (omega (arith, below, kept.sized.inboxes))
+
+    held : (received.message.bit ≡ not box.bit) × (new.transit ch ≡ [])
+    held =
+        let d = received.delivers in
+        let h = held_cons (slice_index_or net.watch.sends ch None) box.bit d.oldest (new.transit ch) (subst (λ ms. HeldBy (slice_index_or net.watch.sends ch None) box.bit ms) d.taken (holds.transit ch below)) in
+        (d.bit ∙ h.0, h.1)
+
+    abbrev after_net : NetState C M
+    after_net = record net { inboxes = ibs; watch = w }
+
+    goes_on : (ls next : Lists) (row : Option (List Value)) → Stands phase stands made left net ls → GoesOn net ls next (Del ch at) row received.message.payload → Stands phase stands made left after_net next
+    goes_on ls next row s goes =
+        subst (λ z. Stands phase stands made left (record net { inboxes = z; watch = w }) next) (sym received.inboxes)
+        (subst (λ z. Stands phase stands made left (record net { inboxes = set net.inboxes ch (record box { payload = received.message.payload; bit = received.message.bit }); watch = z }) next) (sym watch)
+        (delivered_stands phase stands made left net ch at kept.fixed.whole kept.fixed.laid kept.fixed.channels kept.fixed.one_place ls next s (clear_of ls s) received.message.payload row goes box at_box below received.message.bit held.0 kept.sized.machines))
+
+    types_after : (c : ℕ) → c < chan_count net.shape → map ty_of (slice_index_or ibs c no_inbox).payload ≡ types_for net.layout net.shape c
+    types_after c h = ap (λ bs. map ty_of (slice_index_or bs c no_inbox).payload) received.inboxes ∙ elim (eqb_tells c ch) [
+      | inl e ↦ subst (λ c. map ty_of (slice_index_or (set net.inboxes ch (record box { payload = received.message.payload; bit = received.message.bit })) c no_inbox).payload ≡ types_for net.layout net.shape c) (sym e.1)
+          (ap (λ (z : InboxState). map ty_of z.payload) (get_or-set_same net.inboxes ch _ no_inbox (omega (arith, below, kept.sized.inboxes))) ∙ received.delivers.typed ∙ kinds.each ch below)
+      | inr e ↦ ap (λ (z : InboxState). map ty_of z.payload) (get_or-set_other net.inboxes ch c _ no_inbox e.1) ∙ kept.sized.inbox_types c h
+    ]
+
+    pub kept_arrival : Kept phase stands made left after_net
+    kept_arrival =
+        let z = kept.sized in
+        record {
+          fixed = kept.fixed;
+          sized = record {
+            machines = z.machines;
+            controllers = z.controllers;
+            executed = z.executed;
+            buffers = z.buffers;
+            buffer_types = z.buffer_types;
+            lasts = ap (λ (z : Times). length z.lasts) watch ∙ z.lasts;
+            inboxes = ap length received.inboxes ∙ length-set net.inboxes ch _ ∙ z.inboxes;
+            sends = ap (λ (z : Times). length z.sends) watch ∙ length-set net.watch.sends ch None ∙ z.sends;
+            inbox_types = types_after;
+          };
+          standing =
+              let found = kept.standing in
+              let ls = found.0 in
+              let next : Lists = record { events = ls.events ++ Del ch at ∷ []; inputs = ls.inputs; got = λ c. cond (nat_eq c ch) (ls.got c ++ received.message.payload ∷ []) (ls.got c) } in
+              let goes : GoesOn net ls next (Del ch at) None received.message.payload = record {
+                events = refl;
+                inputs = λ i. refl;
+                got = record {
+                  there = elim (eqb_tells ch ch) [ inl h ↦ rw h.0 refl | inr h ↦ absurd (h.1 refl) ];
+                  elsewhere = λ c ne. elim (eqb_tells c ch) [ inl h ↦ absurd (ne h.1) | inr h ↦ rw h.0 refl ];
+                };
+              } in
+              (next, goes_on ls next None found.1 goes);
+        }
+
+    pub arrival_happens : (row : Option (List Value)) → Happens (Stands phase stands made left net) (Stands phase stands made left after_net) net (Del ch at) row old new
+    arrival_happens row = record {
+      payload = received.message.payload;
+      goes = λ ls next s goes. goes_on ls next row s goes;
+      carried = λ ls next s goes. (received.message, refl, received.delivers);
+    }
+
+    pub arrival_holds : Holds after_net new
+    arrival_holds = record {
+      transit = λ c h. elim (eqb_tells c ch) [
+        | inl e ↦
+            let gone : slice_index_or w.sends ch None ≡ None = ap (λ (z : Times). slice_index_or z.sends ch None) watch ∙ get_or-set_same net.watch.sends ch None None here in
+            subst (λ c. HeldBy (slice_index_or w.sends c None) (slice_index_or ibs c no_inbox).bit (new.transit c)) (sym e.1)
+            (subst (λ v. HeldBy v (slice_index_or ibs ch no_inbox).bit (new.transit ch)) (sym gone) held.1)
+        | inr e ↦
+            let sends : slice_index_or w.sends c None ≡ slice_index_or net.watch.sends c None = ap (λ (z : Times). slice_index_or z.sends c None) watch ∙ get_or-set_other net.watch.sends ch c None None e.1 in
+            let boxes : slice_index_or ibs c no_inbox ≡ slice_index_or net.inboxes c no_inbox = ap (λ bs. slice_index_or bs c no_inbox) received.inboxes ∙ get_or-set_other net.inboxes ch c _ no_inbox e.1 in
+            subst (λ v. HeldBy v (slice_index_or ibs c no_inbox).bit (new.transit c)) (sym sends)
+            (subst (λ (z : InboxState). HeldBy (slice_index_or net.watch.sends c None) z.bit (new.transit c)) (sym boxes)
+            (subst (λ ms. HeldBy (slice_index_or net.watch.sends c None) (slice_index_or net.inboxes c no_inbox).bit ms) (sym (received.delivers.elsewhere c e.1)) (holds.transit c h)))
+      ];
+    }
+
+-- a delivery, by what code has: the parts of the net before it
+pub delivered_taken : {C M : Type 0} (phase : C → Phase) (stands : M → Function → List (List Value) → Type 0) (made left : M → ℕ) (net now : NetState C M) → net ≡ now → Kept phase stands made left now →
+    (ch at : ℕ) → at ≤ GREATEST_TIME → ch < chan_count now.shape → ((s : Shape) (t : Timing) (st : State) → HasTimes now.watch s t st → offence_of s t st (Del ch at) ≡ None) →
+    (old new : FabricState) → Holds now old → HasKinds now old → (ibs : List InboxState) → Receives net.inboxes ibs old new ch → (w : Times) → w ≡ record net.watch { sends = set net.watch.sends ch None; latest = Some at } →
+    (v : ℕ) → v ≡ net.values → (row : Option (List Value)) → IsTaken phase stands made left now (record net { inboxes = ibs; watch = w; values = v }) (Del ch at) row old new
+delivered_taken {C} {M} phase stands made left net now is kept ch at timely below passes old new holds kinds ibs received w watch v v_is row =
+    subst (λ (z : NetState C M). Kept phase stands made left z → ch < chan_count z.shape → ((s : Shape) (t : Timing) (st : State) → HasTimes z.watch s t st → offence_of s t st (Del ch at) ≡ None) → Holds z old → HasKinds z old →
+    IsTaken phase stands made left z (record net { inboxes = ibs; watch = w; values = v }) (Del ch at) row old new) is
+    (λ kept below passes holds kinds.
+    subst (λ v. IsTaken phase stands made left net (record net { inboxes = ibs; watch = w; values = v }) (Del ch at) row old new) (sym v_is) (record {
+      kept = kept_arrival phase stands made left net kept ch at timely below passes old new holds kinds ibs received w watch;
+      happens = arrival_happens phase stands made left net kept ch at timely below passes old new holds kinds ibs received w watch row;
+      holds = arrival_holds phase stands made left net kept ch at timely below passes old new holds kinds ibs received w watch;
+      kinds = received.delivers.kinds;
+    }))
+    kept below passes holds kinds

@@ -1,0 +1,100 @@
+-- A net after its end.
+use Rattle.std.proofs.Common.{◌≡◌, ℕ, suc, ◌-◌, ◌≤◌, List, [], ◌∷◌, ◌++◌, Option, Some, None, refl, sym, ap, ◌∙◌, subst}
+use Rattle.lt_base.specs.declared.value.Value.{Value}
+use Rattle.lt_base.specs.Program.{Function}
+use Rattle.lt_arch.specs.declared.event.Event.{Event}
+use Rattle.lt_arch.specs.declared.event.Event.TheVariants.{End}
+use Rattle.lt_arch.specs.declared.shape.Shape.{Shape}
+use Rattle.lt_arch.specs.declared.timing.Timing.{Timing}
+use Rattle.lt_arch.specs.State.{State, NodeState, Phase, start, unsent}
+use Rattle.lt_arch.specs.Readers.{to_of}
+use Rattle.lt_arch.specs.Step.{offence_of, after, time_of}
+use Rattle.lt_arch.specs.declared.limits.TheConstants.{GREATEST_TIME}
+use Rattle.lt_arch.specs.Schedule.{after_all, AreUpTo, HasNoOffence}
+use Rattle.lt_arch.specs.declared.event.Offence.{Offence}
+use Rattle.lt_arch.specs.Times.{Times, HasTimes}
+use Rattle.lt_arch.proofs.Noted.{noted-end}
+use Rattle.lt_link.specs.Bits.{bit_of}
+use Rattle.lt_io.specs.FabricState.{FabricState}
+use Rattle.lt_net.specs.Net.{NetState, Lists, state_of}
+use Rattle.lt_net.specs.Stands.{Stands}
+use Rattle.lt_net.specs.Event.{GoesOn, Happens}
+
+-- the event is in the range of times, and has no offence
+abbrev pub Passes : Shape → Timing → State → Event → Type 0
+Passes s t st e = (time_of e ≤ GREATEST_TIME) × (offence_of s t st e ≡ None)
+
+pub timely-more : (limit : ℕ) (es : List Event) (e : Event) → AreUpTo limit es → time_of e ≤ limit → AreUpTo limit (es ++ e ∷ [])
+timely-more limit [] e h le = (le, tt)
+timely-more limit (x ∷ es) e h le = (h.0, timely-more limit es e h.1 le)
+
+module _ (s : Shape) (t : Timing) (rows : ℕ) where
+  pub after_all-more : (st : State) (es : List Event) (e : Event) → after_all s t rows st (es ++ e ∷ []) ≡ after s t rows (after_all s t rows st es) e
+  after_all-more st [] e = refl
+  after_all-more st (x ∷ es) e = after_all-more (after s t rows st x) es e
+
+  pub clean-more : (st : State) (es : List Event) (e : Event) → HasNoOffence s t rows st es → offence_of s t (after_all s t rows st es) e ≡ None → HasNoOffence s t rows st (es ++ e ∷ [])
+  clean-more st [] e c h = (h, tt)
+  clean-more st (x ∷ es) e c h = (c.0, clean-more (after s t rows st x) es e c.1 h)
+
+  pub end-node : (st : State) (at n : ℕ) → (after s t rows st (End at)).node n ≡ st.node n
+  unfolding after
+  end-node st at n = refl
+
+  pub end-chan : (st : State) (at c : ℕ) → (after s t rows st (End at)).chan c ≡ st.chan c
+  unfolding after
+  end-chan st at c = refl
+
+module _ {C M : Type 0} (phase : C → Phase) (stands : M → Function → List (List Value) → Type 0) (made left : M → ℕ) (net : NetState C M) (at : ℕ) where
+  abbrev ended_net : NetState C M
+  ended_net = record net { watch = record net.watch { latest = Some at; horizon = Some at } }
+
+  abbrev with_end : Lists → Lists
+  with_end ls = record ls { events = ls.events ++ End at ∷ [] }
+
+  module _ (ls : Lists) (s : Stands phase stands made left net ls) (clear : Passes net.shape net.timing (state_of net ls) (End at)) where
+    node_same : (n : ℕ) → (state_of net (with_end ls)).node n ≡ (state_of net ls).node n
+    node_same n = ap (λ st. st.node n) (after_all-more net.shape net.timing net.rows (start net.timing.protocol) ls.events (End at)) ∙ end-node net.shape net.timing net.rows (state_of net ls) at n
+
+    chan_same : (c : ℕ) → (state_of net (with_end ls)).chan c ≡ (state_of net ls).chan c
+    chan_same c = ap (λ st. st.chan c) (after_all-more net.shape net.timing net.rows (start net.timing.protocol) ls.events (End at)) ∙ end-chan net.shape net.timing net.rows (state_of net ls) at c
+
+    pub ended : Stands phase stands made left ended_net (with_end ls)
+    ended = record {
+      timely = timely-more GREATEST_TIME ls.events (End at) s.timely clear.0;
+      clean = clean-more net.shape net.timing net.rows (start net.timing.protocol) ls.events (End at) s.clean clear.1;
+      times = subst (λ st. HasTimes ended_net.watch net.shape net.timing st) (sym (after_all-more net.shape net.timing net.rows (start net.timing.protocol) ls.events (End at))) (noted-end net.watch net.shape net.timing net.rows (state_of net ls) s.times at);
+      phases = λ n c h. s.phases n c h ∙ ap (λ nd. nd.phase) (sym (node_same n));
+      inputs = λ n h. s.inputs n h ∙ ap (λ nd. nd.executed) (sym (node_same n));
+      got = λ c h. s.got c h ∙ ap (λ ch. ch.delivered) (sym (chan_same c));
+      fit = s.fit;
+      ran = s.ran;
+      steps_left = s.steps_left;
+      payloads = s.payloads;
+      bits = s.bits;
+      data_reads = λ c b h d. s.data_reads c b h d ∙ ap (λ (nd : NodeState). bit_of (suc nd.executed)) (sym (node_same (to_of net.shape c)));
+      ack_reads = λ c b h d. s.ack_reads c b h d ∙ ap (λ (nd : NodeState). bit_of (nd.executed - unsent nd.phase)) (sym (node_same (to_of net.shape c)));
+      buffers = s.buffers;
+    }
+
+    next_is : (next : Lists) (row : Option (List Value)) (payload : List Value) → GoesOn net ls next (End at) row payload → next ≡ with_end ls
+    next_is next row payload goes = λ i. record { events = goes.events i; inputs = λ n. goes.inputs n i; got = λ c. goes.got c i }
+
+  pub end_happens : (row : Option (List Value)) (old : FabricState) (offence : (ls : Lists) → Stands phase stands made left net ls → Passes net.shape net.timing (state_of net ls) (End at)) →
+      Happens (Stands phase stands made left net) (Stands phase stands made left ended_net) net (End at) row old old
+  end_happens row old offence = record {
+    payload = [];
+    goes = λ ls next s goes. subst (λ next. Stands phase stands made left ended_net next) (sym (next_is ls s (offence ls s) next row [] goes)) (ended ls s (offence ls s));
+    carried = λ ls next s goes. record { kinds = refl; transit = λ c. refl; sent = λ _ c. refl; delivered = λ _ c. refl };
+  }
+
+  -- the same, by what code has
+  pub end_happens_by : (now : NetState C M) → net ≡ now → (e : Event) → e ≡ End at → time_of e ≤ GREATEST_TIME → (w : Times) → w ≡ record net.watch { latest = Some at; horizon = Some at } →
+      (o : Option Offence) → o ≡ None → ((s : Shape) (t : Timing) (st : State) → HasTimes net.watch s t st → o ≡ offence_of s t st e) → (row : Option (List Value)) (old : FabricState) →
+      Happens (Stands phase stands made left now) (Stands phase stands made left (record net { watch = w })) now e row old old
+  end_happens_by now is e ends timely w watch o none judged row old =
+      let clear : (ls : Lists) → Stands phase stands made left net ls → Passes net.shape net.timing (state_of net ls) (End at) =
+      λ ls s. subst (λ e. Passes net.shape net.timing (state_of net ls) e) ends (timely, sym (judged net.shape net.timing (state_of net ls) s.times) ∙ none) in
+      subst (λ now. Happens (Stands phase stands made left now) (Stands phase stands made left (record net { watch = w })) now e row old old) is
+      (subst (λ e. Happens (Stands phase stands made left net) (Stands phase stands made left (record net { watch = w })) net e row old old) (sym ends)
+      (subst (λ w. Happens (Stands phase stands made left net) (Stands phase stands made left (record net { watch = w })) net (End at) row old old) (sym watch) (end_happens row old clear)))

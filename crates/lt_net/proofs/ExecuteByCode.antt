@@ -1,0 +1,128 @@
+-- An activation that executes, by what code has.
+use Rattle.std.proofs.Common.{◌≡◌, ℕ, ◌<◌, ◌≤◌, true, false, List, [], length, set, Option, Some, None, sym, ap, ◌∙◌, subst, arith}
+use Rattle.std.specs.Prelude.{slice_index_or, nat_lt, Result, Ok, Err, IsErrAnd}
+use Rattle.lt_base.specs.declared.value.Value.{Value}
+use Rattle.lt_base.specs.Program.{Function}
+use Rattle.lt_arch.specs.declared.event.Deed.{Deed}
+use Rattle.lt_arch.specs.declared.event.Deed.TheVariants.{Execute}
+use Rattle.lt_arch.specs.declared.event.Event.TheVariants.{Act}
+use Rattle.lt_arch.specs.declared.limits.TheConstants.{GREATEST_TIME}
+use Rattle.lt_arch.specs.declared.shape.Shape.{Shape}
+use Rattle.lt_arch.specs.declared.timing.Protocol.{Protocol}
+use Rattle.lt_arch.specs.declared.timing.Timing.{Timing}
+use Rattle.lt_arch.specs.State.{State, Phase}
+use Rattle.lt_arch.specs.Readers.{node_count, chan_count}
+use Rattle.lt_arch.specs.Deeds.{all_below, some_below}
+use Rattle.lt_arch.specs.Step.{offence_of, sends_on}
+use Rattle.lt_arch.specs.Times.{HasTimes}
+use Rattle.lt_io.specs.FabricState.{FabricState}
+use Rattle.lt_net.specs.Net.{NetState}
+use Rattle.lt_net.specs.Track.{track_at}
+use Rattle.lt_net.specs.Event.{IsTaken, Holds}
+use Rattle.lt_net.specs.Kept.{Kept, IsSized, HasRoom}
+use Rattle.lt_net.specs.Given.{FitsPart, HasRow}
+use Rattle.lt_net.specs.Freshness.{fresh_or_other, fresh_one}
+use Rattle.lt_net.specs.Sends.{is_from}
+use Rattle.lt_net.specs.Wakes.{Wakes, AreConfigured}
+use Rattle.lt_net.specs.Executes.{CanExecute, Executes}
+use Rattle.lt_net.specs.Ran.{SameRest, Acknowledges}
+use Rattle.lt_net.proofs.Filling.{tracked-size, tracked-room}
+use Rattle.lt_net.proofs.IdleActivation.{free_now, empty_now, configured_still}
+use Rattle.lt_net.proofs.ExecuteTaken.{acks_are, run_halted, run_sized, execute_kept, execute_happens, execute_holds}
+use Rattle.lt_net.specs.Halts.{HasHalted}
+use Rattle.lt_net.specs.Stands.{Stands}
+use Rattle.lt_net.specs.Net.{Lists}
+use Rattle.lt_net.proofs.Executable.{more_rows, can_execute}
+
+-- the error that a `?` hands on
+pub err_is : {T E : Type 0} (r : Result T E) (e : E) → IsErrAnd r (λ f. f ≡ e) → r ≡ Err e
+err_is (Ok x) e is = absurd is
+err_is (Err f) e is = ap (λ g. Err g) is
+
+some_same : {A : Type 0} (a b : A) → Some a ≡ Some b → a ≡ b
+some_same a b h = cc
+
+module _ {C M : Type 0} (phase : C → Phase) (protocol : C → Protocol) (send execute : C → ℕ) (stands : M → Function → List (List Value) → Type 0) (made left : M → ℕ) (n at : ℕ) (timely : at ≤ GREATEST_TIME) (row : Option (List Value)) where
+  abbrev Begins : NetState C M → Type 0
+  Begins z = Kept phase stands made left z × AreConfigured protocol send execute z.timing z.controllers × (n < node_count z.shape) × ((s : Shape) (t : Timing) (st : State) → HasTimes z.watch s t st → offence_of s t st (Act n at) ≡ None) × HasRoom z × HasRow z n row
+
+  module _ (net now : NetState C M) (is : net ≡ now) (begins : Begins now) (cs : List C) (d : Deed)
+      (wakes : Wakes phase protocol send execute net.controllers cs n (all_below (fresh_or_other net.shape.channels net.inboxes n true) (length net.shape.channels)) (some_below (fresh_one net.shape.channels net.inboxes n true) (length net.shape.channels)) (all_below (fresh_or_other net.shape.channels net.inboxes n false) (length net.shape.channels)) (nat_lt (slice_index_or net.executed n 0) net.rows) d)
+      (executes : d ≡ Execute) where
+    b : Begins net
+    b = subst Begins (sym is) begins
+
+    row_given : (r : List Value) × (row ≡ Some r) × FitsPart net.layout n r
+    row_given = b.5 (more_rows phase protocol send execute stands made left net b.0 b.1 n at timely b.2 b.3 cs d wakes executes)
+
+    -- nothing is in transit where it sends
+    pub run_free : (c : ℕ) → c < chan_count net.shape → is_from net.shape.channels n false c ≡ true → slice_index_or net.watch.sends c None ≡ None
+    run_free c h on = free_now phase protocol send execute stands made left net b.0 b.1 n at timely b.2 b.3 cs d wakes c h (ap (λ x. sends_on net.shape net.timing n x c) executes ∙ sym (acks_are net b.0.fixed.no_acks n c h) ∙ on)
+
+    pub run_empty : (old : FabricState) → Holds now old → (c : ℕ) → c < chan_count net.shape → is_from net.shape.channels n false c ≡ true → old.transit c ≡ []
+    run_empty old holds c h on = empty_now phase protocol send execute stands made left net b.0 b.1 n at timely b.2 b.3 cs d wakes old (subst (λ z. Holds z old) (sym is) holds) c h (ap (λ x. sends_on net.shape net.timing n x c) executes ∙ sym (acks_are net b.0.fixed.no_acks n c h) ∙ on)
+
+    module _ (r : List Value) (r_is : row ≡ Some r) where
+      fits : FitsPart net.layout n r
+      fits = let g = row_given in subst (λ x. FitsPart net.layout n x) (some_same g.0 r (sym g.1 ∙ r_is)) g.2
+
+      pub run_can : (inputs outputs : M → ℕ) → ((m : M) (f : Function) (rows : List (List Value)) → stands m f rows → (inputs m ≡ f.n_in) × (outputs m ≡ length f.outs)) → CanExecute inputs outputs left (record net { controllers = cs }) n r
+      run_can inputs outputs numbers = can_execute phase protocol send execute stands made left net b.0 b.1 n at timely b.2 b.3 cs d wakes executes b.4 r fits inputs outputs numbers
+
+      module _ (new : NetState C M) (ex : Executes stands made left (record net { controllers = cs }) new n r) (rest : SameRest (record net { controllers = cs }) new) where
+        new_is : new ≡ record net { watch = new.watch; controllers = cs; machines = set net.machines n ex.after; executed = new.executed; inboxes = new.inboxes; tracks = new.tracks; buffers = new.buffers }
+        new_is = λ i. record {
+          layout = rest.static.layout i;
+          shape = rest.static.shape i;
+          timing = rest.static.timing i;
+          rows = rest.static.rows i;
+          watch = new.watch;
+          machines = ex.machines i;
+          controllers = rest.controllers i;
+          executed = new.executed;
+          inboxes = new.inboxes;
+          buffers = new.buffers;
+          tracks = new.tracks;
+          routes = rest.routes i;
+          exits = rest.exits i;
+          values = rest.values i;
+          outs = rest.outs i;
+        }
+
+        -- after an error too
+        pub ran_sized : IsSized new
+        ran_sized = subst (λ z. IsSized z) (sym new_is) (run_sized phase protocol send execute stands made left net b.0 b.1 n at timely b.2 b.3 cs d wakes executes b.4 r fits new ex new.watch rest.lasts rest.sends)
+
+        pub ran_halted : (ls : Lists) → Stands phase stands made left now ls → HasHalted stands made new ls (Act n at) row
+        ran_halted ls s =
+            subst (λ x. HasHalted stands made new ls (Act n at) x) (sym r_is)
+            (subst (λ z. HasHalted stands made z ls (Act n at) (Some r)) (sym new_is)
+            (run_halted phase protocol send execute stands made left net b.0 b.1 n at timely b.2 b.3 cs d wakes executes b.4 r fits new ex new.watch ls (subst (λ z. Stands phase stands made left z ls) (sym is) s)))
+
+        pub ran_configured : AreConfigured protocol send execute new.timing new.controllers
+        ran_configured = subst (λ (z : NetState C M). AreConfigured protocol send execute z.timing z.controllers) (sym new_is) (configured_still phase protocol send execute stands made left net b.0 b.1 n at timely b.2 b.3 cs d wakes)
+
+        pub ran_room : HasRoom new
+        ran_room =
+            let z = b.4 in
+            subst (λ z. HasRoom z) (sym new_is) (record {
+              messages = z.messages;
+              inputs = z.inputs;
+              outputs = z.outputs;
+              tracks = ap length ex.tracks ∙ tracked-size net.exits n ex.outs (length net.exits) net.tracks ∙ z.tracks;
+              cells = λ y h. subst (λ k. net.rows ≤ k) (sym (ap (λ ts. (track_at ts y).room) ex.tracks ∙ tracked-room net.exits n ex.outs (length net.exits) net.tracks (let e = z.exits.size in let t = z.tracks in omega (arith, e, t)) y)) (z.cells y h);
+              routes = z.routes;
+              exits = z.exits;
+            })
+
+        pub ran_taken : (old fabric : FabricState) → Holds now old → Acknowledges (record net { controllers = cs }) new n at old fabric → IsTaken phase stands made left now new (Act n at) row old fabric
+        ran_taken old fabric holds acks =
+            let h : Holds net old = subst (λ z. Holds z old) (sym is) holds in
+            subst (λ z. IsTaken phase stands made left z new (Act n at) row old fabric) is
+            (subst (λ x. IsTaken phase stands made left net new (Act n at) x old fabric) (sym r_is)
+            (subst (λ z. IsTaken phase stands made left net z (Act n at) (Some r) old fabric) (sym new_is) (record {
+              kept = execute_kept phase protocol send execute stands made left net b.0 b.1 n at timely b.2 b.3 cs d wakes executes b.4 r fits new ex old fabric h acks.noted acks.sent new.watch acks.watch;
+              happens = execute_happens phase protocol send execute stands made left net b.0 b.1 n at timely b.2 b.3 cs d wakes executes b.4 r fits new ex old fabric h acks.noted acks.sent new.watch acks.watch;
+              holds = execute_holds phase protocol send execute stands made left net b.0 b.1 n at timely b.2 b.3 cs d wakes executes b.4 r fits new ex old fabric h acks.noted acks.sent new.watch acks.watch;
+              kinds = acks.sent.sends.kinds;
+            })))

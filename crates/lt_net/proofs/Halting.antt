@@ -1,0 +1,44 @@
+-- What stands after a fault.
+use Rattle.std.proofs.Common.{◌≡◌, inl, ℕ, List, Option, Some, None, refl, sym, subst, map, ◌∷◌, [], zero, suc, ap, ◌∙◌, set}
+use Rattle.std.specs.Prelude.{Result, Ok, Err, OnErr}
+use Rattle.std.specs.List.{slice_get}
+use Rattle.lt_base.specs.declared.value.Value.{Value}
+use Rattle.lt_base.specs.Program.{Function}
+use Rattle.lt_arch.specs.declared.event.Event.{Event}
+use Rattle.lt_arch.specs.declared.event.Event.TheVariants.{Act, Del, End}
+use Rattle.lt_arch.specs.State.{Phase}
+use Rattle.lt_arch.specs.Times.{Times}
+use Rattle.lt_net.specs.Net.{NetState, Lists}
+use Rattle.lt_net.specs.Stands.{HasRun, Stands}
+use Rattle.lt_net.specs.Halts.{MayTake, HasHalted}
+
+may_stay : (e : Event) (row : Option (List Value)) (rows : ℕ → List (List Value)) → MayTake e row rows rows
+may_stay (Act n at) (Some r) rows = inl (λ i. refl)
+may_stay (Act n at) None rows = λ i. refl
+may_stay (Del c at) row rows = λ i. refl
+may_stay (End at) row rows = λ i. refl
+
+module _ {C M : Type 0} (phase : C → Phase) (stands : M → Function → List (List Value) → Type 0) (made left : M → ℕ) (ls : Lists) (e : Event) (row : Option (List Value)) where
+  stays : (net : NetState C M) → HasRun stands made net.layout net.shape net.machines net.executed net.tracks ls.inputs ls.got → HasHalted stands made net ls e row
+  stays net ran = record { rows = ls.inputs; may_take = may_stay e row ls.inputs; ran = ran }
+
+  -- where nothing was changed
+  pub same_halted : (old new : NetState C M) → new ≡ old → Stands phase stands made left old ls → HasHalted stands made new ls e row
+  same_halted old new same s = subst (λ z. HasHalted stands made z ls e row) (sym same) (stays old s.ran)
+
+  -- where only a controller and the watch were
+  pub idle_halted : (net now : NetState C M) → net ≡ now → (w : Times) (cs : List C) → Stands phase stands made left now ls → HasHalted stands made (record net { watch = w; controllers = cs }) ls e row
+  idle_halted net now is w cs s = stays (record net { watch = w; controllers = cs }) (subst (λ z. Stands phase stands made left z ls) (sym is) s).ran
+
+pub on_err_any : {T E P : Type 0} (r : Result T E) → P → OnErr r P
+on_err_any (Ok x) p = tt
+on_err_any (Err e) p = p
+
+-- a machine that was replaced by one whose steps cost as much
+map_set : {A : Type 0} (f : A → ℕ) (xs : List A) (n : ℕ) (a b : A) → slice_get xs n ≡ Some b → f a ≡ f b → map f (set xs n a) ≡ map f xs
+map_set f [] n a b there same = refl
+map_set f (x ∷ xs) zero a b there same = ap (λ v. v ∷ map f xs) (same ∙ ap f (let e : Some x ≡ Some b = there in cc))
+map_set f (x ∷ xs) (suc n) a b there same = ap (λ r. f x ∷ r) (map_set f xs n a b there same)
+
+pub same_sizes : {C M : Type 0} (size : M → ℕ) (net now : NetState C M) → net ≡ now → (n : ℕ) (before after : M) → slice_get net.machines n ≡ Some before → size after ≡ size before → map size (set net.machines n after) ≡ map size now.machines
+same_sizes size net now is n before after there same = map_set size net.machines n after before there same ∙ ap (λ (z : NetState _ _). map size z.machines) is

@@ -1,0 +1,36 @@
+-- What stands after a fault that stopped a net.
+use Rattle.std.specs.Prelude.{◌⊎◌, ℕ, List, Option, Some, None, Result, Ok, Err}
+use Rattle.lt_base.specs.declared.value.Value.{Value}
+use Rattle.lt_base.specs.Program.{Function}
+use Rattle.lt_arch.specs.declared.event.Event.{Event}
+use Rattle.lt_arch.specs.declared.event.Event.TheVariants.{Act, Del, End}
+use Rattle.lt_net.specs.declared.fault.NetFault.{NetFault}
+use Rattle.lt_net.specs.declared.fault.NetFault.TheVariants.{Offence as Refused, Link, Memory as NoMemory, Stopped}
+use Rattle.lt_net.specs.Net.{NetState, Lists}
+use Rattle.lt_net.specs.Event.{Takes, Same}
+use Rattle.lt_net.specs.Stands.{HasRun}
+
+-- the fault stops the net
+abbrev pub HaltsBy : NetFault → Type 0
+HaltsBy (Refused o) = ⊥
+HaltsBy Link = Unit {0}
+HaltsBy NoMemory = Unit {0}
+HaltsBy (Stopped f) = ⊥
+
+-- the answer is a fault that stops the net
+abbrev pub Halts : {T : Type 0} → Result T NetFault → Type 0
+Halts (Ok x) = ⊥
+Halts (Err f) = HaltsBy f
+
+-- the rows are as they were, or those of the acting node have its instant's row at their end
+abbrev pub MayTake : Event → Option (List Value) → (old new : ℕ → List (List Value)) → Type 0
+MayTake (Act n at) (Some row) old new = Same old new ⊎ Takes old new n row
+MayTake (Act n at) None old new = Same old new
+MayTake (Del c at) row old new = Same old new
+MayTake (End at) row old new = Same old new
+
+-- machines, counts and cells are those of the lists for which the net stood before an event, or with the row of the acting node
+pub record HasHalted {C M : Type 0} (stands : M → Function → List (List Value) → Type 0) (made : M → ℕ) (net : NetState C M) (ls : Lists) (e : Event) (row : Option (List Value)) : Type 0 where
+  pub rows : ℕ → List (List Value)
+  pub may_take : MayTake e row ls.inputs rows
+  pub ran : HasRun stands made net.layout net.shape net.machines net.executed net.tracks rows ls.got
