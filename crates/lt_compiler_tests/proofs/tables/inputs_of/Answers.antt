@@ -1,4 +1,4 @@
-use Rattle.std.proofs.Common.{⊥, sym, subst}
+use Rattle.std.proofs.Common.{sym, subst}
 use Rattle.std.specs.Prelude.{MatchOption}
 use Rattle.lt_meaning.specs.Streams.{InputsFit}
 use Rattle.lt_compiler_tests.proofs.tables.inputs_of.Goals as goal
