@@ -7,6 +7,6 @@ loop-x-init g c =
     let numbers = g.met.M.Machine.numbers c.args.machine.now c.args.function.now [] c.requires.stands in
     record {
       left = let left = c.requires.left in omega (arith, left);
-      inputs = numbers.0 ∙ ap (λ (f : Function). f.n_in) (sym c.function.view_is) ∙ c.is_two_by_two.ensures.inputs c.if-not-is_two_by_two.false;
-      outputs = numbers.1 ∙ ap (λ (f : Function). length f.outs) (sym c.function.view_is) ∙ c.is_two_by_two.ensures.outputs c.if-not-is_two_by_two.false;
+      inputs = numbers.0 ∙ c.is_two_by_two.ensures.inputs c.if-not-is_two_by_two.false;
+      outputs = numbers.1 ∙ c.is_two_by_two.ensures.outputs c.if-not-is_two_by_two.false;
     }
