@@ -9,7 +9,6 @@ use Rattle.std.proofs.lemmas.List.Folds.{Any-from_list_any, list_any_at}
 use Rattle.std.proofs.lemmas.List.Quantifiers.{position-Some}
 use Rattle.std.proofs.lemmas.Option.{slice_get_within, slice_get-get_or, get_or_from_slice_get}
 use Rattle.lt_base.specs.Value.{ty_of}
-use Rattle.lt_base.specs.Program.{GoodFunction}
 use Rattle.lt_base.specs.Dependence.{has}
 use Rattle.lt_base.proofs.Lookups.{same_self}
 use Rattle.lt_arch.specs.declared.shape.Shape.{Shape}
@@ -19,12 +18,12 @@ use Rattle.lt_norm.specs.Flat.{Originated}
 use Rattle.lt_place.specs.declared.layout.Crossing.{Crossing}
 use Rattle.lt_place.specs.declared.layout.Part.{Part}
 use Rattle.lt_place.specs.declared.layout.Layout.{Layout}
-use Rattle.lt_place.specs.Layout.{part_of, crossing_of, no_part, no_crossing}
+use Rattle.lt_place.specs.Layout.{IsPlaced, part_of, crossing_of, no_part, no_crossing}
 use Rattle.lt_place.specs.Nodes.{node_of}
 use Rattle.lt_place.specs.Origins.{count}
 use Rattle.lt_net.specs.declared.route.Route.{Route}
 use Rattle.lt_net.specs.declared.route.Exit.{Exit}
-use Rattle.lt_net.specs.Layout.{IsPlaced, IsLaidOut, joins, place_in}
+use Rattle.lt_net.specs.Layout.{IsLaidOut, joins, place_in}
 use Rattle.lt_net.specs.Local.{firsts}
 use Rattle.lt_net.specs.Net.{channel_between, types_for}
 use Rattle.lt_net.specs.Routes.{AreRoutes, AreExits, route_of, no_route, exit_of, no_exit}
@@ -95,16 +94,16 @@ module _ (f : Originated) (l : Layout) (placed : IsPlaced f l) where
         subst (λ k. slice_get (get_or l.nodes k no_part).outs (place_among (get_or l.nodes k no_part).outs v) ≡ Some v) (sym is) (place_found r.outs v hit.0 value_of),
       )
 
-  pub are_exits : GoodFunction f.func → (exits : List Exit) → exits ≡ map (exit_for l.nodes) l.outs → AreExits l exits
+  pub are_exits : (exits : List Exit) → exits ≡ map (exit_for l.nodes) l.outs → AreExits l exits
   unfolding part_of
-  are_exits good exits is =
+  are_exits exits is =
       let entry : (y : ℕ) → y < length l.outs → exit_of exits y ≡ exit_for l.nodes (slice_index_or l.outs y 0) = λ y lt. ap (λ es. exit_of es y) is ∙ get_or-map (exit_for l.nodes) l.outs y 0 no_exit lt in
       let at : (y : ℕ) → y < length l.outs → (giver l.nodes (slice_index_or l.outs y 0) < length l.nodes) × (slice_get (part_of l (giver l.nodes (slice_index_or l.outs y 0))).outs (place_among (part_of l (giver l.nodes (slice_index_or l.outs y 0))).outs (slice_index_or l.outs y 0)) ≡ Some (slice_index_or l.outs y 0)) =
       λ y lt.
       let inside : y < length f.func.outs = subst (λ xs. y < length xs) placed.layout.outs lt in
       let same : slice_index_or l.outs y 0 ≡ slice_index_or f.func.outs y 0 = ap (λ xs. slice_index_or xs y 0) placed.layout.outs in
       subst (λ v. (giver l.nodes v < length l.nodes) × (slice_get (part_of l (giver l.nodes v)).outs (place_among (part_of l (giver l.nodes v)).outs v) ≡ Some v)) (sym same)
-      (giver_gives (slice_index_or f.func.outs y 0) (good.outs y 0 inside) (list_any_at (Rattle.std.specs.Prelude.nat_eq (slice_index_or f.func.outs y 0)) f.func.outs y 0 inside (same_self (slice_index_or f.func.outs y 0)))) in
+      (giver_gives (slice_index_or f.func.outs y 0) (placed.good.outs y 0 inside) (list_any_at (Rattle.std.specs.Prelude.nat_eq (slice_index_or f.func.outs y 0)) f.func.outs y 0 inside (same_self (slice_index_or f.func.outs y 0)))) in
       record {
         size = ap length is ∙ length-map l.outs (exit_for l.nodes);
         nodes = λ y lt. subst (λ (e : Exit). e.node < length l.nodes) (sym (entry y lt)) (at y lt).0;

@@ -2,7 +2,6 @@
 use Rattle.std.proofs.Common.{◌≡◌, ℕ, zero, suc, ◌<◌, ◌≤◌, List, [], ◌∷◌, length, map, take, Some, false, sym, ap, ◌∙◌, subst, arith}
 use Rattle.std.specs.Prelude.{slice_index_or}
 use Rattle.std.specs.List.{slice_get}
-use Rattle.std.proofs.lemmas.Option.{slice_get_within}
 use Rattle.lt_base.specs.declared.value.Ty.{Ty}
 use Rattle.lt_base.specs.declared.value.Value.{Value}
 use Rattle.lt_base.specs.declared.value.Value.TheVariants.{Bool as Truth}
@@ -11,14 +10,24 @@ use Rattle.lt_base.specs.Value.{ty_of}
 use Rattle.lt_base.specs.Program.{Function, GoodFunction}
 use Rattle.lt_base.specs.Typing.{ty_at, input_types, RowFits, AllFit}
 use Rattle.lt_base.specs.Behaviour.{RowsFit}
-use Rattle.lt_base.proofs.Lookups.{input_none, is_input}
+use Rattle.lt_base.proofs.Lookups.{is_input}
+use Rattle.lt_arch.specs.declared.shape.Shape.{Shape}
+use Rattle.lt_arch.specs.declared.timing.Timing.{Timing}
+use Rattle.lt_arch.specs.Readers.{node_count}
+use Rattle.lt_arch.specs.Schedule.{OnePlace}
 use Rattle.lt_norm.specs.Flat.{Originated}
 use Rattle.lt_place.specs.declared.layout.Feed.TheVariants.{Input}
 use Rattle.lt_place.specs.declared.layout.Layout.{Layout}
-use Rattle.lt_place.specs.Layout.{IsPlaced, FeedFits, part_of}
-use Rattle.lt_net.specs.Net.{row_at}
+use Rattle.lt_place.specs.Layout.{IsPlaced, part_of}
+use Rattle.lt_net.specs.Layout.{IsLaidOut}
+use Rattle.lt_net.specs.Net.{NetState, row_at}
+use Rattle.lt_net.specs.Chain.{HasChannels}
+use Rattle.lt_net.specs.Channels.{FitsLayout}
 use Rattle.lt_net.specs.Given.{FitsPart}
+use Rattle.lt_net.specs.Loop.{Given}
+use Rattle.lt_net.specs.Starts.{IsMadeOf}
 use Rattle.lt_net.specs.Whole.{RowsFit as HasInputs}
+use Rattle.lt_net.proofs.LaidOut.{part, at_feed, laid_out}
 
 -- a row that fits has a value, of its type, for each input
 input_fits : (ds : List Decl) (n : ℕ) (row : List Value) → RowFits (map (λ d. d.ty) (take n ds)) (map Some row) → n ≤ length ds → (i : ℕ) → i < n → (i < length row) × (ty_at ds i ≡ Some (ty_of (slice_index_or row i (Truth false))))
@@ -45,15 +54,8 @@ module _ (f : Originated) (l : Layout) (placed : IsPlaced f l) where
   -- an input of `main` that a part is fed with, and its type there
   fed_input : (n x i : ℕ) → n < length l.nodes → slice_get (part_of l n).feeds x ≡ Some (Input i) → (i < f.func.n_in) × (ty_at (part_of l n).flat.func.decls x ≡ ty_at f.func.decls i)
   fed_input n x i b is =
-      let q = placed.layout.parts n b in
-      let g = (part_of l n).flat.func in
-      let w = slice_get_within (part_of l n).feeds x (Input i) is in
-      let inside : x < g.n_in = omega (arith, w, q.fed) in
-      let declared : x < length g.decls = omega (arith, inside, q.good.inputs) in
-      let feed = q.feeds x declared (input_none g q.good x inside) in
-      let same : feed.0 ≡ Input i = let e : Some (feed.0) ≡ Some (Input i) = sym (feed.1) ∙ is in cc in
-      let fits : FeedFits f l n (part_of l n) x (Input i) = subst (λ d. FeedFits f l n (part_of l n) x d) same feed.2 in
-      (is_input f.func placed.good i fits.2 fits.1, q.types x declared ∙ ap (ty_at f.func.decls) fits.0)
+      let at = at_feed f l placed n x (Input i) b is in
+      (is_input f.func placed.good i at.1.2 at.1.1, (part f l placed n b).types x at.0 ∙ ap (ty_at f.func.decls) at.1.0)
 
   pub row_fits_part : (row : List Value) → RowFits (input_types f.func) (map Some row) → (n : ℕ) → n < length l.nodes → FitsPart l n row
   row_fits_part row fit n b = record {
@@ -63,3 +65,24 @@ module _ (f : Originated) (l : Layout) (placed : IsPlaced f l) where
 
   pub rows_fit_parts : (rows : List (List Value)) → RowsFit f.func rows → (n k : ℕ) → n < length l.nodes → k < length rows → FitsPart l n (row_at rows k)
   rows_fit_parts rows fit n k b c = row_fits_part (row_at rows k) (row_fits (input_types f.func) rows fit k c) n b
+
+  -- so all that a replay of such rows needs is known
+  given_of : {C M : Type 0} (rows : List (List Value)) → RowsFit f.func rows → (net : NetState C M) → net.layout ≡ l → FitsLayout l net.timing.protocol net.shape → OnePlace net.shape net.timing net.rows → net.rows ≡ length rows → length net.executed ≡ node_count net.shape → Given net rows
+  given_of rows fit net same fits one count executed = record {
+    whole = f.func;
+    placed = subst (λ z. IsLaidOut f.func z) (sym same) (laid_out f l placed);
+    channels = subst (λ z. HasChannels z net.shape) (sym same) fits.channels;
+    one_place = one;
+    rows = count;
+    counts = executed;
+    fit = λ n k nb kb. subst (λ z. FitsPart z n (row_at rows k)) (sym same) (rows_fit_parts rows fit n k (omega (arith, nb, fits.channels.nodes)) kb);
+  }
+
+  -- the same of a net that was started
+  pub given_by : {C M : Type 0} (inputs : List (List Value)) → RowsFit f.func inputs → (s : Shape) (t : Timing) (rows : ℕ) (ms : List M) (cs : List C) (net : NetState C M) →
+      IsMadeOf l s t rows ms cs net → FitsLayout l t.protocol s → OnePlace s t rows → rows ≡ length inputs → length net.executed ≡ node_count net.shape → Given net inputs
+  given_by inputs fit s t rows ms cs net is fits one count executed =
+      given_of inputs fit net is.layout
+      (subst (λ (z : Timing). FitsLayout l z.protocol net.shape) (sym is.timing) (subst (λ z. FitsLayout l t.protocol z) (sym is.shape) fits))
+      (subst (λ r. OnePlace net.shape net.timing r) (sym is.rows) (subst (λ z. OnePlace net.shape z rows) (sym is.timing) (subst (λ z. OnePlace z t rows) (sym is.shape) one)))
+      (is.rows ∙ count) executed

@@ -8,7 +8,7 @@ use Rattle.lt_arch.specs.Readers.{chan_count, is_back_pressure}
 use Rattle.lt_arch.specs.Schedule.{OnePlace}
 use Rattle.lt_norm.specs.Flat.{Originated}
 use Rattle.lt_place.specs.declared.layout.Layout.{Layout}
-use Rattle.lt_net.specs.Layout.{IsPlaced}
+use Rattle.lt_place.specs.Layout.{IsPlaced}
 use Rattle.lt_net.specs.Kept.{IsFixed}
 use Rattle.lt_net.specs.Channels.{FitsLayout}
 use Rattle.lt_net.proofs.LaidOut.{laid_out}

@@ -18,10 +18,10 @@ use Rattle.lt_place.specs.declared.layout.Feed.TheVariants.{Input, Cross}
 use Rattle.lt_place.specs.declared.layout.Part.{Part}
 use Rattle.lt_place.specs.declared.layout.Layout.{Layout}
 use Rattle.lt_place.specs.declared.placement.Placement.{Placement}
-use Rattle.lt_place.specs.Layout.{IsPartOf, HasCrossings, Gives, FeedFits, part_of, crossing_of}
+use Rattle.lt_place.specs.Layout.{IsPlaced, IsPartOf, HasCrossings, Gives, FeedFits, part_of, crossing_of}
 use Rattle.lt_place.specs.Nodes.{node_of}
 use Rattle.lt_place.specs.Origins.{count, origin_of}
-use Rattle.lt_net.specs.Layout.{IsPlaced, IsLaidOut, Feeds}
+use Rattle.lt_net.specs.Layout.{IsLaidOut, Feeds}
 
 -- two types that are shared are the same
 shared_both : (a : Ty) (o : Option Ty) (t : Ty) → both_types shared_type (Some a) o ≡ Some t → (o ≡ Some a) × (t ≡ a)

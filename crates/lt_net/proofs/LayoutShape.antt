@@ -21,8 +21,8 @@ use Rattle.lt_base.specs.Value.{ty_of}
 use Rattle.lt_norm.specs.Flat.{Originated}
 use Rattle.lt_place.specs.declared.layout.Crossing.{Crossing}
 use Rattle.lt_place.specs.declared.layout.Layout.{Layout}
-use Rattle.lt_place.specs.Layout.{HasCrossings, crossing_of, no_crossing}
-use Rattle.lt_net.specs.Layout.{IsPlaced, joins}
+use Rattle.lt_place.specs.Layout.{IsPlaced, HasCrossings, crossing_of, no_crossing}
+use Rattle.lt_net.specs.Layout.{joins}
 use Rattle.lt_net.specs.Net.{is_between, channel_between, types_for}
 use Rattle.lt_net.specs.Chain.{HasChannels}
 use Rattle.lt_net.specs.Channels.{has_channel, channel, all_chans, channels_of, IsShapeOf, IsBefore, IsCrossed, FitsLayout, ShapesFit}

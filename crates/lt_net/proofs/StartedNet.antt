@@ -6,7 +6,7 @@ use Rattle.std.proofs.Math.Nat.{le-max_left, le-max_right}
 use Rattle.std.proofs.lemmas.List.{length-map, length-replicate, get_or-replicate}
 use Rattle.lt_base.specs.declared.value.Value.{Value}
 use Rattle.lt_base.specs.Value.{ty_of}
-use Rattle.lt_base.specs.Program.{Function, GoodFunction}
+use Rattle.lt_base.specs.Program.{Function}
 use Rattle.lt_arch.specs.declared.shape.Shape.{Shape}
 use Rattle.lt_arch.specs.declared.timing.Timing.{Timing}
 use Rattle.lt_arch.specs.declared.timing.Protocol.{Protocol}
@@ -21,10 +21,10 @@ use Rattle.lt_link.specs.Inbox.{InboxState, no_inbox}
 use Rattle.lt_norm.specs.Flat.{Originated}
 use Rattle.lt_place.specs.declared.layout.Crossing.{Crossing}
 use Rattle.lt_place.specs.declared.layout.Layout.{Layout}
-use Rattle.lt_place.specs.Layout.{part_of, no_part}
+use Rattle.lt_place.specs.Layout.{IsPlaced, part_of, no_part}
 use Rattle.lt_net.specs.declared.route.Route.{Route}
 use Rattle.lt_net.specs.declared.route.Exit.{Exit}
-use Rattle.lt_net.specs.Layout.{IsPlaced, joins}
+use Rattle.lt_net.specs.Layout.{joins}
 use Rattle.lt_net.specs.Local.{firsts}
 use Rattle.lt_net.specs.Net.{NetState}
 use Rattle.lt_net.specs.Track.{TrackState, track_at}
@@ -43,7 +43,7 @@ no_fewer : (k : ℕ) → zero ≡ suc k → ⊥
 no_fewer k e = absurd (omega (arith, e))
 
 module _ {C M : Type 0} (phase : C → Phase) (stands : M → Function → List (List Value) → Type 0) (made left : M → ℕ)
-    (f : Originated) (l : Layout) (placed : IsPlaced f l) (good : GoodFunction f.func) (s : Shape) (t : Timing) (rows : ℕ) (fits : FitsLayout l t.protocol s) (few : 2 * (node_count s + chan_count s) < 2 ^ 32) (one : OnePlace s t rows)
+    (f : Originated) (l : Layout) (placed : IsPlaced f l) (s : Shape) (t : Timing) (rows : ℕ) (fits : FitsLayout l t.protocol s) (few : 2 * (node_count s + chan_count s) < 2 ^ 32) (one : OnePlace s t rows)
     (ms : List M) (ready : AreReady stands made left l rows ms) (cs : List C) (at_start : AreAtStart phase s t cs) (watch : Times) (times : HasTimes watch s t (start t.protocol))
     (executed : List ℕ) (executed_are : executed ≡ replicate (node_count s) 0) (boxes : List InboxState) (boxes_are : boxes ≡ map (first_inbox l.cross) s.channels) (buffers : List (List Value)) (buffers_are : buffers ≡ map (literals_on l.cross) s.channels)
     (tracks : List TrackState) (tracks_count : length tracks ≡ length l.outs) (blank : All (IsBlank rows) tracks)
@@ -133,5 +133,5 @@ module _ {C M : Type 0} (phase : C → Phase) (stands : M → Function → List 
     tracks = tracks_count;
     cells = λ y lt. (blank_at y lt).room;
     routes = are_routes f l placed s routes routes_are;
-    exits = are_exits f l placed good exits exits_are;
+    exits = are_exits f l placed exits exits_are;
   }

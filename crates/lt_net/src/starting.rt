@@ -1,11 +1,10 @@
 // A plant before the first event.
 ghost use Rattle.std.specs.Prelude.{◌≡◌, ◌≤◌, ◌<◌, ◌+◌, ◌*◌, ◌^◌, max, length, replicate, All, IfOk};
-ghost use Rattle.lt_base.specs.Program.{GoodFunction};
 ghost use Rattle.lt_arch.specs.Readers.{node_count, chan_count};
 ghost use Rattle.lt_arch.specs.Schedule.{OnePlace};
 ghost use Rattle.lt_arch.specs.Shapes.{HaveSameNodes};
 ghost use Rattle.lt_norm.specs.Flat.{Originated};
-ghost use Rattle.lt_net.specs.Layout.{IsPlaced};
+ghost use Rattle.lt_place.specs.Layout.{IsPlaced};
 ghost use Rattle.lt_net.specs.Channels.{FitsLayout};
 ghost use Rattle.lt_net.specs.Kept.{Kept, HasRoom};
 ghost use Rattle.lt_net.specs.Wakes.{AreConfigured};
@@ -89,7 +88,7 @@ impl<C: Controller, M: Machine> Plant<C, M> {
         machines: Vec<M>,
         controllers: Vec<C>,
     ) -> Result<Plant<C, M>, Memory>
-        requires placed { (f : Originated) × IsPlaced f layout × GoodFunction f.func }
+        requires placed { (f : Originated) × IsPlaced f layout }
         requires shape { FitsLayout layout timing.protocol shape }
         requires nodes { HaveSameNodes shape timing }
         requires numbered { 2 * (node_count shape + chan_count shape) < 2 ^ 32 }

@@ -4,7 +4,7 @@ use Rattle.lt_net.proofs.plant.Plant.start.Goals as goal
 
 pub returns-clause-fresh : goal.returns-clause-fresh
 returns-clause-fresh g c =
-    fresh g.C.Controller.phase g.M.Machine.stands g.M.Machine.made g.M.Machine.left c.requires.placed.0 c.args.layout c.requires.placed.1 c.requires.placed.2 c.args.shape c.args.timing c.args.rows c.requires.shape c.requires.numbered c.requires.one_place
+    fresh g.C.Controller.phase g.M.Machine.stands g.M.Machine.made g.M.Machine.left c.requires.placed.0 c.args.layout c.requires.placed.1 c.args.shape c.args.timing c.args.rows c.requires.shape c.requires.numbered c.requires.one_place
     c.args.machines.items c.requires.machines c.args.controllers.items c.requires.controllers c.in_ok-watch.watch c.in_ok-watch.ensures
     c.in_ok-executed.executed.items c.in_ok-executed.ensures c.in_ok-inboxes.inboxes.items c.in_ok-inboxes.ensures c.in_ok-buffers.buffers.items c.in_ok-buffers.ensures
     c.in_ok-tracks.tracks.items c.in_ok-tracks.ensures.size c.in_ok-tracks.ensures.blank c.in_ok-routes.routes.items c.in_ok-routes.ensures c.in_ok-exits.exits.items c.in_ok-exits.ensures
@@ -12,7 +12,7 @@ returns-clause-fresh g c =
 
 pub returns-clause-kept : goal.returns-clause-kept
 returns-clause-kept g c =
-    kept g.C.Controller.phase g.M.Machine.stands g.M.Machine.made g.M.Machine.left c.requires.placed.0 c.args.layout c.requires.placed.1 c.requires.placed.2 c.args.shape c.args.timing c.args.rows c.requires.shape c.requires.numbered c.requires.one_place
+    kept g.C.Controller.phase g.M.Machine.stands g.M.Machine.made g.M.Machine.left c.requires.placed.0 c.args.layout c.requires.placed.1 c.args.shape c.args.timing c.args.rows c.requires.shape c.requires.numbered c.requires.one_place
     c.args.machines.items c.requires.machines c.args.controllers.items c.requires.controllers c.in_ok-watch.watch c.in_ok-watch.ensures
     c.in_ok-executed.executed.items c.in_ok-executed.ensures c.in_ok-inboxes.inboxes.items c.in_ok-inboxes.ensures c.in_ok-buffers.buffers.items c.in_ok-buffers.ensures
     c.in_ok-tracks.tracks.items c.in_ok-tracks.ensures.size c.in_ok-tracks.ensures.blank c.in_ok-routes.routes.items c.in_ok-routes.ensures c.in_ok-exits.exits.items c.in_ok-exits.ensures
@@ -20,7 +20,7 @@ returns-clause-kept g c =
 
 pub returns-clause-room : goal.returns-clause-room
 returns-clause-room g c =
-    room g.C.Controller.phase g.M.Machine.stands g.M.Machine.made g.M.Machine.left c.requires.placed.0 c.args.layout c.requires.placed.1 c.requires.placed.2 c.args.shape c.args.timing c.args.rows c.requires.shape c.requires.numbered c.requires.one_place
+    room g.C.Controller.phase g.M.Machine.stands g.M.Machine.made g.M.Machine.left c.requires.placed.0 c.args.layout c.requires.placed.1 c.args.shape c.args.timing c.args.rows c.requires.shape c.requires.numbered c.requires.one_place
     c.args.machines.items c.requires.machines c.args.controllers.items c.requires.controllers c.in_ok-watch.watch c.in_ok-watch.ensures
     c.in_ok-executed.executed.items c.in_ok-executed.ensures c.in_ok-inboxes.inboxes.items c.in_ok-inboxes.ensures c.in_ok-buffers.buffers.items c.in_ok-buffers.ensures
     c.in_ok-tracks.tracks.items c.in_ok-tracks.ensures.size c.in_ok-tracks.ensures.blank c.in_ok-routes.routes.items c.in_ok-routes.ensures c.in_ok-exits.exits.items c.in_ok-exits.ensures
