@@ -12,8 +12,6 @@ mod numbers;
 mod pace;
 mod plain;
 mod reading;
-#[cfg(test)]
-mod tests;
 mod timing;
 mod values;
 

@@ -3,7 +3,11 @@
 #![tactic(auto)]
 
 #[cfg(test)]
+mod config;
+#[cfg(test)]
 mod fixtures;
+#[cfg(test)]
+mod front;
 #[cfg(test)]
 mod inputs;
 #[cfg(test)]

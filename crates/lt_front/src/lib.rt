@@ -13,6 +13,3 @@ pub use checks::examine;
 pub use examined::Examined;
 pub use fault::ProgramFault;
 pub use flattening::front;
-
-#[cfg(test)]
-mod tests;

@@ -2,8 +2,6 @@
 #![tactic(auto)]
 
 mod numbers;
-#[cfg(test)]
-mod tests;
 mod text;
 
 pub use text::plan_text;

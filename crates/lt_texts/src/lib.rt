@@ -7,6 +7,3 @@ mod program;
 mod words;
 
 pub use program::program_line;
-
-#[cfg(test)]
-mod tests;

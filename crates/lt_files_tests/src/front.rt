@@ -1,14 +1,14 @@
-// Texts of programs, and the lines of their faults.
-use crate::program_line;
+// Texts of programs with the lines of their faults, and their flat forms.
 use lt_base::{List, Memory, Or};
-use lt_front::examine;
+use lt_front::{Checked, examine, front};
+use lt_texts::program_line;
 use std::alloc::Global;
 use std::test::Fail;
 
 /// The line of a text's fault; an empty one of a program.
 fn line(alloc: Global, text: &str) -> Result<List<u8>, Memory> {
     if text.len() > 10_000 {
-        return Ok(List::new(alloc));
+        return List::from_slice(alloc, b"too long");
     }
     match examine(alloc, text.as_bytes()) {
         Ok(_) => Ok(List::new(alloc)),
@@ -18,15 +18,19 @@ fn line(alloc: Global, text: &str) -> Result<List<u8>, Memory> {
 }
 
 #[test]
-fn lines_of_faults(rt: HostRuntime) -> Result<(), Fail> {
+fn the_first_check_that_fails_refuses(rt: HostRuntime) -> Result<(), Fail> {
     let alloc = rt.alloc();
     let rows = [
+        (
+            "node main(x: int) returns (y: int) let y = 0 fby (y + x); tel",
+            "",
+        ),
         (
             "node main(x: int) returns (y: int) let y = x x; tel",
             "syntax 3 Unexpected at byte 45",
         ),
         (
-            "node main(x: int) returns (y: int) let y = z; tel",
+            "node main(x: int) returns (y: int) let y = z + (x < 1); tel",
             "name 2 Unknown in node main: z",
         ),
         (
@@ -38,11 +42,11 @@ fn lines_of_faults(rt: HostRuntime) -> Result<(), Fail> {
             "type in node main: y is int, found bool",
         ),
         (
-            "node main(x: int) returns (y: int) let y = if x then 1 else 2; tel",
+            "node main(x: int) returns (y: int) let y = y + (x < 1); tel",
             "type in node main: y is int, found no type",
         ),
         (
-            "node main(x: int; c: bool) returns (y: int) let y = x when c; tel",
+            "node main(x: int; c: bool) returns (y: int) let y = y + (x when c); tel",
             "clock in node main: equation 1 of y on base",
         ),
         (
@@ -62,5 +66,37 @@ fn lines_of_faults(rt: HostRuntime) -> Result<(), Fail> {
         let line = line(alloc, text)?;
         assert_eq!(rt; line.as_slice(), wanted.as_bytes(), "{text}");
     }
+    Ok(())
+}
+
+/// The number of variables of a flat form.
+fn variables(checked: &Checked) -> usize {
+    let flat = &checked.flat;
+    let decls = &flat.func.decls;
+    decls.len()
+}
+
+/// The numbers of variables of the flat form of the text's program, as it is made first and again.
+fn flat_sizes(alloc: Global, text: &[u8]) -> Result<Option<(usize, usize)>, Memory> {
+    if text.len() > 10_000 {
+        return Ok(None);
+    }
+    match front(alloc, text) {
+        Ok(checked) => {
+            let first = variables(&checked);
+            let again = checked.examined().flatten(alloc)?;
+            Ok(Some((first, variables(&again))))
+        }
+        Err(Or::Fault(_)) => Ok(None),
+        Err(Or::Memory) => Err(Memory),
+    }
+}
+
+#[test]
+fn a_flat_form_has_copies_and_inner_delays(rt: HostRuntime) -> Result<(), Fail> {
+    let text =
+        b"node main(x: int) returns (y: int) let y = f(x); tel node f(x: int) returns (y: int) let y = x + (0 fby y); tel";
+    let sizes = flat_sizes(rt.alloc(), text)?;
+    assert_eq!(rt; sizes, Some((5, 5)));
     Ok(())
 }
