@@ -1,8 +1,8 @@
 //! `ltta`: see the README.
 #![tactic(auto)]
 
-use lt_base::List;
-use lt_cli::ltta;
+use lt_base::{List, Memory};
+use lt_cli::{Status, ltta};
 use lt_io::{MemFabric, RealFiles, RealSink};
 use std::process::ExitCode;
 use std::{env, io};
@@ -12,8 +12,9 @@ fn main(rt: HostRuntime) -> ExitCode {
     let mut fabric = MemFabric::new(rt.alloc(), List::new(rt.alloc()));
     let mut out = RealSink::new(rt.stdout());
     let mut err = RealSink::new(rt.stderr());
-    // Words that are no text are wrong words.
-    let words = words(&rt).unwrap_or(Vec::new(rt.alloc()));
+    let Ok(words) = words(&rt) else {
+        return ExitCode::from(Status::Memory.number());
+    };
     let status = ltta(
         rt.alloc(),
         &words,
@@ -25,7 +26,15 @@ fn main(rt: HostRuntime) -> ExitCode {
     ExitCode::from(status.number())
 }
 
-/// The words after the program's name.
-fn words(rt: &HostRuntime) -> io::Result<Vec<String>> {
+/// The words after the program's name. Words that are no text are wrong words, as none at all are.
+fn words(rt: &HostRuntime) -> Result<Vec<String>, Memory> {
+    match arguments(rt) {
+        Ok(words) => Ok(words),
+        Err(error) if error.kind() == io::ErrorKind::OutOfMemory => Err(Memory),
+        Err(_) => Ok(Vec::new(rt.alloc())),
+    }
+}
+
+fn arguments(rt: &HostRuntime) -> io::Result<Vec<String>> {
     Ok(env::args(rt)?.skip(1).collect(rt.alloc())?)
 }
