@@ -59,10 +59,11 @@ pub record RefusesRow {E O : Type 0} (rules : Rules E O) (before : List E) (numb
   pub here : IsHere number left refusal
   pub near : IsNearFirst left place
 
--- all rows behind a header were taken
+-- all rows behind a header were taken, and their list may stop
 pub record TakesAll {E O : Type 0} (rules : Rules E O) (stands : List E → Type 0) (end : ℕ) (told : Bool) (left : List FileRow) : Type 0 where
   pub events : List E
   pub stands_for : stands events
+  pub stops : rules.missing events ≡ None
   pub verdict : IsTrue told → judged_behind rules [] 1 end left ≡ Ok events
 
 -- one of them is refused
@@ -82,10 +83,11 @@ pub record LacksHeader {O : Type 0} (end : ℕ) (left : List FileRow) (place : �
   pub refuses : header_refusal end left ≡ Some refusal
   pub near : IsNearIn left place refusal
 
--- all rows were taken, from the header on
+-- all rows were taken, from the header on, and their list may stop
 pub record TakesRows {E O : Type 0} (rules : Rules E O) (stands : List E → Type 0) (end : ℕ) (told : Bool) (left : List FileRow) : Type 0 where
   pub events : List E
   pub stands_for : stands events
+  pub stops : rules.missing events ≡ None
   pub verdict : IsTrue told → judged_by rules end left ≡ Ok events
 
 -- one of them is refused
@@ -99,10 +101,11 @@ pub record IsFileOf {E O : Type 0} (rules : Rules E O) (file : Option (List ℕ)
   pub file_is : file ≡ Some bytes
   pub reads : file_judged_by rules bytes ≡ Ok events
 
--- all rows of a file were taken: what is kept stands for their events
+-- all rows of a file were taken, and their list may stop: what is kept stands for their events
 pub record TakesFile {E O : Type 0} (rules : Rules E O) (stands : List E → Type 0) (told : Bool) (file : Option (List ℕ)) : Type 0 where
   pub events : List E
   pub stands_for : stands events
+  pub stops : rules.missing events ≡ None
   pub reads : IsTrue told → IsFileOf rules file events
 
 -- a file is refused, and was read to at most a piece past the row that is
