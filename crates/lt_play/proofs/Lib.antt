@@ -1,0 +1,5 @@
+pub mod OneMore
+pub mod AtEnd
+pub mod Outcomes
+pub mod FirstPlay
+pub mod RowsRead

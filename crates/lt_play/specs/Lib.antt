@@ -1,0 +1,4 @@
+pub mod Plays
+pub mod Keeping
+pub mod Blamed
+pub mod Played

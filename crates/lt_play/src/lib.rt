@@ -1,0 +1,11 @@
+//! A network along a schedule file: its nodes take the events row by row.
+#![tactic(auto)]
+
+mod fault;
+mod feeding;
+mod playback;
+mod playing;
+
+pub use fault::PlayFault;
+pub use playback::Playback;
+pub use playing::play;

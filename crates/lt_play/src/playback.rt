@@ -1,0 +1,142 @@
+// A net, as it takes the events of a schedule.
+ghost use Rattle.std.specs.Prelude.{◌≡◌, ◌<◌, ◌+◌, ◌-◌, ◌*◌, ◌^◌, ℕ, IsTrue, [], length, IfOk};
+ghost use Rattle.lt_base.specs.Behaviour.{RowsFit};
+ghost use Rattle.lt_arch.specs.Readers.{node_count, chan_count};
+ghost use Rattle.lt_arch.specs.Schedule.{OnePlace};
+ghost use Rattle.lt_arch.specs.Shapes.{HaveSameNodes};
+ghost use Rattle.lt_io.specs.Counts.{LinkCounted};
+ghost use Rattle.lt_io.specs.FabricState.{KeepsFabric};
+ghost use Rattle.lt_judge.specs.Verdict.{rules_of};
+ghost use Rattle.lt_judge.specs.Long.{long_line};
+ghost use Rattle.lt_norm.specs.Flat.{Originated};
+ghost use Rattle.lt_step.specs.Run.{HasRowValues};
+ghost use Rattle.lt_place.specs.Layout.{IsPlaced};
+ghost use Rattle.lt_net.specs.Channels.{FitsLayout};
+ghost use Rattle.lt_net.specs.Starts.{AreReady, AreAtStart, IsMadeOf};
+ghost use Rattle.lt_net.specs.Wakes.{AreConfigured};
+ghost use Rattle.lt_play.specs.Plays.{IsPlaying, KeepsPlay};
+ghost use Rattle.lt_play.specs.Keeping.{keeps_itself, keeps_on};
+
+use crate::feeding::{given, read_next, room_for};
+use lt_arch::{Controller, Event, Offence, Shape, Timing};
+use lt_base::{Inputs, Steps, Value};
+use lt_io::{Fabric, LinkErr};
+use lt_judge::{Replica, Stop};
+use lt_machine::Machine;
+use lt_net::{Net, NetFault, kinds_of};
+use lt_place::Layout;
+use lt_rows::read_event;
+use std::alloc::Global;
+use std::sync::ledger::Ledger;
+
+/// A net with its inputs, and room for one row of them.
+#[derive(Drop)]
+pub struct Playback<C: Controller, M: Machine> {
+    pub net: Net<C, M>,
+    pub inputs: Inputs,
+    width: u32,
+    row: Vec<Value>,
+}
+
+impl<C: Controller, M: Machine> Playback<C, M> {
+    /// A net before its first event, with so many inputs of `main`. The fabric, which has no channels yet, is opened with
+    /// the net's; an error of its leaves it as it was.
+    pub fn start<W: Fabric>(
+        alloc: Global,
+        layout: Layout,
+        shape: Shape,
+        timing: Timing,
+        inputs: Inputs,
+        width: u32,
+        machines: Vec<M>,
+        controllers: Vec<C>,
+        fabric: &mut W,
+    ) -> Result<Playback<C, M>, LinkErr>
+        requires placed { (f : Originated) × IsPlaced f layout × RowsFit f.func inputs.rows }
+        requires shape { FitsLayout layout timing.protocol shape }
+        requires nodes { HaveSameNodes shape timing }
+        requires numbered { 2 * (node_count shape + chan_count shape) < 2 ^ 32 }
+        requires width { inputs.width ≡ width }
+        requires wide { HasRowValues width inputs.rows }
+        requires one_place { OnePlace shape timing (length inputs.rows) }
+        requires machines { AreReady M.stands M.made M.left layout (length inputs.rows) machines.items }
+        requires controllers { AreAtStart C.phase shape timing controllers.items }
+        requires configured { AreConfigured C.protocol C.send C.execute timing controllers.items }
+        requires count { (W.state fabric.old).faults < 2 ^ 64 - 1 }
+        requires empty { (W.state fabric.old).kinds ≡ [] }
+        ensures inputs { IfOk result (λ playback. playback.inputs ≡ inputs) }
+        ensures made { IfOk result (λ playback. IsMadeOf layout shape timing (length inputs.rows) machines.items controllers.items playback.net.plant) }
+        ensures ready { IfOk result (λ playback. IsPlaying C.phase M.stands M.made M.left M.size playback.inputs playback.width playback.row.items [] 0 playback.net (W.state fabric.new)) }
+        ensures cause { LinkCounted (W.state fabric.old).faults (W.state fabric.new).faults result }
+        ensures keeps { KeepsFabric (W.state fabric.old) (W.state fabric.new) }
+        ensures sound { IsTrue (W.state fabric.old).sound → (W.state fabric.new).faults ≡ (W.state fabric.old).faults }
+    {
+        let kinds = kinds_of(alloc, &layout, &shape)?;
+        let row = room_for(alloc, width)?;
+        let count = inputs.rows();
+        let net = Net::start(alloc, layout, shape, timing, count, machines, controllers)?;
+        fabric.open(kinds.as_slice())?;
+        Ok(Playback {
+            net,
+            inputs,
+            width,
+            row,
+        })
+    }
+}
+
+impl<C: Controller, M: Machine, W: Fabric> Replica<W> for Playback<C, M> {
+    type Event = Event;
+
+    type Offence = Offence;
+
+    ghost rules = { λ a. rules_of a.net.plant.shape a.net.plant.timing a.net.plant.rows };
+
+    ghost stands = { λ a w steps before. IsPlaying C.phase M.stands M.made M.left M.size a.inputs a.width a.row.items before steps a.net (W.state w) };
+
+    ghost keeps = { λ a v b w. KeepsPlay M.size a.net b.net a.inputs.rows b.inputs.rows (W.state v) (W.state w) };
+
+    ghost faults = { λ w. (W.state w).faults };
+
+    ghost prompt = { λ w. IsTrue (W.state w).prompt };
+
+    fn take_line<L: Ledger>(
+        &mut self,
+        line: &[u8],
+        outside: &mut W,
+        steps: &mut Steps<L>,
+    ) -> Result<(), Stop<Offence>> {
+        match read_event(line, self.net.shape()) {
+            Err(fault) => Err(Stop::Row(fault)),
+            Ok(e) => {
+                let has = read_next(&self.net, &self.inputs, self.width, e, &mut self.row);
+                let row = given(has, &self.row);
+                match self.net.event(e, row, outside, steps) {
+                    Ok(()) => Ok(()),
+                    Err(NetFault::Offence(offence)) => Err(Stop::Offence(offence)),
+                    Err(NetFault::Link) => Err(Stop::Link),
+                    Err(NetFault::Memory) => Err(Stop::Memory),
+                    Err(NetFault::Stopped(_)) => unreachable!(),
+                }
+            }
+        }
+    }
+
+    fn missing(&self) -> Option<Offence> {
+        if self.net.reached().is_some() {
+            None
+        } else {
+            Some(Offence::NoEnd)
+        }
+    }
+
+    ghost long = { λ r line long. long_line r.net.plant.shape line long };
+
+    ghost keeps_same = { λ r w. keeps_itself M.size r.net r.inputs.rows (W.state w) };
+
+    ghost keeps_on = { λ a u b v c w x y. keeps_on M.size a.net b.net c.net a.inputs.rows b.inputs.rows c.inputs.rows (W.state u) (W.state v) (W.state w) x y };
+
+    ghost keeps_rules = { λ a v b w x. λ i. rules_of (x.fixed.shape i) (x.fixed.timing i) (x.fixed.rows i) };
+
+    ghost keeps_prompt = { λ a v b w x prompt. x.fabric_kept.prompt prompt };
+}
