@@ -11,6 +11,7 @@ pub keeps_itself : (w : World) → KeepsWorld w w
 keeps_itself w = record {
   files = record { sound = refl; told = refl; named = refl };
   fabric = record { faithful = refl; sound = refl; told = refl; prompt = λ h. h };
+  steady = λ sound. refl;
 }
 
 keeps_on : (a b c : World) → KeepsWorld a b → KeepsWorld b c → KeepsWorld a c
@@ -26,6 +27,7 @@ keeps_on a b c first second = record {
     told = second.fabric.told ∙ first.fabric.told;
     prompt = λ h. second.fabric.prompt (first.fabric.prompt h);
   };
+  steady = λ sound. second.steady (subst IsTrue (sym first.fabric.sound) sound) ∙ first.steady sound;
 }
 
 pub calm_itself : (w : World) → IsCalm w w
@@ -102,7 +104,7 @@ pub beside : {T E : Type 0} {blame : E → Blame} {V : Verdict T E} (a b : Files
     → Answered blame V (alone a) (alone b) r → Answered blame V (record { files = a; fabric = w }) (record { files = b; fabric = w }) r
 beside {blame} {V} a b w r answered =
     record {
-      keeps = record { files = answered.keeps.files; fabric = (keeps_itself (record { files = a; fabric = w })).fabric };
+      keeps = record { files = answered.keeps.files; fabric = (keeps_itself (record { files = a; fabric = w })).fabric; steady = λ sound. refl };
       cause = cause_beside blame a b w r answered.cause;
       exact = λ t calm. answered.exact t (record { files = calm.files; fabric = refl });
       sound = answered.sound;

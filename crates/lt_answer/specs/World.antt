@@ -1,5 +1,5 @@
 -- The files and the fabric that a call is handed, and how their counts of faults move.
-use Rattle.std.specs.Prelude.{◌≡◌, ◌<◌, true, false, []}
+use Rattle.std.specs.Prelude.{◌≡◌, ◌<◌, true, false, IsTrue, []}
 use Rattle.lt_io.specs.FilesState.{FilesState, KeepsFiles}
 use Rattle.lt_io.specs.FabricState.{FabricState, KeepsFabric}
 
@@ -11,6 +11,8 @@ pub record World : Type 0 where
 pub record KeepsWorld (old new : World) : Type 0 where
   pub files : KeepsFiles old.files new.files
   pub fabric : KeepsFabric old.fabric new.fabric
+  -- the count of a sound fabric
+  pub steady : IsTrue old.fabric.sound → new.fabric.faults ≡ old.fabric.faults
 
 -- neither count rose
 pub record IsCalm (old new : World) : Type 0 where

@@ -59,7 +59,7 @@ module _ {C M : Type 0} (phase : C → Phase) (stands : M → Function → List 
   RefusedBy refused = RefusesFile (rules_of old.plant.shape old.plant.timing old.plant.rows) (files.named name) files'.place refused
 
   keeps_world : KeepsWorld (world files fabric) (world files' fabric')
-  keeps_world = record { files = keeps_files; fabric = keeps.fabric_kept }
+  keeps_world = record { files = keeps_files; fabric = keeps.fabric_kept; steady = keeps.steady }
 
   ended : (steps : ℕ) (takes : Taken steps) → ends_at takes.events
   ended steps takes = at_end phase stands made left size old new inputs later fabric fabric' keeps takes.events steps takes.stands_for takes.stops

@@ -33,7 +33,7 @@ pub at_limit : (what : What) (limit : ℕ) (old new : FilesState) (name : List �
 at_limit what limit old new name result is read = subst (λ (n : ℕ). IsReadBy n old new name result) is read
 
 keeps_alone : (a b : FilesState) → KeepsFiles a b → KeepsWorld (alone a) (alone b)
-keeps_alone a b keeps = record { files = keeps; fabric = (keeps_itself (alone a)).fabric }
+keeps_alone a b keeps = record { files = keeps; fabric = (keeps_itself (alone a)).fabric; steady = λ sound. refl }
 
 -- over sound files the count rises at a missing file alone
 missing_alone : (what : What) (old new : FilesState) (file : Option (List ℕ)) → (IsSome file → new.faults ≡ old.faults) → old.faults < new.faults → RefusesReading command_blame (whole_verdict what file)
