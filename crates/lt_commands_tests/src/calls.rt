@@ -1,11 +1,11 @@
 // A call of `ltta` over objects in memory.
-ghost use Rattle.std.specs.Prelude.{◌≡◌, ◌<◌, ◌-◌, ◌^◌, All, IfOk};
+ghost use Rattle.std.specs.Prelude.{◌≡◌, ◌<◌, ◌-◌, ◌^◌, [], All, IfOk};
 ghost use Rattle.lt_io.specs.MemFiles.{mem_files_state};
 
 use crate::texts::bytes;
 use lt_base::{List, Memory, Name};
 use lt_cli::{Status, ltta};
-use lt_io::{MemFabric, MemFile, MemFiles, MemSink};
+use lt_io::{Fabric, MemFabric, MemFile, MemFiles, MemSink};
 use std::alloc::Global;
 
 /// The contents of the files `p`, `i`, `s` and `c`, as scripts have them.
@@ -25,16 +25,27 @@ pub const COUNTING: Texts = Texts {
     setup: "protocol = 'backpressure'/period = [1, 1000]/delay = [0, 1000]/[nodes]/all = ['x', 'y']/",
 };
 
+/// Two nodes that read each other's last value, on three rows, along a schedule in which both execute an instant, send, and one
+/// of them executes another. Its last line has no line feed.
+pub const ACROSS: Texts = Texts {
+    program: "node main(x: int) returns (u: int; v: int) let u = x + (0 fby v); v = 10 + (0 fby u); tel",
+    inputs: "instant,x/0,1/1,1/2,1/",
+    schedule: "time,event,place/0,act,a/0,act,b/3,ack,a>b/3,ack,b>a/10,act,a/10,act,b/12,data,a>b/12,data,b>a/20,act,a/20,end,",
+    setup: "protocol = 'backpressure'/period = [9, 11]/delay = [1, 4]/[nodes]/a = ['x', 'u']/b = ['v']/",
+};
+
 /// Which calls are to fail; 0 for none.
 #[derive(Clone, Copy, Drop)]
 pub struct Fails {
     pub files: u64,
+    pub fabric: u64,
     pub out: u64,
     pub err: u64,
 }
 
 pub const NONE: Fails = Fails {
     files: 0,
+    fabric: 0,
     out: 0,
     err: 0,
 };
@@ -86,18 +97,36 @@ fn files(alloc: Global, texts: Texts, fails: u64) -> Result<MemFiles, Memory>
     Ok(MemFiles::new(files, listed(alloc, fails)?))
 }
 
-/// Does what the words of this line say over these files.
+/// Does what the words of this line say over these files, and a fabric that keeps what it carries.
 pub fn call(alloc: Global, line: &str, texts: Texts, fails: Fails) -> Result<Ended, Memory>
     requires files { fails.files < 2 ^ 64 - 1 }
+    requires fabric { fails.fabric < 2 ^ 64 - 1 }
     requires out { fails.out < 2 ^ 64 - 1 }
     requires err { fails.err < 2 ^ 64 - 1 }
 {
+    let mut fabric = MemFabric::new(alloc, listed(alloc, fails.fabric)?);
+    call_over(alloc, line, texts, fails, &mut fabric)
+}
+
+/// Does what the words of this line say over these files and this fabric, which is still empty.
+pub fn call_over<W: Fabric>(
+    alloc: Global,
+    line: &str,
+    texts: Texts,
+    fails: Fails,
+    fabric: &mut W,
+) -> Result<Ended, Memory>
+    requires files { fails.files < 2 ^ 64 - 1 }
+    requires out { fails.out < 2 ^ 64 - 1 }
+    requires err { fails.err < 2 ^ 64 - 1 }
+    requires count { (W.state fabric.old).faults < 2 ^ 64 - 1 }
+    requires empty { (W.state fabric.old).kinds ≡ [] }
+{
     let words = words(alloc, line)?;
     let mut files = files(alloc, texts, fails.files)?;
-    let mut fabric = MemFabric::new(alloc, List::new(alloc));
     let mut out = MemSink::new(alloc, listed(alloc, fails.out)?);
     let mut err = MemSink::new(alloc, listed(alloc, fails.err)?);
-    let status = ltta(alloc, &words, &mut files, &mut fabric, &mut out, &mut err);
+    let status = ltta(alloc, &words, &mut files, fabric, &mut out, &mut err);
     Ok(Ended {
         status,
         out: out.into_bytes(),

@@ -51,7 +51,7 @@ s time,event/
 4 inputs 2 Header at row 0/
 > meaning p i
 4 inputs 2 Header at row 0/
-- the form of a setup, its placement and then how many nodes there are, before the inputs
+- the form of a setup, its placement and then its timing, before the inputs
 p node main(x: int) returns (u: int; v: int) let u = x + (0 fby v); v = 10 + (0 fby u); tel
 c protocol =
 > run p q q c
@@ -61,7 +61,7 @@ c protocol = 'backpressure'/period = [9, 11]/delay = [1, 4]/[nodes]/a = ['x']/b 
 3 placement 1 Unplaced: u/
 c protocol = 'timebased'/period = [9, 11]/delay = [1, 4]/send = 2/execute = 3/[nodes]/a = ['x', 'u']/b = ['v']/
 > run p q q c
-3 not built: nodes/
+3 timing 2 Send: 46 is not above 48/
 - the program before all
 p node main(x: int) returns (y: int) let y = z; tel
 > check p q

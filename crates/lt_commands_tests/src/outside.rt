@@ -1,25 +1,45 @@
-// Calls on the files and the sinks that fail.
+// Calls on the files, the fabric and the sinks that fail.
 ghost use Rattle.std.specs.Prelude.{◌<◌, ◌≤◌, ◌-◌, ◌^◌};
 
-use crate::calls::{COUNTING, Ended, Fails, NONE, Texts, call};
+use crate::calls::{ACROSS, COUNTING, Ended, Fails, NONE, Texts, call, call_over};
 use lt_base::Memory;
 use lt_cli::Status;
+use lt_io::TightFabric;
 use std::alloc::Global;
 use std::test::Fail;
 
 // The call on the files of this number fails.
-fn call_failing(alloc: Global, line: &str, files: u64) -> Result<Ended, Memory>
+fn call_failing(alloc: Global, line: &str, texts: Texts, files: u64) -> Result<Ended, Memory>
     requires { files < 2 ^ 64 - 1 }
 {
-    call(alloc, line, COUNTING, Fails { files, ..NONE })
+    call(alloc, line, texts, Fails { files, ..NONE })
+}
+
+// The call on the fabric of this number fails.
+fn run_failing(alloc: Global, fabric: u64) -> Result<Ended, Memory>
+    requires { fabric < 2 ^ 64 - 1 }
+{
+    call(alloc, "run p i s c", ACROSS, Fails { fabric, ..NONE })
+}
+
+// The send of this number finds no memory.
+fn run_tight(alloc: Global, at: u64) -> Result<Ended, Memory>
+    requires { at < 2 ^ 64 - 1 }
+{
+    let mut fabric = TightFabric::new(alloc, at);
+    call_over(alloc, "run p i s c", ACROSS, NONE, &mut fabric)
 }
 
 // Each file is opened once and read twice.
 #[test]
 fn a_failed_call_on_the_files_ends_it(rt: HostRuntime) -> Result<(), Fail> {
-    for (line, calls) in [("meaning p i", 6u64), ("run p i s", 9), ("run p i s c", 12)] {
+    for (line, texts, calls) in [
+        ("meaning p i", COUNTING, 6u64),
+        ("run p i s", COUNTING, 9),
+        ("run p i s c", ACROSS, 12),
+    ] {
         for n in 1u64..=13 {
-            let ended = call_failing(rt.alloc(), line, n)?;
+            let ended = call_failing(rt.alloc(), line, texts, n)?;
             if n <= calls {
                 assert_eq!(rt; ended.status, Status::Outside, "{line}, call {n}");
                 assert_eq!(rt; ended.out.as_slice(), b"".as_slice());
@@ -28,6 +48,36 @@ fn a_failed_call_on_the_files_ends_it(rt: HostRuntime) -> Result<(), Fail> {
                 assert_eq!(rt; ended.status, Status::Ok, "{line}, call {n}");
             }
         }
+    }
+    Ok(())
+}
+
+// The channels are opened, both nodes acknowledge, both acknowledgements are delivered, both nodes send, both messages are
+// delivered, and one node acknowledges again. So the fourth call is the first delivery.
+#[test]
+fn a_failed_call_on_the_fabric_ends_it(rt: HostRuntime) -> Result<(), Fail> {
+    for n in 1u64..=11 {
+        let ended = run_failing(rt.alloc(), n)?;
+        if n <= 10 {
+            assert_eq!(rt; ended.status, Status::Outside, "call {n}");
+            assert_eq!(rt; ended.out.as_slice(), b"".as_slice());
+            assert_eq!(rt; ended.err.as_slice(), b"fault: link\n".as_slice());
+        } else {
+            assert_eq!(rt; ended.status, Status::Ok, "call {n}");
+        }
+    }
+    Ok(())
+}
+
+// Five messages are sent.
+#[test]
+fn a_message_without_memory_ends_it(rt: HostRuntime) -> Result<(), Fail> {
+    for at in 1u64..=6 {
+        let ended = run_tight(rt.alloc(), at)?;
+        let wanted = if at <= 5 { Status::Memory } else { Status::Ok };
+        assert_eq!(rt; ended.status, wanted, "send {at}");
+        assert_eq!(rt; ended.out.is_empty(), at <= 5, "send {at}");
+        assert_eq!(rt; ended.err.as_slice(), b"".as_slice());
     }
     Ok(())
 }
