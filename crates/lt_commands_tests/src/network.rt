@@ -121,8 +121,9 @@ fn what_is_delivered_is_what_is_used(rt: HostRuntime) -> Result<(), Fail> {
 // A schedule is refused wherever it is cut off, up to the last comma.
 #[test]
 fn fronts_of_a_schedule_are_refused(rt: HostRuntime) -> Result<(), Fail> {
+    let schedule = ACROSS.schedule;
     let mut front = String::new(rt.alloc());
-    for letter in ACROSS.schedule.chars() {
+    for letter in schedule.chars() {
         let texts = Texts {
             schedule: front.as_str(),
             ..ACROSS
