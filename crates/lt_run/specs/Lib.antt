@@ -1,3 +1,4 @@
 pub mod Main
-pub mod Columns
+pub mod Meaning
+pub mod Printed
 pub mod Run

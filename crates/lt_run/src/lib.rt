@@ -1,9 +1,15 @@
-//! What a command does with its files, step after step: a program or a setup that is loaded, the meaning of a program on inputs, and a run along a schedule.
+//! What a command does with what it loaded: the meaning of a program on inputs, and a run along a schedule.
 #![tactic(auto)]
 
 mod commands;
 mod evaluating;
+mod outputs;
 mod printed;
+mod replaying;
+mod running;
 
-pub use commands::{meaning, run};
+pub use commands::meaning;
+pub use outputs::Outputs;
 pub use printed::Printed;
+pub use replaying::replay;
+pub use running::run;
