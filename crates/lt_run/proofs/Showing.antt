@@ -37,14 +37,3 @@ module _ (checked : ExaminedText) (table : InputTable) where
 
 pub streams_at : (k l : ExaminedText) → k ≡ l → (table : InputTable) (r : Result Printed (Or CommandFault)) → Settles (streams_verdict k table) r → Settles (streams_verdict l table) r
 streams_at k l is table r shown = subst (λ (t : ExaminedText). Settles (streams_verdict t table) r) is shown
-
-pub inputs_at : (p q : WholeProgram) → p ≡ q → (file : Option (List ℕ)) (a b : World) (r : Result InputTable (Or CommandFault)) → Answered command_blame (inputs_verdict p file) a b r → Answered command_blame (inputs_verdict q file) a b r
-inputs_at p q is file a b r answered = subst (λ (t : WholeProgram). Answered command_blame (inputs_verdict t file) a b r) is answered
-
-pub fit_at : (p q : WholeProgram) → p ≡ q → (table : InputTable) → InputsFitMain p table → InputsFitMain q table
-fit_at p q is table fit = subst (λ (t : WholeProgram). InputsFitMain t table) is fit
-
--- for an equal number of rows
-pub schedule_at : (setting : Setting) (file : Option (List ℕ)) (m n : ℕ) → m ≡ n → (a b : World) (r : Result ℕ (Or CommandFault)) → Answered command_blame (schedule_verdict setting m file) a b r
-    → Answered command_blame (schedule_verdict setting n file) a b r
-schedule_at setting file m n is a b r answered = subst (λ (k : ℕ). Answered command_blame (schedule_verdict setting k file) a b r) is answered

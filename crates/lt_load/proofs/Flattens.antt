@@ -1,8 +1,8 @@
--- What a machine of a program's flat form shows is what the program's main function means.
+-- The inputs of a program's flat form, its streams, and how large its step code can get.
 use Rattle.std.proofs.Common.{◌≡◌, ◌∙◌, ℕ, zero, suc, ◌<◌, ◌≤◌, List, [], ◌∷◌, ◌++◌, length, map, take, drop, get_or, refl, sym, ap, subst, arith}
 use Rattle.std.specs.Prelude.{Some, ◌^◌, ◌*◌}
 use Rattle.std.specs.List.{All, sum_by}
-use Rattle.std.proofs.lemmas.List.{length-map, length-take-le, take-append-drop}
+use Rattle.std.proofs.lemmas.List.{length-map, length-take-le, take-append-le}
 use Rattle.std.proofs.lemmas.List.Elements.{All-head, All-tail}
 use Rattle.std.proofs.lemmas.List.Sums.{sum_by-cons}
 use Rattle.lt_base.specs.declared.value.Ty.{Ty}
@@ -15,16 +15,14 @@ use Rattle.lt_base.specs.Program.{Function, WholeProgram, GoodFunction, GoodProg
 use Rattle.lt_base.specs.Inputs.{InputTable}
 use Rattle.lt_base.specs.Meaning.{function_of, stream_of}
 use Rattle.lt_base.specs.Typing.{RowFits, AllFit, input_types}
-use Rattle.lt_base.proofs.Behaviour.{streams_grow}
+use Rattle.lt_base.specs.Behaviour.{RowsFit}
 use Rattle.lt_norm.specs.Flat.{Originated}
 use Rattle.lt_step.specs.Run.{HasRowValues}
-use Rattle.lt_step.specs.Size.{extent}
+use Rattle.lt_place.specs.Sizes.{HasCodeRoom}
 use Rattle.lt_front.specs.Flattened.{main_function, function_or_none, KeepsMain}
 use Rattle.lt_meaning.specs.Streams.{InputsFit, InputsFitMain}
-use Rattle.lt_run.specs.Main.{main_in, output_streams}
-use Rattle.lt_run.specs.Run.{first_cells}
-use Rattle.lt_run.specs.Columns.{AreStreams}
-use Rattle.lt_run.proofs.Mains.{of_main}
+use Rattle.lt_load.specs.Main.{main_in}
+use Rattle.lt_load.proofs.Mains.{of_main}
 
 -- the function that is run
 
@@ -63,6 +61,13 @@ module _ (p : WholeProgram) (good : GoodProgram p) (flat : Originated) (keeps : 
   inputs_same : flat.func.n_in ≡ (main_in p).n_in
   inputs_same = keeps.inputs ∙ ap (λ (f : Function). f.n_in) (main_is p good.main)
 
+  types_same : input_types flat.func ≡ input_types (main_in p)
+  types_same =
+      let within : (main_in p).n_in ≤ length (main_in p).decls = (main_good p good).inputs in
+      let decls : flat.func.decls ≡ (main_in p).decls ++ keeps.more = keeps.declarations ∙ ap (λ (f : Function). f.decls ++ keeps.more) (main_is p good.main) in
+      ap (map (λ (d : Decl). d.ty))
+      (ap (λ n. take n flat.func.decls) inputs_same ∙ ap (take (main_in p).n_in) decls ∙ take-append-le (main_in p).n_in (main_in p).decls keeps.more within)
+
   module _ (table : InputTable) (fit : InputsFitMain p table) where
     fits_main : InputsFit (main_in p) table
     fits_main = of_main (λ f. InputsFit f table) p fit
@@ -73,34 +78,19 @@ module _ (p : WholeProgram) (good : GoodProgram p) (flat : Originated) (keeps : 
     pub wide_rows : HasRowValues flat.func.n_in table.rows
     wide_rows = subst (λ n. HasRowValues n table.rows) (inputs_number (main_in p) (main_good p good) ∙ sym inputs_same) (rows_wide (input_types (main_in p)) table.rows fits_main.rows)
 
-  -- the first cells of a stream are its cells on the first rows
-  first_of : (n : ℕ) (rows : List (List Value)) → n ≤ length rows → (x : ℕ) → stream_of p.funcs (main_in p) (take n rows) x ≡ take n (stream_of p.funcs (main_in p) rows x)
-  first_of n rows within x =
-      let front = (streams_grow p.funcs (main_in p) x).front (take n rows) (drop n rows) in
-      sym front ∙ ap (λ m. take m (stream_of p.funcs (main_in p) (take n rows ++ drop n rows) x)) (length-take-le n rows within)
-      ∙ ap (λ (all : List (List Value)). take n (stream_of p.funcs (main_in p) all x)) (take-append-drop n rows)
+    -- the rows fit it
+    pub rows_fit : RowsFit flat.func table.rows
+    rows_fit = subst (λ ts. AllFit ts (map (map Some) table.rows)) (sym types_same) fits_main.rows
 
-  flat_first : (n : ℕ) (rows : List (List Value)) → n ≤ length rows → (x : ℕ) → x < length (main_in p).decls → stream_of [] flat.func (take n rows) x ≡ take n (stream_of p.funcs (main_in p) rows x)
-  flat_first n rows within x low =
+  -- a variable of main has the same stream in it
+  pub flat_stream : (rows : List (List Value)) (x : ℕ) → x < length (main_in p).decls → stream_of [] flat.func rows x ≡ stream_of p.funcs (main_in p) rows x
+  flat_stream rows x low =
       let is = main_is p good.main in
-      keeps.streams (take n rows) x (subst (λ (f : Function). x < length f.decls) (sym is) low)
-      ∙ ap (λ (f : Function). stream_of p.funcs f (take n rows) x) is
-      ∙ first_of n rows within x
+      keeps.streams rows x (subst (λ (f : Function). x < length f.decls) (sym is) low) ∙ ap (λ (f : Function). stream_of p.funcs f rows x) is
 
-  all_first : (n : ℕ) (rows : List (List Value)) → n ≤ length rows → (ys : List ℕ) → All (λ y. y < length (main_in p).decls) ys
-      → map (stream_of [] flat.func (take n rows)) ys ≡ map (take n) (map (stream_of p.funcs (main_in p) rows) ys)
-  all_first n rows within [] low = refl
-  all_first n rows within (y ∷ ys) low =
-      let first = flat_first n rows within y (All-head (λ (x : ℕ). x < length (main_in p).decls) y ys low) in
-      let rest = all_first n rows within ys (All-tail (λ (x : ℕ). x < length (main_in p).decls) y ys low) in
-      λ i. first i ∷ rest i
-
-  -- the flat form's streams on the first rows are the first cells of what the outputs show
-  pub shows_first : (n : ℕ) (rows : List (List Value)) → n ≤ length rows → (cells : List (List Cell)) → AreStreams flat.func (take n rows) cells → cells ≡ first_cells n (output_streams p rows)
-  shows_first n rows within cells are =
-      are
-      ∙ ap (map (stream_of [] flat.func (take n rows))) (keeps.outputs ∙ ap (λ (f : Function). f.outs) (main_is p good.main))
-      ∙ all_first n rows within (main_in p).outs (main_good p good).outs
+  -- it has main's outputs
+  pub outputs_same : flat.func.outs ≡ (main_in p).outs
+  outputs_same = keeps.outputs ∙ ap (λ (f : Function). f.outs) (main_is p good.main)
 
 -- how large the step code can get
 
@@ -127,14 +117,19 @@ equations_fewer (q ∷ eqs) =
     omega (arith, all, here, rest)
 
 module _ (p : WholeProgram) (flat : Originated) (keeps : KeepsMain p flat) where
-  pub few_variables : length flat.func.decls < 2 ^ 32
+  few_variables : length flat.func.decls < 2 ^ 32
   few_variables = let few = keeps.few in omega (arith, few)
 
-  pub few_equations : length flat.func.eqs < 2 ^ 32
+  few_equations : length flat.func.eqs < 2 ^ 32
   few_equations = let fewer = equations_fewer flat.func.eqs in let parts = keeps.parts in omega (arith, fewer, parts)
 
-  pub few_slots : weight_with (λ _. 0) flat.func < 2 ^ 32
+  few_slots : weight_with (λ _. 0) flat.func < 2 ^ 32
   few_slots = let slots = keeps.slots in omega (arith, slots)
 
-  pub small_step : 8 * extent flat.func < 2 ^ 64
-  small_step = let few = keeps.few in let parts = keeps.parts in let pairs = keeps.pairs in omega (arith, few, parts, pairs)
+  -- so step code has room for it
+  pub code_room : HasCodeRoom flat.func
+  code_room =
+      let few = keeps.few in
+      let parts = keeps.parts in
+      let pairs = keeps.pairs in
+      record { variables = few_variables; equations = few_equations; slots = few_slots; size = omega (arith, few, parts, pairs) }
