@@ -3,6 +3,7 @@ pub mod Wholes
 pub mod Mains
 pub mod Flats
 pub mod Flattens
+pub mod Kept
 pub mod Raising
 pub mod OneLoad
 pub mod OneCheck
