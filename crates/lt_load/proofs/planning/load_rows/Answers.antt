@@ -16,12 +16,12 @@ returns-in_err-table g c =
     refused_step command_blame (inputs_verdict k.program ((g.F.Files.state c.args.files.now).named c.args.inputs.now)) (λ names table. Exactly (Ok (loaded_of k c.args.site table))) _ _ _ _ c.from_residual.ensures.1
     (inputs_at _ _ (ap (λ (t : CheckedText). t.program) c.checked.view_is) _ _ _ _ c.in_err-table.ensures.answered)
 
-pub loaded-requires-clause-fit : goal.loaded-requires-clause-fit
-loaded-requires-clause-fit g c = fit_at _ _ (ap (λ (t : CheckedText). t.program) c.checked.view_is) c.in_ok-table.table c.in_ok-table.ensures.fit
+pub with_inputs-requires-clause-fit : goal.with_inputs-requires-clause-fit
+with_inputs-requires-clause-fit g c = fit_at _ _ (ap (λ (t : CheckedText). t.program) c.checked.view_is) c.in_ok-table.table c.in_ok-table.ensures.fit
 
 pub returns : goal.returns
 unfolding sited_verdict
 returns g c =
     let k = c.args.checked in
-    last_step command_blame (inputs_verdict k.program ((g.F.Files.state c.args.files.now).named c.args.inputs.now)) (λ names table. Exactly (Ok (loaded_of k c.args.site table))) _ _ c.in_ok-table.table (Ok c.loaded.result)
-    (inputs_at _ _ (ap (λ (t : CheckedText). t.program) c.checked.view_is) _ _ _ _ c.in_ok-table.ensures.answered) (λ e wrong. cc) (ap (λ (t : LoadedPlan). Ok t) (sym c.loaded.ensures))
+    last_step command_blame (inputs_verdict k.program ((g.F.Files.state c.args.files.now).named c.args.inputs.now)) (λ names table. Exactly (Ok (loaded_of k c.args.site table))) _ _ c.in_ok-table.table (Ok c.with_inputs.result)
+    (inputs_at _ _ (ap (λ (t : CheckedText). t.program) c.checked.view_is) _ _ _ _ c.in_ok-table.ensures.answered) (λ e wrong. cc) (ap (λ (t : LoadedPlan). Ok t) (sym c.with_inputs.ensures))

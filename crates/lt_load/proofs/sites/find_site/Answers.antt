@@ -2,7 +2,7 @@ use Rattle.lt_front.specs.Checked.{examined_part}
 use Rattle.lt_load.specs.Sites.{site_verdict}
 use Rattle.lt_load.proofs.Sited.{not_placed, not_timed, names_are, found, sited}
 use Rattle.lt_load.proofs.Steps.{memory_settled}
-use Rattle.lt_load.proofs.sites.site.Goals as goal
+use Rattle.lt_load.proofs.sites.find_site.Goals as goal
 
 pub returns-in_err-layout-clause-answered : goal.returns-in_err-layout-clause-answered
 returns-in_err-layout-clause-answered c = not_placed (examined_part c.args.checked.now) c.args.setup _ _ c.from_residual.ensures.1 c.in_err-layout.ensures.answered
