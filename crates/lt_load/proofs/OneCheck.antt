@@ -87,7 +87,7 @@ module _ {K : Type 0} (kind : CommandFault → K) (timings : MergesTimings kind)
       ap kind a.3 ∙ timings a.0 b.0 a.1 b.1 a.2 b.2 ∙ sym (ap kind b.3))
 
 module _ {K : Type 0} (kind : CommandFault → K) (along : TellsLimits kind) (places : MergesPlaces kind) (timings : MergesTimings kind) where
-  fitting_decided : (checked : ExaminedText) (setup : Config) → HasOneOutcome kind (fitting_verdict checked setup)
+  pub fitting_decided : (checked : ExaminedText) (setup : Config) → HasOneOutcome kind (fitting_verdict checked setup)
   unfolding fitting_verdict
   fitting_decided checked setup = and_then_one kind (placed_verdict checked setup) (λ legal. accepted_verdict legal) (placed_decided kind places checked setup) (λ legal. accepted_decided kind timings legal)
 

@@ -9,7 +9,7 @@ ghost use Rattle.lt_load.specs.Plan.{Loads, chosen_setup_verdict, fitting_plan_v
 ghost use Rattle.lt_load.specs.Sites.{IsSited, loaded_of, sited_verdict};
 
 use crate::loading::load_flat;
-use crate::sites::{Site, site};
+use crate::sites::{Site, find_site};
 use crate::{CommandFault, Loaded, load_config, load_inputs};
 use lt_base::{Inputs, Or};
 use lt_config::Config;
@@ -79,7 +79,7 @@ fn load_fitting<F: Files>(
     ensures { Answered command_blame (Loads (fitting_plan_verdict (F.state files.old).named inputs.now (examined_part checked) setup))
         (alone (F.state files.old)) (alone (F.state files.new)) result }
 {
-    let site = site(alloc, &checked, setup)?;
+    let site = find_site(alloc, &checked, setup)?;
     load_rows(alloc, files, checked, site, inputs)
 }
 
@@ -97,11 +97,11 @@ fn load_rows<F: Files>(
         (alone (F.state files.old)) (alone (F.state files.new)) result }
 {
     let table = load_inputs(alloc, files, inputs, &checked.program)?;
-    Ok(loaded(checked, site, table))
+    Ok(with_inputs(checked, site, table))
 }
 
 // A program at its site with its inputs.
-fn loaded(checked: Checked, site: Site, inputs: Inputs) -> Loaded
+fn with_inputs(checked: Checked, site: Site, inputs: Inputs) -> Loaded
     requires sited { IsSited checked.flat site }
     requires fit { InputsFitMain checked.program inputs }
     ensures { result ≡ loaded_of checked site inputs }

@@ -27,7 +27,7 @@ pub(crate) struct Site {
 }
 
 /// The site of a program by a setup: the placement is legal and the timing is accepted, in this order.
-pub(crate) fn site(
+pub(crate) fn find_site(
     alloc: Global,
     checked: &Checked,
     setup: Config,
