@@ -23,9 +23,9 @@ use Rattle.lt_load.specs.declared.fault.CommandFault.{CommandFault}
 use Rattle.lt_load.specs.declared.fault.CommandFault.TheVariants as fault
 use Rattle.lt_load.specs.Loaded.{program_verdict, inputs_verdict}
 use Rattle.lt_load.specs.Plan.{Plan, load_verdict}
-use Rattle.lt_load.proofs.OneLoad.{TellsLimits, program_decided, inputs_decided}
+use Rattle.lt_load.proofs.OneLoad.{TellsLimits, program_decided}
 use Rattle.lt_load.proofs.OneCheck.{MergesPlaces, MergesTimings}
-use Rattle.lt_load.proofs.OnePlan.{load_decided}
+use Rattle.lt_load.proofs.OnePlan.{inputs_decided, load_decided}
 use Rattle.lt_load.proofs.OneShape.{one_shape}
 use Rattle.lt_run.specs.declared.outputs.Outputs.{Outputs}
 use Rattle.lt_run.specs.Main.{cells_verdict, output_streams}
