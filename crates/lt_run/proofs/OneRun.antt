@@ -1,33 +1,36 @@
 -- A command leaves one refusal, up to its kind.
-use Rattle.std.proofs.Common.{◌≡◌, ◌≤◌, ℕ, List, Option, length, sym, ap, ◌∙◌}
+use Rattle.std.proofs.Common.{◌≡◌, ◌≤◌, ◌∙◌, ℕ, List, Option, Some, None, Result, Ok, Err, length, sym, ap, subst}
 use Rattle.lt_base.specs.declared.value.Value.{Value}
 use Rattle.lt_base.specs.declared.value.Cell.{Cell}
 use Rattle.lt_base.specs.Program.{WholeProgram}
 use Rattle.lt_base.specs.Inputs.{InputTable}
+use Rattle.lt_arch.specs.declared.event.Event.{Event}
+use Rattle.lt_arch.specs.declared.shape.Shape.{Shape}
+use Rattle.lt_arch.specs.declared.timing.Timing.{Timing}
+use Rattle.lt_io.specs.FabricState.{FabricState}
+use Rattle.lt_place.specs.declared.layout.Layout.{Layout}
 use Rattle.lt_front.specs.Examined.{ExaminedText}
-use Rattle.lt_inputs.specs.Inputs.{inputs_of}
+use Rattle.lt_front.specs.Flattened.{flat_of}
 use Rattle.lt_meaning.specs.Streams.{cell_count, most_cells}
-use Rattle.lt_verdict.specs.Rules.{Exactly}
-use Rattle.lt_verdict.proofs.Decided.{HasOneKind, HasOneOutcome, of_rule, exactly, and_then, and_then_one, raised_one}
-use Rattle.lt_run.specs.declared.fault.What.TheVariants.{InputsBytes}
-use Rattle.lt_run.specs.declared.fault.CommandFault.{CommandFault}
-use Rattle.lt_run.specs.declared.fault.CommandFault.TheVariants as fault
-use Rattle.lt_run.specs.declared.setting.Setting.{Setting}
-use Rattle.lt_run.specs.Main.{main_in, cells_verdict, output_streams}
-use Rattle.lt_run.specs.Loaded.{whole_verdict, program_verdict, inputs_verdict}
-use Rattle.lt_run.specs.Scheduled.{schedule_verdict}
-use Rattle.lt_run.specs.Setting.{setting_verdict}
-use Rattle.lt_run.specs.Run.{printed_verdict, streams_verdict, inputs_streams_verdict, meaning_verdict, along_verdict, placed_run_verdict, program_run_verdict, run_verdict}
-use Rattle.lt_run.proofs.Judging.{schedule_decided}
-use Rattle.lt_run.proofs.OneLoad.{TellsLimits, whole_decided, program_decided}
-use Rattle.lt_run.proofs.OneCheck.{MergesPlaces, MergesTimings}
-use Rattle.lt_run.proofs.OneSetting.{setting_decided}
-
-inputs_decided : {K : Type 0} (kind : CommandFault → K) (p : WholeProgram) (file : Option (List ℕ)) → HasOneOutcome kind (inputs_verdict p file)
-unfolding inputs_verdict
-inputs_decided kind p file =
-    and_then_one kind (whole_verdict InputsBytes file) _ (whole_decided kind InputsBytes file)
-    (λ bytes. raised_one (λ e. fault.Inputs e) kind (Exactly (inputs_of (main_in p) bytes)) (exactly (λ e. kind (fault.Inputs e)) (inputs_of (main_in p) bytes)))
+use Rattle.lt_judge.specs.declared.fault.ScheduleFault.{ScheduleFault}
+use Rattle.lt_judge.specs.declared.fault.ScheduleFault.TheVariants.{Read}
+use Rattle.lt_judge.specs.Verdict.{verdict}
+use Rattle.lt_verdict.proofs.Decided.{HasOneKind, HasOneOutcome, of_rule, and_then}
+use Rattle.lt_play.specs.declared.fault.PlayFault.{PlayFault}
+use Rattle.lt_play.specs.declared.fault.PlayFault.TheVariants.{Schedule}
+use Rattle.lt_replay.specs.Replays.{EndsWith, replay_verdict}
+use Rattle.lt_load.specs.declared.fault.CommandFault.{CommandFault}
+use Rattle.lt_load.specs.declared.fault.CommandFault.TheVariants as fault
+use Rattle.lt_load.specs.Loaded.{program_verdict, inputs_verdict}
+use Rattle.lt_load.specs.Plan.{Plan, load_verdict}
+use Rattle.lt_load.proofs.OneLoad.{TellsLimits, program_decided}
+use Rattle.lt_load.proofs.OneCheck.{MergesPlaces, MergesTimings}
+use Rattle.lt_load.proofs.OnePlan.{inputs_decided, load_decided}
+use Rattle.lt_load.proofs.OneShape.{one_shape}
+use Rattle.lt_run.specs.declared.outputs.Outputs.{Outputs}
+use Rattle.lt_run.specs.Main.{cells_verdict, output_streams}
+use Rattle.lt_run.specs.Meaning.{printed_verdict, streams_verdict, inputs_streams_verdict, meaning_verdict}
+use Rattle.lt_run.specs.Run.{IsLaidOutBy, along_verdict, command_fault, placed_run_verdict, run_verdict}
 
 cells_decided : {K : Type 0} (kind : CommandFault → K) (p : WholeProgram) (rows : List (List Value)) → HasOneOutcome kind (cells_verdict p rows)
 cells_decided kind p rows =
@@ -52,27 +55,57 @@ unfolding meaning_verdict
 meaning_decided kind along named program inputs =
     and_then kind (program_verdict (named program)) (λ checked. inputs_streams_verdict named inputs checked) (program_decided kind along (named program)) (λ checked. inputs_streams_decided kind named inputs checked)
 
-along_decided : {K : Type 0} (kind : CommandFault → K) (named : List ℕ → Option (List ℕ)) (schedule : List ℕ) (checked : ExaminedText) (setting : Setting) (table : InputTable) → HasOneKind kind (along_verdict named schedule checked setting table)
-unfolding along_verdict
-along_decided kind named schedule checked setting table =
-    and_then kind (schedule_verdict setting (length table.rows) (named schedule)) _ (schedule_decided kind setting (length table.rows) (named schedule)) (λ executed. no_fault kind checked.program _)
+-- a schedule file along which something is replayed
 
-placed_run_decided : {K : Type 0} (kind : CommandFault → K) (named : List ℕ → Option (List ℕ)) (inputs schedule : List ℕ) (checked : ExaminedText) (setting : Setting) → HasOneKind kind (placed_run_verdict named inputs schedule checked setting)
-unfolding placed_run_verdict
-placed_run_decided kind named inputs schedule checked setting =
-    and_then kind (inputs_verdict checked.program (named inputs)) (λ table. along_verdict named schedule checked setting table) (inputs_decided kind checked.program (named inputs)) (λ table.
-    along_decided kind named schedule checked setting table)
+module _ {T U : Type 0} (end : List Event → T → Type 0) (end' : List Event → U → Type 0) (s : Shape) (t : Timing) (rows : ℕ) where
+  one_end : (v : Result (List Event) ScheduleFault) (d e : PlayFault) → EndsWith end v (Err d) → EndsWith end' v (Err e) → d ≡ e
+  one_end (Ok events) d e p q = absurd p
+  one_end (Err f) d e p q = let here : d ≡ Schedule f = cc p in let there : e ≡ Schedule f = cc q in here ∙ sym there
 
-program_run_decided : {K : Type 0} (kind : CommandFault → K) → MergesPlaces kind → MergesTimings kind → (named : List ℕ → Option (List ℕ)) (inputs schedule : List ℕ) (config : Option (List ℕ)) (checked : ExaminedText)
-    → HasOneKind kind (program_run_verdict named inputs schedule config checked)
-unfolding program_run_verdict
-program_run_decided kind places timings named inputs schedule config checked =
-    and_then kind (setting_verdict named checked config) (λ setting. placed_run_verdict named inputs schedule checked setting) (setting_decided kind places timings named checked config) (λ setting.
-    placed_run_decided kind named inputs schedule checked setting)
+  no_end : (v : Result (List Event) ScheduleFault) (d : PlayFault) (x : U) → EndsWith end v (Err d) → EndsWith end' v (Ok x) → ⊥
+  no_end (Ok events) d x p q = p
+  no_end (Err f) d x p q = cc
 
-pub run_decided : {K : Type 0} (kind : CommandFault → K) → TellsLimits kind → MergesPlaces kind → MergesTimings kind → (named : List ℕ → Option (List ℕ)) (program inputs schedule : List ℕ) (config : Option (List ℕ))
-    → HasOneKind kind (run_verdict named program inputs schedule config)
+  -- one refusal is right
+  one_refusal : (file : Option (List ℕ)) (d e : PlayFault) → replay_verdict end s t rows file (Err d) → replay_verdict end' s t rows file (Err e) → d ≡ e
+  unfolding replay_verdict
+  one_refusal None d e p q = let here : d ≡ Schedule Read = cc p in let there : e ≡ Schedule Read = cc q in here ∙ sym there
+  one_refusal (Some bytes) d e p q = one_end (verdict s t rows bytes) d e p q
+
+  -- and then no value is
+  no_value : (file : Option (List ℕ)) (d : PlayFault) (x : U) → replay_verdict end s t rows file (Err d) → replay_verdict end' s t rows file (Ok x) → ⊥
+  unfolding replay_verdict
+  no_value None d x p q = cc
+  no_value (Some bytes) d x p q = no_end (verdict s t rows bytes) d x p q
+
+-- layouts of one program under one placement have one shape
+module _ (plan : Plan) (l m : Layout) (s z : Shape) (laid : IsLaidOutBy plan l s) (other : IsLaidOutBy plan m z) where
+  same_shape : z ≡ s
+  same_shape = one_shape (flat_of plan.checked.program) plan.setup.placement m l other.layout laid.layout plan.setup.timing.protocol z s other.shape laid.shape
+
+module _ {K : Type 0} (kind : CommandFault → K) (fabric : FabricState) (file : Option (List ℕ)) (plan : Plan) where
+  abbrev runs : Layout → Shape → Result Outputs CommandFault → Type 0
+  runs l s = placed_run_verdict plan.checked.program l s plan.setup.timing plan.inputs.rows fabric file
+
+  one_fault : (l m : Layout) (s : Shape) (e f : CommandFault) → runs l s (Err e) → runs m s (Err f) → e ≡ f
+  one_fault l m s e f p q = p.2 ∙ ap (command_fault s) (one_refusal _ _ s plan.setup.timing (length plan.inputs.rows) file p.0 q.0 p.1 q.1) ∙ sym q.2
+
+  along_kind : (e f : CommandFault) → along_verdict fabric file plan (Err e) → along_verdict fabric file plan (Err f) → kind e ≡ kind f
+  unfolding along_verdict
+  along_kind e f p q =
+      ap kind (one_fault p.0 q.0 p.1 e f p.3 (subst (λ (z : Shape). runs q.0 z (Err f)) (same_shape plan p.0 q.0 p.1 q.1 p.2 q.2) q.3))
+
+  along_both : (e : CommandFault) (x : Outputs) → along_verdict fabric file plan (Err e) → along_verdict fabric file plan (Ok x) → ⊥
+  unfolding along_verdict
+  along_both e x p q =
+      no_value _ _ p.1 plan.setup.timing (length plan.inputs.rows) file p.3.0 x p.3.1 (subst (λ (z : Shape). runs q.0 z (Ok x)) (same_shape plan p.0 q.0 p.1 q.1 p.2 q.2) q.3)
+
+  along_decided : HasOneKind kind (along_verdict fabric file plan)
+  along_decided = record { one_kind = along_kind; not_both = along_both }
+
+pub run_decided : {K : Type 0} (kind : CommandFault → K) → TellsLimits kind → MergesPlaces kind → MergesTimings kind → (named : List ℕ → Option (List ℕ)) (program inputs schedule : List ℕ) (config : Option (List ℕ)) (fabric : FabricState)
+    → HasOneKind kind (run_verdict named program inputs schedule config fabric)
 unfolding run_verdict
-run_decided kind along places timings named program inputs schedule config =
-    and_then kind (program_verdict (named program)) (λ checked. program_run_verdict named inputs schedule config checked) (program_decided kind along (named program)) (λ checked.
-    program_run_decided kind places timings named inputs schedule config checked)
+run_decided kind along places timings named program inputs schedule config fabric =
+    and_then kind (load_verdict named program inputs config) (λ plan. along_verdict fabric (named schedule) plan) (load_decided kind along places timings named program inputs config) (λ plan.
+    along_decided kind fabric (named schedule) plan)

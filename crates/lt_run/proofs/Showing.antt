@@ -1,50 +1,31 @@
 -- The streams of a program on rows of inputs, and those of equal programs.
-use Rattle.std.proofs.Common.{◌≡◌, ◌≤◌, ℕ, List, Option, Result, Ok, Err, subst}
+use Rattle.std.proofs.Common.{◌≡◌, ◌≤◌, Result, subst}
 use Rattle.std.specs.Prelude.{IsErrAnd}
 use Rattle.lt_base.specs.declared.memory.Or.{Or}
 use Rattle.lt_base.specs.Inputs.{InputTable}
-use Rattle.lt_base.specs.Program.{WholeProgram}
-use Rattle.lt_answer.specs.World.{World}
-use Rattle.lt_answer.specs.Answered.{Answered, Refuses, Settles}
-use Rattle.lt_front.specs.Checked.{CheckedText}
+use Rattle.lt_answer.specs.Answered.{Refuses, Settles}
 use Rattle.lt_front.specs.Examined.{ExaminedText}
-use Rattle.lt_meaning.specs.Streams.{InputsFitMain, cell_count, most_cells}
-use Rattle.lt_run.specs.declared.fault.CommandFault.{CommandFault}
-use Rattle.lt_run.specs.declared.printed.Printed.{Printed}
-use Rattle.lt_run.specs.declared.setting.Setting.{Setting}
-use Rattle.lt_run.specs.Blamed.{command_blame}
-use Rattle.lt_run.specs.Loaded.{inputs_verdict}
+use Rattle.lt_meaning.specs.Streams.{cell_count, most_cells}
+use Rattle.lt_load.specs.declared.fault.CommandFault.{CommandFault}
+use Rattle.lt_load.proofs.Steps.{stop_settled, then_settled}
+use Rattle.lt_run.specs.declared.outputs.Outputs.{Outputs}
 use Rattle.lt_run.specs.Main.{cells_verdict, output_streams}
-use Rattle.lt_run.specs.Run.{printed_verdict, streams_verdict}
-use Rattle.lt_run.specs.Scheduled.{schedule_verdict}
-use Rattle.lt_run.proofs.Steps.{stop_settled, then_settled}
+use Rattle.lt_run.specs.Meaning.{printed_verdict, streams_verdict}
 
 module _ (checked : ExaminedText) (table : InputTable) where
   -- too many cells count
-  pub cells_stop : (e : Or CommandFault) (r : Result Printed (Or CommandFault)) → IsErrAnd r (λ f. f ≡ e) → Refuses (cells_verdict checked.program table.rows) e → Settles (streams_verdict checked table) r
+  pub cells_stop : (e : Or CommandFault) (r : Result Outputs (Or CommandFault)) → IsErrAnd r (λ f. f ≡ e) → Refuses (cells_verdict checked.program table.rows) e → Settles (streams_verdict checked table) r
   unfolding streams_verdict
   cells_stop e r is refused =
       stop_settled (cells_verdict checked.program table.rows) (λ few. printed_verdict checked.program (output_streams checked.program table.rows)) e r is refused
 
   -- they do not
-  pub cells_shown : cell_count checked.program table.rows ≤ most_cells → (r : Result Printed (Or CommandFault)) → Settles (printed_verdict checked.program (output_streams checked.program table.rows)) r
+  pub cells_shown : cell_count checked.program table.rows ≤ most_cells → (r : Result Outputs (Or CommandFault)) → Settles (printed_verdict checked.program (output_streams checked.program table.rows)) r
       → Settles (streams_verdict checked table) r
   unfolding streams_verdict
   cells_shown few r shown =
       then_settled (cells_verdict checked.program table.rows) (λ few. printed_verdict checked.program (output_streams checked.program table.rows)) tt r few shown
 
 -- an equal program's
-
-pub streams_at : (k l : ExaminedText) → k ≡ l → (table : InputTable) (r : Result Printed (Or CommandFault)) → Settles (streams_verdict k table) r → Settles (streams_verdict l table) r
+pub streams_at : (k l : ExaminedText) → k ≡ l → (table : InputTable) (r : Result Outputs (Or CommandFault)) → Settles (streams_verdict k table) r → Settles (streams_verdict l table) r
 streams_at k l is table r shown = subst (λ (t : ExaminedText). Settles (streams_verdict t table) r) is shown
-
-pub inputs_at : (p q : WholeProgram) → p ≡ q → (file : Option (List ℕ)) (a b : World) (r : Result InputTable (Or CommandFault)) → Answered command_blame (inputs_verdict p file) a b r → Answered command_blame (inputs_verdict q file) a b r
-inputs_at p q is file a b r answered = subst (λ (t : WholeProgram). Answered command_blame (inputs_verdict t file) a b r) is answered
-
-pub fit_at : (p q : WholeProgram) → p ≡ q → (table : InputTable) → InputsFitMain p table → InputsFitMain q table
-fit_at p q is table fit = subst (λ (t : WholeProgram). InputsFitMain t table) is fit
-
--- for an equal number of rows
-pub schedule_at : (setting : Setting) (file : Option (List ℕ)) (m n : ℕ) → m ≡ n → (a b : World) (r : Result ℕ (Or CommandFault)) → Answered command_blame (schedule_verdict setting m file) a b r
-    → Answered command_blame (schedule_verdict setting n file) a b r
-schedule_at setting file m n is a b r answered = subst (λ (k : ℕ). Answered command_blame (schedule_verdict setting k file) a b r) is answered

@@ -1,10 +1,4 @@
-pub mod Blamed
 pub mod Main
-pub mod Loaded
-pub mod OneNode
-pub mod Plain
-pub mod Scheduled
-pub mod Setups
-pub mod Setting
-pub mod Columns
+pub mod Meaning
+pub mod Printed
 pub mod Run

@@ -1,4 +1,4 @@
--- The function of a program that is run, its outputs, and how many cells count.
+-- The outputs of a program, and how many cells count.
 use Rattle.std.specs.Prelude.{◌≡◌, ◌≤◌, ℕ, List, [], map, slice_index_or}
 use Rattle.lt_base.specs.declared.value.Value.{Value}
 use Rattle.lt_base.specs.declared.value.Cell.{Cell}
@@ -7,16 +7,9 @@ use Rattle.lt_base.specs.Meaning.{stream_of}
 use Rattle.lt_answer.specs.Answered.{Verdict}
 use Rattle.lt_verdict.specs.Rules.{OfRule}
 use Rattle.lt_meaning.specs.Streams.{cell_count, most_cells}
-use Rattle.lt_run.specs.declared.fault.CommandFault.{CommandFault}
-use Rattle.lt_run.specs.declared.fault.CommandFault.TheVariants as fault
-
--- what stands for the function of a number that is none
-abbrev no_function : Function
-no_function = record { name = []; decls = []; n_in = 0; outs = []; eqs = [] }
-
--- the function that is run
-abbrev pub main_in : WholeProgram → Function
-main_in p = slice_index_or p.funcs p.main no_function
+use Rattle.lt_load.specs.Main.{main_in}
+use Rattle.lt_load.specs.declared.fault.CommandFault.{CommandFault}
+use Rattle.lt_load.specs.declared.fault.CommandFault.TheVariants as fault
 
 -- the name of a function's variable, as written
 abbrev pub name_in : Function → ℕ → List ℕ

@@ -1,57 +1,70 @@
--- What a program's outputs show: all of their streams, or of each what a run along a schedule executes.
-use Rattle.std.specs.Prelude.{◌≡◌, ℕ, List, length, map, take, Option, Ok, Err}
-use Rattle.lt_base.specs.declared.value.Cell.{Cell}
-use Rattle.lt_base.specs.Inputs.{InputTable}
+-- A run of a program along a schedule: what is right of it, given the files' bytes and what the fabric holds at its end.
+use Rattle.std.specs.Prelude.{◌≡◌, ℕ, List, length, Option}
+use Rattle.lt_base.specs.declared.value.Value.{Value}
 use Rattle.lt_base.specs.Program.{WholeProgram}
-use Rattle.lt_front.specs.Examined.{ExaminedText}
+use Rattle.lt_arch.specs.declared.event.Event.{Event}
+use Rattle.lt_arch.specs.declared.shape.Shape.{Shape}
+use Rattle.lt_arch.specs.declared.timing.Timing.{Timing}
+use Rattle.lt_io.specs.FabricState.{FabricState}
+use Rattle.lt_place.specs.declared.layout.Layout.{Layout}
+use Rattle.lt_place.specs.Layout.{IsLayoutOf}
+use Rattle.lt_net.specs.Channels.{IsShapeOf}
+use Rattle.lt_front.specs.Flattened.{flat_of}
+use Rattle.lt_judge.specs.declared.fault.ScheduleFault.TheVariants as schedule
+use Rattle.lt_base.specs.declared.memory.Or.{Or}
+use Rattle.lt_base.specs.declared.memory.Or.TheVariants.{Fault, Memory}
+use Rattle.lt_answer.specs.World.{Content}
 use Rattle.lt_answer.specs.Answered.{Verdict, AndThen}
-use Rattle.lt_run.specs.declared.fault.CommandFault.{CommandFault}
-use Rattle.lt_run.specs.declared.printed.Printed.{Printed}
-use Rattle.lt_run.specs.declared.setting.Setting.{Setting}
-use Rattle.lt_run.specs.Main.{output_names, output_streams, cells_verdict}
-use Rattle.lt_run.specs.Loaded.{program_verdict, inputs_verdict}
-use Rattle.lt_run.specs.Setting.{setting_verdict}
-use Rattle.lt_run.specs.Scheduled.{schedule_verdict}
+use Rattle.lt_verdict.specs.Rules.{Raised}
+use Rattle.lt_play.specs.declared.fault.PlayFault.{PlayFault}
+use Rattle.lt_play.specs.declared.fault.PlayFault.TheVariants.{Schedule, Link}
+use Rattle.lt_play.specs.Blamed.{play_blame}
+use Rattle.lt_replay.specs.Replays.{replay_verdict}
+use Rattle.lt_load.specs.declared.fault.What.TheVariants.{ScheduleBytes}
+use Rattle.lt_load.specs.declared.fault.CommandFault.{CommandFault}
+use Rattle.lt_load.specs.declared.fault.CommandFault.TheVariants as fault
+use Rattle.lt_load.specs.Plan.{Plan, LoadedPlan, load_verdict}
+use Rattle.lt_run.specs.declared.outputs.Outputs.{Outputs}
+use Rattle.lt_run.specs.Printed.{Shows}
 
--- what is printed: main's outputs, with these cells
-pub record Prints (p : WholeProgram) (cells : List (List Cell)) (printed : Printed) : Type 0 where
-  pub names : printed.names ≡ output_names p
-  pub cells_are : printed.cells ≡ cells
+-- a replay's fault as a command's, beside the shape whose nodes it names
+abbrev pub command_fault : Shape → PlayFault → CommandFault
+command_fault s (Schedule (schedule.Row row f)) = fault.Row row f
+command_fault s (Schedule (schedule.Offence event offence)) = fault.Offence event offence s
+command_fault s (Schedule schedule.Bytes) = fault.Limit ScheduleBytes
+command_fault s (Schedule schedule.Read) = fault.Read
+command_fault s Link = fault.Link
 
--- no refusal, and this is printed
-abbrev pub printed_verdict : WholeProgram → (cells : List (List Cell)) → Verdict Printed CommandFault
-printed_verdict p cells (Ok printed) = Prints p cells printed
-printed_verdict p cells (Err fault) = ⊥
+-- a replay's fault as the command's; memory may be wanting where no count rose
+abbrev pub AsCommand : Shape → Or PlayFault → Or CommandFault → Type 0
+AsCommand s (Fault f) (Fault g) = g ≡ command_fault s f
+AsCommand s (Fault f) Memory = play_blame f ≡ Content
+AsCommand s Memory (Fault g) = ⊥
+AsCommand s Memory Memory = Unit {0}
 
--- of each of these streams the cells of the first instants
-abbrev pub first_cells : ℕ → List (List Cell) → List (List Cell)
-first_cells executed streams = map (take executed) streams
+-- what the outputs show of a run that ends at some horizon
+abbrev pub OutputsShow : WholeProgram → Layout → Shape → Timing → (inputs : List (List Value)) → FabricState → List Event → Outputs → Type 0
+OutputsShow p l s t inputs fabric events outputs = (horizon : ℕ) × Shows p l s t inputs fabric events outputs.names outputs.cells horizon
 
--- a program on rows of inputs: the limit on cells, and then the streams of the outputs
-unfoldable pub streams_verdict : ExaminedText → InputTable → Verdict Printed CommandFault
-streams_verdict checked table = AndThen (cells_verdict checked.program table.rows) (λ few. printed_verdict checked.program (output_streams checked.program table.rows))
+-- a program on these nodes, under these bounds of time and on these rows of inputs, along a schedule file: what the outputs show, or
+-- the first row or event that is refused
+abbrev pub placed_run_verdict : WholeProgram → Layout → Shape → Timing → (inputs : List (List Value)) → FabricState → Option (List ℕ) → Verdict Outputs CommandFault
+placed_run_verdict p l s t inputs fabric file = Raised (command_fault s) (replay_verdict (OutputsShow p l s t inputs fabric) s t (length inputs) file)
 
--- a program on the inputs of a file
-unfoldable pub inputs_streams_verdict : (named : List ℕ → Option (List ℕ)) → (inputs : List ℕ) → ExaminedText → Verdict Printed CommandFault
-inputs_streams_verdict named inputs checked = AndThen (inputs_verdict checked.program (named inputs)) (λ table. streams_verdict checked table)
+-- the same of what was loaded
+abbrev pub along_loaded : FabricState → LoadedPlan → Option (List ℕ) → Verdict Outputs CommandFault
+along_loaded fabric k file = placed_run_verdict k.checked.program k.layout k.shape k.timing k.inputs.rows fabric file
 
--- the program, its inputs and the limit on cells in this order, and then the streams of the outputs
-unfoldable pub meaning_verdict : (named : List ℕ → Option (List ℕ)) (program inputs : List ℕ) → Verdict Printed CommandFault
-meaning_verdict named program inputs = AndThen (program_verdict (named program)) (λ checked. inputs_streams_verdict named inputs checked)
+-- a layout of the program's flat form under the setup's placement, with its channels
+pub record IsLaidOutBy (plan : Plan) (l : Layout) (s : Shape) : Type 0 where
+  pub layout : IsLayoutOf (flat_of plan.checked.program) plan.setup.placement l
+  pub shape : IsShapeOf l plan.setup.timing.protocol s
 
--- a program in its setting along a schedule, for as many rows of inputs: of each output's stream the cells of the executed instants
-unfoldable pub along_verdict : (named : List ℕ → Option (List ℕ)) → (schedule : List ℕ) → ExaminedText → Setting → InputTable → Verdict Printed CommandFault
-along_verdict named schedule checked setting table =
-    AndThen (schedule_verdict setting (length table.rows) (named schedule)) (λ executed. printed_verdict checked.program (first_cells executed (output_streams checked.program table.rows)))
+-- a plan along a schedule file, on its nodes
+unfoldable pub along_verdict : FabricState → Option (List ℕ) → Plan → Verdict Outputs CommandFault
+along_verdict fabric file plan outcome =
+    (l : Layout) × (s : Shape) × IsLaidOutBy plan l s × placed_run_verdict plan.checked.program l s plan.setup.timing plan.inputs.rows fabric file outcome
 
--- a program in its setting: the inputs, and then the schedule
-unfoldable pub placed_run_verdict : (named : List ℕ → Option (List ℕ)) (inputs schedule : List ℕ) → ExaminedText → Setting → Verdict Printed CommandFault
-placed_run_verdict named inputs schedule checked setting = AndThen (inputs_verdict checked.program (named inputs)) (λ table. along_verdict named schedule checked setting table)
-
--- a program: its setting, the inputs and the schedule
-unfoldable pub program_run_verdict : (named : List ℕ → Option (List ℕ)) (inputs schedule : List ℕ) → (config : Option (List ℕ)) → ExaminedText → Verdict Printed CommandFault
-program_run_verdict named inputs schedule config checked = AndThen (setting_verdict named checked config) (λ setting. placed_run_verdict named inputs schedule checked setting)
-
--- the program, the setting, the inputs and the schedule, in this order
-unfoldable pub run_verdict : (named : List ℕ → Option (List ℕ)) (program inputs schedule : List ℕ) → (config : Option (List ℕ)) → Verdict Printed CommandFault
-run_verdict named program inputs schedule config = AndThen (program_verdict (named program)) (λ checked. program_run_verdict named inputs schedule config checked)
+-- the program, the setup, the placement, the timing, the inputs and the schedule, in this order
+unfoldable pub run_verdict : (named : List ℕ → Option (List ℕ)) (program inputs schedule : List ℕ) (config : Option (List ℕ)) → FabricState → Verdict Outputs CommandFault
+run_verdict named program inputs schedule config fabric = AndThen (load_verdict named program inputs config) (λ plan. along_verdict fabric (named schedule) plan)

@@ -5,8 +5,8 @@ ghost use Rattle.lt_answer.specs.Answered.{Refuses};
 ghost use Rattle.lt_meaning.specs.Streams.{HasOutputStreams, HasRoom, InputsFitMain, cell_count, most_cells};
 ghost use Rattle.lt_run.specs.Main.{cells_verdict};
 
-use crate::CommandFault;
 use lt_base::{Cell, Inputs, List, Or, Program};
+use lt_load::CommandFault;
 use lt_meaning::{StreamsFault, output_streams};
 use std::alloc::Global;
 

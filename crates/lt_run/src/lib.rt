@@ -1,20 +1,15 @@
-//! What a command does with its files, step after step: a program or a setup that is loaded, the meaning of a program on inputs, and a run along a schedule.
+//! What a command does with what it loaded: the meaning of a program on inputs, and a run along a schedule.
 #![tactic(auto)]
 
 mod commands;
 mod evaluating;
-mod executing;
-mod fault;
-mod loading;
-mod plain;
+mod outputs;
 mod printed;
-mod scheduling;
-mod setting;
-mod setups;
-mod stepping;
+mod replaying;
+mod running;
 
-pub use commands::{meaning, run};
-pub use fault::{CommandFault, What};
-pub use loading::{load_config, load_inputs, load_program};
+pub use commands::meaning;
+pub use outputs::Outputs;
 pub use printed::Printed;
-pub use setups::check;
+pub use replaying::replay;
+pub use running::run;

@@ -1,28 +1,55 @@
-// What a command prints of a program's streams.
+// What a replay of a loaded program answers.
 ghost use Rattle.std.specs.Prelude.{◌≡◌, IfOk, length, map};
 ghost use Rattle.lt_run.specs.Main.{name_in};
 
+use crate::Outputs;
+use crate::outputs::output_names;
 use lt_base::{Cell, Func, List, Memory, Name};
+use lt_machine::StepMachine;
+use lt_replay::Replayed;
 use std::alloc::Global;
 
-/// The names of the outputs, and for each the cells of the instants that its node executed.
+/// The outputs by name, each with a cell for each instant that its node executed, the horizon of the schedule in ticks, and the
+/// machine of each node, which made a step for each of these instants.
 #[derive(Drop)]
 pub struct Printed {
     pub names: List<Name>,
     pub cells: List<List<Cell>>,
+    pub horizon: u64,
+    pub machines: List<StepMachine>,
     ghost paired: { length names ≡ length cells },
 }
 
-/// The outputs of a function, with these cells.
-pub(crate) fn print(alloc: Global, main: &Func, cells: List<List<Cell>>) -> Result<Printed, Memory>
-    requires width { length cells ≡ length main.now.outs }
-    ensures names { IfOk result (λ printed. printed.names ≡ map (name_in main.now) main.now.outs) }
-    ensures cells { IfOk result (λ printed. printed.cells ≡ cells) }
-{
-    main.kept();
-    let mut names = List::new(alloc);
-    for y in main.outs.as_slice() {
-        names.push(main.decls.as_slice()[*y as usize].name.copy()?)?;
+impl Printed {
+    /// The outputs alone.
+    pub fn outputs(self) -> Outputs
+        ensures names { result.names ≡ self.names }
+        ensures cells { result.cells ≡ self.cells }
+    {
+        Outputs {
+            names: self.names,
+            cells: self.cells,
+        }
     }
-    Ok(Printed { names, cells })
+}
+
+/// The outputs of a function by name, with what a replay gave.
+pub(crate) fn name_outputs(
+    alloc: Global,
+    main: &Func,
+    replayed: Replayed,
+) -> Result<Printed, Memory>
+    requires width { length replayed.cells ≡ length main.now.outs }
+    ensures names { IfOk result (λ printed. printed.names ≡ map (name_in main.now) main.now.outs) }
+    ensures cells { IfOk result (λ printed. printed.cells ≡ replayed.cells) }
+    ensures horizon { IfOk result (λ printed. printed.horizon ≡ replayed.horizon) }
+    ensures machines { IfOk result (λ printed. printed.machines ≡ replayed.machines) }
+{
+    let names = output_names(alloc, main)?;
+    Ok(Printed {
+        names,
+        cells: replayed.cells,
+        horizon: replayed.horizon,
+        machines: replayed.machines,
+    })
 }

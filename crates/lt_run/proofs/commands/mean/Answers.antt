@@ -1,11 +1,11 @@
 use Rattle.std.proofs.Common.{ap}
 use Rattle.lt_front.specs.Examined.{ExaminedText}
-use Rattle.lt_run.specs.Blamed.{command_blame}
-use Rattle.lt_run.specs.Loaded.{inputs_verdict}
-use Rattle.lt_run.specs.Run.{streams_verdict, inputs_streams_verdict}
+use Rattle.lt_load.specs.Blamed.{command_blame}
+use Rattle.lt_load.specs.Loaded.{inputs_verdict}
+use Rattle.lt_run.specs.Meaning.{streams_verdict, inputs_streams_verdict}
 use Rattle.lt_run.proofs.Contents.{streams_content}
-use Rattle.lt_run.proofs.Showing.{inputs_at, fit_at}
-use Rattle.lt_run.proofs.Steps.{refused_step, last_step}
+use Rattle.lt_load.proofs.Equals.{inputs_at, fit_at}
+use Rattle.lt_load.proofs.Steps.{refused_step, last_step}
 use Rattle.lt_run.proofs.commands.mean.Goals as goal
 
 pub returns-in_err-table : goal.returns-in_err-table

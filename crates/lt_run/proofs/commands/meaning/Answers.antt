@@ -1,7 +1,7 @@
-use Rattle.lt_run.specs.Blamed.{command_blame}
-use Rattle.lt_run.specs.Loaded.{program_verdict}
-use Rattle.lt_run.specs.Run.{inputs_streams_verdict, meaning_verdict}
-use Rattle.lt_run.proofs.Steps.{counts_on, refused_step, next_step}
+use Rattle.lt_load.specs.Blamed.{command_blame}
+use Rattle.lt_load.specs.Loaded.{program_verdict}
+use Rattle.lt_run.specs.Meaning.{inputs_streams_verdict, meaning_verdict}
+use Rattle.lt_load.proofs.Steps.{counts_on, refused_step, next_step}
 use Rattle.lt_run.proofs.commands.meaning.Goals as goal
 
 pub returns-in_err-checked : goal.returns-in_err-checked

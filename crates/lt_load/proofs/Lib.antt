@@ -1,0 +1,15 @@
+pub mod Steps
+pub mod Wholes
+pub mod Mains
+pub mod Flats
+pub mod Flattens
+pub mod Kept
+pub mod Raising
+pub mod OneLoad
+pub mod OneCheck
+pub mod OnePlan
+pub mod OneShape
+pub mod Contents
+pub mod Equals
+pub mod Planned
+pub mod Sited

@@ -1,0 +1,46 @@
+-- The function of a program that is run, and what a checked program keeps of it.
+use Rattle.std.proofs.Common.{◌≡◌, ℕ, zero, suc, ◌<◌, List, [], ◌∷◌, length, get_or, arith}
+use Rattle.std.specs.Prelude.{◌^◌, MatchOption}
+use Rattle.std.specs.List.{All}
+use Rattle.std.proofs.lemmas.List.Elements.{All-nil, All-cons, All-head, All-tail}
+use Rattle.lt_base.specs.Program.{Function, WholeProgram}
+use Rattle.lt_base.specs.Inputs.{InputTable}
+use Rattle.lt_base.specs.Meaning.{function_of}
+use Rattle.lt_base.specs.Behaviour.{RowsFit}
+use Rattle.lt_resolve.specs.Resolves.{IsSmall}
+use Rattle.lt_front.specs.Examined.{ExaminedText, IsExamined}
+use Rattle.lt_front.proofs.Rooms.{equations_fit}
+use Rattle.lt_meaning.specs.Streams.{main_of, InputsFit, InputsFitMain, NumbersFit, HasRoom}
+use Rattle.lt_load.specs.Main.{main_in}
+
+at_number : (P : Function → Type 0) (d : Function) (fs : List Function) (n : ℕ) → MatchOption (function_of fs n) ⊥ P → P (get_or fs n d)
+at_number P d [] n holds = absurd holds
+at_number P d (f ∷ fs) zero holds = holds
+at_number P d (f ∷ fs) (suc n) holds = at_number P d fs n holds
+
+has_number : (P : Function → Type 0) (d : Function) (fs : List Function) (n : ℕ) → n < length fs → P (get_or fs n d) → MatchOption (function_of fs n) ⊥ P
+has_number P d [] n low holds = absurd (omega (arith, low))
+has_number P d (f ∷ fs) zero low holds = holds
+has_number P d (f ∷ fs) (suc n) low holds = has_number P d fs n (omega (arith, low)) holds
+
+-- a fact of the function that is run
+pub of_main : (P : Function → Type 0) (p : WholeProgram) → MatchOption (main_of p) ⊥ P → P (main_in p)
+of_main P p holds = at_number P _ p.funcs p.main holds
+
+pub has_main : (P : Function → Type 0) (p : WholeProgram) → p.main < length p.funcs → P (main_in p) → MatchOption (main_of p) ⊥ P
+has_main P p low holds = has_number P _ p.funcs p.main low holds
+
+-- rows of its inputs fit it
+pub inputs_fit : (p : WholeProgram) (table : InputTable) → p.main < length p.funcs → table.width ≡ (main_in p).n_in → RowsFit (main_in p) table.rows → InputsFitMain p table
+inputs_fit p table low width rows = has_main (λ f. InputsFit f table) p low (record { width = width; rows = rows })
+
+numbers_fit : (fs : List Function) → All IsSmall fs → All (λ f. length f.eqs < 2 ^ 32) fs → All NumbersFit fs
+numbers_fit [] small few = All-nil NumbersFit
+numbers_fit (f ∷ fs) small few =
+    let v = (All-head IsSmall f fs small).variables in
+    All-cons NumbersFit f fs (record { variables = omega (arith, v); equations = All-head (λ g. length g.eqs < 2 ^ 32) f fs few })
+    (numbers_fit fs (All-tail IsSmall f fs small) (All-tail (λ g. length g.eqs < 2 ^ 32) f fs few))
+
+-- the variables and equations of a checked program are numbered in 32 bits
+pub has_room : (c : ExaminedText) → IsExamined c → HasRoom c.program
+has_room c checked = numbers_fit c.program.funcs checked.resolved.small (equations_fit c.tree c.program checked.room checked.resolved)

@@ -1,0 +1,57 @@
+-- A program with a setup: its placement is legal, and its timing is accepted.
+use Rattle.std.specs.Prelude.{◌≡◌, ℕ, List, Option, Some, None, Ok, Err}
+use Rattle.lt_front.specs.Examined.{ExaminedText}
+use Rattle.lt_front.specs.Flattened.{flat_of}
+use Rattle.lt_place.specs.Legal.{Legal}
+use Rattle.lt_place.specs.Faults as placement
+use Rattle.lt_place.specs.Placement.{node_names}
+use Rattle.lt_timing.specs.Accepts.{Accepts}
+use Rattle.lt_timing.specs.Accepts as timing
+use Rattle.lt_config.specs.declared.config.Config.{Config}
+use Rattle.lt_answer.specs.Answered.{Verdict, AndThen}
+use Rattle.lt_verdict.specs.Rules.{Exactly}
+use Rattle.lt_load.specs.declared.fault.CommandFault.{CommandFault}
+use Rattle.lt_load.specs.declared.fault.CommandFault.TheVariants as fault
+use Rattle.lt_load.specs.Main.{main_in}
+use Rattle.lt_load.specs.Loaded.{program_verdict, config_verdict}
+
+-- the setup itself where a rule of it holds, or a fault of it where it does not
+abbrev pub Passes : Config → Type 0 → (CommandFault → Type 0) → Verdict Config CommandFault
+Passes setup Rule IsFault (Ok passed) = Rule × (passed ≡ setup)
+Passes setup Rule IsFault (Err e) = (Rule → ⊥) × IsFault e
+
+-- the first fault of a placement, beside the function whose variables it names
+abbrev pub IsPlaceFault : ExaminedText → Config → CommandFault → Type 0
+IsPlaceFault checked setup (fault.Place f main) = placement.IsFirstFault (flat_of checked.program) setup.placement f × (main ≡ main_in checked.program)
+IsPlaceFault checked setup _ = ⊥
+
+-- the first inequality of a timing that fails, beside the names of the nodes
+abbrev pub IsTimingFault : Config → CommandFault → Type 0
+IsTimingFault setup (fault.Timing f names mixed) = timing.IsFirstFault setup.timing f × (names ≡ node_names setup.placement) × (mixed ≡ setup.mixed)
+IsTimingFault setup _ = ⊥
+
+-- a setup by which the placement of a program's flat form is legal
+unfoldable pub placed_verdict : ExaminedText → Config → Verdict Config CommandFault
+placed_verdict checked setup = Passes setup (Legal (flat_of checked.program) setup.placement) (IsPlaceFault checked setup)
+
+-- a setup whose timing is accepted
+unfoldable pub accepted_verdict : Config → Verdict Config CommandFault
+accepted_verdict setup = Passes setup (Accepts setup.timing) (IsTimingFault setup)
+
+-- a setup for a program: the placement and the timing, in this order
+unfoldable pub fitting_verdict : ExaminedText → Config → Verdict Config CommandFault
+fitting_verdict checked setup = AndThen (placed_verdict checked setup) (λ legal. accepted_verdict legal)
+
+-- the setup of a file for a program
+unfoldable pub fitted_verdict : (named : List ℕ → Option (List ℕ)) → (config : List ℕ) → ExaminedText → Verdict Config CommandFault
+fitted_verdict named config checked = AndThen (config_verdict (named config)) (λ setup. fitting_verdict checked setup)
+
+-- a program, its setup, the placement and the timing, in this order
+unfoldable pub with_setup_verdict : (named : List ℕ → Option (List ℕ)) (program config : List ℕ) → Verdict ExaminedText CommandFault
+with_setup_verdict named program config =
+    AndThen (program_verdict (named program)) (λ checked. AndThen (fitted_verdict named config checked) (λ fitting. Exactly (Ok checked)))
+
+-- a program alone, or with a setup
+abbrev pub check_verdict : (named : List ℕ → Option (List ℕ)) (program : List ℕ) → (config : Option (List ℕ)) → Verdict ExaminedText CommandFault
+check_verdict named program None = program_verdict (named program)
+check_verdict named program (Some config) = with_setup_verdict named program config

@@ -1,0 +1,52 @@
+-- Where a program runs: on which nodes, with which channels between them, and under which bounds of time.
+use Rattle.std.specs.Prelude.{◌≡◌, ◌≤◌, ℕ, List, length, Option, Ok, Err}
+use Rattle.lt_base.specs.Inputs.{InputTable}
+use Rattle.lt_norm.specs.Flat.{Originated}
+use Rattle.lt_timing.specs.Accepts.{Accepts}
+use Rattle.lt_place.specs.declared.layout.Layout.{Layout}
+use Rattle.lt_place.specs.Layout.{IsLayoutOf, IsPlaced}
+use Rattle.lt_place.specs.Legal.{Legal}
+use Rattle.lt_net.specs.Channels.{IsShapeOf}
+use Rattle.lt_front.specs.Checked.{CheckedText}
+use Rattle.lt_front.specs.Examined.{ExaminedText}
+use Rattle.lt_front.specs.Flattened.{flat_of}
+use Rattle.lt_config.specs.declared.config.Config.{Config}
+use Rattle.lt_answer.specs.Answered.{Verdict, AndThen}
+use Rattle.lt_verdict.specs.Rules.{Exactly}
+use Rattle.lt_load.specs.declared.fault.CommandFault.{CommandFault}
+use Rattle.lt_load.specs.declared.sites.Site.{Site}
+use Rattle.lt_load.specs.Loaded.{inputs_verdict}
+use Rattle.lt_load.specs.Setups.{IsPlaceFault, fitting_verdict}
+use Rattle.lt_load.specs.Plan.{LoadedPlan}
+
+-- the layout of a legal placement, or a fault of it
+unfoldable pub layout_verdict : ExaminedText → Config → Verdict Layout CommandFault
+layout_verdict checked setup (Ok l) = Legal (flat_of checked.program) setup.placement × IsLayoutOf (flat_of checked.program) setup.placement l
+layout_verdict checked setup (Err e) = (Legal (flat_of checked.program) setup.placement → ⊥) × IsPlaceFault checked setup e
+
+-- a layout with the channels that a setup asks for, and the setup's bounds of time
+pub record IsSiteOf (l : Layout) (setup : Config) (s : Site) : Type 0 where
+  pub layout : s.layout ≡ l
+  pub timing : s.timing ≡ setup.timing
+  pub shape : IsShapeOf s.layout s.timing.protocol s.shape
+
+-- the setup fits, and its site is this; or the setup's refusal
+abbrev pub site_verdict : ExaminedText → Config → Verdict Site CommandFault
+site_verdict checked setup (Ok s) = fitting_verdict checked setup (Ok setup) × ((l : Layout) × IsLayoutOf (flat_of checked.program) setup.placement l × IsSiteOf l setup s)
+site_verdict checked setup (Err e) = fitting_verdict checked setup (Err e)
+
+-- what is so of a site of a function, whatever was read
+pub record IsSited (f : Originated) (s : Site) : Type 0 where
+  pub placed : IsPlaced f s.layout
+  pub shaped : IsShapeOf s.layout s.timing.protocol s.shape
+  pub accepted : Accepts s.timing
+  pub timed : length s.timing.nodes ≡ length s.layout.names
+  pub few : length s.layout.names ≤ 32
+
+-- a program at its site with rows of inputs
+abbrev pub loaded_of : CheckedText → Site → InputTable → LoadedPlan
+loaded_of checked s table = record { checked = checked; layout = s.layout; shape = s.shape; timing = s.timing; inputs = table }
+
+-- a program at its site: the rows of inputs
+unfoldable pub sited_verdict : (named : List ℕ → Option (List ℕ)) (inputs : List ℕ) → CheckedText → Site → Verdict LoadedPlan CommandFault
+sited_verdict named inputs checked s = AndThen (inputs_verdict checked.program (named inputs)) (λ table. Exactly (Ok (loaded_of checked s table)))

@@ -1,0 +1,16 @@
+//! What a command reads before it answers: a program through all checks, a setup that fits it, and rows of inputs; and, for a run,
+//! the program on its nodes with the channels between them.
+#![tactic(auto)]
+
+mod fault;
+mod loaded;
+mod loading;
+mod planning;
+mod setups;
+mod sites;
+
+pub use fault::{CommandFault, What};
+pub use loaded::Loaded;
+pub use loading::{fetch_within, load_config, load_inputs, load_program, main_of};
+pub use planning::load;
+pub use setups::check;

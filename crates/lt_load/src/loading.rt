@@ -1,0 +1,128 @@
+// The files that a command reads before it runs.
+ghost use Rattle.std.specs.Prelude.{◌≡◌, ◌≤◌, ◌<◌, ◌-◌, ◌^◌, IfOk, length};
+ghost use Rattle.lt_answer.specs.World.{alone};
+ghost use Rattle.lt_answer.specs.Answered.{Answered};
+ghost use Rattle.lt_meaning.specs.Streams.{InputsFitMain};
+ghost use Rattle.lt_load.specs.Blamed.{command_blame};
+ghost use Rattle.lt_load.specs.Loaded.{Flattened, limit_of, whole_verdict, program_verdict, config_verdict, inputs_verdict};
+ghost use Rattle.lt_load.specs.Main.{main_in};
+
+use crate::{CommandFault, What};
+use lt_base::{Func, Inputs, List, Or, Program};
+use lt_config::{Config, read_config};
+use lt_front::{Checked, Examined, examine};
+use lt_inputs::read_inputs;
+use lt_io::{Files, Whole, read_file};
+use std::alloc::Global;
+
+impl What {
+    /// The most bytes.
+    fn limit(self) -> usize
+        ensures { result ≡ limit_of self }
+    {
+        match self {
+            What::ProgramBytes => 1_048_576,
+            What::ConfigBytes => 262_144,
+            What::InputsBytes => 67_108_864,
+            What::ScheduleBytes => 1_073_741_824,
+        }
+    }
+}
+
+/// The bytes of a file that is read whole.
+pub fn fetch_within<F: Files>(
+    alloc: Global,
+    files: &mut F,
+    name: &str,
+    what: What,
+) -> Result<List<u8>, Or<CommandFault>>
+    requires { (F.state files.old).faults < 2 ^ 64 - 1 }
+    ensures answered { Answered command_blame (whole_verdict what ((F.state files.old).named name.now)) (alone (F.state files.old)) (alone (F.state files.new)) result }
+    ensures short { IfOk result (λ bytes. length bytes ≤ limit_of what) }
+{
+    let limit = what.limit();
+    match read_file(alloc, files, name, limit) {
+        Ok(Whole::Bytes(bytes)) => {
+            // Files that do not tell their bytes could give more.
+            if bytes.len() > limit {
+                return Err(Or::Fault(CommandFault::Limit(what)));
+            }
+            Ok(bytes)
+        }
+        Ok(Whole::TooLong) => Err(Or::Fault(CommandFault::Limit(what))),
+        Err(Or::Fault(_)) => Err(Or::Fault(CommandFault::Read)),
+        Err(Or::Memory) => Err(Or::Memory),
+    }
+}
+
+/// Reads a program's file, and the program through all checks.
+pub fn load_program<F: Files>(
+    alloc: Global,
+    files: &mut F,
+    name: &str,
+) -> Result<Examined, Or<CommandFault>>
+    requires { (F.state files.old).faults < 2 ^ 64 - 1 }
+    ensures { Answered command_blame (program_verdict ((F.state files.old).named name.now)) (alone (F.state files.old)) (alone (F.state files.new)) result }
+{
+    let bytes = fetch_within(alloc, files, name, What::ProgramBytes)?;
+    match examine(alloc, bytes.as_slice()) {
+        Ok(checked) => Ok(checked),
+        Err(e) => Err(e.map(CommandFault::Program)),
+    }
+}
+
+/// Reads a program's file as `load_program` does, and puts the program into its flat form.
+pub(crate) fn load_flat<F: Files>(
+    alloc: Global,
+    files: &mut F,
+    name: &str,
+) -> Result<Checked, Or<CommandFault>>
+    requires { (F.state files.old).faults < 2 ^ 64 - 1 }
+    ensures { Answered command_blame (Flattened (program_verdict ((F.state files.old).named name.now))) (alone (F.state files.old)) (alone (F.state files.new)) result }
+{
+    let examined = load_program(alloc, files, name)?;
+    Ok(examined.flatten(alloc)?)
+}
+
+/// Reads a setup's file.
+pub fn load_config<F: Files>(
+    alloc: Global,
+    files: &mut F,
+    name: &str,
+) -> Result<Config, Or<CommandFault>>
+    requires { (F.state files.old).faults < 2 ^ 64 - 1 }
+    ensures { Answered command_blame (config_verdict ((F.state files.old).named name.now)) (alone (F.state files.old)) (alone (F.state files.new)) result }
+{
+    let bytes = fetch_within(alloc, files, name, What::ConfigBytes)?;
+    match read_config(alloc, bytes.as_slice()) {
+        Ok(config) => Ok(config),
+        Err(e) => Err(e.map(CommandFault::Config)),
+    }
+}
+
+/// Reads the file of a program's inputs: a row of values for each instant.
+pub fn load_inputs<F: Files>(
+    alloc: Global,
+    files: &mut F,
+    name: &str,
+    program: &Program,
+) -> Result<Inputs, Or<CommandFault>>
+    requires { (F.state files.old).faults < 2 ^ 64 - 1 }
+    ensures answered { Answered command_blame (inputs_verdict program.now ((F.state files.old).named name.now)) (alone (F.state files.old)) (alone (F.state files.new)) result }
+    ensures fit { IfOk result (InputsFitMain program.now) }
+{
+    program.kept();
+    let bytes = fetch_within(alloc, files, name, What::InputsBytes)?;
+    match read_inputs(alloc, bytes.as_slice(), main_of(program)) {
+        Ok(table) => Ok(table),
+        Err(e) => Err(e.map(CommandFault::Inputs)),
+    }
+}
+
+/// The function of a program that is run.
+pub fn main_of(program: &Program) -> &Func
+    ensures { result.now ≡ main_in program.now }
+{
+    program.kept();
+    &program.funcs.as_slice()[program.main as usize]
+}

@@ -1,0 +1,112 @@
+// A program with its setup.
+ghost use Rattle.std.specs.Prelude.{◌<◌, ◌-◌, ◌^◌, option_map};
+ghost use Rattle.lt_front.specs.Checked.{examined_part};
+ghost use Rattle.lt_answer.specs.World.{alone};
+ghost use Rattle.lt_answer.specs.Answered.{Answered, Settles};
+ghost use Rattle.lt_load.specs.Blamed.{command_blame};
+ghost use Rattle.lt_load.specs.Setups.{accepted_verdict, check_verdict, fitted_verdict, fitting_verdict, placed_verdict, with_setup_verdict};
+
+use crate::loading::{load_flat, main_of};
+use crate::{CommandFault, load_config, load_program};
+use lt_base::Or;
+use lt_config::Config;
+use lt_front::{Checked, Examined};
+use lt_io::Files;
+use lt_place::legal_nodes;
+use lt_timing::accepts;
+use std::alloc::Global;
+
+/// A program that passes all checks; with the file of a setup, its placement is legal and its timing is accepted. The files are
+/// read in this order.
+pub fn check<F: Files>(
+    alloc: Global,
+    files: &mut F,
+    program: &str,
+    config: Option<&str>,
+) -> Result<Examined, Or<CommandFault>>
+    requires { (F.state files.old).faults < 2 ^ 64 - 1 }
+    ensures { Answered command_blame (check_verdict (F.state files.old).named program.now (option_map (λ s. s.now) config.entry))
+        (alone (F.state files.old)) (alone (F.state files.new)) result }
+{
+    match config {
+        Some(config) => check_with(alloc, files, program, config),
+        None => load_program(alloc, files, program),
+    }
+}
+
+fn check_with<F: Files>(
+    alloc: Global,
+    files: &mut F,
+    program: &str,
+    config: &str,
+) -> Result<Examined, Or<CommandFault>>
+    requires { (F.state files.old).faults < 2 ^ 64 - 1 }
+    ensures { Answered command_blame (with_setup_verdict (F.state files.old).named program.now config.now)
+        (alone (F.state files.old)) (alone (F.state files.new)) result }
+{
+    let checked = load_flat(alloc, files, program)?;
+    check_setup(alloc, files, &checked, config)?;
+    Ok(checked.examined())
+}
+
+// The setup of a file, for a program that passed all checks.
+fn check_setup<F: Files>(
+    alloc: Global,
+    files: &mut F,
+    checked: &Checked,
+    config: &str,
+) -> Result<Config, Or<CommandFault>>
+    requires { (F.state files.old).faults < 2 ^ 64 - 1 }
+    ensures { Answered command_blame (fitted_verdict (F.state files.old).named config.now (examined_part checked.now))
+        (alone (F.state files.old)) (alone (F.state files.new)) result }
+{
+    let setup = load_config(alloc, files, config)?;
+    fitting(alloc, checked, setup)
+}
+
+// The setup, if the program's placement by it is legal and its timing is accepted, in this order.
+fn fitting(alloc: Global, checked: &Checked, setup: Config) -> Result<Config, Or<CommandFault>>
+    ensures { Settles (fitting_verdict (examined_part checked.now) setup) result }
+{
+    let legal = placed(alloc, checked, setup)?;
+    let timed = accepted(alloc, legal)?;
+    Ok(timed)
+}
+
+/// The setup, if the program's placement by it is legal.
+#[tactic(auto, unfolding(crate::specs::Setups::placed_verdict))]
+pub(crate) fn placed(
+    alloc: Global,
+    checked: &Checked,
+    setup: Config,
+) -> Result<Config, Or<CommandFault>>
+    ensures { Settles (placed_verdict (examined_part checked.now) setup) result }
+{
+    checked.kept();
+    match legal_nodes(alloc, &checked.flat, &setup.placement) {
+        Ok(_) => Ok(setup),
+        Err(Or::Fault(fault)) => {
+            let main = main_of(&checked.program).copy()?;
+            Err(Or::Fault(CommandFault::Place { fault, main }))
+        }
+        Err(Or::Memory) => Err(Or::Memory),
+    }
+}
+
+/// The setup, if its timing is accepted.
+#[tactic(auto, unfolding(crate::specs::Setups::accepted_verdict))]
+pub(crate) fn accepted(alloc: Global, setup: Config) -> Result<Config, Or<CommandFault>>
+    ensures { Settles (accepted_verdict setup) result }
+{
+    match accepts(&setup.timing) {
+        Ok(()) => Ok(setup),
+        Err(fault) => {
+            let names = setup.placement.names(alloc)?;
+            Err(Or::Fault(CommandFault::Timing {
+                fault,
+                names,
+                mixed: setup.mixed,
+            }))
+        }
+    }
+}

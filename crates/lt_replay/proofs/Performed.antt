@@ -1,0 +1,214 @@
+-- What a network along a schedule answers, from what its net did.
+use Rattle.std.proofs.Common.{◌≡◌, ◌<◌, inl, inr, ℕ, List, length, Option, Some, None, Result, Ok, Err, IsTrue, refl, sym, ap, ◌∙◌, subst, arith}
+use Rattle.lt_base.specs.declared.value.Value.{Value}
+use Rattle.lt_base.specs.declared.memory.Or.{Or}
+use Rattle.lt_base.specs.declared.memory.Or.TheVariants.{Fault, Memory}
+use Rattle.lt_base.specs.Program.{Function}
+use Rattle.lt_base.specs.Behaviour.{RowsFit}
+use Rattle.lt_arch.specs.declared.event.Event.{Event}
+use Rattle.lt_arch.specs.declared.shape.Shape.{Shape}
+use Rattle.lt_arch.specs.declared.timing.Timing.{Timing}
+use Rattle.lt_arch.specs.State.{Phase}
+use Rattle.lt_arch.specs.Readers.{node_count}
+use Rattle.lt_arch.specs.Schedule.{first_offence}
+use Rattle.lt_timing.specs.Bounds.{bound_of}
+use Rattle.lt_io.specs.declared.fault.LinkErr.{LinkErr}
+use Rattle.lt_io.specs.declared.fault.LinkErr.TheVariants as link
+use Rattle.lt_io.specs.Counts.{LinkCountedBy}
+use Rattle.lt_io.specs.FilesState.{FilesState}
+use Rattle.lt_io.specs.FabricState.{FabricState, KeepsFabric}
+use Rattle.lt_answer.specs.World.{World, KeepsWorld, Blame}
+use Rattle.lt_answer.specs.Answered.{Answered, Verdict, RefusesReading, AndThen}
+use Rattle.lt_answer.proofs.Stages.{goes_on, widened}
+use Rattle.lt_judge.specs.declared.fault.ScheduleFault.{ScheduleFault}
+use Rattle.lt_judge.specs.declared.fault.ScheduleFault.TheVariants.{Read}
+use Rattle.lt_judge.specs.Verdict.{verdict}
+use Rattle.lt_machine.specs.declared.step_machine.StepMachine.{StepMachine}
+use Rattle.lt_norm.specs.Flat.{Originated}
+use Rattle.lt_place.specs.declared.layout.Layout.{Layout}
+use Rattle.lt_place.specs.Layout.{IsPlaced}
+use Rattle.lt_net.specs.NetModel.{StoppableNet}
+use Rattle.lt_net.specs.Kept.{IsSized}
+use Rattle.lt_net.specs.Starts.{IsMadeOf}
+use Rattle.lt_play.specs.declared.fault.PlayFault.{PlayFault}
+use Rattle.lt_play.specs.declared.fault.PlayFault.TheVariants.{Schedule}
+use Rattle.lt_play.specs.Played.{world, IsLeast, IsAtEnd, EndsBy, play_verdict, HasPlayed}
+use Rattle.lt_play.specs.Blamed.{play_blame}
+use Rattle.lt_replay.specs.declared.replayed.Replayed.{Replayed}
+use Rattle.lt_replay.specs.Sound.{IsSound}
+use Rattle.lt_replay.specs.Replays.{IsTaken, IsReplay, EndsWith, replay_verdict, HasReplayed, link_fault}
+use Rattle.lt_replay.proofs.AtTheEnd.{is_replay}
+
+module _ {C : Type 0} (phase : C → Phase) (stands : StepMachine → Function → List (List Value) → Type 0) (made left size : StepMachine → ℕ)
+    (l : Layout) (s : Shape) (t : Timing) (inputs : List (List Value)) (name : List ℕ) (files files' : FilesState) (fabric : FabricState) where
+  -- nothing was played yet
+  module _ (fabric' : FabricState) (keeps : KeepsFabric fabric fabric') (steady : IsTrue fabric.sound → fabric'.faults ≡ fabric.faults) where
+    abbrev ends_at : List Event → Replayed → Type 0
+    ends_at = IsReplay stands made l s t inputs fabric'
+
+    abbrev right_of : Verdict Replayed PlayFault
+    right_of = replay_verdict ends_at s t (length inputs) (files.named name)
+
+    unplayed_keeps : KeepsWorld (world files fabric) (world files fabric')
+    unplayed_keeps = record { files = record { sound = refl; told = refl; named = refl }; fabric = keeps; steady = steady }
+
+    -- the fabric was not opened
+    pub not_opened : (e : LinkErr) → LinkCountedBy fabric.faults fabric'.faults e → HasReplayed stands made l s t inputs name files files fabric fabric' (Err (link_fault e))
+    not_opened link.Failed rose = record {
+      answered = record {
+        keeps = unplayed_keeps;
+        cause = (refl, rose);
+        exact = λ told calm. absurd (let same = calm.fabric in omega (arith, rose, same));
+        sound = λ told sound rose. absurd (omega (arith, rose));
+      };
+      ended = tt;
+      near = λ told. tt;
+    }
+    not_opened link.Memory same = record {
+      answered = record {
+        keeps = unplayed_keeps;
+        cause = record { files = refl; fabric = same };
+        exact = λ told calm. tt;
+        sound = λ told sound rose. absurd (omega (arith, rose));
+      };
+      ended = tt;
+      near = λ told. tt;
+    }
+
+-- a step's answer as that of another, where what is right of the one is right of the other
+module _ {T U E : Type 0} (blame : E → Blame) (V : Verdict T E) (W : Verdict U E) (a b : World) (wider : (e : E) → V (Err e) → W (Err e)) where
+  reads_too : RefusesReading blame V → RefusesReading blame W
+  reads_too reading = (reading.0, reading.1, wider reading.0 reading.2)
+
+  error_too : (e : Or E) → Answered blame V a b (Err e) → Answered blame W a b (Err e)
+  error_too (Fault e) answered = record {
+    keeps = answered.keeps;
+    cause = answered.cause;
+    exact = λ told calm. wider e (answered.exact told calm);
+    sound = λ told sound rose. reads_too (answered.sound told sound rose);
+  }
+  error_too Memory answered = record {
+    keeps = answered.keeps;
+    cause = answered.cause;
+    exact = λ told calm. tt;
+    sound = λ told sound rose. reads_too (answered.sound told sound rose);
+  }
+
+  value_too : (x : T) (y : U) → (V (Ok x) → W (Ok y)) → Answered blame V a b (Ok x) → Answered blame W a b (Ok y)
+  value_too x y right answered = record {
+    keeps = answered.keeps;
+    cause = answered.cause;
+    exact = λ told calm. right (answered.exact told calm);
+    sound = λ told sound rose. reads_too (answered.sound told sound rose);
+  }
+
+  short_too : (x : T) → Answered blame V a b (Ok x) → Answered blame W a b (Err Memory)
+  short_too x answered = record {
+    keeps = answered.keeps;
+    cause = answered.cause;
+    exact = λ told calm. tt;
+    sound = λ told sound rose. reads_too (answered.sound told sound rose);
+  }
+
+-- a step after one that gave nothing but leave to go on
+abbrev Allowed : {E : Type 0} → Verdict (Unit {0}) E
+Allowed (Ok x) = Unit {0}
+Allowed (Err e) = ⊥
+
+after_leave : {U E : Type 0} (W : Verdict U E) (o : Result U E) → AndThen Allowed (λ _. W) o → W o
+after_leave W (Ok x) (inl h) = absurd h
+after_leave W (Err e) (inl h) = absurd h
+after_leave W o (inr h) = h.2
+
+module _ {C : Type 0} (phase : C → Phase) (stands : StepMachine → Function → List (List Value) → Type 0) (made left size : StepMachine → ℕ)
+    (l : Layout) (s : Shape) (t : Timing) (inputs later : List (List Value)) (name : List ℕ) (files files' : FilesState) (fabric mid fabric' : FabricState)
+    (opened : KeepsFabric fabric mid) (calm : mid.faults ≡ fabric.faults) (old new : StoppableNet C StepMachine) (ms : List StepMachine) (cs : List C) (is : IsMadeOf l s t (length inputs) ms cs old.plant) where
+  abbrev ends_at_last : List Event → Type 0
+  ends_at_last = IsAtEnd phase stands made left old new inputs fabric'
+
+  abbrev comes_to : List Event → Replayed → Type 0
+  comes_to = IsReplay stands made l s t inputs fabric'
+
+  abbrev played_right : Option (List ℕ) → Verdict (Unit {0}) PlayFault
+  played_right file = play_verdict ends_at_last old.plant.shape old.plant.timing old.plant.rows file
+
+  abbrev replayed_right : Option (List ℕ) → Verdict Replayed PlayFault
+  replayed_right file = replay_verdict comes_to s t (length inputs) file
+
+  same_verdict : (bytes : List ℕ) → verdict old.plant.shape old.plant.timing old.plant.rows bytes ≡ verdict s t (length inputs) bytes
+  same_verdict bytes i = verdict (is.shape i) (is.timing i) (is.rows i) bytes
+
+  error_ends : (v : Result (List Event) ScheduleFault) (e : PlayFault) → EndsBy ends_at_last v (Err e) → EndsWith comes_to v (Err e)
+  error_ends (Ok events) e h = absurd h
+  error_ends (Err fault) e h = let same : e ≡ Schedule fault = cc h in ap (λ x. Err x) same
+
+  value_ends : (v : Result (List Event) ScheduleFault) (x : Unit {0}) (taken : Replayed) → ((events : List Event) → ends_at_last events → comes_to events taken) → EndsBy ends_at_last v (Ok x) → EndsWith comes_to v (Ok taken)
+  value_ends (Ok events) x taken goes h = goes events h
+  value_ends (Err fault) x taken goes h = absurd (cc h)
+
+  error_wider : (file : Option (List ℕ)) (e : PlayFault) → played_right file (Err e) → replayed_right file (Err e)
+  unfolding play_verdict replay_verdict
+  error_wider None e h = let same : e ≡ Schedule Read = cc h in ap (λ x. Err x) same
+  error_wider (Some bytes) e h = subst (λ v. EndsWith comes_to v (Err e)) (same_verdict bytes) (error_ends (verdict old.plant.shape old.plant.timing old.plant.rows bytes) e h)
+
+  value_wider : (file : Option (List ℕ)) (x : Unit {0}) (taken : Replayed) → ((events : List Event) → ends_at_last events → comes_to events taken) → played_right file (Ok x) → replayed_right file (Ok taken)
+  unfolding play_verdict replay_verdict
+  value_wider None x taken goes h = absurd (cc h)
+  value_wider (Some bytes) x taken goes h = subst (λ v. EndsWith comes_to v (Ok taken)) (same_verdict bytes) (value_ends (verdict old.plant.shape old.plant.timing old.plant.rows bytes) x taken goes h)
+
+  leave : Answered play_blame (Allowed {E = PlayFault}) (world files fabric) (world files mid) (Ok tt)
+  leave = record {
+    keeps = record { files = record { sound = refl; told = refl; named = refl }; fabric = opened; steady = λ sound. calm };
+    cause = record { files = refl; fabric = calm };
+    exact = λ told calm. tt;
+    sound = λ told sound rose. absurd (omega (arith, rose));
+  }
+
+  from_start : (r : Result Replayed (Or PlayFault)) → Answered play_blame (replayed_right (files.named name)) (world files mid) (world files' fabric') r → Answered play_blame (replayed_right (files.named name)) (world files fabric) (world files' fabric') r
+  from_start r answered =
+      widened (AndThen (Allowed {E = PlayFault}) (λ _. replayed_right (files.named name))) (replayed_right (files.named name)) (world files fabric) (world files' fabric') r (after_leave (replayed_right (files.named name)))
+      (goes_on {next = λ _. replayed_right (files.named name)} (world files fabric) (world files mid) (world files' fabric') tt r leave answered)
+
+  -- the play was refused
+  pub refused_play : (e : Or PlayFault) → HasPlayed phase stands made left size old new inputs later name files files' mid fabric' (Err e) → HasReplayed stands made l s t inputs name files files' fabric fabric' (Err e)
+  refused_play e played = record {
+    answered = from_start (Err e) (error_too play_blame (played_right (files.named name)) (replayed_right (files.named name)) (world files mid) (world files' fabric') (error_wider (files.named name)) e played.answered);
+    ended = tt;
+    near = played.near;
+  }
+
+  -- the play went to its end
+  module _ (x : Unit {0}) (played : HasPlayed phase stands made left size old new inputs later name files files' mid fabric' (Ok x)) where
+    -- there is no memory for what is taken
+    pub untaken : HasReplayed stands made l s t inputs name files files' fabric fabric' (Err Memory)
+    untaken = record {
+      answered = from_start (Err Memory) (short_too play_blame (played_right (files.named name)) (replayed_right (files.named name)) (world files mid) (world files' fabric') (error_wider (files.named name)) x played.answered);
+      ended = tt;
+      near = λ told. tt;
+    }
+
+    -- it is taken
+    module _ (f : Originated) (placed : IsPlaced f l) (fit : RowsFit f.func inputs) (networks : IsSound l s t (length inputs)) (sized : IsSized new.plant) (tracks : length new.plant.tracks ≡ length new.plant.layout.outs)
+        (taken : Replayed) (taken_is : IsTaken new.plant taken) where
+      at_last : (events : List Event) → ends_at_last events → comes_to events taken
+      at_last events last =
+          let layout_is : new.plant.layout ≡ l = last.fixed.layout ∙ is.layout in
+          let shape_is : new.plant.shape ≡ s = last.fixed.shape ∙ is.shape in
+          let timing_is : new.plant.timing ≡ t = last.fixed.timing ∙ is.timing in
+          let rows_are : new.plant.rows ≡ length inputs = last.fixed.rows ∙ is.rows in
+          subst (λ z. IsReplay stands made z s t inputs fabric' events taken) layout_is
+          (subst (λ z. IsReplay stands made new.plant.layout z t inputs fabric' events taken) shape_is
+          (subst (λ z. IsReplay stands made new.plant.layout new.plant.shape z inputs fabric' events taken) timing_is
+          (is_replay phase stands made left new.plant inputs events fabric' last.lists rows_are last.keeps sized tracks
+          (ap node_count shape_is ∙ networks.fits.channels.nodes ∙ sym (ap (λ (z : Layout). length z.nodes) layout_is))
+          ((λ i. first_offence (last.fixed.shape i) (last.fixed.timing i) (last.fixed.rows i) events) ∙ last.admissible)
+          last.ends f (subst (IsPlaced f) (sym layout_is) placed) fit
+          (subst (λ z. IsLeast bound_of z new.plant.timing (length inputs)) (sym shape_is) (subst (λ z. IsLeast bound_of s z (length inputs)) (sym timing_is) networks.least))
+          taken taken_is)))
+
+      pub taken_so : HasReplayed stands made l s t inputs name files files' fabric fabric' (Ok taken)
+      taken_so = record {
+        answered = from_start (Ok taken) (value_too play_blame (played_right (files.named name)) (replayed_right (files.named name)) (world files mid) (world files' fabric') (error_wider (files.named name)) x taken (value_wider (files.named name) x taken at_last) played.answered);
+        ended = (played.ended.0, at_last played.ended.0 played.ended.1);
+        near = λ told. tt;
+      }

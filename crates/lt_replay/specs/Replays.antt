@@ -1,0 +1,62 @@
+-- What a network along a schedule file answers.
+use Rattle.std.specs.Prelude.{◌≡◌, ℕ, List, Option, Some, length, map, IsTrue, Result, Ok, Err, IfOk, IfErr}
+use Rattle.lt_base.specs.declared.value.Value.{Value}
+use Rattle.lt_base.specs.declared.memory.Or.{Or}
+use Rattle.lt_base.specs.declared.memory.Or.TheVariants.{Fault, Memory}
+use Rattle.lt_base.specs.Program.{Function}
+use Rattle.lt_arch.specs.declared.event.Event.{Event}
+use Rattle.lt_arch.specs.declared.shape.Shape.{Shape}
+use Rattle.lt_arch.specs.declared.timing.Timing.{Timing}
+use Rattle.lt_io.specs.declared.fault.LinkErr.{LinkErr}
+use Rattle.lt_io.specs.declared.fault.LinkErr.TheVariants as link
+use Rattle.lt_io.specs.FilesState.{FilesState}
+use Rattle.lt_io.specs.FabricState.{FabricState}
+use Rattle.lt_answer.specs.Answered.{Answered, OfFile, Verdict}
+use Rattle.lt_judge.specs.declared.fault.ScheduleFault.{ScheduleFault}
+use Rattle.lt_judge.specs.declared.fault.ScheduleFault.TheVariants.{Read}
+use Rattle.lt_judge.specs.Verdict.{verdict}
+use Rattle.lt_machine.specs.declared.step_machine.StepMachine.{StepMachine}
+use Rattle.lt_place.specs.declared.layout.Layout.{Layout}
+use Rattle.lt_net.specs.Net.{NetState}
+use Rattle.lt_play.specs.declared.fault.PlayFault.{PlayFault}
+use Rattle.lt_play.specs.declared.fault.PlayFault.TheVariants.{Schedule, Link}
+use Rattle.lt_play.specs.Played.{world, IsNearPlay}
+use Rattle.lt_play.specs.Blamed.{play_blame}
+use Rattle.lt_replay.specs.declared.replayed.Replayed.{Replayed}
+use Rattle.lt_replay.specs.Run.{IsRun, HasSteps}
+
+-- what is taken from a net: the cells of its outputs, its horizon and its machines
+pub record IsTaken {C : Type 0} (net : NetState C StepMachine) (taken : Replayed) : Type 0 where
+  pub cells : taken.cells ≡ map (λ track. track.cells) net.tracks
+  pub horizon : net.watch.horizon ≡ Some taken.horizon
+  pub machines : taken.machines ≡ net.machines
+
+-- a fabric's fault as one of the play
+abbrev pub link_fault : LinkErr → Or PlayFault
+link_fault link.Failed = Fault Link
+link_fault link.Memory = Memory
+
+-- the cells and the machines are those to which these events lead
+pub record IsReplay (stands : StepMachine → Function → List (List Value) → Type 0) (made : StepMachine → ℕ) (l : Layout) (s : Shape) (t : Timing) (inputs : List (List Value)) (fabric : FabricState) (events : List Event) (taken : Replayed) : Type 0 where
+  pub run : IsRun l s t inputs fabric events taken.cells taken.horizon
+  pub steps : HasSteps stands made l s t inputs events run.lists.got taken.machines
+
+-- what is right of a schedule that reads as these events, or is refused: what they come to, or that refusal
+abbrev pub EndsWith : {T : Type 0} → (end : List Event → T → Type 0) → Result (List Event) ScheduleFault → Verdict T PlayFault
+EndsWith end (Ok events) (Ok x) = end events x
+EndsWith end (Ok events) (Err fault) = ⊥
+EndsWith end (Err fault) outcome = outcome ≡ Err (Schedule fault)
+
+-- what is right of a schedule file, with so many rows of inputs
+unfoldable pub replay_verdict : {T : Type 0} → (end : List Event → T → Type 0) → Shape → Timing → (rows : ℕ) → Option (List ℕ) → Verdict T PlayFault
+replay_verdict end s t rows file = OfFile (Schedule Read) file (λ bytes outcome. EndsWith end (verdict s t rows bytes) outcome)
+
+-- the network took the file of this name to its end, or a fault stands against it
+pub record HasReplayed (stands : StepMachine → Function → List (List Value) → Type 0) (made : StepMachine → ℕ) (l : Layout) (s : Shape) (t : Timing) (inputs : List (List Value))
+    (name : List ℕ) (files files' : FilesState) (fabric fabric' : FabricState) (result : Result Replayed (Or PlayFault)) : Type 0 where
+  -- by the verdict of the file
+  pub answered : Answered play_blame (replay_verdict (IsReplay stands made l s t inputs fabric') s t (length inputs) (files.named name)) (world files fabric) (world files' fabric') result
+  -- whether or not the files tell their bytes
+  pub ended : IfOk result (λ taken. (events : List Event) × IsReplay stands made l s t inputs fabric' events taken)
+  -- a refused file was read to at most a piece past the row that is refused
+  pub near : IsTrue files.told → IfErr result (IsNearPlay (files.named name) files'.place)

@@ -1,0 +1,14 @@
+//! A network from its layout to what its outputs show: its machines and controllers are made, a schedule is played over a
+//! fabric, and the cells are taken.
+#![tactic(auto)]
+
+mod actors;
+pub mod laws;
+mod machines;
+mod replayed;
+mod replaying;
+mod setup;
+mod taking;
+
+pub use replayed::Replayed;
+pub use replaying::replay;

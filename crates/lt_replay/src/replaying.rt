@@ -1,0 +1,128 @@
+// A network from its layout to what its outputs show.
+ghost use Rattle.std.specs.Prelude.{◌≡◌, ◌<◌, ◌≤◌, ◌-◌, ◌^◌, [], length};
+ghost use Rattle.lt_base.specs.Behaviour.{RowsFit};
+ghost use Rattle.lt_arch.specs.Readers.{node_count, chan_count};
+ghost use Rattle.lt_timing.specs.Accepts.{Accepts};
+ghost use Rattle.lt_norm.specs.Flat.{Originated};
+ghost use Rattle.lt_rows.specs.Lines.{fresh};
+ghost use Rattle.lt_step.specs.Run.{HasRowValues};
+ghost use Rattle.lt_place.specs.Layout.{IsPlaced};
+ghost use Rattle.lt_place.specs.Sizes.{HasCodeRoom};
+ghost use Rattle.lt_net.specs.Channels.{IsShapeOf};
+ghost use Rattle.lt_net.specs.Starts.{AreReady};
+ghost use Rattle.lt_replay.specs.Ready.{AreControllers};
+ghost use Rattle.lt_replay.specs.Sound.{IsSound};
+ghost use Rattle.lt_replay.specs.Replays.{HasReplayed, link_fault};
+
+use crate::Replayed;
+use crate::actors::{Actors, actors_of};
+use crate::laws::networks_are_sound;
+use crate::setup::{Setup, copies};
+use crate::taking::take;
+use lt_arch::{Controller, Shape, Timing};
+use lt_base::{Inputs, Or};
+use lt_io::{Fabric, Files, LinkErr};
+use lt_judge::NodeController;
+use lt_machine::{Import, Machine, StepMachine};
+use lt_place::Layout;
+use lt_play::{PlayFault, Playback, play};
+use lt_rows::Lines;
+use std::alloc::Global;
+
+fn link_fault(e: LinkErr) -> Or<PlayFault>
+    ensures { result ≡ link_fault e }
+{
+    match e {
+        LinkErr::Failed => Or::Fault(PlayFault::Link),
+        LinkErr::Memory => Or::Memory,
+    }
+}
+
+// Plays the schedule with what acts at the nodes, and takes what it comes to.
+fn perform<F: Files, W: Fabric>(
+    alloc: Global,
+    lines: &mut Lines,
+    files: &mut F,
+    schedule: &str,
+    fabric: &mut W,
+    setup: Setup,
+    actors: Actors,
+    inputs: &Inputs,
+    width: u32,
+    outputs: u32,
+) -> Result<Replayed, Or<PlayFault>>
+    requires fresh { lines.old ≡ fresh }
+    requires count { (F.state files.old).faults < 2 ^ 64 - 1 }
+    requires link_count { (W.state fabric.old).faults < 2 ^ 64 - 1 }
+    requires empty { (W.state fabric.old).kinds ≡ [] }
+    requires placed { (f : Originated) × IsPlaced f setup.layout × RowsFit f.func inputs.now.rows }
+    requires sound { IsSound setup.layout setup.shape setup.timing (length inputs.now.rows) }
+    requires few { length setup.layout.names ≤ 32 }
+    requires machines { AreReady ⟦<StepMachine as Machine>⟧.stands ⟦<StepMachine as Machine>⟧.made ⟦<StepMachine as Machine>⟧.left setup.layout (length inputs.now.rows) actors.machines.items }
+    requires controllers { AreControllers ⟦<NodeController as Controller>⟧.phase ⟦<NodeController as Controller>⟧.protocol ⟦<NodeController as Controller>⟧.send ⟦<NodeController as Controller>⟧.execute setup.timing actors.controllers.items }
+    requires width { inputs.now.width ≡ width }
+    requires wide { HasRowValues width inputs.now.rows }
+    requires outputs { length setup.layout.outs ≡ outputs }
+    ensures { HasReplayed ⟦<StepMachine as Machine>⟧.stands ⟦<StepMachine as Machine>⟧.made setup.layout setup.shape setup.timing inputs.now.rows schedule.now
+        (F.state files.old) (F.state files.new) (W.state fabric.old) (W.state fabric.new) result }
+{
+    let started = Playback::start(
+        alloc,
+        setup.layout,
+        setup.shape,
+        setup.timing,
+        inputs,
+        width,
+        actors.machines,
+        actors.controllers,
+        fabric,
+    );
+    match started {
+        Ok(mut playback) => {
+            play(lines, files, schedule, &mut playback, fabric)?;
+            Ok(take(alloc, playback.net, outputs)?)
+        }
+        Err(e) => Err(link_fault(e)),
+    }
+}
+
+/// Takes the nodes of a layout along a schedule file, over a fabric that has no channels yet: its channels are those of the shape.
+/// There is an import for each node, and `width` is the number of inputs of `main`.
+///
+/// The schedule is refused at its first row or event that is refused. A failed call on the files or on the fabric ends the run.
+pub fn replay<F: Files, W: Fabric>(
+    alloc: Global,
+    files: &mut F,
+    schedule: &str,
+    fabric: &mut W,
+    layout: &Layout,
+    shape: &Shape,
+    timing: &Timing,
+    inputs: &Inputs,
+    width: u32,
+    imports: Vec<Import>,
+) -> Result<Replayed, Or<PlayFault>>
+    requires count { (F.state files.old).faults < 2 ^ 64 - 1 }
+    requires link_count { (W.state fabric.old).faults < 2 ^ 64 - 1 }
+    requires empty { (W.state fabric.old).kinds ≡ [] }
+    requires placed { (f : Originated) × IsPlaced f layout.now × HasCodeRoom f.func × RowsFit f.func inputs.now.rows }
+    requires shape { IsShapeOf layout.now timing.now.protocol shape.now }
+    requires accepted { Accepts timing.now }
+    requires timed { length timing.now.nodes ≡ length layout.now.names }
+    requires few { length layout.now.names ≤ 32 }
+    requires width { inputs.now.width ≡ width }
+    requires wide { HasRowValues width inputs.now.rows }
+    requires imports { length imports.items ≡ length layout.now.nodes }
+    ensures { HasReplayed ⟦<StepMachine as Machine>⟧.stands ⟦<StepMachine as Machine>⟧.made layout.now shape.now timing.now inputs.now.rows schedule.now
+        (F.state files.old) (F.state files.new) (W.state fabric.old) (W.state fabric.new) result }
+{
+    networks_are_sound();
+    let outputs = layout.outs.len() as u32;
+    let rows = inputs.rows();
+    let mut lines = Lines::new(alloc)?;
+    let setup = copies(layout, shape, timing)?;
+    let actors = actors_of(alloc, layout, timing, imports, rows)?;
+    perform(
+        alloc, &mut lines, files, schedule, fabric, setup, actors, inputs, width, outputs,
+    )
+}

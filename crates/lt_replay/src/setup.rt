@@ -1,0 +1,26 @@
+// A network's layout, shape and timing, to be given away.
+ghost use Rattle.std.specs.Prelude.{◌≡◌, IfOk};
+
+use lt_arch::{Shape, Timing};
+use lt_base::Memory;
+use lt_place::Layout;
+
+#[derive(Drop)]
+pub(crate) struct Setup {
+    pub layout: Layout,
+    pub shape: Shape,
+    pub timing: Timing,
+}
+
+/// Equal ones.
+pub(crate) fn copies(layout: &Layout, shape: &Shape, timing: &Timing) -> Result<Setup, Memory>
+    ensures layout { IfOk result (λ setup. setup.layout ≡ layout.now) }
+    ensures shape { IfOk result (λ setup. setup.shape ≡ shape.now) }
+    ensures timing { IfOk result (λ setup. setup.timing ≡ timing.now) }
+{
+    Ok(Setup {
+        layout: layout.copy()?,
+        shape: shape.copy()?,
+        timing: timing.copy()?,
+    })
+}

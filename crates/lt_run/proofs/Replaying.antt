@@ -1,0 +1,119 @@
+-- What a replay answers, in the words of what its value shows.
+use Rattle.std.proofs.Common.{◌≡◌, ℕ, List, Option, Some, None, Result, Ok, Err, IsTrue, ap, subst, sym}
+use Rattle.std.specs.Prelude.{IfOk, IfErr, IsErrAnd}
+use Rattle.lt_base.specs.declared.memory.Or.{Or}
+use Rattle.lt_base.specs.declared.memory.Or.TheVariants.{Fault, Memory}
+use Rattle.lt_base.specs.declared.value.Value.{Value}
+use Rattle.lt_base.specs.Program.{Function}
+use Rattle.lt_arch.specs.declared.event.Event.{Event}
+use Rattle.lt_arch.specs.declared.shape.Shape.{Shape}
+use Rattle.lt_arch.specs.declared.timing.Timing.{Timing}
+use Rattle.lt_io.specs.FilesState.{FilesState}
+use Rattle.lt_io.specs.FabricState.{FabricState}
+use Rattle.lt_machine.specs.declared.step_machine.StepMachine.{StepMachine}
+use Rattle.lt_answer.specs.World.{World}
+use Rattle.lt_answer.specs.Answered.{Answered, RefusesReading}
+use Rattle.lt_judge.specs.declared.fault.ScheduleFault.{ScheduleFault}
+use Rattle.lt_judge.specs.declared.fault.ScheduleFault.TheVariants.{Read}
+use Rattle.lt_judge.specs.Verdict.{verdict}
+use Rattle.lt_play.specs.declared.fault.PlayFault.{PlayFault}
+use Rattle.lt_play.specs.declared.fault.PlayFault.TheVariants.{Schedule}
+use Rattle.lt_play.specs.Blamed.{play_blame}
+use Rattle.lt_play.specs.Played.{world, IsNearPlay}
+use Rattle.lt_replay.specs.declared.replayed.Replayed.{Replayed}
+use Rattle.lt_replay.specs.Run.{HasSteps}
+use Rattle.lt_replay.specs.Replays.{EndsWith, HasReplayed, IsReplay, replay_verdict}
+use Rattle.lt_load.specs.Plan.{LoadedPlan}
+use Rattle.lt_run.specs.declared.printed.Printed.{Printed}
+use Rattle.lt_run.specs.Printed.{HasPrinted, ReplayShows, Shows}
+
+module _ {T U : Type 0} (end : List Event → T → Type 0) (end' : List Event → U → Type 0) (s : Shape) (t : Timing) (rows : ℕ) where
+  ends_with : (v : Result (List Event) ScheduleFault) (x : T) (y : U) → ((events : List Event) → end events x → end' events y) → EndsWith end v (Ok x) → EndsWith end' v (Ok y)
+  ends_with (Ok events) x y too ends = too events ends
+  ends_with (Err f) x y too ends = absurd (cc)
+
+  refused_with : (v : Result (List Event) ScheduleFault) (e : PlayFault) → EndsWith end v (Err e) → EndsWith end' v (Err e)
+  refused_with (Ok events) e ends = ends
+  refused_with (Err f) e ends = let same : e ≡ Schedule f = cc in ap (λ (d : PlayFault). Err d) same
+
+  value_too : (file : Option (List ℕ)) (x : T) (y : U) → ((events : List Event) → end events x → end' events y) → replay_verdict end s t rows file (Ok x) → replay_verdict end' s t rows file (Ok y)
+  unfolding replay_verdict
+  value_too None x y too right = absurd (cc)
+  value_too (Some bytes) x y too right = ends_with (verdict s t rows bytes) x y too right
+
+  fault_too : (file : Option (List ℕ)) (e : PlayFault) → replay_verdict end s t rows file (Err e) → replay_verdict end' s t rows file (Err e)
+  unfolding replay_verdict
+  fault_too None e right = let same : e ≡ Schedule Read = cc in ap (λ (d : PlayFault). Err d) same
+  fault_too (Some bytes) e right = refused_with (verdict s t rows bytes) e right
+
+  module _ (file : Option (List ℕ)) (a b : World) where
+    reading_too : RefusesReading play_blame (replay_verdict end s t rows file) → RefusesReading play_blame (replay_verdict end' s t rows file)
+    reading_too reading = (reading.0, reading.1, fault_too file reading.0 reading.2)
+
+    -- another value of which the same events say what it shows
+    pub answered_value : (x : T) (y : U) → ((events : List Event) → end events x → end' events y) → Answered play_blame (replay_verdict end s t rows file) a b (Ok x) → Answered play_blame (replay_verdict end' s t rows file) a b (Ok y)
+    answered_value x y too first = record {
+      keeps = first.keeps;
+      cause = first.cause;
+      exact = λ told calm. value_too file x y too (first.exact told calm);
+      sound = λ told sound rose. reading_too (first.sound told sound rose);
+    }
+
+    -- no memory for it
+    pub answered_short : (x : T) → Answered play_blame (replay_verdict end s t rows file) a b (Ok x) → Answered play_blame (replay_verdict end' s t rows file) a b (Err Memory)
+    answered_short x first = record { keeps = first.keeps; cause = first.cause; exact = λ told calm. tt; sound = λ told sound rose. reading_too (first.sound told sound rose) }
+
+    -- a refusal
+    pub answered_fault : (e : Or PlayFault) → Answered play_blame (replay_verdict end s t rows file) a b (Err e) → Answered play_blame (replay_verdict end' s t rows file) a b (Err e)
+    answered_fault (Fault e) first = record {
+      keeps = first.keeps;
+      cause = first.cause;
+      exact = λ told calm. fault_too file e (first.exact told calm);
+      sound = λ told sound rose. reading_too (first.sound told sound rose);
+    }
+    answered_fault Memory first = record { keeps = first.keeps; cause = first.cause; exact = λ told calm. tt; sound = λ told sound rose. reading_too (first.sound told sound rose) }
+
+-- a replay of what was loaded
+
+module _ (stands : StepMachine → Function → List (List Value) → Type 0) (made : StepMachine → ℕ) (k : LoadedPlan) (name : List ℕ) (files files' : FilesState) (fabric fabric' : FabricState) where
+  abbrev Replays : Result Replayed (Or PlayFault) → Type 0
+  Replays r = HasReplayed stands made k.layout k.shape k.timing k.inputs.rows name files files' fabric fabric' r
+
+  abbrev Prints : Result Printed (Or PlayFault) → Type 0
+  Prints r = HasPrinted stands made k name files files' fabric fabric' r
+
+  abbrev replayed_end : List Event → Replayed → Type 0
+  replayed_end = IsReplay stands made k.layout k.shape k.timing k.inputs.rows fabric'
+
+  abbrev printed_end : List Event → Printed → Type 0
+  printed_end = ReplayShows stands made k.checked.program k.layout k.shape k.timing k.inputs.rows fabric'
+
+  -- it was refused
+  pub not_replayed : (e : Or PlayFault) (r : Result Printed (Or PlayFault)) → IsErrAnd r (λ f. f ≡ e) → Replays (Err e) → Prints r
+  not_replayed e (Ok x) is replays = absurd is
+  not_replayed e (Err f) is replays =
+      let told : Prints (Err e) = record {
+        answered = answered_fault replayed_end printed_end k.shape k.timing (Rattle.std.specs.Prelude.length k.inputs.rows) (files.named name) (world files fabric) (world files' fabric') e replays.answered;
+        ended = tt;
+        near = replays.near;
+      } in
+      subst (λ (g : Or PlayFault). Prints (Err g)) (sym is) told
+
+  -- no memory was found for the names
+  pub not_named : (x : Replayed) (r : Result Printed (Or PlayFault)) → IsErrAnd r (λ f. f ≡ Memory) → Replays (Ok x) → Prints r
+  not_named x (Ok y) is replays = absurd is
+  not_named x (Err f) is replays =
+      let told : Prints (Err Memory) = record {
+        answered = answered_short replayed_end printed_end k.shape k.timing (Rattle.std.specs.Prelude.length k.inputs.rows) (files.named name) (world files fabric) (world files' fabric') x replays.answered;
+        ended = tt;
+        near = λ told. tt;
+      } in
+      subst (λ (g : Or PlayFault). Prints (Err g)) (sym is) told
+
+  -- it is shown by name
+  pub named : (x : Replayed) (y : Printed) → ((events : List Event) → replayed_end events x → printed_end events y) → Replays (Ok x) → Prints (Ok y)
+  named x y too replays = record {
+    answered = answered_value replayed_end printed_end k.shape k.timing (Rattle.std.specs.Prelude.length k.inputs.rows) (files.named name) (world files fabric) (world files' fabric') x y too replays.answered;
+    ended = (replays.ended.0, too replays.ended.0 replays.ended.1);
+    near = λ told. tt;
+  }

@@ -1,0 +1,135 @@
+-- A run: what was loaded, and then its replay.
+use Rattle.std.proofs.Common.{◌≡◌, ◌∙◌, ℕ, List, Option, Result, Ok, Err, refl, sym, subst, inl, inr}
+use Rattle.std.specs.Prelude.{IsErrAnd, length}
+use Rattle.lt_base.specs.declared.memory.Or.{Or}
+use Rattle.lt_base.specs.declared.memory.Or.TheVariants.{Fault, Memory}
+use Rattle.lt_base.specs.declared.value.Value.{Value}
+use Rattle.lt_base.specs.declared.value.Cell.{Cell}
+use Rattle.lt_base.specs.Inputs.{InputTable}
+use Rattle.lt_base.specs.Program.{Function, WholeProgram}
+use Rattle.lt_arch.specs.declared.event.Event.{Event}
+use Rattle.lt_arch.specs.declared.shape.Shape.{Shape}
+use Rattle.lt_arch.specs.declared.timing.Timing.{Timing}
+use Rattle.lt_io.specs.FilesState.{FilesState}
+use Rattle.lt_io.specs.FabricState.{FabricState}
+use Rattle.lt_machine.specs.declared.step_machine.StepMachine.{StepMachine}
+use Rattle.lt_place.specs.declared.layout.Layout.{Layout}
+use Rattle.lt_net.specs.Channels.{IsShapeOf}
+use Rattle.lt_answer.specs.World.{World, Blames, alone}
+use Rattle.lt_answer.specs.Answered.{Answered, AndThen, RefusesReading}
+use Rattle.lt_answer.proofs.Stages.{beside, goes_on, renamed, runs_short, stops, widened}
+use Rattle.lt_front.specs.Examined.{ExaminedText}
+use Rattle.lt_judge.specs.declared.fault.ScheduleFault.TheVariants as schedule
+use Rattle.lt_play.specs.declared.fault.PlayFault.{PlayFault}
+use Rattle.lt_play.specs.declared.fault.PlayFault.TheVariants.{Schedule, Link}
+use Rattle.lt_play.specs.Blamed.{play_blame}
+use Rattle.lt_play.specs.Played.{world}
+use Rattle.lt_replay.specs.Replays.{replay_verdict}
+use Rattle.lt_load.specs.declared.fault.CommandFault.{CommandFault}
+use Rattle.lt_load.specs.Blamed.{command_blame}
+use Rattle.lt_load.specs.Plan.{Plan, LoadedPlan, IsLoadedFrom, Loads, load_verdict}
+use Rattle.lt_load.proofs.Raising.{raised_value, raised_fault}
+use Rattle.lt_run.specs.declared.outputs.Outputs.{Outputs}
+use Rattle.lt_run.specs.declared.printed.Printed.{Printed}
+use Rattle.lt_run.specs.Printed.{HasPrinted, ReplayShows, Shows}
+use Rattle.lt_run.specs.Run.{AsCommand, IsLaidOutBy, OutputsShow, along_loaded, along_verdict, command_fault, placed_run_verdict, run_verdict}
+use Rattle.lt_run.proofs.Replaying.{answered_value, answered_short, answered_fault}
+
+same_blame : (s : Shape) (e : PlayFault) → command_blame (command_fault s e) ≡ play_blame e
+same_blame s (Schedule (schedule.Row row f)) = refl
+same_blame s (Schedule (schedule.Offence event offence)) = refl
+same_blame s (Schedule schedule.Bytes) = refl
+same_blame s (Schedule schedule.Read) = refl
+same_blame s Link = refl
+
+-- the outputs of what a replay answers show the same
+outputs_show : (stands : StepMachine → Function → List (List Value) → Type 0) (made : StepMachine → ℕ) (p : WholeProgram) (l : Layout) (s : Shape) (t : Timing) (inputs : List (List Value)) (fabric : FabricState) (printed : Printed) (outputs : Outputs)
+    → outputs.names ≡ printed.names → outputs.cells ≡ printed.cells → (events : List Event) → ReplayShows stands made p l s t inputs fabric events printed → OutputsShow p l s t inputs fabric events outputs
+outputs_show stands made p l s t inputs fabric printed outputs names cells events shown =
+    (printed.horizon, subst (λ (ns : List (List ℕ)). Shows p l s t inputs fabric events ns outputs.cells printed.horizon) (sym names)
+    (subst (λ (cs : List (List Cell)). Shows p l s t inputs fabric events printed.names cs printed.horizon) (sym cells) shown.shows))
+
+module _ (stands : StepMachine → Function → List (List Value) → Type 0) (made : StepMachine → ℕ) (k : LoadedPlan) (name : List ℕ) (files files' : FilesState) (fabric fabric' : FabricState) where
+  abbrev file : Option (List ℕ)
+  file = files.named name
+
+  abbrev printed_end : List Event → Printed → Type 0
+  printed_end = ReplayShows stands made k.checked.program k.layout k.shape k.timing k.inputs.rows fabric'
+
+  abbrev outputs_end : List Event → Outputs → Type 0
+  outputs_end = OutputsShow k.checked.program k.layout k.shape k.timing k.inputs.rows fabric'
+
+  abbrev right : Result Outputs PlayFault → Type 0
+  right = replay_verdict outputs_end k.shape k.timing (length k.inputs.rows) file
+
+  abbrev Runs : Result Outputs (Or CommandFault) → Type 0
+  Runs r = Answered command_blame (along_loaded fabric' k file) (world files fabric) (world files' fabric') r
+
+  -- the outputs of what a replay answers
+  pub outputs_of : (printed : Printed) (outputs : Outputs) → outputs.names ≡ printed.names → outputs.cells ≡ printed.cells → HasPrinted stands made k name files files' fabric fabric' (Ok printed) → Runs (Ok outputs)
+  outputs_of printed outputs names cells has =
+      raised_value (command_fault k.shape) play_blame command_blame (same_blame k.shape) right (world files fabric) (world files' fabric') outputs
+      (answered_value printed_end outputs_end k.shape k.timing (length k.inputs.rows) file (world files fabric) (world files' fabric') printed outputs
+      (outputs_show stands made k.checked.program k.layout k.shape k.timing k.inputs.rows fabric' printed outputs names cells) has.answered)
+
+  refused : (e : Or PlayFault) → HasPrinted stands made k name files files' fabric fabric' (Err e) → Answered play_blame right (world files fabric) (world files' fabric') (Err e)
+  refused e has = answered_fault printed_end outputs_end k.shape k.timing (length k.inputs.rows) file (world files fabric) (world files' fabric') e has.answered
+
+  -- its refusal
+  pub fault_of : (e : Or PlayFault) (g : Or CommandFault) → AsCommand k.shape e g → HasPrinted stands made k name files files' fabric fabric' (Err e) → Runs (Err g)
+  fault_of (Fault f) (Fault g) is has =
+      raised_fault (command_fault k.shape) play_blame command_blame (same_blame k.shape) right (world files fabric) (world files' fabric') (Fault f) (Fault g) is (refused (Fault f) has)
+  fault_of (Fault f) Memory is has =
+      let first = refused (Fault f) has in
+      let short : Answered play_blame right (world files fabric) (world files' fabric') (Err Memory) = record {
+        keeps = first.keeps;
+        cause = subst (Blames (world files fabric) (world files' fabric')) is first.cause;
+        exact = λ told calm. tt;
+        sound = first.sound;
+      } in
+      raised_fault (command_fault k.shape) play_blame command_blame (same_blame k.shape) right (world files fabric) (world files' fabric') Memory Memory tt short
+  fault_of Memory (Fault g) is has = absurd is
+  fault_of Memory Memory is has =
+      raised_fault (command_fault k.shape) play_blame command_blame (same_blame k.shape) right (world files fabric) (world files' fabric') Memory Memory tt (refused Memory has)
+
+-- no memory was found before the replay
+pub not_begun : (k : LoadedPlan) (file : Option (List ℕ)) (fabric : FabricState) (w : World) (r : Result Outputs (Or CommandFault)) → IsErrAnd r (λ f. f ≡ Memory) → Answered command_blame (along_loaded fabric k file) w w r
+not_begun k file fabric w (Ok x) is = absurd is
+not_begun k file fabric w (Err f) is = subst (λ (g : Or CommandFault). Answered command_blame (along_loaded fabric k file) w w (Err g)) (sym is) (runs_short w)
+
+-- what was loaded, and then its run
+
+module _ (program inputs schedule : List ℕ) (config : Option (List ℕ)) (a : FilesState) where
+  wider : (fabric : FabricState) (o : Result Outputs CommandFault) → AndThen (Loads (load_verdict a.named program inputs config)) (λ k. along_loaded fabric k (a.named schedule)) o → run_verdict a.named program inputs schedule config fabric o
+  unfolding run_verdict along_verdict
+  wider fabric (Ok x) (inl p) = absurd p
+  wider fabric (Err e) (inl p) = inl p
+  wider fabric o (inr q) =
+      let k : LoadedPlan = q.0 in
+      let plan : Plan = q.1.0 in
+      let from : IsLoadedFrom plan k = q.1.2 in
+      let laid : IsLaidOutBy plan k.layout k.shape = record { layout = from.layout; shape = subst (λ (t : Timing). IsShapeOf k.layout t.protocol k.shape) from.timing from.shape } in
+      let timed = subst (λ (t : Timing). placed_run_verdict k.checked.program k.layout k.shape t k.inputs.rows fabric (a.named schedule) o) from.timing q.2 in
+      let fed = subst (λ (t : InputTable). placed_run_verdict k.checked.program k.layout k.shape plan.setup.timing t.rows fabric (a.named schedule) o) from.inputs timed in
+      let told = subst (λ (x : ExaminedText). placed_run_verdict x.program k.layout k.shape plan.setup.timing plan.inputs.rows fabric (a.named schedule) o) from.checked fed in
+      inr (plan, q.1.1, (k.layout, k.shape, laid, told))
+
+  module _ (b : FilesState) (fabric : FabricState) where
+    -- it was not loaded
+    pub not_loaded : (e : Or CommandFault) (r : Result Outputs (Or CommandFault)) → IsErrAnd r (λ f. f ≡ e) → Answered command_blame (Loads (load_verdict a.named program inputs config)) (alone a) (alone b) (Err e)
+        → Answered command_blame (run_verdict a.named program inputs schedule config fabric) (world a fabric) (world b fabric) r
+    not_loaded e (Ok x) is first = absurd is
+    not_loaded e (Err f) is first =
+        let stopped : Answered command_blame (AndThen (Loads (load_verdict a.named program inputs config)) (λ k. along_loaded fabric k (a.named schedule))) (world a fabric) (world b fabric) (Err e) =
+        stops (world a fabric) (world b fabric) e (beside a b fabric (Err e) first) in
+        subst (λ (g : Or CommandFault). Answered command_blame (run_verdict a.named program inputs schedule config fabric) (world a fabric) (world b fabric) (Err g)) (sym is)
+        (widened (AndThen (Loads (load_verdict a.named program inputs config)) (λ k. along_loaded fabric k (a.named schedule))) (run_verdict a.named program inputs schedule config fabric) (world a fabric) (world b fabric) (Err e) (wider fabric) stopped)
+
+    -- it was, and then run
+    pub loaded_run : (k : LoadedPlan) (c : FilesState) (fabric' : FabricState) (r : Result Outputs (Or CommandFault)) → Answered command_blame (Loads (load_verdict a.named program inputs config)) (alone a) (alone b) (Ok k)
+        → Answered command_blame (along_loaded fabric' k (b.named schedule)) (world b fabric) (world c fabric') r → Answered command_blame (run_verdict a.named program inputs schedule config fabric') (world a fabric) (world c fabric') r
+    loaded_run k c fabric' r first second =
+        let on : Answered command_blame (AndThen (Loads (load_verdict a.named program inputs config)) (λ k. along_loaded fabric' k (a.named schedule))) (world a fabric) (world c fabric') r =
+        goes_on (world a fabric) (world b fabric) (world c fabric') k r (beside a b fabric (Ok k) first)
+        (renamed (λ names. along_loaded fabric' k (names schedule)) b.named a.named (world b fabric) (world c fabric') r first.keeps.files.named second) in
+        widened (AndThen (Loads (load_verdict a.named program inputs config)) (λ k. along_loaded fabric' k (a.named schedule))) (run_verdict a.named program inputs schedule config fabric') (world a fabric) (world c fabric') r (wider fabric') on

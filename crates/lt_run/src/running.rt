@@ -1,0 +1,101 @@
+// A run of a program along a schedule.
+ghost use Rattle.std.specs.Prelude.{◌≡◌, ◌<◌, ◌-◌, ◌^◌, [], IfOk, length, option_map};
+ghost use Rattle.lt_answer.specs.Answered.{Answered};
+ghost use Rattle.lt_play.specs.Played.{world};
+ghost use Rattle.lt_load.specs.Blamed.{command_blame};
+ghost use Rattle.lt_run.specs.Run.{AsCommand, along_loaded, run_verdict};
+
+use crate::{Outputs, replay};
+use lt_arch::Shape;
+use lt_base::tables::imp;
+use lt_base::{Memory, Or};
+use lt_io::{Fabric, Files};
+use lt_judge::ScheduleFault;
+use lt_load::{CommandFault, Loaded, What, load};
+use lt_machine::Import;
+use lt_play::PlayFault;
+use std::alloc::Global;
+
+/// Runs a program on the nodes of a setup, or on one node without a setup: each node's machine makes a step for each instant that
+/// the node executes along the schedule, and what crosses between nodes is sent over the fabric, which has no channel yet. Each
+/// output is given with a cell for each instant that its node executed. The files are read in this order: the program, the setup,
+/// the inputs and the schedule.
+pub fn run<F: Files, W: Fabric>(
+    alloc: Global,
+    files: &mut F,
+    fabric: &mut W,
+    program: &str,
+    inputs: &str,
+    schedule: &str,
+    config: Option<&str>,
+) -> Result<Outputs, Or<CommandFault>>
+    requires count { (F.state files.old).faults < 2 ^ 64 - 1 }
+    requires link_count { (W.state fabric.old).faults < 2 ^ 64 - 1 }
+    requires empty { (W.state fabric.old).kinds ≡ [] }
+    ensures { Answered command_blame (run_verdict (F.state files.old).named program.now inputs.now schedule.now (option_map (λ s. s.now) config.entry) (W.state fabric.new))
+        (world (F.state files.old) (W.state fabric.old)) (world (F.state files.new) (W.state fabric.new)) result }
+{
+    let loaded = load(alloc, files, program, inputs, config)?;
+    run_loaded(alloc, files, fabric, &loaded, schedule)
+}
+
+// Runs what was loaded along the schedule of a file.
+fn run_loaded<F: Files, W: Fabric>(
+    alloc: Global,
+    files: &mut F,
+    fabric: &mut W,
+    loaded: &Loaded,
+    schedule: &str,
+) -> Result<Outputs, Or<CommandFault>>
+    requires count { (F.state files.old).faults < 2 ^ 64 - 1 }
+    requires link_count { (W.state fabric.old).faults < 2 ^ 64 - 1 }
+    requires empty { (W.state fabric.old).kinds ≡ [] }
+    ensures { Answered command_blame (along_loaded (W.state fabric.new) loaded.now ((F.state files.old).named schedule.now))
+        (world (F.state files.old) (W.state fabric.old)) (world (F.state files.new) (W.state fabric.new)) result }
+{
+    let imports = operators(alloc, loaded.layout.nodes.len())?;
+    match replay(alloc, loaded, files, schedule, fabric, imports) {
+        Ok(printed) => Ok(printed.outputs()),
+        Err(fault) => Err(as_command(&loaded.shape, fault)),
+    }
+}
+
+// The imported operators, once for each node.
+fn operators(alloc: Global, nodes: usize) -> Result<Vec<Import>, Memory>
+    ensures { IfOk result (λ imports. length imports.items ≡ nodes) }
+{
+    let mut imports = Vec::with_capacity(alloc, nodes)?;
+    for _node in 0..nodes {
+        imports.push(Import::new(imp))?;
+    }
+    Ok(imports)
+}
+
+// A replay's fault as the command's, with a copy of the shape whose nodes it names.
+fn as_command(shape: &Shape, fault: Or<PlayFault>) -> Or<CommandFault>
+    ensures { AsCommand shape.now fault result }
+{
+    match fault {
+        Or::Fault(PlayFault::Schedule(fault)) => of_schedule(shape, fault),
+        Or::Fault(PlayFault::Link) => Or::Fault(CommandFault::Link),
+        Or::Memory => Or::Memory,
+    }
+}
+
+fn of_schedule(shape: &Shape, fault: ScheduleFault) -> Or<CommandFault>
+    ensures { AsCommand shape.now (Or.Fault (PlayFault.Schedule fault)) result }
+{
+    match fault {
+        ScheduleFault::Row { row, fault } => Or::Fault(CommandFault::Row { row, fault }),
+        ScheduleFault::Offence { event, offence } => match shape.copy() {
+            Ok(shape) => Or::Fault(CommandFault::Offence {
+                event,
+                offence,
+                shape,
+            }),
+            Err(_) => Or::Memory,
+        },
+        ScheduleFault::Bytes => Or::Fault(CommandFault::Limit(What::ScheduleBytes)),
+        ScheduleFault::Read => Or::Fault(CommandFault::Read),
+    }
+}
