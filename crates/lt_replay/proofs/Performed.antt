@@ -1,5 +1,6 @@
 -- What a network along a schedule answers, from what its net did.
 use Rattle.std.proofs.Common.{◌≡◌, ◌<◌, inl, inr, ℕ, List, length, Option, Some, None, Result, Ok, Err, IsTrue, refl, sym, ap, ◌∙◌, subst, arith}
+use Rattle.std.specs.Prelude.{IsErrAnd}
 use Rattle.lt_base.specs.declared.value.Value.{Value}
 use Rattle.lt_base.specs.declared.memory.Or.{Or}
 use Rattle.lt_base.specs.declared.memory.Or.TheVariants.{Fault, Memory}
@@ -29,6 +30,7 @@ use Rattle.lt_place.specs.Layout.{IsPlaced}
 use Rattle.lt_net.specs.NetModel.{StoppableNet}
 use Rattle.lt_net.specs.Kept.{IsSized}
 use Rattle.lt_net.specs.Starts.{IsMadeOf}
+use Rattle.lt_net.proofs.SendLoop.{keeps_refl}
 use Rattle.lt_play.specs.declared.fault.PlayFault.{PlayFault}
 use Rattle.lt_play.specs.declared.fault.PlayFault.TheVariants.{Schedule}
 use Rattle.lt_play.specs.Played.{world, IsLeast, IsAtEnd, EndsBy, play_verdict, HasPlayed}
@@ -37,6 +39,11 @@ use Rattle.lt_replay.specs.declared.replayed.Replayed.{Replayed}
 use Rattle.lt_replay.specs.Sound.{IsSound}
 use Rattle.lt_replay.specs.Replays.{IsTaken, IsReplay, EndsWith, replay_verdict, HasReplayed, link_fault}
 use Rattle.lt_replay.proofs.AtTheEnd.{is_replay}
+
+-- an error that is handed on
+at_error : {T E : Type 0} (P : Result T E → Type 0) (r : Result T E) (e : E) → IsErrAnd r (λ f. f ≡ e) → P (Err e) → P r
+at_error P (Ok x) e is refused = absurd is
+at_error P (Err f) e is refused = subst (λ g. P (Err g)) (sym is) refused
 
 module _ {C M : Type 0} (phase : C → Phase) (stands : M → Function → List (List Value) → Type 0) (made left size : M → ℕ)
     (l : Layout) (s : Shape) (t : Timing) (inputs : List (List Value)) (name : List ℕ) (files files' : FilesState) (fabric : FabricState) where
@@ -73,6 +80,10 @@ module _ {C M : Type 0} (phase : C → Phase) (stands : M → Function → List 
       ended = tt;
       near = λ told. tt;
     }
+
+  -- there is no memory to begin with
+  pub no_memory : (r : Result (Replayed M) (Or PlayFault)) → IsErrAnd r (λ f. f ≡ Memory) → HasReplayed stands made l s t inputs name files files fabric fabric r
+  no_memory r is = at_error (λ answer. HasReplayed stands made l s t inputs name files files fabric fabric answer) r Memory is (not_opened fabric (keeps_refl fabric) (λ sound. refl) link.Memory refl)
 
 -- a step's answer as that of another, where what is right of the one is right of the other
 module _ {T U E : Type 0} (blame : E → Blame) (V : Verdict T E) (W : Verdict U E) (a b : World) (wider : (e : E) → V (Err e) → W (Err e)) where
@@ -169,22 +180,28 @@ module _ {C M : Type 0} (phase : C → Phase) (stands : M → Function → List 
       (goes_on {next = λ _. replayed_right (files.named name)} (world files fabric) (world files mid) (world files' fabric') tt r leave answered)
 
   -- the play was refused
-  pub refused_play : (e : Or PlayFault) → HasPlayed phase stands made left size old new inputs later name files files' mid fabric' (Err e) → HasReplayed stands made l s t inputs name files files' fabric fabric' (Err e)
+  refused_play : (e : Or PlayFault) → HasPlayed phase stands made left size old new inputs later name files files' mid fabric' (Err e) → HasReplayed stands made l s t inputs name files files' fabric fabric' (Err e)
   refused_play e played = record {
     answered = from_start (Err e) (error_too play_blame (played_right (files.named name)) (replayed_right (files.named name)) (world files mid) (world files' fabric') (error_wider (files.named name)) e played.answered);
     ended = tt;
     near = played.near;
   }
 
+  pub refused_by : (r : Result (Replayed M) (Or PlayFault)) (e : Or PlayFault) → IsErrAnd r (λ f. f ≡ e) → HasPlayed phase stands made left size old new inputs later name files files' mid fabric' (Err e) → HasReplayed stands made l s t inputs name files files' fabric fabric' r
+  refused_by r e is played = at_error (λ answer. HasReplayed stands made l s t inputs name files files' fabric fabric' answer) r e is (refused_play e played)
+
   -- the play went to its end
   module _ (x : Unit {0}) (played : HasPlayed phase stands made left size old new inputs later name files files' mid fabric' (Ok x)) where
     -- there is no memory for what is taken
-    pub untaken : HasReplayed stands made l s t inputs name files files' fabric fabric' (Err Memory)
+    untaken : HasReplayed stands made l s t inputs name files files' fabric fabric' (Err Memory)
     untaken = record {
       answered = from_start (Err Memory) (short_too play_blame (played_right (files.named name)) (replayed_right (files.named name)) (world files mid) (world files' fabric') (error_wider (files.named name)) x played.answered);
       ended = tt;
       near = λ told. tt;
     }
+
+    pub untaken_by : (r : Result (Replayed M) (Or PlayFault)) → IsErrAnd r (λ f. f ≡ Memory) → HasReplayed stands made l s t inputs name files files' fabric fabric' r
+    untaken_by r is = at_error (λ answer. HasReplayed stands made l s t inputs name files files' fabric fabric' answer) r Memory is untaken
 
     -- it is taken
     module _ (f : Originated) (placed : IsPlaced f l) (fit : RowsFit f.func inputs) (networks : IsSound l s t (length inputs)) (sized : IsSized new.plant) (tracks : length new.plant.tracks ≡ length new.plant.layout.outs)
