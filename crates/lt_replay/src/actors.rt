@@ -3,8 +3,7 @@ ghost use Rattle.std.specs.Prelude.{◌≡◌, length, IfOk};
 ghost use Rattle.lt_norm.specs.Flat.{Originated};
 ghost use Rattle.lt_place.specs.Layout.{IsPlaced};
 ghost use Rattle.lt_place.specs.Sizes.{HasCodeRoom};
-ghost use Rattle.lt_net.specs.Starts.{AreReady};
-ghost use Rattle.lt_replay.specs.Ready.{AreControllers};
+ghost use Rattle.lt_replay.specs.Ready.{AreReadySoFar, AreControllers};
 
 use crate::machines::machines_of;
 use lt_arch::{Controller, Timing};
@@ -16,9 +15,9 @@ use std::alloc::Global;
 
 /// What acts at the nodes.
 #[derive(Drop)]
-pub(crate) struct Actors {
-    pub machines: Vec<StepMachine>,
-    pub controllers: Vec<NodeController>,
+pub(crate) struct Actors<C, M> {
+    pub machines: Vec<M>,
+    pub controllers: Vec<C>,
 }
 
 // A controller for each node.
@@ -40,10 +39,11 @@ pub(crate) fn actors_of(
     timing: &Timing,
     imports: Vec<Import>,
     rows: u32,
-) -> Result<Actors, Memory>
+) -> Result<Actors<NodeController, StepMachine>, Memory>
     requires placed { (f : Originated) × IsPlaced f layout.now × HasCodeRoom f.func }
     requires imports { length imports.items ≡ length layout.now.nodes }
-    ensures machines { IfOk result (λ actors. AreReady ⟦<StepMachine as Machine>⟧.stands ⟦<StepMachine as Machine>⟧.made ⟦<StepMachine as Machine>⟧.left layout.now rows actors.machines.items) }
+    ensures count { IfOk result (λ actors. length actors.machines.items ≡ length layout.now.nodes) }
+    ensures machines { IfOk result (λ actors. AreReadySoFar ⟦<StepMachine as Machine>⟧.stands ⟦<StepMachine as Machine>⟧.made ⟦<StepMachine as Machine>⟧.left layout.now rows actors.machines.items) }
     ensures controllers { IfOk result (λ actors. AreControllers ⟦<NodeController as Controller>⟧.phase ⟦<NodeController as Controller>⟧.protocol ⟦<NodeController as Controller>⟧.send ⟦<NodeController as Controller>⟧.execute timing.now actors.controllers.items) }
 {
     let machines = machines_of(alloc, layout, imports, rows)?;

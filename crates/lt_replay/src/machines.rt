@@ -4,7 +4,6 @@ ghost use Rattle.lt_norm.specs.Flat.{Originated};
 ghost use Rattle.lt_step.specs.Compile.{CodeOf};
 ghost use Rattle.lt_place.specs.Layout.{IsPlaced};
 ghost use Rattle.lt_place.specs.Sizes.{HasCodeRoom, IsCompilable};
-ghost use Rattle.lt_net.specs.Starts.{AreReady};
 ghost use Rattle.lt_replay.specs.Ready.{IsReady, AreReadySoFar, AreCompilable};
 
 use lt_base::{Memory, Or};
@@ -66,7 +65,8 @@ pub(crate) fn machines_of(
 ) -> Result<Vec<StepMachine>, Memory>
     requires placed { (f : Originated) × IsPlaced f layout.now × HasCodeRoom f.func }
     requires imports { length imports.items ≡ length layout.now.nodes }
-    ensures { IfOk result (λ machines. AreReady ⟦<StepMachine as Machine>⟧.stands ⟦<StepMachine as Machine>⟧.made ⟦<StepMachine as Machine>⟧.left layout.now rows machines.items) }
+    ensures count { IfOk result (λ machines. length machines.items ≡ length layout.now.nodes) }
+    ensures ready { IfOk result (λ machines. AreReadySoFar ⟦<StepMachine as Machine>⟧.stands ⟦<StepMachine as Machine>⟧.made ⟦<StepMachine as Machine>⟧.left layout.now rows machines.items) }
 {
     parts_compile();
     let mut machines = Vec::with_capacity(alloc, imports.len())?;

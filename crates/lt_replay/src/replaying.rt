@@ -9,8 +9,7 @@ ghost use Rattle.lt_step.specs.Run.{HasRowValues};
 ghost use Rattle.lt_place.specs.Layout.{IsPlaced};
 ghost use Rattle.lt_place.specs.Sizes.{HasCodeRoom};
 ghost use Rattle.lt_net.specs.Channels.{IsShapeOf};
-ghost use Rattle.lt_net.specs.Starts.{AreReady};
-ghost use Rattle.lt_replay.specs.Ready.{AreControllers};
+ghost use Rattle.lt_replay.specs.Ready.{AreReadySoFar, AreControllers};
 ghost use Rattle.lt_replay.specs.Sound.{IsSound};
 ghost use Rattle.lt_replay.specs.Replays.{HasReplayed, link_fault};
 
@@ -22,7 +21,6 @@ use crate::taking::take;
 use lt_arch::{Controller, Shape, Timing};
 use lt_base::{Inputs, Or};
 use lt_io::{Fabric, Files, LinkErr};
-use lt_judge::NodeController;
 use lt_machine::{Import, Machine, StepMachine};
 use lt_place::Layout;
 use lt_play::{PlayFault, Playback, play};
@@ -39,18 +37,18 @@ fn link_fault(e: LinkErr) -> Or<PlayFault>
 }
 
 // Plays the schedule with what acts at the nodes, and takes what it comes to.
-fn perform<F: Files, W: Fabric>(
+fn perform<F: Files, W: Fabric, C: Controller, M: Machine>(
     alloc: Global,
     lines: &mut Lines,
     files: &mut F,
     schedule: &str,
     fabric: &mut W,
     setup: Setup,
-    actors: Actors,
+    actors: Actors<C, M>,
     inputs: &Inputs,
     width: u32,
     outputs: u32,
-) -> Result<Replayed, Or<PlayFault>>
+) -> Result<Replayed<M>, Or<PlayFault>>
     requires fresh { lines.old ≡ fresh }
     requires count { (F.state files.old).faults < 2 ^ 64 - 1 }
     requires link_count { (W.state fabric.old).faults < 2 ^ 64 - 1 }
@@ -58,12 +56,13 @@ fn perform<F: Files, W: Fabric>(
     requires placed { (f : Originated) × IsPlaced f setup.layout × RowsFit f.func inputs.now.rows }
     requires sound { IsSound setup.layout setup.shape setup.timing (length inputs.now.rows) }
     requires few { length setup.layout.names ≤ 32 }
-    requires machines { AreReady ⟦<StepMachine as Machine>⟧.stands ⟦<StepMachine as Machine>⟧.made ⟦<StepMachine as Machine>⟧.left setup.layout (length inputs.now.rows) actors.machines.items }
-    requires controllers { AreControllers ⟦<NodeController as Controller>⟧.phase ⟦<NodeController as Controller>⟧.protocol ⟦<NodeController as Controller>⟧.send ⟦<NodeController as Controller>⟧.execute setup.timing actors.controllers.items }
+    requires machine_count { length actors.machines.items ≡ length setup.layout.nodes }
+    requires machines { AreReadySoFar M.stands M.made M.left setup.layout (length inputs.now.rows) actors.machines.items }
+    requires controllers { AreControllers C.phase C.protocol C.send C.execute setup.timing actors.controllers.items }
     requires width { inputs.now.width ≡ width }
     requires wide { HasRowValues width inputs.now.rows }
     requires outputs { length setup.layout.outs ≡ outputs }
-    ensures { HasReplayed ⟦<StepMachine as Machine>⟧.stands ⟦<StepMachine as Machine>⟧.made setup.layout setup.shape setup.timing inputs.now.rows schedule.now
+    ensures { HasReplayed M.stands M.made setup.layout setup.shape setup.timing inputs.now.rows schedule.now
         (F.state files.old) (F.state files.new) (W.state fabric.old) (W.state fabric.new) result }
 {
     let started = Playback::start(
@@ -80,6 +79,7 @@ fn perform<F: Files, W: Fabric>(
     match started {
         Ok(mut playback) => {
             play(lines, files, schedule, &mut playback, fabric)?;
+            playback.net.kept();
             Ok(take(alloc, playback.net, outputs)?)
         }
         Err(e) => Err(link_fault(e)),
@@ -101,7 +101,7 @@ pub fn replay<F: Files, W: Fabric>(
     inputs: &Inputs,
     width: u32,
     imports: Vec<Import>,
-) -> Result<Replayed, Or<PlayFault>>
+) -> Result<Replayed<StepMachine>, Or<PlayFault>>
     requires count { (F.state files.old).faults < 2 ^ 64 - 1 }
     requires link_count { (W.state fabric.old).faults < 2 ^ 64 - 1 }
     requires empty { (W.state fabric.old).kinds ≡ [] }
