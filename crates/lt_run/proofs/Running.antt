@@ -17,7 +17,7 @@ use Rattle.lt_place.specs.declared.layout.Layout.{Layout}
 use Rattle.lt_net.specs.Channels.{IsShapeOf}
 use Rattle.lt_answer.specs.World.{World, Blames, alone}
 use Rattle.lt_answer.specs.Answered.{Answered, AndThen, RefusesReading}
-use Rattle.lt_answer.proofs.Stages.{beside, goes_on, renamed, runs_short, stops, widened}
+use Rattle.lt_answer.proofs.Stages.{beside, goes_on, renamed, stops, widened}
 use Rattle.lt_front.specs.Examined.{ExaminedText}
 use Rattle.lt_judge.specs.declared.fault.ScheduleFault.TheVariants as schedule
 use Rattle.lt_play.specs.declared.fault.PlayFault.{PlayFault}
@@ -91,11 +91,6 @@ module _ (stands : StepMachine → Function → List (List Value) → Type 0) (m
   fault_of Memory (Fault g) is has = absurd is
   fault_of Memory Memory is has =
       raised_fault (command_fault k.shape) play_blame command_blame (same_blame k.shape) right (world files fabric) (world files' fabric') Memory Memory tt (refused Memory has)
-
--- no memory was found before the replay
-pub not_begun : (k : LoadedPlan) (file : Option (List ℕ)) (fabric : FabricState) (w : World) (r : Result Outputs (Or CommandFault)) → IsErrAnd r (λ f. f ≡ Memory) → Answered command_blame (along_loaded fabric k file) w w r
-not_begun k file fabric w (Ok x) is = absurd is
-not_begun k file fabric w (Err f) is = subst (λ (g : Or CommandFault). Answered command_blame (along_loaded fabric k file) w w (Err g)) (sym is) (runs_short w)
 
 -- what was loaded, and then its run
 

@@ -37,7 +37,7 @@ impl Printed {
 pub(crate) fn name_outputs(
     alloc: Global,
     main: &Func,
-    replayed: Replayed,
+    replayed: Replayed<StepMachine>,
 ) -> Result<Printed, Memory>
     requires width { length replayed.cells ≡ length main.now.outs }
     ensures names { IfOk result (λ printed. printed.names ≡ map (name_in main.now) main.now.outs) }
