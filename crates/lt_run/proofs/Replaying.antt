@@ -26,7 +26,7 @@ use Rattle.lt_replay.specs.Run.{HasSteps}
 use Rattle.lt_replay.specs.Replays.{EndsWith, HasReplayed, IsReplay, replay_verdict}
 use Rattle.lt_load.specs.Plan.{LoadedPlan}
 use Rattle.lt_run.specs.declared.printed.Printed.{Printed}
-use Rattle.lt_run.specs.Printed.{HasPrinted, ReplayShows, Shows}
+use Rattle.lt_run.specs.Printed.{HasPrinted, ReplayShows}
 
 module _ {T U : Type 0} (end : List Event → T → Type 0) (end' : List Event → U → Type 0) (s : Shape) (t : Timing) (rows : ℕ) where
   ends_with : (v : Result (List Event) ScheduleFault) (x : T) (y : U) → ((events : List Event) → end events x → end' events y) → EndsWith end v (Ok x) → EndsWith end' v (Ok y)

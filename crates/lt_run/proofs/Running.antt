@@ -31,8 +31,8 @@ use Rattle.lt_load.specs.Plan.{Plan, LoadedPlan, IsLoadedFrom, Loads, load_verdi
 use Rattle.lt_load.proofs.Raising.{raised_value, raised_fault}
 use Rattle.lt_run.specs.declared.outputs.Outputs.{Outputs}
 use Rattle.lt_run.specs.declared.printed.Printed.{Printed}
-use Rattle.lt_run.specs.Printed.{HasPrinted, ReplayShows, Shows}
-use Rattle.lt_run.specs.Run.{AsCommand, IsLaidOutBy, OutputsShow, along_loaded, along_verdict, command_fault, placed_run_verdict, run_verdict}
+use Rattle.lt_run.specs.Printed.{HasPrinted, ReplayShows, ShowsAt}
+use Rattle.lt_run.specs.Run.{AsCommand, IsLaidOutBy, Shows, along_loaded, along_verdict, command_fault, placed_run_verdict, run_verdict}
 use Rattle.lt_run.proofs.Replaying.{answered_value, answered_short, answered_fault}
 
 same_blame : (s : Shape) (e : PlayFault) → command_blame (command_fault s e) ≡ play_blame e
@@ -44,10 +44,13 @@ same_blame s Link = refl
 
 -- the outputs of what a replay answers show the same
 outputs_show : (stands : StepMachine → Function → List (List Value) → Type 0) (made : StepMachine → ℕ) (p : WholeProgram) (l : Layout) (s : Shape) (t : Timing) (inputs : List (List Value)) (fabric : FabricState) (printed : Printed) (outputs : Outputs)
-    → outputs.names ≡ printed.names → outputs.cells ≡ printed.cells → (events : List Event) → ReplayShows stands made p l s t inputs fabric events printed → OutputsShow p l s t inputs fabric events outputs
-outputs_show stands made p l s t inputs fabric printed outputs names cells events shown =
-    (printed.horizon, subst (λ (ns : List (List ℕ)). Shows p l s t inputs fabric events ns outputs.cells printed.horizon) (sym names)
-    (subst (λ (cs : List (List Cell)). Shows p l s t inputs fabric events printed.names cs printed.horizon) (sym cells) shown.shows))
+    → outputs.names ≡ printed.names → outputs.cells ≡ printed.cells → (events : List Event) → ReplayShows stands made p l s t inputs fabric events printed → Shows p l s t inputs fabric events outputs
+outputs_show stands made p l s t inputs fabric printed outputs names cells events shown = record {
+  horizon = printed.horizon;
+  told =
+      subst (λ (ns : List (List ℕ)). ShowsAt p l s t inputs fabric events ns outputs.cells printed.horizon) (sym names)
+      (subst (λ (cs : List (List Cell)). ShowsAt p l s t inputs fabric events printed.names cs printed.horizon) (sym cells) shown.shows);
+}
 
 module _ (stands : StepMachine → Function → List (List Value) → Type 0) (made : StepMachine → ℕ) (k : LoadedPlan) (name : List ℕ) (files files' : FilesState) (fabric fabric' : FabricState) where
   abbrev file : Option (List ℕ)
@@ -57,7 +60,7 @@ module _ (stands : StepMachine → Function → List (List Value) → Type 0) (m
   printed_end = ReplayShows stands made k.checked.program k.layout k.shape k.timing k.inputs.rows fabric'
 
   abbrev outputs_end : List Event → Outputs → Type 0
-  outputs_end = OutputsShow k.checked.program k.layout k.shape k.timing k.inputs.rows fabric'
+  outputs_end = Shows k.checked.program k.layout k.shape k.timing k.inputs.rows fabric'
 
   abbrev right : Result Outputs PlayFault → Type 0
   right = replay_verdict outputs_end k.shape k.timing (length k.inputs.rows) file

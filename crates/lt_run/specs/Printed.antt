@@ -4,7 +4,6 @@ use Rattle.lt_base.specs.declared.value.Value.{Value}
 use Rattle.lt_base.specs.declared.value.Cell.{Cell}
 use Rattle.lt_base.specs.declared.memory.Or.{Or}
 use Rattle.lt_base.specs.Program.{Function, WholeProgram}
-use Rattle.lt_base.specs.Meaning.{stream_of}
 use Rattle.lt_arch.specs.declared.event.Event.{Event}
 use Rattle.lt_arch.specs.declared.shape.Shape.{Shape}
 use Rattle.lt_arch.specs.declared.timing.Timing.{Timing}
@@ -24,33 +23,25 @@ use Rattle.lt_replay.specs.Replays.{replay_verdict}
 use Rattle.lt_load.specs.Main.{main_in}
 use Rattle.lt_load.specs.Plan.{LoadedPlan}
 use Rattle.lt_run.specs.declared.printed.Printed.{Printed}
-use Rattle.lt_run.specs.Main.{output_names}
+use Rattle.lt_run.specs.Main.{output_names, output_streams}
 
--- the variable of output number y
-abbrev pub output_of : WholeProgram → (y : ℕ) → ℕ
-output_of p y = slice_index_or (main_in p).outs y 0
-
--- node n gives the variable v out
-pub record IsHomeOf (l : Layout) (v n : ℕ) : Type 0 where
-  pub within : n < length l.nodes
-  pub own : ℕ
-  pub gives : Gives (part_of l n) v own
-
--- what outputs show of a run along these events: a program's outputs by name, each with cells that the run gave
-pub record Shows (p : WholeProgram) (l : Layout) (s : Shape) (t : Timing) (inputs : List (List Value)) (fabric : FabricState) (events : List Event) (names : List (List ℕ)) (cells : List (List Cell)) (horizon : ℕ) : Type 0 where
+-- what outputs of these names and cells show of a run along these events
+pub record ShowsAt (p : WholeProgram) (l : Layout) (s : Shape) (t : Timing) (inputs : List (List Value)) (fabric : FabricState) (events : List Event) (names : List (List ℕ)) (cells : List (List Cell)) (horizon : ℕ) : Type 0 where
+  -- the program's outputs by name, in order
   pub names_are : names ≡ output_names p
+  pub outputs_are : l.outs ≡ (main_in p).outs
   -- the schedule is within the bounds; the cells are what each node's part gives on what was delivered to it, as many as the node has
   -- executed instants, at least the bound for the horizon or all rows; and the fabric holds and tells what was sent
   pub run : IsRun l s t inputs fabric events cells horizon
   -- each output is on a node
-  pub home : (y : ℕ) → y < length (main_in p).outs → (n : ℕ) × IsHomeOf l (output_of p y) n
+  pub home : (y : ℕ) → y < length l.outs → (n : ℕ) × (n < length l.nodes) × (x : ℕ) × Gives (part_of l n) (slice_index_or l.outs y 0) x
   -- over a faithful fabric an output's cells are the first of its stream in the whole program, as many as its node has executed instants
-  pub prefixes : IsTrue fabric.faithful → (y n : ℕ) → y < length (main_in p).outs → IsHomeOf l (output_of p y) n →
-      slice_index_or cells y [] ≡ take (executed_of (reached s t (length inputs) events) n) (stream_of p.funcs (main_in p) inputs (output_of p y))
+  pub whole : IsTrue fabric.faithful → (y n x : ℕ) → y < length l.outs → n < length l.nodes → Gives (part_of l n) (slice_index_or l.outs y 0) x →
+      slice_index_or cells y [] ≡ take (executed_of (reached s t (length inputs) events) n) (slice_index_or (output_streams p inputs) y [])
 
 -- so does what a replay answers, and its machines made the steps
 pub record ReplayShows (stands : StepMachine → Function → List (List Value) → Type 0) (made : StepMachine → ℕ) (p : WholeProgram) (l : Layout) (s : Shape) (t : Timing) (inputs : List (List Value)) (fabric : FabricState) (events : List Event) (printed : Printed) : Type 0 where
-  pub shows : Shows p l s t inputs fabric events printed.names printed.cells printed.horizon
+  pub shows : ShowsAt p l s t inputs fabric events printed.names printed.cells printed.horizon
   pub steps : HasSteps stands made l s t inputs events shows.run.lists.got printed.machines
 
 -- what is right of a schedule file along which a loaded program is run

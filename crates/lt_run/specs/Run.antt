@@ -25,7 +25,7 @@ use Rattle.lt_load.specs.declared.fault.CommandFault.{CommandFault}
 use Rattle.lt_load.specs.declared.fault.CommandFault.TheVariants as fault
 use Rattle.lt_load.specs.Plan.{Plan, LoadedPlan, load_verdict}
 use Rattle.lt_run.specs.declared.outputs.Outputs.{Outputs}
-use Rattle.lt_run.specs.Printed.{Shows}
+use Rattle.lt_run.specs.Printed.{ShowsAt}
 
 -- a replay's fault as a command's, beside the shape whose nodes it names
 abbrev pub command_fault : Shape → PlayFault → CommandFault
@@ -43,13 +43,14 @@ AsCommand s Memory (Fault g) = ⊥
 AsCommand s Memory Memory = Unit {0}
 
 -- what the outputs show of a run that ends at some horizon
-abbrev pub OutputsShow : WholeProgram → Layout → Shape → Timing → (inputs : List (List Value)) → FabricState → List Event → Outputs → Type 0
-OutputsShow p l s t inputs fabric events outputs = (horizon : ℕ) × Shows p l s t inputs fabric events outputs.names outputs.cells horizon
+pub record Shows (p : WholeProgram) (l : Layout) (s : Shape) (t : Timing) (inputs : List (List Value)) (fabric : FabricState) (events : List Event) (outputs : Outputs) : Type 0 where
+  pub horizon : ℕ
+  pub told : ShowsAt p l s t inputs fabric events outputs.names outputs.cells horizon
 
 -- a program on these nodes, under these bounds of time and on these rows of inputs, along a schedule file: what the outputs show, or
 -- the first row or event that is refused
 abbrev pub placed_run_verdict : WholeProgram → Layout → Shape → Timing → (inputs : List (List Value)) → FabricState → Option (List ℕ) → Verdict Outputs CommandFault
-placed_run_verdict p l s t inputs fabric file = Raised (command_fault s) (replay_verdict (OutputsShow p l s t inputs fabric) s t (length inputs) file)
+placed_run_verdict p l s t inputs fabric file = Raised (command_fault s) (replay_verdict (Shows p l s t inputs fabric) s t (length inputs) file)
 
 -- the same of what was loaded
 abbrev pub along_loaded : FabricState → LoadedPlan → Option (List ℕ) → Verdict Outputs CommandFault
