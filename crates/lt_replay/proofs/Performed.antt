@@ -187,11 +187,17 @@ module _ {C M : Type 0} (phase : C → Phase) (stands : M → Function → List 
     near = played.near;
   }
 
-  pub refused_by : (r : Result (Replayed M) (Or PlayFault)) (e : Or PlayFault) → IsErrAnd r (λ f. f ≡ e) → HasPlayed phase stands made left size old new inputs later name files files' mid fabric' (Err e) → HasReplayed stands made l s t inputs name files files' fabric fabric' r
-  refused_by r e is played = at_error (λ answer. HasReplayed stands made l s t inputs name files files' fabric fabric' answer) r e is (refused_play e played)
+  pub refused_by : (r : Result (Replayed M) (Or PlayFault)) (e : Or PlayFault) → IsErrAnd r (λ f. f ≡ e) → (lent : List (List Value)) → lent ≡ inputs → HasPlayed phase stands made left size old new lent later name files files' mid fabric' (Err e) →
+      HasReplayed stands made l s t inputs name files files' fabric fabric' r
+  refused_by r e is lent same played =
+      at_error (λ answer. HasReplayed stands made l s t inputs name files files' fabric fabric' answer) r e is
+      (refused_play e (subst (λ z. HasPlayed phase stands made left size old new z later name files files' mid fabric' (Err e)) same played))
 
   -- the play went to its end
-  module _ (x : Unit {0}) (played : HasPlayed phase stands made left size old new inputs later name files files' mid fabric' (Ok x)) where
+  module _ (x : Unit {0}) (lent : List (List Value)) (same : lent ≡ inputs) (played_by : HasPlayed phase stands made left size old new lent later name files files' mid fabric' (Ok x)) where
+    played : HasPlayed phase stands made left size old new inputs later name files files' mid fabric' (Ok x)
+    played = subst (λ z. HasPlayed phase stands made left size old new z later name files files' mid fabric' (Ok x)) same played_by
+
     -- there is no memory for what is taken
     untaken : HasReplayed stands made l s t inputs name files files' fabric fabric' (Err Memory)
     untaken = record {
@@ -228,3 +234,11 @@ module _ {C M : Type 0} (phase : C → Phase) (stands : M → Function → List 
         ended = (played.ended.0, at_last played.ended.0 played.ended.1);
         near = λ told. tt;
       }
+
+-- the same of an equal layout, shape and timing
+pub of_equals : {M : Type 0} (stands : M → Function → List (List Value) → Type 0) (made : M → ℕ) (l l' : Layout) (s s' : Shape) (t t' : Timing) (inputs : List (List Value)) (name : List ℕ) (files files' : FilesState) (fabric fabric' : FabricState) (r : Result (Replayed M) (Or PlayFault)) →
+    l' ≡ l → s' ≡ s → t' ≡ t → HasReplayed stands made l' s' t' inputs name files files' fabric fabric' r → HasReplayed stands made l s t inputs name files files' fabric fabric' r
+of_equals stands made l l' s s' t t' inputs name files files' fabric fabric' r same_layout same_shape same_timing replayed =
+    subst (λ z. HasReplayed stands made z s t inputs name files files' fabric fabric' r) same_layout
+    (subst (λ z. HasReplayed stands made l' z t inputs name files files' fabric fabric' r) same_shape
+    (subst (λ z. HasReplayed stands made l' s' z inputs name files files' fabric fabric' r) same_timing replayed))

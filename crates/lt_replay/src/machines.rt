@@ -4,6 +4,7 @@ ghost use Rattle.lt_norm.specs.Flat.{Originated};
 ghost use Rattle.lt_step.specs.Compile.{CodeOf};
 ghost use Rattle.lt_place.specs.Layout.{IsPlaced};
 ghost use Rattle.lt_place.specs.Sizes.{HasCodeRoom, IsCompilable};
+ghost use Rattle.lt_net.specs.Starts.{AreReady};
 ghost use Rattle.lt_replay.specs.Ready.{IsReady, AreReadySoFar, AreCompilable};
 
 use lt_base::{Memory, Or};
@@ -56,8 +57,8 @@ fn add_machine(
     Ok(())
 }
 
-/// A machine for each node of a placed layout, with a step for each row.
-pub(crate) fn machines_of(
+// The machines of the nodes, in order.
+fn each_machine(
     alloc: Global,
     layout: &Layout,
     imports: Vec<Import>,
@@ -73,5 +74,20 @@ pub(crate) fn machines_of(
     for import in imports {
         add_machine(alloc, layout, import, rows, &mut machines)?;
     }
+    Ok(machines)
+}
+
+/// A machine for each node of a placed layout, of its part, with a step for each row. There is an import for each node.
+pub fn machines_of(
+    alloc: Global,
+    layout: &Layout,
+    imports: Vec<Import>,
+    rows: u32,
+) -> Result<Vec<StepMachine>, Memory>
+    requires placed { (f : Originated) × IsPlaced f layout.now × HasCodeRoom f.func }
+    requires imports { length imports.items ≡ length layout.now.nodes }
+    ensures { IfOk result (λ machines. AreReady ⟦<StepMachine as Machine>⟧.stands ⟦<StepMachine as Machine>⟧.made ⟦<StepMachine as Machine>⟧.left layout.now rows machines.items) }
+{
+    let machines = each_machine(alloc, layout, imports, rows)?;
     Ok(machines)
 }

@@ -3,7 +3,7 @@ use Rattle.std.specs.Prelude.{slice_get}
 use Rattle.lt_judge.specs.declared.controller.NodeController.{NodeController}
 use Rattle.lt_replay.specs.Ready.{IsControllerOf}
 use Rattle.lt_replay.proofs.Members.{controller_phase, controller_protocol, controller_send, controller_execute}
-use Rattle.lt_replay.proofs.actors.controllers_of.Given as goal
+use Rattle.lt_replay.proofs.controllers.controllers_of.Given as goal
 
 abbrev pub invariant-loop-node : goal.invariant-loop-node
 invariant-loop-node l = record {

@@ -1,7 +1,7 @@
 use Rattle.std.proofs.Common.{◌∷◌, [], arith, length, length-append, ◌∙◌, ap}
 use Rattle.lt_replay.proofs.Members.{controller_phase, controller_protocol, controller_send, controller_execute}
 use Rattle.lt_replay.proofs.NextController.{next_controller}
-use Rattle.lt_replay.proofs.actors.controllers_of.Goals as goal
+use Rattle.lt_replay.proofs.controllers.controllers_of.Goals as goal
 
 pub loop-node-preserved : goal.loop-node-preserved
 loop-node-preserved c =
