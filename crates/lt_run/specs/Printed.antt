@@ -1,5 +1,5 @@
 -- What a run along a schedule comes to, in the words of its program.
-use Rattle.std.specs.Prelude.{◌≡◌, ℕ, ◌<◌, IsTrue, List, [], length, take, Result, Ok, Err, IfOk, IfErr, slice_index_or}
+use Rattle.std.specs.Prelude.{◌≡◌, ℕ, ◌<◌, IsTrue, List, [], length, take, Option, Result, IfOk, IfErr, slice_index_or}
 use Rattle.lt_base.specs.declared.value.Value.{Value}
 use Rattle.lt_base.specs.declared.value.Cell.{Cell}
 use Rattle.lt_base.specs.declared.memory.Or.{Or}
@@ -11,7 +11,6 @@ use Rattle.lt_arch.specs.State.{executed_of}
 use Rattle.lt_arch.specs.Schedule.{reached}
 use Rattle.lt_io.specs.FilesState.{FilesState}
 use Rattle.lt_io.specs.FabricState.{FabricState}
-use Rattle.lt_machine.specs.declared.step_machine.StepMachine.{StepMachine}
 use Rattle.lt_place.specs.declared.layout.Layout.{Layout}
 use Rattle.lt_place.specs.Layout.{Gives, part_of}
 use Rattle.lt_answer.specs.Answered.{Answered, Verdict}
@@ -40,16 +39,16 @@ pub record ShowsAt (p : WholeProgram) (l : Layout) (s : Shape) (t : Timing) (inp
       slice_index_or cells y [] ≡ take (executed_of (reached s t (length inputs) events) n) (slice_index_or (output_streams p inputs) y [])
 
 -- so does what a replay answers, and its machines made the steps
-pub record ReplayShows (stands : StepMachine → Function → List (List Value) → Type 0) (made : StepMachine → ℕ) (p : WholeProgram) (l : Layout) (s : Shape) (t : Timing) (inputs : List (List Value)) (fabric : FabricState) (events : List Event) (printed : Printed) : Type 0 where
+pub record ReplayShows {M : Type 0} (stands : M → Function → List (List Value) → Type 0) (made : M → ℕ) (p : WholeProgram) (l : Layout) (s : Shape) (t : Timing) (inputs : List (List Value)) (fabric : FabricState) (events : List Event) (printed : Printed M) : Type 0 where
   pub shows : ShowsAt p l s t inputs fabric events printed.names printed.cells printed.horizon
   pub steps : HasSteps stands made l s t inputs events shows.run.lists.got printed.machines
 
 -- what is right of a schedule file along which a loaded program is run
-abbrev pub loaded_verdict : {T : Type 0} (end : List Event → T → Type 0) → LoadedPlan → (schedule : _) → Verdict T PlayFault
+abbrev pub loaded_verdict : {T : Type 0} (end : List Event → T → Type 0) → LoadedPlan → (schedule : Option (List ℕ)) → Verdict T PlayFault
 loaded_verdict end k file = replay_verdict end k.shape k.timing (length k.inputs.rows) file
 
 -- a replay of a loaded program along the file of this name
-pub record HasPrinted (stands : StepMachine → Function → List (List Value) → Type 0) (made : StepMachine → ℕ) (k : LoadedPlan) (name : List ℕ) (files files' : FilesState) (fabric fabric' : FabricState) (result : Result Printed (Or PlayFault)) : Type 0 where
+pub record HasPrinted {M : Type 0} (stands : M → Function → List (List Value) → Type 0) (made : M → ℕ) (k : LoadedPlan) (name : List ℕ) (files files' : FilesState) (fabric fabric' : FabricState) (result : Result (Printed M) (Or PlayFault)) : Type 0 where
   pub answered : Answered play_blame (loaded_verdict (ReplayShows stands made k.checked.program k.layout k.shape k.timing k.inputs.rows fabric') k (files.named name)) (world files fabric) (world files' fabric') result
   -- whether or not the files tell their bytes
   pub ended : IfOk result (λ printed. (events : List Event) × ReplayShows stands made k.checked.program k.layout k.shape k.timing k.inputs.rows fabric' events printed)

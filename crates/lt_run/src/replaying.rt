@@ -24,7 +24,7 @@ pub fn replay<F: Files, W: Fabric>(
     files: &mut F,
     schedule: &str,
     fabric: &mut W,
-) -> Result<Printed, Or<PlayFault>>
+) -> Result<Printed<StepMachine>, Or<PlayFault>>
     requires count { (F.state files.old).faults < 2 ^ 64 - 1 }
     requires link_count { (W.state fabric.old).faults < 2 ^ 64 - 1 }
     requires empty { (W.state fabric.old).kinds ≡ [] }

@@ -1,4 +1,4 @@
-use Rattle.lt_run.proofs.Running.{outputs_of, fault_of}
+use Rattle.lt_run.proofs.Onward.{outputs_of, fault_of}
 use Rattle.lt_run.proofs.running.run_loaded.Goals as goal
 
 pub returns-in-Ok : goal.returns-in-Ok

@@ -12,7 +12,6 @@ use Rattle.lt_arch.specs.declared.shape.Shape.{Shape}
 use Rattle.lt_arch.specs.declared.timing.Timing.{Timing}
 use Rattle.lt_io.specs.FilesState.{FilesState}
 use Rattle.lt_io.specs.FabricState.{FabricState}
-use Rattle.lt_machine.specs.declared.step_machine.StepMachine.{StepMachine}
 use Rattle.lt_place.specs.declared.layout.Layout.{Layout}
 use Rattle.lt_net.specs.Channels.{IsShapeOf}
 use Rattle.lt_answer.specs.World.{World, Blames, alone}
@@ -33,7 +32,7 @@ use Rattle.lt_run.specs.declared.outputs.Outputs.{Outputs}
 use Rattle.lt_run.specs.declared.printed.Printed.{Printed}
 use Rattle.lt_run.specs.Printed.{HasPrinted, ReplayShows, ShowsAt}
 use Rattle.lt_run.specs.Run.{AsCommand, IsLaidOutBy, Shows, along_loaded, along_verdict, command_fault, placed_run_verdict, run_verdict}
-use Rattle.lt_run.proofs.Replaying.{answered_value, answered_short, answered_fault}
+use Rattle.lt_run.proofs.Replays.{answered_value, answered_short, answered_fault}
 
 same_blame : (s : Shape) (e : PlayFault) → command_blame (command_fault s e) ≡ play_blame e
 same_blame s (Schedule (schedule.Row row f)) = refl
@@ -43,7 +42,7 @@ same_blame s (Schedule schedule.Read) = refl
 same_blame s Link = refl
 
 -- the outputs of what a replay answers show the same
-outputs_show : (stands : StepMachine → Function → List (List Value) → Type 0) (made : StepMachine → ℕ) (p : WholeProgram) (l : Layout) (s : Shape) (t : Timing) (inputs : List (List Value)) (fabric : FabricState) (printed : Printed) (outputs : Outputs)
+outputs_show : {M : Type 0} (stands : M → Function → List (List Value) → Type 0) (made : M → ℕ) (p : WholeProgram) (l : Layout) (s : Shape) (t : Timing) (inputs : List (List Value)) (fabric : FabricState) (printed : Printed M) (outputs : Outputs)
     → outputs.names ≡ printed.names → outputs.cells ≡ printed.cells → (events : List Event) → ReplayShows stands made p l s t inputs fabric events printed → Shows p l s t inputs fabric events outputs
 outputs_show stands made p l s t inputs fabric printed outputs names cells events shown = record {
   horizon = printed.horizon;
@@ -52,11 +51,11 @@ outputs_show stands made p l s t inputs fabric printed outputs names cells event
       (subst (λ (cs : List (List Cell)). ShowsAt p l s t inputs fabric events printed.names cs printed.horizon) (sym cells) shown.shows);
 }
 
-module _ (stands : StepMachine → Function → List (List Value) → Type 0) (made : StepMachine → ℕ) (k : LoadedPlan) (name : List ℕ) (files files' : FilesState) (fabric fabric' : FabricState) where
+module _ {M : Type 0} (stands : M → Function → List (List Value) → Type 0) (made : M → ℕ) (k : LoadedPlan) (name : List ℕ) (files files' : FilesState) (fabric fabric' : FabricState) where
   abbrev file : Option (List ℕ)
   file = files.named name
 
-  abbrev printed_end : List Event → Printed → Type 0
+  abbrev printed_end : List Event → Printed M → Type 0
   printed_end = ReplayShows stands made k.checked.program k.layout k.shape k.timing k.inputs.rows fabric'
 
   abbrev outputs_end : List Event → Outputs → Type 0
@@ -69,7 +68,7 @@ module _ (stands : StepMachine → Function → List (List Value) → Type 0) (m
   Runs r = Answered command_blame (along_loaded fabric' k file) (world files fabric) (world files' fabric') r
 
   -- the outputs of what a replay answers
-  pub outputs_of : (printed : Printed) (outputs : Outputs) → outputs.names ≡ printed.names → outputs.cells ≡ printed.cells → HasPrinted stands made k name files files' fabric fabric' (Ok printed) → Runs (Ok outputs)
+  pub outputs_of : (printed : Printed M) (outputs : Outputs) → outputs.names ≡ printed.names → outputs.cells ≡ printed.cells → HasPrinted stands made k name files files' fabric fabric' (Ok printed) → Runs (Ok outputs)
   outputs_of printed outputs names cells has =
       raised_value (command_fault k.shape) play_blame command_blame (same_blame k.shape) right (world files fabric) (world files' fabric') outputs
       (answered_value printed_end outputs_end k.shape k.timing (length k.inputs.rows) file (world files fabric) (world files' fabric') printed outputs

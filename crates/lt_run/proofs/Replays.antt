@@ -10,7 +10,6 @@ use Rattle.lt_arch.specs.declared.shape.Shape.{Shape}
 use Rattle.lt_arch.specs.declared.timing.Timing.{Timing}
 use Rattle.lt_io.specs.FilesState.{FilesState}
 use Rattle.lt_io.specs.FabricState.{FabricState}
-use Rattle.lt_machine.specs.declared.step_machine.StepMachine.{StepMachine}
 use Rattle.lt_answer.specs.World.{World}
 use Rattle.lt_answer.specs.Answered.{Answered, RefusesReading}
 use Rattle.lt_answer.proofs.Stages.{runs_short}
@@ -76,28 +75,28 @@ module _ {T U : Type 0} (end : List Event → T → Type 0) (end' : List Event �
 
 -- a replay of what was loaded
 
-module _ (stands : StepMachine → Function → List (List Value) → Type 0) (made : StepMachine → ℕ) (k : LoadedPlan) (name : List ℕ) (files files' : FilesState) (fabric fabric' : FabricState) where
-  abbrev Replays : Result (Replayed StepMachine) (Or PlayFault) → Type 0
+module _ {M : Type 0} (stands : M → Function → List (List Value) → Type 0) (made : M → ℕ) (k : LoadedPlan) (name : List ℕ) (files files' : FilesState) (fabric fabric' : FabricState) where
+  abbrev Replays : Result (Replayed M) (Or PlayFault) → Type 0
   Replays r = HasReplayed stands made k.layout k.shape k.timing k.inputs.rows name files files' fabric fabric' r
 
-  abbrev Prints : Result Printed (Or PlayFault) → Type 0
+  abbrev Prints : Result (Printed M) (Or PlayFault) → Type 0
   Prints r = HasPrinted stands made k name files files' fabric fabric' r
 
-  abbrev replayed_end : List Event → Replayed StepMachine → Type 0
+  abbrev replayed_end : List Event → Replayed M → Type 0
   replayed_end = IsReplay stands made k.layout k.shape k.timing k.inputs.rows fabric'
 
-  abbrev printed_end : List Event → Printed → Type 0
+  abbrev printed_end : List Event → Printed M → Type 0
   printed_end = ReplayShows stands made k.checked.program k.layout k.shape k.timing k.inputs.rows fabric'
 
   -- no memory was found for the machines
-  pub not_started : (r : Result Printed (Or PlayFault)) → IsErrAnd r (λ f. f ≡ Memory) → HasPrinted stands made k name files files fabric fabric r
+  pub not_started : (r : Result (Printed M) (Or PlayFault)) → IsErrAnd r (λ f. f ≡ Memory) → HasPrinted stands made k name files files fabric fabric r
   not_started (Ok x) is = absurd is
   not_started (Err f) is =
       subst (λ (g : Or PlayFault). HasPrinted stands made k name files files fabric fabric (Err g)) (sym is)
       (record { answered = runs_short (world files fabric); ended = tt; near = λ told. tt })
 
   -- it was refused
-  pub not_replayed : (e : Or PlayFault) (r : Result Printed (Or PlayFault)) → IsErrAnd r (λ f. f ≡ e) → Replays (Err e) → Prints r
+  pub not_replayed : (e : Or PlayFault) (r : Result (Printed M) (Or PlayFault)) → IsErrAnd r (λ f. f ≡ e) → Replays (Err e) → Prints r
   not_replayed e (Ok x) is replays = absurd is
   not_replayed e (Err f) is replays =
       let told : Prints (Err e) = record {
@@ -108,7 +107,7 @@ module _ (stands : StepMachine → Function → List (List Value) → Type 0) (m
       subst (λ (g : Or PlayFault). Prints (Err g)) (sym is) told
 
   -- no memory was found for the names
-  pub not_named : (x : Replayed StepMachine) (r : Result Printed (Or PlayFault)) → IsErrAnd r (λ f. f ≡ Memory) → Replays (Ok x) → Prints r
+  pub not_named : (x : Replayed M) (r : Result (Printed M) (Or PlayFault)) → IsErrAnd r (λ f. f ≡ Memory) → Replays (Ok x) → Prints r
   not_named x (Ok y) is replays = absurd is
   not_named x (Err f) is replays =
       let told : Prints (Err Memory) = record {
@@ -119,7 +118,7 @@ module _ (stands : StepMachine → Function → List (List Value) → Type 0) (m
       subst (λ (g : Or PlayFault). Prints (Err g)) (sym is) told
 
   -- it is shown by name
-  pub named : (x : Replayed StepMachine) (y : Printed) → ((events : List Event) → replayed_end events x → printed_end events y) → Replays (Ok x) → Prints (Ok y)
+  pub named : (x : Replayed M) (y : Printed M) → ((events : List Event) → replayed_end events x → printed_end events y) → Replays (Ok x) → Prints (Ok y)
   named x y too replays = record {
     answered = answered_value replayed_end printed_end k.shape k.timing (Rattle.std.specs.Prelude.length k.inputs.rows) (files.named name) (world files fabric) (world files' fabric') x y too replays.answered;
     ended = (replays.ended.0, too replays.ended.0 replays.ended.1);
