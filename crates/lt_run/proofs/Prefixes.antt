@@ -42,10 +42,10 @@ module _ (p : WholeProgram) (good : GoodProgram p) (f : Originated) (keeps : Kee
   flat_outs : f.func.outs ≡ (main_in p).outs
   flat_outs = outputs_same p good f keeps
 
-  layout_outs : l.outs ≡ (main_in p).outs
+  pub layout_outs : l.outs ≡ (main_in p).outs
   layout_outs = placed.layout.outs ∙ flat_outs
 
-  home : (y : ℕ) → y < length l.outs → (n : ℕ) × (n < length l.nodes) × (x : ℕ) × Gives (part_of l n) (slice_index_or l.outs y 0) x
+  pub home : (y : ℕ) → y < length l.outs → (n : ℕ) × (n < length l.nodes) × (x : ℕ) × Gives (part_of l n) (slice_index_or l.outs y 0) x
   home y inside =
       subst (λ (outs : List ℕ). (n : ℕ) × (n < length l.nodes) × (x : ℕ) × Gives (part_of l n) (slice_index_or outs y 0) x) (sym placed.layout.outs)
       (home_of f l placed y (subst (λ (outs : List ℕ). y < length outs) placed.layout.outs inside))
@@ -61,12 +61,12 @@ module _ (p : WholeProgram) (good : GoodProgram p) (f : Originated) (keeps : Kee
       ∙ sym (get_or-map (stream_of p.funcs main inputs) main.outs y 0 [] here)
 
   module _ (s : Shape) (t : Timing) (inputs : List (List Value)) (fit : RowsFit f.func inputs) (fabric : FabricState) (events : List Event) (cells : List (List Cell)) (horizon : ℕ) (run : IsRun l s t inputs fabric events cells horizon) where
-    whole : IsTrue fabric.faithful → (y n x : ℕ) → y < length l.outs → n < length l.nodes → Gives (part_of l n) (slice_index_or l.outs y 0) x →
+    pub whole : IsTrue fabric.faithful → (y n x : ℕ) → y < length l.outs → n < length l.nodes → Gives (part_of l n) (slice_index_or l.outs y 0) x →
         slice_index_or cells y [] ≡ take (executed_of (reached s t (length inputs) events) n) (slice_index_or (output_streams p inputs) y [])
     whole faithful y n x inside below gives =
         run.fronts f placed fit faithful y n x inside below gives ∙ ap (take (executed_of (reached s t (length inputs) events) n)) (output_stream inputs y inside)
 
-    pub shows : (names : List (List ℕ)) → names ≡ output_names p → ShowsAt p l s t inputs fabric events names cells horizon
+    abbrev pub shows : (names : List (List ℕ)) → names ≡ output_names p → ShowsAt p l s t inputs fabric events names cells horizon
     shows names are = record { names_are = are; outputs_are = layout_outs; run = run; home = home; whole = whole }
 
     -- there is a column for each output

@@ -5,7 +5,8 @@ ghost use Rattle.lt_play.specs.Played.{world};
 ghost use Rattle.lt_load.specs.Blamed.{command_blame};
 ghost use Rattle.lt_run.specs.Run.{AsCommand, along_loaded, run_verdict};
 
-use crate::{Outputs, replay};
+use crate::Outputs;
+use crate::replaying::replay_code;
 use lt_arch::Shape;
 use lt_base::Or;
 use lt_io::{Fabric, Files};
@@ -51,8 +52,8 @@ fn run_loaded<F: Files, W: Fabric>(
     ensures { Answered command_blame (along_loaded (W.state fabric.new) loaded.now ((F.state files.old).named schedule.now))
         (world (F.state files.old) (W.state fabric.old)) (world (F.state files.new) (W.state fabric.new)) result }
 {
-    match replay(alloc, loaded, files, schedule, fabric) {
-        Ok(printed) => Ok(printed.outputs()),
+    match replay_code(alloc, loaded, files, schedule, fabric) {
+        Ok(outputs) => Ok(outputs),
         Err(fault) => Err(as_command(&loaded.shape, fault)),
     }
 }
