@@ -1,48 +1,60 @@
 -- Why a call of `ltta` ends as it does.
-use Rattle.std.proofs.Common.{◌≡◌, ◌≢◌, ◌<◌, ℕ, List, Option, Some, ◌++◌, ◌∷◌, [], Result, Ok, Err, IsTrue, refl, sym, ◌∙◌, ap, subst, append-nil, inl, inr}
+use Rattle.std.proofs.Common.{◌≡◌, ◌≢◌, ◌⊎◌, ◌<◌, ℕ, List, Option, Some, ◌++◌, ◌∷◌, [], Result, Ok, Err, IsTrue, refl, sym, ◌∙◌, ap, subst, append-nil, arith, inl, inr}
+use Rattle.std.specs.Prelude.{codes}
+use Rattle.lt_io.specs.FabricState.{FabricState}
 use Rattle.lt_answer.specs.Answered.{Verdict}
 use Rattle.lt_verdict.proofs.Decided.{HasOneKind}
 use Rattle.lt_answer.specs.World.{IsCalm, Blame, Content, Reading, Linking, Blames}
 use Rattle.lt_answer.specs.Answered.{RefusesReading}
-use Rattle.lt_run.specs.declared.fault.CommandFault.{CommandFault}
-use Rattle.lt_run.specs.declared.fault.CommandFault.TheVariants.{Read}
+use Rattle.lt_load.specs.declared.fault.CommandFault.{CommandFault}
+use Rattle.lt_load.specs.declared.fault.CommandFault.TheVariants.{Read}
 use Rattle.lt_cli.specs.declared.refusal.Refusal.{Refusal}
 use Rattle.lt_cli.specs.declared.status.Status.{Status}
 use Rattle.lt_cli.specs.declared.status.Status.TheVariants as status
 use Rattle.lt_cli.specs.Blamed.{blame_of}
-use Rattle.lt_cli.specs.Texts.{status_of, refusal_status, fault_status, out_text, err_text}
+use Rattle.lt_cli.specs.Texts.{status_of, refusal_status, fault_status, line_of, out_text, err_text}
 use Rattle.lt_words.specs.Reading.{Said, command_of}
 use Rattle.lt_cli.specs.Commands.{text_verdict, command_verdict, asked_verdict, words_verdict}
+use Rattle.lt_cli.specs.Asked.{LeavesFabric}
 use Rattle.lt_cli.specs.Objects.{Objects, world_of}
-use Rattle.lt_cli.specs.Ran.{Ran, Ends, Printed, Reported, OutcomeBlames}
+use Rattle.lt_cli.specs.Ran.{Ran, Ends, Printed, Reported, Took, OutcomeBlames}
 use Rattle.lt_cli.specs.Ran.{printed, unprinted, both_whole, out_broke, err_broke, both_short}
+use Rattle.lt_cli.specs.Taken.{TookLine}
 use Rattle.lt_cli.specs.Clauses.{IsMissingExact, IsOutsideCaused, IsWriteCaused}
-use Rattle.lt_cli.proofs.Refusals.{not_write, outside_blames, blamed_reads, reading_line, not_linking}
+use Rattle.lt_cli.proofs.Refusals.{not_write, outside_blames, blamed_reads, reading_line, linking_line}
 use Rattle.lt_cli.proofs.Exact.{refused_status}
 
--- a failed read
+-- a failed call
 
-rose_by : (old new : Objects) (r : Refusal) → blame_of r ≡ Reading → OutcomeBlames old new (Err r) → old.files.faults < new.files.faults
-rose_by old new r is cause = (subst (Blames (world_of old) (world_of new)) is cause).0
+-- the line of a refusal, where it was printed whole
+line_printed : (line : List ℕ) (old new : Objects) (outcome : Result (List ℕ) Refusal) (r : Refusal) → outcome ≡ Err r → line_of r ≡ line → Took (out_text outcome) old.out new.out → Took (err_text outcome) old.err new.err
+    → IsTrue old.out.told → IsTrue old.err.told → TookLine line old new
+line_printed line old new outcome r here is out err told_out told_err = record {
+  out = out.taken told_out ∙ ap (λ (o : Result (List ℕ) Refusal). old.out.taken ++ out_text o) here ∙ append-nil old.out.taken;
+  err =
+      err.taken told_err
+      ∙ ap (λ (o : Result (List ℕ) Refusal). old.err.taken ++ err_text o) here
+      ∙ ap (λ (l : List ℕ). old.err.taken ++ (l ++ 10 ∷ [])) is;
+}
 
-outside_fault : (outcome : Result (List ℕ) Refusal) → status_of outcome ≡ status.Outside → (r : Refusal) × (outcome ≡ Err r) × (blame_of r ≡ Reading)
+blames_by : (old new : Objects) (r : Refusal) (whose : Blame) → blame_of r ≡ whose → OutcomeBlames old new (Err r) → Blames (world_of old) (world_of new) whose
+blames_by old new r whose is cause = subst (Blames (world_of old) (world_of new)) is cause
+
+outside_fault : (outcome : Result (List ℕ) Refusal) → status_of outcome ≡ status.Outside → (r : Refusal) × (outcome ≡ Err r) × ((blame_of r ≡ Reading) ⊎ (blame_of r ≡ Linking))
 outside_fault (Ok text) is = cc
 outside_fault (Err r) is = (r, refl, outside_blames r is)
+
+outside_refused : (old new : Objects) (outcome : Result (List ℕ) Refusal) (r : Refusal) → outcome ≡ Err r → (blame_of r ≡ Reading) ⊎ (blame_of r ≡ Linking) → OutcomeBlames old new (Err r)
+    → Took (out_text outcome) old.out new.out → Took (err_text outcome) old.err new.err → IsOutsideCaused old new
+outside_refused old new outcome r here (inl reading) cause out err =
+    inl (record { rose = (blames_by old new r Reading reading cause).0; line = line_printed (codes "fault: read") old new outcome r here (reading_line r reading) out err })
+outside_refused old new outcome r here (inr linking) cause out err =
+    inr (record { rose = (blames_by old new r Linking linking cause).1; line = line_printed (codes "fault: link") old new outcome r here (linking_line r linking) out err })
 
 outside_printed : (V : Verdict (List ℕ) Refusal) (old new : Objects) (ends : Status) (p : Printed V old new ends) → Reported p.outcome old new ends → ends ≡ status.Outside → IsOutsideCaused old new
 outside_printed V old new ends p (both_whole is out err) at =
     let fault = outside_fault p.outcome (sym is ∙ at) in
-    let here : p.outcome ≡ Err fault.0 = fault.1 in
-    record {
-      rose = rose_by old new fault.0 fault.2 (subst (OutcomeBlames old new) here p.cause);
-      line = λ told_out told_err. record {
-        out = out.taken told_out ∙ ap (λ (o : Result (List ℕ) Refusal). old.out.taken ++ out_text o) here ∙ append-nil old.out.taken;
-        err =
-            err.taken told_err
-            ∙ ap (λ (o : Result (List ℕ) Refusal). old.err.taken ++ err_text o) here
-            ∙ ap (λ (l : List ℕ). old.err.taken ++ (l ++ 10 ∷ [])) (reading_line fault.0 fault.2);
-      };
-    }
+    outside_refused old new p.outcome fault.0 fault.1 fault.2 (subst (OutcomeBlames old new) fault.1 p.cause) out err
 outside_printed V old new ends p (out_broke is out err) at = cc
 outside_printed V old new ends p (err_broke is out err) at = cc
 outside_printed V old new ends p (both_short is out err) at = cc
@@ -75,12 +87,17 @@ write_caused V old new ends ran at = write_ends V old new ends ran.outcome at
 
 -- a missing file
 
-module _ {T : Type 0} (shown : T → List ℕ) (V : Verdict T CommandFault) (one : HasOneKind fault_status V) (old new : Objects) where
+module _ {T : Type 0} (shown : T → List ℕ) (V : Verdict T CommandFault) (one : HasOneKind fault_status V) (old new : Objects) (steady : new.fabric.faults ≡ old.fabric.faults) where
+  -- a refusal's content is not to blame where a missing file is
+  no_content : (r : Refusal) → blame_of r ≡ Content → (blame_of r ≡ Reading) ⊎ (blame_of r ≡ Linking) → ⊥
+  no_content r is (inl reading) = let wrong : Content ≡ Reading = sym is ∙ reading in cc
+  no_content r is (inr linking) = let wrong : Content ≡ Linking = sym is ∙ linking in cc
+
   -- a refusal with this blame, where the missing file is right
   blamed_rose : (r : Refusal) (whose : Blame) → blame_of r ≡ whose → Blames (world_of old) (world_of new) whose → (IsCalm (world_of old) (world_of new) → refusal_status r ≡ status.Outside) → old.files.faults < new.files.faults
-  blamed_rose r Content is blamed right = let reading = outside_blames r (right blamed) in let wrong : Content ≡ Reading = sym is ∙ reading in cc
+  blamed_rose r Content is blamed right = absurd (no_content r is (outside_blames r (right blamed)))
   blamed_rose r Reading is blamed right = blamed.0
-  blamed_rose r Linking is blamed right = absurd (not_linking r is)
+  blamed_rose r Linking is blamed right = absurd (omega (arith, blamed.1, steady))
 
   outcome_rose : (outcome : Result (List ℕ) Refusal) → OutcomeBlames old new outcome → (IsCalm (world_of old) (world_of new) → text_verdict shown V outcome) → V (Err Read) → old.files.faults < new.files.faults
   outcome_rose (Ok text) cause right is = let wrong : status.Ok ≡ status.Outside = refused_status shown V one (Ok text) Read (right cause) is in cc
@@ -97,6 +114,11 @@ module _ {T : Type 0} (shown : T → List ℕ) (V : Verdict T CommandFault) (one
   missing_exact ends told sound enough ran = (λ rose. refused_missing (ran.sound told sound rose), λ is. ends_rose ends enough told ran.outcome is)
 
 -- the verdict of the command that the words say
-pub asked_ran : (words : List (List ℕ)) (said : Said) (old new : Objects) (ends : Status) → command_of words ≡ Some said → Ran (words_verdict old.files.named words) old new ends → Ran (command_verdict old.files.named said) old new ends
+pub asked_ran : (words : List (List ℕ)) (said : Said) (old new : Objects) (ends : Status) → command_of words ≡ Some said → Ran (words_verdict old.files.named new.fabric words) old new ends
+    → Ran (command_verdict old.files.named new.fabric said) old new ends
 unfolding words_verdict
-asked_ran words said old new ends is ran = subst (λ (s : Option Said). Ran (asked_verdict old.files.named s) old new ends) is ran
+asked_ran words said old new ends is ran = subst (λ (s : Option Said). Ran (asked_verdict old.files.named new.fabric s) old new ends) is ran
+
+-- only a run touches the fabric
+pub left_fabric : (words : List (List ℕ)) (said : Said) (old new : FabricState) → command_of words ≡ Some said → LeavesFabric (command_of words) old new → LeavesFabric (Some said) old new
+left_fabric words said old new is leaves = subst (λ (s : Option Said). LeavesFabric s old new) is leaves

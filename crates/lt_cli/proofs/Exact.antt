@@ -5,12 +5,13 @@ use Rattle.lt_verdict.proofs.Decided.{HasOneKind}
 use Rattle.lt_cli.specs.declared.refusal.Refusal.{Refusal}
 use Rattle.lt_cli.specs.declared.status.Status.{Status}
 use Rattle.lt_cli.specs.declared.status.Status.TheVariants as status
-use Rattle.lt_run.specs.declared.fault.CommandFault.{CommandFault}
+use Rattle.lt_load.specs.declared.fault.CommandFault.{CommandFault}
 use Rattle.lt_cli.specs.declared.refusal.Refusal.TheVariants.{Command}
 use Rattle.lt_cli.specs.Texts.{status_of, refusal_status, fault_status, line_of, out_text, err_text}
 use Rattle.lt_cli.specs.Commands.{text_verdict}
 use Rattle.lt_cli.specs.Objects.{Objects}
-use Rattle.lt_cli.specs.Clauses.{TookLine, TookText, IsExact}
+use Rattle.lt_cli.specs.Taken.{TookLine, TookText}
+use Rattle.lt_cli.specs.Clauses.{IsExact}
 use Rattle.lt_cli.proofs.Gave.{Gave}
 use Rattle.lt_cli.proofs.Refusals.{not_ok}
 

@@ -1,11 +1,15 @@
 pub mod Lines
 pub mod Ends
+pub mod Saying
 pub mod Gave
 pub mod Refusals
 pub mod Exact
 pub mod Decided
 pub mod Facts
 pub mod Causes
+pub mod Failed
+pub mod Shown
 pub mod Performed
 pub mod Texts
+pub mod Answering
 pub mod Missing

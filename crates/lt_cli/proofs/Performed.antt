@@ -1,26 +1,31 @@
 -- All that holds of a call of `ltta`, from what it printed and whose count rose.
-use Rattle.std.proofs.Common.{◌≡◌, ◌≢◌, ℕ, IsTrue, List, Option, Some}
+use Rattle.std.proofs.Common.{◌≡◌, ◌≢◌, ℕ, IsTrue, List, Option, Some, sym, ◌∙◌, ap}
+use Rattle.lt_io.specs.FabricState.{FabricState}
 use Rattle.lt_plan.specs.Text.{plan_of}
-use Rattle.lt_run.specs.Loaded.{config_verdict}
-use Rattle.lt_run.specs.Setups.{check_verdict}
-use Rattle.lt_run.specs.Run.{meaning_verdict, run_verdict}
+use Rattle.lt_load.specs.Loaded.{config_verdict}
+use Rattle.lt_load.specs.Setups.{check_verdict}
+use Rattle.lt_run.specs.Meaning.{meaning_verdict}
+use Rattle.lt_run.specs.Run.{run_verdict}
 use Rattle.lt_words.specs.Reading.{Said, check, meaning, run, plan, command_of}
 use Rattle.lt_cli.specs.declared.status.Status.{Status}
 use Rattle.lt_cli.specs.declared.status.Status.TheVariants as status
 use Rattle.lt_cli.specs.Commands.{checked_text, printed_text, command_verdict, words_verdict}
 use Rattle.lt_cli.specs.Objects.{Objects, IsQuiet, Tells}
-use Rattle.lt_cli.specs.Ran.{Ran}
+use Rattle.lt_cli.specs.Asked.{Asked}
+use Rattle.lt_cli.specs.RunShown.{IsRunShown}
 use Rattle.lt_cli.specs.Clauses.{Performs, IsExact, IsMissingExact}
 use Rattle.lt_cli.proofs.Gave.{Gave, gave}
 use Rattle.lt_cli.proofs.Facts.{words_exact, asked_gave}
 use Rattle.lt_cli.proofs.Exact.{exact}
-use Rattle.lt_cli.proofs.Causes.{outside_caused, write_caused, missing_exact, asked_ran}
+use Rattle.lt_cli.proofs.Causes.{outside_caused, write_caused, missing_exact, asked_ran, left_fabric}
+use Rattle.lt_cli.proofs.Failed.{call_failed}
+use Rattle.lt_cli.proofs.Shown.{run_shown}
 use Rattle.lt_cli.proofs.Decided.{check_decided, meaning_decided, run_decided, plan_decided}
 
-module _ (asked : List (List ℕ)) (old new : Objects) (ends : Status) (ran : Ran (words_verdict old.files.named asked) old new ends) where
+module _ (asked : List (List ℕ)) (old new : Objects) (ends : Status) (did : Asked asked old new ends) where
   -- what was printed for the command that the words say
-  given : (said : Said) → command_of asked ≡ Some said → Tells old → IsQuiet old new → ends ≢ status.Memory → Gave (command_verdict old.files.named said) old new ends
-  given said is tells quiet enough = asked_gave asked said old new ends is (gave (words_verdict old.files.named asked) old new ends ran tells quiet enough)
+  given : (said : Said) → command_of asked ≡ Some said → Tells old → IsQuiet old new → ends ≢ status.Memory → Gave (command_verdict old.files.named new.fabric said) old new ends
+  given said is tells quiet enough = asked_gave asked said old new ends is (gave (words_verdict old.files.named new.fabric asked) old new ends did.ran tells quiet enough)
 
   check_exact : (program : List ℕ) (config : Option (List ℕ)) → command_of asked ≡ Some (check program config) → Tells old → IsQuiet old new → ends ≢ status.Memory
       → IsExact checked_text (check_verdict old.files.named program config) old new ends
@@ -33,51 +38,68 @@ module _ (asked : List (List ℕ)) (old new : Objects) (ends : Status) (ran : Ra
       exact printed_text (meaning_verdict old.files.named program inputs) (meaning_decided old.files.named program inputs) old new ends (given (meaning program inputs) is tells quiet enough)
 
   run_exact : (program inputs schedule : List ℕ) (config : Option (List ℕ)) → command_of asked ≡ Some (run program inputs schedule config) → Tells old → IsQuiet old new → ends ≢ status.Memory
-      → IsExact printed_text (run_verdict old.files.named program inputs schedule config) old new ends
+      → IsExact printed_text (run_verdict old.files.named program inputs schedule config new.fabric) old new ends
   run_exact program inputs schedule config is tells quiet enough =
-      exact printed_text (run_verdict old.files.named program inputs schedule config) (run_decided old.files.named program inputs schedule config) old new ends
+      exact printed_text (run_verdict old.files.named program inputs schedule config new.fabric) (run_decided old.files.named program inputs schedule config new.fabric) old new ends
       (given (run program inputs schedule config) is tells quiet enough)
+
+  shown : (program inputs schedule : List ℕ) (config : Option (List ℕ)) → command_of asked ≡ Some (run program inputs schedule config) → Tells old → IsQuiet old new → ends ≡ status.Ok
+      → IsRunShown old.files.named program inputs schedule config old new
+  shown program inputs schedule config is tells quiet at =
+      let printed = (run_exact program inputs schedule config is tells quiet (λ none. let wrong : status.Ok ≡ status.Memory = sym at ∙ none in cc)).text at in
+      run_shown old.files.named program inputs schedule config old new printed.0 printed.2 printed.1
 
   plan_exact : (config : List ℕ) (horizon : Option ℕ) → command_of asked ≡ Some (plan config horizon) → Tells old → IsQuiet old new → ends ≢ status.Memory
       → IsExact (λ setup. plan_of setup horizon) (config_verdict (old.files.named config)) old new ends
   plan_exact config horizon is tells quiet enough =
       exact (λ setup. plan_of setup horizon) (config_verdict (old.files.named config)) (plan_decided (old.files.named config)) old new ends (given (plan config horizon) is tells quiet enough)
 
+  -- the fabric's count, where nothing touches it
+  untouched : new.fabric ≡ old.fabric → new.fabric.faults ≡ old.fabric.faults
+  untouched same = ap (λ (w : FabricState). w.faults) same
+
   module _ (tells : IsTrue old.files.sound → IsTrue old.files.told) where
     check_missing : (program : List ℕ) (config : Option (List ℕ)) → command_of asked ≡ Some (check program config) → IsTrue old.files.sound → ends ≢ status.Memory
         → IsMissingExact (check_verdict old.files.named program config) old new
     check_missing program config is sound enough =
-        missing_exact checked_text (check_verdict old.files.named program config) (check_decided old.files.named program config) old new ends (tells sound) sound enough
-        (asked_ran asked (check program config) old new ends is ran)
+        missing_exact checked_text (check_verdict old.files.named program config) (check_decided old.files.named program config) old new
+        (untouched (left_fabric asked (check program config) old.fabric new.fabric is did.by_said.leaves)) ends (tells sound) sound enough
+        (asked_ran asked (check program config) old new ends is did.ran)
 
     meaning_missing : (program inputs : List ℕ) → command_of asked ≡ Some (meaning program inputs) → IsTrue old.files.sound → ends ≢ status.Memory → IsMissingExact (meaning_verdict old.files.named program inputs) old new
     meaning_missing program inputs is sound enough =
-        missing_exact printed_text (meaning_verdict old.files.named program inputs) (meaning_decided old.files.named program inputs) old new ends (tells sound) sound enough
-        (asked_ran asked (meaning program inputs) old new ends is ran)
+        missing_exact printed_text (meaning_verdict old.files.named program inputs) (meaning_decided old.files.named program inputs) old new
+        (untouched (left_fabric asked (meaning program inputs) old.fabric new.fabric is did.by_said.leaves)) ends (tells sound) sound enough
+        (asked_ran asked (meaning program inputs) old new ends is did.ran)
 
     run_missing : (program inputs schedule : List ℕ) (config : Option (List ℕ)) → command_of asked ≡ Some (run program inputs schedule config) → IsTrue old.files.sound → ends ≢ status.Memory
-        → IsMissingExact (run_verdict old.files.named program inputs schedule config) old new
-    run_missing program inputs schedule config is sound enough =
-        missing_exact printed_text (run_verdict old.files.named program inputs schedule config) (run_decided old.files.named program inputs schedule config) old new ends (tells sound) sound enough
-        (asked_ran asked (run program inputs schedule config) old new ends is ran)
+        → new.fabric.faults ≡ old.fabric.faults → IsMissingExact (run_verdict old.files.named program inputs schedule config new.fabric) old new
+    run_missing program inputs schedule config is sound enough steady =
+        missing_exact printed_text (run_verdict old.files.named program inputs schedule config new.fabric) (run_decided old.files.named program inputs schedule config new.fabric) old new steady ends (tells sound) sound enough
+        (asked_ran asked (run program inputs schedule config) old new ends is did.ran)
 
     plan_missing : (config : List ℕ) (horizon : Option ℕ) → command_of asked ≡ Some (plan config horizon) → IsTrue old.files.sound → ends ≢ status.Memory → IsMissingExact (config_verdict (old.files.named config)) old new
     plan_missing config horizon is sound enough =
-        missing_exact (λ setup. plan_of setup horizon) (config_verdict (old.files.named config)) (plan_decided (old.files.named config)) old new ends (tells sound) sound enough
-        (asked_ran asked (plan config horizon) old new ends is ran)
+        missing_exact (λ setup. plan_of setup horizon) (config_verdict (old.files.named config)) (plan_decided (old.files.named config)) old new
+        (untouched (left_fabric asked (plan config horizon) old.fabric new.fabric is did.by_said.leaves)) ends (tells sound) sound enough
+        (asked_ran asked (plan config horizon) old new ends is did.ran)
 
     pub performed : Performs asked old new ends
     performed = record {
-      words = λ told quiet enough. words_exact asked old new ends (gave (words_verdict old.files.named asked) old new ends ran told quiet enough);
+      by_said = did.by_said;
+      words = λ told quiet enough. words_exact asked old new ends did.by_said (gave (words_verdict old.files.named new.fabric asked) old new ends did.ran told quiet enough);
       check = check_exact;
       meaning = meaning_exact;
       run = run_exact;
       plan = plan_exact;
-      outside = λ at. outside_caused (words_verdict old.files.named asked) old new ends ran at;
-      write = λ at. write_caused (words_verdict old.files.named asked) old new ends ran at;
+      run_shown = shown;
+      outside = λ at. outside_caused (words_verdict old.files.named new.fabric asked) old new ends did.ran at;
+      failed = λ rose. call_failed old new (words_verdict old.files.named new.fabric asked) ends did.ran rose;
+      write = λ at. write_caused (words_verdict old.files.named new.fabric asked) old new ends did.ran at;
+      steady = did.ran.keeps.world.steady;
       check_missing = check_missing;
       meaning_missing = meaning_missing;
       run_missing = run_missing;
       plan_missing = plan_missing;
-      ran = ran;
+      ran = did.ran;
     }

@@ -1,15 +1,15 @@
 -- Refusals, and their statuses.
-use Rattle.std.proofs.Common.{◌≡◌, ◌∙◌, Bool, true, false, refl, sym, ap}
+use Rattle.std.proofs.Common.{◌≡◌, ◌⊎◌, ◌∙◌, Bool, true, false, refl, sym, ap, subst, inl, inr}
 use Rattle.std.specs.Prelude.{codes, if◌then◌else◌}
 use Rattle.lt_front.specs.Limits.{is_limit}
-use Rattle.lt_answer.specs.World.{Reading, Linking}
+use Rattle.lt_answer.specs.World.{Blame, Content, Reading, Linking}
 use Rattle.lt_inputs.specs.declared.fault.InputKind.{InputKind}
 use Rattle.lt_inputs.specs.declared.fault.InputKind.TheVariants as inputs
 use Rattle.lt_rows.specs.declared.fault.RowFault.{RowFault}
 use Rattle.lt_rows.specs.declared.fault.RowFault.TheVariants as row
-use Rattle.lt_run.specs.Blamed.{command_blame}
-use Rattle.lt_run.specs.declared.fault.CommandFault.{CommandFault}
-use Rattle.lt_run.specs.declared.fault.CommandFault.TheVariants as fault
+use Rattle.lt_load.specs.Blamed.{command_blame}
+use Rattle.lt_load.specs.declared.fault.CommandFault.{CommandFault}
+use Rattle.lt_load.specs.declared.fault.CommandFault.TheVariants as fault
 use Rattle.lt_cli.specs.declared.refusal.Refusal.{Refusal}
 use Rattle.lt_cli.specs.declared.refusal.Refusal.TheVariants.{Words, Command}
 use Rattle.lt_cli.specs.declared.status.Status.{Status}
@@ -44,22 +44,26 @@ no_row row.UnknownPlace code not is = not.schedule is
 no_row row.NotCsv code not is = not.schedule is
 no_row row.TooMany code not is = not.limit is
 
--- only a failed read has another status than that of some content
-reads_by_status : (f : CommandFault) (code : Status) → IsNoContent code → fault_status f ≡ code → f ≡ fault.Read
-reads_by_status (fault.Program f) code not is = absurd (no_program (is_limit f) code not is)
-reads_by_status (fault.Config f) code not is = absurd (not.setup is)
-reads_by_status (fault.Place f main) code not is = absurd (not.setup is)
-reads_by_status (fault.Timing f names mixed) code not is = absurd (not.setup is)
-reads_by_status fault.SeveralNodes code not is = absurd (not.setup is)
-reads_by_status (fault.Inputs f) code not is = absurd (no_inputs f.kind code not is)
-reads_by_status fault.TooManyCells code not is = absurd (not.limit is)
-reads_by_status (fault.Row n f) code not is = absurd (no_row f code not is)
-reads_by_status (fault.Offence event offence shape) code not is = absurd (not.schedule is)
-reads_by_status (fault.Limit what) code not is = absurd (not.limit is)
-reads_by_status fault.Read code not is = refl
+-- only a failed call has another status than that of some content
+calls_by_status : (f : CommandFault) (code : Status) → IsNoContent code → fault_status f ≡ code → (f ≡ fault.Read) ⊎ (f ≡ fault.Link)
+calls_by_status (fault.Program f) code not is = absurd (no_program (is_limit f) code not is)
+calls_by_status (fault.Config f) code not is = absurd (not.setup is)
+calls_by_status (fault.Place f main) code not is = absurd (not.setup is)
+calls_by_status (fault.Timing f names mixed) code not is = absurd (not.setup is)
+calls_by_status (fault.Inputs f) code not is = absurd (no_inputs f.kind code not is)
+calls_by_status fault.TooManyCells code not is = absurd (not.limit is)
+calls_by_status (fault.Row n f) code not is = absurd (no_row f code not is)
+calls_by_status (fault.Offence event offence shape) code not is = absurd (not.schedule is)
+calls_by_status (fault.Limit what) code not is = absurd (not.limit is)
+calls_by_status fault.Read code not is = inl refl
+calls_by_status fault.Link code not is = inr refl
+
+outside_of : (f : CommandFault) (code : Status) → (f ≡ fault.Read) ⊎ (f ≡ fault.Link) → fault_status f ≡ code → status.Outside ≡ code
+outside_of f code (inl read) is = sym (ap fault_status read) ∙ is
+outside_of f code (inr link) is = sym (ap fault_status link) ∙ is
 
 outside_by_status : (f : CommandFault) (code : Status) → IsNoContent code → fault_status f ≡ code → status.Outside ≡ code
-outside_by_status f code not is = sym (ap fault_status (reads_by_status f code not is)) ∙ is
+outside_by_status f code not is = outside_of f code (calls_by_status f code not is) is
 
 -- no fault has the status of success
 pub fault_not_ok : (f : CommandFault) → fault_status f ≡ status.Ok → ⊥
@@ -88,44 +92,50 @@ pub not_write : (r : Refusal) → refusal_status r ≡ status.Write → ⊥
 not_write Words is = cc
 not_write (Command f) is = fault_not_write f is
 
--- a failed call on the files has its own status and line
+-- a failed call has its own status, and its line
 
-fault_reads : (f : CommandFault) → fault_status f ≡ status.Outside → f ≡ fault.Read
-fault_reads f is = reads_by_status f status.Outside (record { program = λ h. cc; setup = λ h. cc; inputs = λ h. cc; schedule = λ h. cc; limit = λ h. cc }) is
+fault_calls : (f : CommandFault) → fault_status f ≡ status.Outside → (f ≡ fault.Read) ⊎ (f ≡ fault.Link)
+fault_calls f is = calls_by_status f status.Outside (record { program = λ h. cc; setup = λ h. cc; inputs = λ h. cc; schedule = λ h. cc; limit = λ h. cc }) is
 
-pub outside_blames : (r : Refusal) → refusal_status r ≡ status.Outside → blame_of r ≡ Reading
+blames_by : (f : CommandFault) → (f ≡ fault.Read) ⊎ (f ≡ fault.Link) → (command_blame f ≡ Reading) ⊎ (command_blame f ≡ Linking)
+blames_by f (inl read) = inl (ap command_blame read)
+blames_by f (inr link) = inr (ap command_blame link)
+
+pub outside_blames : (r : Refusal) → refusal_status r ≡ status.Outside → (blame_of r ≡ Reading) ⊎ (blame_of r ≡ Linking)
 outside_blames Words is = cc
-outside_blames (Command f) is = ap command_blame (fault_reads f is)
+outside_blames (Command f) is = blames_by f (fault_calls f is)
+
+-- a blame tells what was called
+abbrev BlamedFor : Blame → CommandFault → Type 0
+BlamedFor Content f = Unit {0}
+BlamedFor Reading f = f ≡ fault.Read
+BlamedFor Linking f = f ≡ fault.Link
+
+blamed_for : (f : CommandFault) → BlamedFor (command_blame f) f
+blamed_for (fault.Program f) = tt
+blamed_for (fault.Config f) = tt
+blamed_for (fault.Place f main) = tt
+blamed_for (fault.Timing f names mixed) = tt
+blamed_for (fault.Inputs f) = tt
+blamed_for fault.TooManyCells = tt
+blamed_for (fault.Row n f) = tt
+blamed_for (fault.Offence event offence shape) = tt
+blamed_for (fault.Limit what) = tt
+blamed_for fault.Read = refl
+blamed_for fault.Link = refl
 
 -- only a failed read blames the files
 pub blamed_reads : (f : CommandFault) → command_blame f ≡ Reading → f ≡ fault.Read
-blamed_reads (fault.Program f) is = cc
-blamed_reads (fault.Config f) is = cc
-blamed_reads (fault.Place f main) is = cc
-blamed_reads (fault.Timing f names mixed) is = cc
-blamed_reads fault.SeveralNodes is = cc
-blamed_reads (fault.Inputs f) is = cc
-blamed_reads fault.TooManyCells is = cc
-blamed_reads (fault.Row n f) is = cc
-blamed_reads (fault.Offence event offence shape) is = cc
-blamed_reads (fault.Limit what) is = cc
-blamed_reads fault.Read is = refl
+blamed_reads f is = subst (λ (whose : Blame). BlamedFor whose f) is (blamed_for f)
+
+-- only a failed call on the fabric blames it
+pub blamed_links : (f : CommandFault) → command_blame f ≡ Linking → f ≡ fault.Link
+blamed_links f is = subst (λ (whose : Blame). BlamedFor whose f) is (blamed_for f)
 
 pub reading_line : (r : Refusal) → blame_of r ≡ Reading → line_of r ≡ codes "fault: read"
 reading_line Words is = cc
 reading_line (Command f) is = ap (λ (e : CommandFault). line_of (Command e)) (blamed_reads f is)
 
--- no command sends messages
-pub not_linking : (r : Refusal) → blame_of r ≡ Linking → ⊥
-not_linking Words is = cc
-not_linking (Command (fault.Program f)) is = cc
-not_linking (Command (fault.Config f)) is = cc
-not_linking (Command (fault.Place f main)) is = cc
-not_linking (Command (fault.Timing f names mixed)) is = cc
-not_linking (Command fault.SeveralNodes) is = cc
-not_linking (Command (fault.Inputs f)) is = cc
-not_linking (Command fault.TooManyCells) is = cc
-not_linking (Command (fault.Row n f)) is = cc
-not_linking (Command (fault.Offence event offence shape)) is = cc
-not_linking (Command (fault.Limit what)) is = cc
-not_linking (Command fault.Read) is = cc
+pub linking_line : (r : Refusal) → blame_of r ≡ Linking → line_of r ≡ codes "fault: link"
+linking_line Words is = cc
+linking_line (Command f) is = ap (λ (e : CommandFault). line_of (Command e)) (blamed_links f is)

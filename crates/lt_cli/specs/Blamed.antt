@@ -2,7 +2,7 @@
 use Rattle.lt_answer.specs.World.{Blame, Content}
 use Rattle.lt_cli.specs.declared.refusal.Refusal.{Refusal}
 use Rattle.lt_cli.specs.declared.refusal.Refusal.TheVariants.{Words, Command}
-use Rattle.lt_run.specs.Blamed.{command_blame}
+use Rattle.lt_load.specs.Blamed.{command_blame}
 
 abbrev pub blame_of : Refusal → Blame
 blame_of Words = Content

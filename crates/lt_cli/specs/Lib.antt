@@ -7,4 +7,7 @@ pub mod Objects
 pub mod Ran
 pub mod Written
 pub mod Commands
+pub mod Asked
+pub mod Taken
+pub mod RunShown
 pub mod Clauses

@@ -11,10 +11,10 @@ use Rattle.lt_rows.specs.declared.fault.RowFault.{RowFault}
 use Rattle.lt_rows.specs.declared.fault.RowFault.TheVariants as row
 use Rattle.lt_front.specs.declared.fault.ProgramFault.{ProgramFault}
 use Rattle.lt_front.specs.Limits.{is_limit}
-use Rattle.lt_run.specs.declared.fault.What.{What}
-use Rattle.lt_run.specs.declared.fault.What.TheVariants.{ProgramBytes, ConfigBytes, InputsBytes, ScheduleBytes}
-use Rattle.lt_run.specs.declared.fault.CommandFault.{CommandFault}
-use Rattle.lt_run.specs.declared.fault.CommandFault.TheVariants as fault
+use Rattle.lt_load.specs.declared.fault.What.{What}
+use Rattle.lt_load.specs.declared.fault.What.TheVariants.{ProgramBytes, ConfigBytes, InputsBytes, ScheduleBytes}
+use Rattle.lt_load.specs.declared.fault.CommandFault.{CommandFault}
+use Rattle.lt_load.specs.declared.fault.CommandFault.TheVariants as fault
 use Rattle.lt_texts.specs.Lines.{program_line}
 use Rattle.lt_cli.specs.Lines.{config_line, place_line, timing_line, inputs_line}
 use Rattle.lt_cli.specs.ScheduleLines.{row_line, offence_line}
@@ -36,13 +36,13 @@ fault_line (fault.Program f) = program_line f
 fault_line (fault.Config f) = config_line f
 fault_line (fault.Place f main) = place_line main f
 fault_line (fault.Timing f names mixed) = timing_line f names mixed
-fault_line fault.SeveralNodes = codes "not built: nodes"
 fault_line (fault.Inputs f) = inputs_line f
 fault_line fault.TooManyCells = codes "limit: meaning cells 16000000"
 fault_line (fault.Row n f) = row_line n f
 fault_line (fault.Offence event offence shape) = offence_line shape event offence
 fault_line (fault.Limit what) = limit_line what
 fault_line fault.Read = codes "fault: read"
+fault_line fault.Link = codes "fault: link"
 
 abbrev pub line_of : Refusal → List ℕ
 line_of Words = codes "words: usage: ltta check P [C] | meaning P I | run P I S [C] | plan C [--horizon H]"
@@ -66,13 +66,13 @@ fault_status (fault.Program f) = program_status f
 fault_status (fault.Config f) = status.Setup
 fault_status (fault.Place f main) = status.Setup
 fault_status (fault.Timing f names mixed) = status.Setup
-fault_status fault.SeveralNodes = status.Setup
 fault_status (fault.Inputs f) = inputs_status f.kind
 fault_status fault.TooManyCells = status.Limit
 fault_status (fault.Row n f) = row_status f
 fault_status (fault.Offence event offence shape) = status.Schedule
 fault_status (fault.Limit what) = status.Limit
 fault_status fault.Read = status.Outside
+fault_status fault.Link = status.Outside
 
 abbrev pub refusal_status : Refusal → Status
 refusal_status Words = status.Words

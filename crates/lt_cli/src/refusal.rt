@@ -11,8 +11,8 @@ use crate::timing_line::timing_line;
 use lt_base::{List, Memory};
 use lt_front::ProgramFault;
 use lt_inputs::InputKind;
+use lt_load::{CommandFault, What};
 use lt_rows::RowFault;
-use lt_run::{CommandFault, What};
 use lt_texts::program_line;
 use std::alloc::Global;
 
@@ -60,13 +60,13 @@ fn fault_status(fault: &CommandFault) -> Status
         CommandFault::Config(_) => Status::Setup,
         CommandFault::Place { .. } => Status::Setup,
         CommandFault::Timing { .. } => Status::Setup,
-        CommandFault::SeveralNodes => Status::Setup,
         CommandFault::Inputs(fault) => inputs_status(fault.kind),
         CommandFault::TooManyCells => Status::Limit,
         CommandFault::Row { row: _, fault } => row_status(*fault),
         CommandFault::Offence { .. } => Status::Schedule,
         CommandFault::Limit(_) => Status::Limit,
         CommandFault::Read => Status::Outside,
+        CommandFault::Link => Status::Outside,
     }
 }
 
@@ -109,7 +109,6 @@ fn fault_line(alloc: Global, fault: &CommandFault) -> Result<List<u8>, Memory>
             names,
             mixed,
         } => timing_line(alloc, *fault, names.as_slice(), *mixed),
-        CommandFault::SeveralNodes => List::from_slice(alloc, b"not built: nodes"),
         CommandFault::Inputs(fault) => inputs_line(alloc, *fault),
         CommandFault::TooManyCells => List::from_slice(alloc, b"limit: meaning cells 16000000"),
         CommandFault::Row { row, fault } => row_line(alloc, *row, *fault),
@@ -120,6 +119,7 @@ fn fault_line(alloc: Global, fault: &CommandFault) -> Result<List<u8>, Memory>
         } => offence_line(alloc, shape, *event, *offence),
         CommandFault::Limit(what) => limit_line(alloc, *what),
         CommandFault::Read => List::from_slice(alloc, b"fault: read"),
+        CommandFault::Link => List::from_slice(alloc, b"fault: link"),
     }
 }
 

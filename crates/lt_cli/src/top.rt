@@ -2,10 +2,9 @@
 ghost use Rattle.std.specs.Prelude.{◌≡◌, ◌<◌, ◌-◌, ◌^◌, ◌++◌, ◌∷◌, [], IfOk, map, string_bytes};
 ghost use Rattle.lt_cli.specs.Clauses.{Performs};
 ghost use Rattle.lt_cli.specs.Objects.{Objects};
-ghost use Rattle.lt_cli.specs.Ran.{Ran};
+ghost use Rattle.lt_cli.specs.Asked.{Asked};
 ghost use Rattle.lt_cli.specs.Texts.{refusal_status, line_of};
 ghost use Rattle.lt_cli.specs.Written.{Written};
-ghost use Rattle.lt_cli.specs.Commands.{words_verdict};
 
 use crate::answer::answer;
 use crate::{Refusal, Status};
@@ -14,7 +13,8 @@ use lt_io::{Fabric, Files, Sink, SinkErr, write_all};
 use std::alloc::Global;
 
 /// Does what the words say: reads the files that they name, and writes a text to `out` or a refusal's line to `err`.
-/// No command sends messages yet, so the fabric stays as it is.
+/// A run opens the channels of its nodes on the fabric, which is empty before, and sends its messages there. No other
+/// command touches it.
 pub fn ltta<F: Files, W: Fabric, O: Sink, E: Sink>(
     alloc: Global,
     words: &[String],
@@ -45,13 +45,14 @@ fn perform<F: Files, W: Fabric, O: Sink, E: Sink>(
 ) -> Status
     requires files { (F.state files.old).faults < 2 ^ 64 - 1 }
     requires fabric { (W.state fabric.old).faults < 2 ^ 64 - 1 }
+    requires empty { (W.state fabric.old).kinds ≡ [] }
     requires out { (O.state out.old).faults < 2 ^ 64 - 1 }
     requires err { (E.state err.old).faults < 2 ^ 64 - 1 }
     ensures { let old : Objects = record { files = F.state files.old; fabric = W.state fabric.old; out = O.state out.old; err = E.state err.old } in
         let new : Objects = record { files = F.state files.new; fabric = W.state fabric.new; out = O.state out.new; err = E.state err.new } in
-        Ran (words_verdict old.files.named (map string_bytes words.now)) old new result }
+        Asked (map string_bytes words.now) old new result }
 {
-    match answer(alloc, words, files) {
+    match answer(alloc, words, files, fabric) {
         Ok(text) => print(out, &text),
         Err(Or::Fault(refusal)) => refuse(alloc, err, &refusal),
         Err(Or::Memory) => Status::Memory,

@@ -1,5 +1,5 @@
 -- Steps that touch nothing blame what was read.
-use Rattle.std.proofs.Common.{◌≡◌, Err, ap}
+use Rattle.std.proofs.Common.{ap}
 use Rattle.lt_config.specs.declared.config.Config.{Config}
 use Rattle.lt_front.specs.Examined.{ExaminedText}
 use Rattle.lt_load.specs.Blamed.{command_blame}

@@ -1,13 +1,12 @@
 -- The inputs of a program's flat form, its streams, and how large its step code can get.
-use Rattle.std.proofs.Common.{◌≡◌, ◌∙◌, ℕ, zero, suc, ◌<◌, ◌≤◌, List, [], ◌∷◌, ◌++◌, length, map, take, drop, get_or, refl, sym, ap, subst, arith}
-use Rattle.std.specs.Prelude.{Some, ◌^◌, ◌*◌}
+use Rattle.std.proofs.Common.{◌≡◌, ◌∙◌, ℕ, zero, suc, ◌<◌, ◌≤◌, List, [], ◌∷◌, ◌++◌, length, map, take, get_or, refl, sym, ap, subst, arith}
+use Rattle.std.specs.Prelude.{Some, ◌^◌}
 use Rattle.std.specs.List.{All, sum_by}
 use Rattle.std.proofs.lemmas.List.{length-map, length-take-le, take-append-le}
 use Rattle.std.proofs.lemmas.List.Elements.{All-head, All-tail}
 use Rattle.std.proofs.lemmas.List.Sums.{sum_by-cons}
 use Rattle.lt_base.specs.declared.value.Ty.{Ty}
 use Rattle.lt_base.specs.declared.value.Value.{Value}
-use Rattle.lt_base.specs.declared.value.Cell.{Cell}
 use Rattle.lt_base.specs.declared.function.Decl.{Decl}
 use Rattle.lt_base.specs.Expression.{Expression, literal, variable, unary, binary, imported, choose, sampled, merged, delayed, follow, arrow, call, parts}
 use Rattle.lt_base.specs.Sizes.{weight_with}

@@ -12,4 +12,5 @@ pub mod OneShape
 pub mod Contents
 pub mod Equals
 pub mod Planned
+pub mod Onward
 pub mod Sited

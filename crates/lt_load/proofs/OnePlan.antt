@@ -1,5 +1,5 @@
 -- Loading leaves one plan, or one refusal up to its kind.
-use Rattle.std.proofs.Common.{◌≡◌, ◌∙◌, ℕ, List, Option, Some, None, Ok, sym}
+use Rattle.std.proofs.Common.{◌∙◌, ℕ, List, Option, Some, None, Ok, sym}
 use Rattle.lt_base.specs.Program.{WholeProgram}
 use Rattle.lt_inputs.specs.Inputs.{inputs_of}
 use Rattle.lt_config.specs.declared.config.Config.{Config}

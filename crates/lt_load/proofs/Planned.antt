@@ -11,9 +11,7 @@ use Rattle.lt_answer.specs.Answered.{Answered, Verdict, AndThen, Refuses}
 use Rattle.lt_answer.proofs.Stages.{widened, refuses, runs_short, calm_itself}
 use Rattle.lt_place.specs.declared.layout.Layout.{Layout}
 use Rattle.lt_place.specs.Layout.{IsLayoutOf}
-use Rattle.lt_net.specs.Channels.{IsShapeOf}
 use Rattle.lt_front.specs.Checked.{CheckedText, examined_part}
-use Rattle.lt_front.specs.Examined.{ExaminedText}
 use Rattle.lt_front.specs.Flattened.{flat_of}
 use Rattle.lt_config.specs.declared.config.Config.{Config}
 use Rattle.lt_load.specs.declared.fault.CommandFault.{CommandFault}

@@ -58,6 +58,7 @@ module _ {C M : Type 0} (phase : C → Phase) (stands : M → Function → List 
   at_end = record {
     admissible = admissible_old;
     running = plays.running;
+    horizon = horizon;
     fixed = keeps.fixed;
     lists = (plays.kept).0;
     keeps = (plays.kept).1;

@@ -45,6 +45,7 @@ IsLeast bound s t rows =
 pub record IsAtEnd {C M : Type 0} (phase : C → Phase) (stands : M → Function → List (List Value) → Type 0) (made left : M → ℕ) (old new : StoppableNet C M) (inputs : List (List Value)) (fabric : FabricState) (events : List Event) : Type 0 where
   pub admissible : IsAdmissible old.plant.shape old.plant.timing old.plant.rows events
   pub running : new.stopped ≡ None
+  pub horizon : (h : ℕ) × (new.plant.watch.horizon ≡ Some h)
   pub fixed : SameStatic old.plant new.plant
   -- machines, cells, counts and messages are those of these lists
   pub lists : Lists

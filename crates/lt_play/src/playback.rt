@@ -29,16 +29,16 @@ use lt_rows::read_event;
 use std::alloc::Global;
 use std::sync::ledger::Ledger;
 
-/// A net with its inputs, and room for one row of them.
+/// A net beside its inputs, with room for one row of them.
 #[derive(Drop)]
-pub struct Playback<C: Controller, M: Machine> {
+pub struct Playback<'a, C: Controller, M: Machine> {
     pub net: Net<C, M>,
-    pub inputs: Inputs,
+    pub inputs: &'a Inputs,
     width: u32,
     row: Vec<Value>,
 }
 
-impl<C: Controller, M: Machine> Playback<C, M> {
+impl<'a, C: Controller, M: Machine> Playback<'a, C, M> {
     /// A net before its first event, with so many inputs of `main`. The fabric, which has no channels yet, is opened with
     /// the net's; an error of its leaves it as it was.
     pub fn start<W: Fabric>(
@@ -46,27 +46,27 @@ impl<C: Controller, M: Machine> Playback<C, M> {
         layout: Layout,
         shape: Shape,
         timing: Timing,
-        inputs: Inputs,
+        inputs: &'a Inputs,
         width: u32,
         machines: Vec<M>,
         controllers: Vec<C>,
         fabric: &mut W,
-    ) -> Result<Playback<C, M>, LinkErr>
-        requires placed { (f : Originated) × IsPlaced f layout × RowsFit f.func inputs.rows }
+    ) -> Result<Playback<'a, C, M>, LinkErr>
+        requires placed { (f : Originated) × IsPlaced f layout × RowsFit f.func inputs.now.rows }
         requires shape { FitsLayout layout timing.protocol shape }
         requires nodes { HaveSameNodes shape timing }
         requires numbered { 2 * (node_count shape + chan_count shape) < 2 ^ 32 }
-        requires width { inputs.width ≡ width }
-        requires wide { HasRowValues width inputs.rows }
-        requires one_place { OnePlace shape timing (length inputs.rows) }
-        requires machines { AreReady M.stands M.made M.left layout (length inputs.rows) machines.items }
+        requires width { inputs.now.width ≡ width }
+        requires wide { HasRowValues width inputs.now.rows }
+        requires one_place { OnePlace shape timing (length inputs.now.rows) }
+        requires machines { AreReady M.stands M.made M.left layout (length inputs.now.rows) machines.items }
         requires controllers { AreAtStart C.phase shape timing controllers.items }
         requires configured { AreConfigured C.protocol C.send C.execute timing controllers.items }
         requires count { (W.state fabric.old).faults < 2 ^ 64 - 1 }
         requires empty { (W.state fabric.old).kinds ≡ [] }
-        ensures inputs { IfOk result (λ playback. playback.inputs ≡ inputs) }
-        ensures made { IfOk result (λ playback. IsMadeOf layout shape timing (length inputs.rows) machines.items controllers.items playback.net.plant) }
-        ensures ready { IfOk result (λ playback. IsPlaying C.phase M.stands M.made M.left M.size playback.inputs playback.width playback.row.items [] 0 playback.net (W.state fabric.new)) }
+        ensures inputs { IfOk result (λ playback. playback.inputs.now ≡ inputs.now) }
+        ensures made { IfOk result (λ playback. IsMadeOf layout shape timing (length inputs.now.rows) machines.items controllers.items playback.net.plant) }
+        ensures ready { IfOk result (λ playback. IsPlaying C.phase M.stands M.made M.left M.size playback.inputs.now playback.width playback.row.items [] 0 playback.net (W.state fabric.new)) }
         ensures cause { LinkCounted (W.state fabric.old).faults (W.state fabric.new).faults result }
         ensures keeps { KeepsFabric (W.state fabric.old) (W.state fabric.new) }
         ensures sound { IsTrue (W.state fabric.old).sound → (W.state fabric.new).faults ≡ (W.state fabric.old).faults }
@@ -85,16 +85,16 @@ impl<C: Controller, M: Machine> Playback<C, M> {
     }
 }
 
-impl<C: Controller, M: Machine, W: Fabric> Replica<W> for Playback<C, M> {
+impl<C: Controller, M: Machine, W: Fabric> Replica<W> for Playback<'_, C, M> {
     type Event = Event;
 
     type Offence = Offence;
 
     ghost rules = { λ a. rules_of a.net.plant.shape a.net.plant.timing a.net.plant.rows };
 
-    ghost stands = { λ a w steps before. IsPlaying C.phase M.stands M.made M.left M.size a.inputs a.width a.row.items before steps a.net (W.state w) };
+    ghost stands = { λ a w steps before. IsPlaying C.phase M.stands M.made M.left M.size a.inputs.now a.width a.row.items before steps a.net (W.state w) };
 
-    ghost keeps = { λ a v b w. KeepsPlay M.size a.net b.net a.inputs.rows b.inputs.rows (W.state v) (W.state w) };
+    ghost keeps = { λ a v b w. KeepsPlay M.size a.net b.net a.inputs.now.rows b.inputs.now.rows (W.state v) (W.state w) };
 
     ghost faults = { λ w. (W.state w).faults };
 
@@ -109,7 +109,7 @@ impl<C: Controller, M: Machine, W: Fabric> Replica<W> for Playback<C, M> {
         match read_event(line, self.net.shape()) {
             Err(fault) => Err(Stop::Row(fault)),
             Ok(e) => {
-                let has = read_next(&self.net, &self.inputs, self.width, e, &mut self.row);
+                let has = read_next(&self.net, self.inputs, self.width, e, &mut self.row);
                 let row = given(has, &self.row);
                 match self.net.event(e, row, outside, steps) {
                     Ok(()) => Ok(()),
@@ -132,9 +132,9 @@ impl<C: Controller, M: Machine, W: Fabric> Replica<W> for Playback<C, M> {
 
     ghost long = { λ r line long. long_line r.net.plant.shape line long };
 
-    ghost keeps_same = { λ r w. keeps_itself M.size r.net r.inputs.rows (W.state w) };
+    ghost keeps_same = { λ r w. keeps_itself M.size r.net r.inputs.now.rows (W.state w) };
 
-    ghost keeps_on = { λ a u b v c w x y. keeps_on M.size a.net b.net c.net a.inputs.rows b.inputs.rows c.inputs.rows (W.state u) (W.state v) (W.state w) x y };
+    ghost keeps_on = { λ a u b v c w x y. keeps_on M.size a.net b.net c.net a.inputs.now.rows b.inputs.now.rows c.inputs.now.rows (W.state u) (W.state v) (W.state w) x y };
 
     ghost keeps_rules = { λ a v b w x. λ i. rules_of (x.fixed.shape i) (x.fixed.timing i) (x.fixed.rows i) };
 

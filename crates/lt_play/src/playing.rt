@@ -22,14 +22,14 @@ pub fn play<F: Files, W: Fabric, C: Controller, M: Machine>(
     lines: &mut Lines,
     files: &mut F,
     name: &str,
-    playback: &mut Playback<C, M>,
+    playback: &mut Playback<'_, C, M>,
     fabric: &mut W,
 ) -> Result<(), Or<PlayFault>>
     requires count { (F.state files.old).faults < 2 ^ 64 - 1 }
     requires link_count { (W.state fabric.old).faults < 2 ^ 64 - 1 }
     requires fresh { lines.old ≡ fresh }
-    requires ready { IsPlaying C.phase M.stands M.made M.left M.size playback.old.inputs playback.old.width playback.old.row.items [] 0 playback.old.net (W.state fabric.old) }
-    ensures { HasPlayed C.phase M.stands M.made M.left M.size playback.old.net playback.new.net playback.old.inputs.rows playback.new.inputs.rows name.now
+    requires ready { IsPlaying C.phase M.stands M.made M.left M.size playback.old.inputs.now playback.old.width playback.old.row.items [] 0 playback.old.net (W.state fabric.old) }
+    ensures { HasPlayed C.phase M.stands M.made M.left M.size playback.old.net playback.new.net playback.old.inputs.now.rows playback.new.inputs.now.rows name.now
         (F.state files.old) (F.state files.new) (W.state fabric.old) (W.state fabric.new) result }
 {
     match replay_schedule(lines, files, name, playback, fabric) {

@@ -20,7 +20,6 @@ use Rattle.lt_io.specs.declared.message.Message.{Message}
 use Rattle.lt_io.specs.FabricState.{FabricState}
 use Rattle.lt_link.specs.Bits.{bit_of}
 use Rattle.lt_link.specs.Inbox.{InboxState, no_inbox}
-use Rattle.lt_machine.specs.declared.step_machine.StepMachine.{StepMachine}
 use Rattle.lt_norm.specs.Flat.{Originated}
 use Rattle.lt_place.specs.declared.layout.Layout.{Layout}
 use Rattle.lt_place.specs.Layout.{IsPlaced, part_of}
@@ -58,7 +57,7 @@ held_bit (Some at) last (m ∷ ms) g (suc k) held is low = absurd (let none = ap
 cells_at : (tracks : List TrackState) (cells : List (List Cell)) (y : ℕ) → cells ≡ map (λ (track : TrackState). track.cells) tracks → y < length tracks → slice_index_or cells y [] ≡ (track_at tracks y).cells
 cells_at tracks cells y is low = ap (λ (columns : List (List Cell)). slice_index_or columns y []) is ∙ get_or-map (λ (track : TrackState). track.cells) tracks y (record { cells = []; room = 0 }) [] low
 
-module _ {C : Type 0} (phase : C → Phase) (stands : StepMachine → Function → List (List Value) → Type 0) (made left : StepMachine → ℕ) (net : NetState C StepMachine) (inputs : List (List Value)) (events : List Event) (fabric : FabricState) (ls : Lists)
+module _ {C M : Type 0} (phase : C → Phase) (stands : M → Function → List (List Value) → Type 0) (made left : M → ℕ) (net : NetState C M) (inputs : List (List Value)) (events : List Event) (fabric : FabricState) (ls : Lists)
     (rows : net.rows ≡ length inputs) (k : Keeps phase stands made left inputs events net fabric ls) where
   abbrev last : State
   last = reached net.shape net.timing (length inputs) events
@@ -114,13 +113,13 @@ module _ {C : Type 0} (phase : C → Phase) (stands : StepMachine → Function �
         (k.stands_for.ran.machines n m is);
   }
     where
-      within : (n : ℕ) (m : StepMachine) → slice_get net.machines n ≡ Some m → n < node_count net.shape
+      within : (n : ℕ) (m : M) → slice_get net.machines n ≡ Some m → n < node_count net.shape
       within n m is = let w = slice_get_within net.machines n m is in omega (arith, w, sized, nodes)
 
   pub is_replay : IsSized net → length net.tracks ≡ length net.layout.outs → node_count net.shape ≡ length net.layout.nodes → IsAdmissible net.shape net.timing net.rows events →
       ((f : Function) (bound : Timing → ℕ → ℕ → ℕ) → IsLaidOut f net.layout → HasInputs f inputs → IsLeast bound net.shape net.timing net.rows → Ends bound f inputs net fabric ls) →
       (f : Originated) → IsPlaced f net.layout → RowsFit f.func inputs → IsLeast bound_of net.shape net.timing (length inputs) →
-      (taken : Replayed) → IsTaken net taken → IsReplay stands made net.layout net.shape net.timing inputs fabric events taken
+      (taken : Replayed M) → IsTaken net taken → IsReplay stands made net.layout net.shape net.timing inputs fabric events taken
   is_replay sized tracks nodes admissible ends f placed fit least taken is = record {
     run = record {
       admissible = subst (λ m. IsAdmissible net.shape net.timing m events) rows admissible;

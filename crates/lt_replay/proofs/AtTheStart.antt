@@ -1,15 +1,24 @@
 -- The controllers of the nodes, before the first event.
-use Rattle.std.proofs.Common.{◌≡◌, ℕ, List, length, ◌∙◌}
+use Rattle.std.proofs.Common.{ℕ, List, ◌∙◌}
 use Rattle.lt_arch.specs.declared.timing.Protocol.{Protocol}
 use Rattle.lt_arch.specs.declared.timing.Timing.{Timing}
 use Rattle.lt_arch.specs.declared.shape.Shape.{Shape}
 use Rattle.lt_arch.specs.Shapes.{HaveSameNodes}
 use Rattle.lt_arch.specs.State.{Phase}
 use Rattle.lt_net.specs.Starts.{AreAtStart}
+use Rattle.lt_net.specs.Wakes.{AreConfigured}
 use Rattle.lt_replay.specs.Ready.{AreControllers}
 
-pub at_start : {C : Type 0} (phase : C → Phase) (protocol : C → Protocol) (send execute : C → ℕ) (s : Shape) (t : Timing) (cs : List C) → HaveSameNodes s t → AreControllers phase protocol send execute t cs → AreAtStart phase s t cs
-at_start phase protocol send execute s t cs same are = record {
-  count = are.count ∙ same;
-  phases = are.phases;
-}
+module _ {C : Type 0} (phase : C → Phase) (protocol : C → Protocol) (send execute : C → ℕ) (t : Timing) where
+  pub at_start : (s : Shape) (cs : List C) → HaveSameNodes s t → AreControllers phase protocol send execute t cs → AreAtStart phase s t cs
+  at_start s cs same are = record {
+    count = are.count ∙ same;
+    phases = λ n c is. (are.each n c is).phase_is;
+  }
+
+  pub configured : (cs : List C) → AreControllers phase protocol send execute t cs → AreConfigured protocol send execute t cs
+  configured cs are = record {
+    same_protocol = λ n c is. (are.each n c is).protocol_is;
+    sends = λ by_time n c is. (are.each n c is).send_is by_time;
+    executes = λ by_time n c is. (are.each n c is).execute_is by_time;
+  }

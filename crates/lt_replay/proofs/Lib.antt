@@ -1,6 +1,9 @@
+pub mod Members
 pub mod OutputsFew
 pub mod SoundNetworks
+pub mod PartRead
 pub mod ReadySoFar
 pub mod AtTheEnd
+pub mod NextController
 pub mod AtTheStart
 pub mod Performed

@@ -1,11 +1,15 @@
 -- A good function has no more outputs than variables.
-use Rattle.std.proofs.Common.{◌≡◌, ℕ, zero, suc, ◌+◌, ◌<◌, ◌≤◌, Bool, true, false, cond, List, [], ◌∷◌, length, All, refl, ap, ◌∙◌, arith, eqb-true}
+use Rattle.std.proofs.Common.{◌≡◌, ℕ, zero, suc, ◌+◌, ◌^◌, ◌<◌, ◌≤◌, Bool, true, false, cond, List, [], ◌∷◌, length, All, refl, ap, ◌∙◌, arith, eqb-true}
 use Rattle.std.specs.Prelude.{nat_eq}
 use Rattle.std.specs.List.{count_by}
 use Rattle.std.proofs.lemmas.List.Elements.{All-head, All-tail}
 use Rattle.std.proofs.lemmas.List.Sums.{sum_by-cons}
 use Rattle.std.proofs.lemmas.Bool.Decides.{nat_tests}
 use Rattle.lt_base.specs.Program.{Function, GoodFunction}
+use Rattle.lt_norm.specs.Flat.{Originated}
+use Rattle.lt_place.specs.declared.layout.Layout.{Layout}
+use Rattle.lt_place.specs.Layout.{IsPlaced}
+use Rattle.lt_place.specs.Sizes.{HasCodeRoom}
 
 -- how often a number stands in a list
 abbrev times : ℕ → List ℕ → ℕ
@@ -62,8 +66,15 @@ low_once : (n : ℕ) (ys : List ℕ) → ((y : ℕ) → times y ys ≤ 1) → lo
 low_once zero ys m = omega arith
 low_once (suc n) ys m = let h = low_once n ys m in let k = m n in omega (arith, h, k)
 
-pub outputs_few : (f : Function) → GoodFunction f → length f.outs ≤ length f.decls
+outputs_few : (f : Function) → GoodFunction f → length f.outs ≤ length f.decls
 outputs_few f good =
     let all = low_all (length f.decls) f.outs good.outs in
     let few = low_once (length f.decls) f.outs good.outs_once in
     omega (arith, all, few)
+
+pub few_outputs : (f : Originated) (l : Layout) → IsPlaced f l → HasCodeRoom f.func → length l.outs < 2 ^ 32
+few_outputs f l placed room =
+    let few = outputs_few f.func placed.good in
+    let outs = ap length placed.layout.outs in
+    let low = room.variables in
+    omega (arith, few, outs, low)

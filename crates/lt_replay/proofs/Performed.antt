@@ -1,5 +1,6 @@
 -- What a network along a schedule answers, from what its net did.
 use Rattle.std.proofs.Common.{◌≡◌, ◌<◌, inl, inr, ℕ, List, length, Option, Some, None, Result, Ok, Err, IsTrue, refl, sym, ap, ◌∙◌, subst, arith}
+use Rattle.std.specs.Prelude.{IsErrAnd}
 use Rattle.lt_base.specs.declared.value.Value.{Value}
 use Rattle.lt_base.specs.declared.memory.Or.{Or}
 use Rattle.lt_base.specs.declared.memory.Or.TheVariants.{Fault, Memory}
@@ -23,13 +24,13 @@ use Rattle.lt_answer.proofs.Stages.{goes_on, widened}
 use Rattle.lt_judge.specs.declared.fault.ScheduleFault.{ScheduleFault}
 use Rattle.lt_judge.specs.declared.fault.ScheduleFault.TheVariants.{Read}
 use Rattle.lt_judge.specs.Verdict.{verdict}
-use Rattle.lt_machine.specs.declared.step_machine.StepMachine.{StepMachine}
 use Rattle.lt_norm.specs.Flat.{Originated}
 use Rattle.lt_place.specs.declared.layout.Layout.{Layout}
 use Rattle.lt_place.specs.Layout.{IsPlaced}
 use Rattle.lt_net.specs.NetModel.{StoppableNet}
 use Rattle.lt_net.specs.Kept.{IsSized}
 use Rattle.lt_net.specs.Starts.{IsMadeOf}
+use Rattle.lt_net.proofs.SendLoop.{keeps_refl}
 use Rattle.lt_play.specs.declared.fault.PlayFault.{PlayFault}
 use Rattle.lt_play.specs.declared.fault.PlayFault.TheVariants.{Schedule}
 use Rattle.lt_play.specs.Played.{world, IsLeast, IsAtEnd, EndsBy, play_verdict, HasPlayed}
@@ -39,14 +40,19 @@ use Rattle.lt_replay.specs.Sound.{IsSound}
 use Rattle.lt_replay.specs.Replays.{IsTaken, IsReplay, EndsWith, replay_verdict, HasReplayed, link_fault}
 use Rattle.lt_replay.proofs.AtTheEnd.{is_replay}
 
-module _ {C : Type 0} (phase : C → Phase) (stands : StepMachine → Function → List (List Value) → Type 0) (made left size : StepMachine → ℕ)
+-- an error that is handed on
+at_error : {T E : Type 0} (P : Result T E → Type 0) (r : Result T E) (e : E) → IsErrAnd r (λ f. f ≡ e) → P (Err e) → P r
+at_error P (Ok x) e is refused = absurd is
+at_error P (Err f) e is refused = subst (λ g. P (Err g)) (sym is) refused
+
+module _ {C M : Type 0} (phase : C → Phase) (stands : M → Function → List (List Value) → Type 0) (made left size : M → ℕ)
     (l : Layout) (s : Shape) (t : Timing) (inputs : List (List Value)) (name : List ℕ) (files files' : FilesState) (fabric : FabricState) where
   -- nothing was played yet
   module _ (fabric' : FabricState) (keeps : KeepsFabric fabric fabric') (steady : IsTrue fabric.sound → fabric'.faults ≡ fabric.faults) where
-    abbrev ends_at : List Event → Replayed → Type 0
+    abbrev ends_at : List Event → Replayed M → Type 0
     ends_at = IsReplay stands made l s t inputs fabric'
 
-    abbrev right_of : Verdict Replayed PlayFault
+    abbrev right_of : Verdict (Replayed M) PlayFault
     right_of = replay_verdict ends_at s t (length inputs) (files.named name)
 
     unplayed_keeps : KeepsWorld (world files fabric) (world files fabric')
@@ -74,6 +80,10 @@ module _ {C : Type 0} (phase : C → Phase) (stands : StepMachine → Function �
       ended = tt;
       near = λ told. tt;
     }
+
+  -- there is no memory to begin with
+  pub no_memory : (r : Result (Replayed M) (Or PlayFault)) → IsErrAnd r (λ f. f ≡ Memory) → HasReplayed stands made l s t inputs name files files fabric fabric r
+  no_memory r is = at_error (λ answer. HasReplayed stands made l s t inputs name files files fabric fabric answer) r Memory is (not_opened fabric (keeps_refl fabric) (λ sound. refl) link.Memory refl)
 
 -- a step's answer as that of another, where what is right of the one is right of the other
 module _ {T U E : Type 0} (blame : E → Blame) (V : Verdict T E) (W : Verdict U E) (a b : World) (wider : (e : E) → V (Err e) → W (Err e)) where
@@ -120,19 +130,19 @@ after_leave W (Ok x) (inl h) = absurd h
 after_leave W (Err e) (inl h) = absurd h
 after_leave W o (inr h) = h.2
 
-module _ {C : Type 0} (phase : C → Phase) (stands : StepMachine → Function → List (List Value) → Type 0) (made left size : StepMachine → ℕ)
+module _ {C M : Type 0} (phase : C → Phase) (stands : M → Function → List (List Value) → Type 0) (made left size : M → ℕ)
     (l : Layout) (s : Shape) (t : Timing) (inputs later : List (List Value)) (name : List ℕ) (files files' : FilesState) (fabric mid fabric' : FabricState)
-    (opened : KeepsFabric fabric mid) (calm : mid.faults ≡ fabric.faults) (old new : StoppableNet C StepMachine) (ms : List StepMachine) (cs : List C) (is : IsMadeOf l s t (length inputs) ms cs old.plant) where
+    (opened : KeepsFabric fabric mid) (calm : mid.faults ≡ fabric.faults) (old new : StoppableNet C M) (ms : List M) (cs : List C) (is : IsMadeOf l s t (length inputs) ms cs old.plant) where
   abbrev ends_at_last : List Event → Type 0
   ends_at_last = IsAtEnd phase stands made left old new inputs fabric'
 
-  abbrev comes_to : List Event → Replayed → Type 0
+  abbrev comes_to : List Event → Replayed M → Type 0
   comes_to = IsReplay stands made l s t inputs fabric'
 
   abbrev played_right : Option (List ℕ) → Verdict (Unit {0}) PlayFault
   played_right file = play_verdict ends_at_last old.plant.shape old.plant.timing old.plant.rows file
 
-  abbrev replayed_right : Option (List ℕ) → Verdict Replayed PlayFault
+  abbrev replayed_right : Option (List ℕ) → Verdict (Replayed M) PlayFault
   replayed_right file = replay_verdict comes_to s t (length inputs) file
 
   same_verdict : (bytes : List ℕ) → verdict old.plant.shape old.plant.timing old.plant.rows bytes ≡ verdict s t (length inputs) bytes
@@ -142,7 +152,7 @@ module _ {C : Type 0} (phase : C → Phase) (stands : StepMachine → Function �
   error_ends (Ok events) e h = absurd h
   error_ends (Err fault) e h = let same : e ≡ Schedule fault = cc h in ap (λ x. Err x) same
 
-  value_ends : (v : Result (List Event) ScheduleFault) (x : Unit {0}) (taken : Replayed) → ((events : List Event) → ends_at_last events → comes_to events taken) → EndsBy ends_at_last v (Ok x) → EndsWith comes_to v (Ok taken)
+  value_ends : (v : Result (List Event) ScheduleFault) (x : Unit {0}) (taken : Replayed M) → ((events : List Event) → ends_at_last events → comes_to events taken) → EndsBy ends_at_last v (Ok x) → EndsWith comes_to v (Ok taken)
   value_ends (Ok events) x taken goes h = goes events h
   value_ends (Err fault) x taken goes h = absurd (cc h)
 
@@ -151,7 +161,7 @@ module _ {C : Type 0} (phase : C → Phase) (stands : StepMachine → Function �
   error_wider None e h = let same : e ≡ Schedule Read = cc h in ap (λ x. Err x) same
   error_wider (Some bytes) e h = subst (λ v. EndsWith comes_to v (Err e)) (same_verdict bytes) (error_ends (verdict old.plant.shape old.plant.timing old.plant.rows bytes) e h)
 
-  value_wider : (file : Option (List ℕ)) (x : Unit {0}) (taken : Replayed) → ((events : List Event) → ends_at_last events → comes_to events taken) → played_right file (Ok x) → replayed_right file (Ok taken)
+  value_wider : (file : Option (List ℕ)) (x : Unit {0}) (taken : Replayed M) → ((events : List Event) → ends_at_last events → comes_to events taken) → played_right file (Ok x) → replayed_right file (Ok taken)
   unfolding play_verdict replay_verdict
   value_wider None x taken goes h = absurd (cc h)
   value_wider (Some bytes) x taken goes h = subst (λ v. EndsWith comes_to v (Ok taken)) (same_verdict bytes) (value_ends (verdict old.plant.shape old.plant.timing old.plant.rows bytes) x taken goes h)
@@ -164,32 +174,44 @@ module _ {C : Type 0} (phase : C → Phase) (stands : StepMachine → Function �
     sound = λ told sound rose. absurd (omega (arith, rose));
   }
 
-  from_start : (r : Result Replayed (Or PlayFault)) → Answered play_blame (replayed_right (files.named name)) (world files mid) (world files' fabric') r → Answered play_blame (replayed_right (files.named name)) (world files fabric) (world files' fabric') r
+  from_start : (r : Result (Replayed M) (Or PlayFault)) → Answered play_blame (replayed_right (files.named name)) (world files mid) (world files' fabric') r → Answered play_blame (replayed_right (files.named name)) (world files fabric) (world files' fabric') r
   from_start r answered =
       widened (AndThen (Allowed {E = PlayFault}) (λ _. replayed_right (files.named name))) (replayed_right (files.named name)) (world files fabric) (world files' fabric') r (after_leave (replayed_right (files.named name)))
       (goes_on {next = λ _. replayed_right (files.named name)} (world files fabric) (world files mid) (world files' fabric') tt r leave answered)
 
   -- the play was refused
-  pub refused_play : (e : Or PlayFault) → HasPlayed phase stands made left size old new inputs later name files files' mid fabric' (Err e) → HasReplayed stands made l s t inputs name files files' fabric fabric' (Err e)
+  refused_play : (e : Or PlayFault) → HasPlayed phase stands made left size old new inputs later name files files' mid fabric' (Err e) → HasReplayed stands made l s t inputs name files files' fabric fabric' (Err e)
   refused_play e played = record {
     answered = from_start (Err e) (error_too play_blame (played_right (files.named name)) (replayed_right (files.named name)) (world files mid) (world files' fabric') (error_wider (files.named name)) e played.answered);
     ended = tt;
     near = played.near;
   }
 
+  pub refused_by : (r : Result (Replayed M) (Or PlayFault)) (e : Or PlayFault) → IsErrAnd r (λ f. f ≡ e) → (lent : List (List Value)) → lent ≡ inputs → HasPlayed phase stands made left size old new lent later name files files' mid fabric' (Err e) →
+      HasReplayed stands made l s t inputs name files files' fabric fabric' r
+  refused_by r e is lent same played =
+      at_error (λ answer. HasReplayed stands made l s t inputs name files files' fabric fabric' answer) r e is
+      (refused_play e (subst (λ z. HasPlayed phase stands made left size old new z later name files files' mid fabric' (Err e)) same played))
+
   -- the play went to its end
-  module _ (x : Unit {0}) (played : HasPlayed phase stands made left size old new inputs later name files files' mid fabric' (Ok x)) where
+  module _ (x : Unit {0}) (lent : List (List Value)) (same : lent ≡ inputs) (played_by : HasPlayed phase stands made left size old new lent later name files files' mid fabric' (Ok x)) where
+    played : HasPlayed phase stands made left size old new inputs later name files files' mid fabric' (Ok x)
+    played = subst (λ z. HasPlayed phase stands made left size old new z later name files files' mid fabric' (Ok x)) same played_by
+
     -- there is no memory for what is taken
-    pub untaken : HasReplayed stands made l s t inputs name files files' fabric fabric' (Err Memory)
+    untaken : HasReplayed stands made l s t inputs name files files' fabric fabric' (Err Memory)
     untaken = record {
       answered = from_start (Err Memory) (short_too play_blame (played_right (files.named name)) (replayed_right (files.named name)) (world files mid) (world files' fabric') (error_wider (files.named name)) x played.answered);
       ended = tt;
       near = λ told. tt;
     }
 
+    pub untaken_by : (r : Result (Replayed M) (Or PlayFault)) → IsErrAnd r (λ f. f ≡ Memory) → HasReplayed stands made l s t inputs name files files' fabric fabric' r
+    untaken_by r is = at_error (λ answer. HasReplayed stands made l s t inputs name files files' fabric fabric' answer) r Memory is untaken
+
     -- it is taken
     module _ (f : Originated) (placed : IsPlaced f l) (fit : RowsFit f.func inputs) (networks : IsSound l s t (length inputs)) (sized : IsSized new.plant) (tracks : length new.plant.tracks ≡ length new.plant.layout.outs)
-        (taken : Replayed) (taken_is : IsTaken new.plant taken) where
+        (taken : Replayed M) (taken_is : IsTaken new.plant taken) where
       at_last : (events : List Event) → ends_at_last events → comes_to events taken
       at_last events last =
           let layout_is : new.plant.layout ≡ l = last.fixed.layout ∙ is.layout in
@@ -212,3 +234,11 @@ module _ {C : Type 0} (phase : C → Phase) (stands : StepMachine → Function �
         ended = (played.ended.0, at_last played.ended.0 played.ended.1);
         near = λ told. tt;
       }
+
+-- the same of an equal layout, shape and timing
+pub of_equals : {M : Type 0} (stands : M → Function → List (List Value) → Type 0) (made : M → ℕ) (l l' : Layout) (s s' : Shape) (t t' : Timing) (inputs : List (List Value)) (name : List ℕ) (files files' : FilesState) (fabric fabric' : FabricState) (r : Result (Replayed M) (Or PlayFault)) →
+    l' ≡ l → s' ≡ s → t' ≡ t → HasReplayed stands made l' s' t' inputs name files files' fabric fabric' r → HasReplayed stands made l s t inputs name files files' fabric fabric' r
+of_equals stands made l l' s s' t t' inputs name files files' fabric fabric' r same_layout same_shape same_timing replayed =
+    subst (λ z. HasReplayed stands made z s t inputs name files files' fabric fabric' r) same_layout
+    (subst (λ z. HasReplayed stands made l' z t inputs name files files' fabric fabric' r) same_shape
+    (subst (λ z. HasReplayed stands made l' s' z inputs name files files' fabric fabric' r) same_timing replayed))

@@ -1,11 +1,14 @@
 -- The machines of the first nodes, and one more.
-use Rattle.std.proofs.Common.{◌≡◌, ◌<◌, ℕ, zero, suc, List, [], ◌∷◌, ◌++◌, length, Some, sym, ap, subst}
+use Rattle.std.proofs.Common.{◌≡◌, ◌<◌, ℕ, zero, suc, List, [], ◌∷◌, ◌++◌, length, get_or, Some, sym, subst}
 use Rattle.std.specs.Prelude.{slice_get}
 use Rattle.lt_base.specs.declared.value.Value.{Value}
 use Rattle.lt_base.specs.Program.{Function}
+use Rattle.lt_place.specs.declared.layout.Part.{Part}
 use Rattle.lt_place.specs.declared.layout.Layout.{Layout}
+use Rattle.lt_place.specs.Layout.{part_of}
 use Rattle.lt_net.specs.Starts.{AreReady}
-use Rattle.lt_replay.specs.Ready.{AreReadySoFar}
+use Rattle.lt_replay.specs.Ready.{IsReady, AreReadySoFar}
+use Rattle.lt_replay.proofs.PartRead.{part_read}
 
 -- what holds of each element and its place holds so with one more at the end
 pub one_more : {A : Type 0} (P : ℕ → A → Type 0) (xs : List A) (y : A) → ((n : ℕ) (x : A) → slice_get xs n ≡ Some x → P n x) → P (length xs) y → (n : ℕ) (x : A) → slice_get (xs ++ y ∷ []) n ≡ Some x → P n x
@@ -23,3 +26,11 @@ module _ {M : Type 0} (stands : M → Function → List (List Value) → Type 0)
     unmade = λ n m is. (ready n m is).unmade;
     enough = λ n m is. (ready n m is).enough;
   }
+
+  -- the machine of the next node, whose part was read by its place
+  pub next_machine : (parts : List Part) (n : ℕ) (q : Part) (more : List M) (m : M) → parts ≡ l.nodes → n ≡ length ms → n < length l.nodes → q ≡ get_or parts n q → more ≡ ms ++ m ∷ [] →
+      AreReadySoFar stands made left l rows ms → IsReady stands made left q.flat.func rows m → AreReadySoFar stands made left l rows more
+  next_machine parts n q more m same count low read is ready last =
+      subst (AreReadySoFar stands made left l rows) (sym is) (one_more (λ k d. IsReady stands made left (part_of l k).flat.func rows d) ms m ready
+      (subst (λ k. IsReady stands made left (part_of l k).flat.func rows m) count
+      (subst (λ (p : Part). IsReady stands made left p.flat.func rows m) (sym (part_read l parts n q same low read)) last)))

@@ -4,14 +4,17 @@ use Rattle.std.specs.Prelude.{if◌then◌else◌}
 use Rattle.std.proofs.lemmas.Nat.{mul-le}
 use Rattle.lt_arch.specs.declared.timing.Protocol.{Protocol}
 use Rattle.lt_arch.specs.declared.timing.Protocol.TheVariants.{BackPressure, TimeBased}
+use Rattle.lt_arch.specs.declared.timing.Timing.{Timing}
+use Rattle.lt_arch.specs.declared.shape.Shape.{Shape}
 use Rattle.lt_arch.specs.Readers.{node_count, chan_count, is_back_pressure}
 use Rattle.lt_arch.specs.State.{executed_of}
 use Rattle.lt_arch.specs.Schedule.{reached}
 use Rattle.lt_timing.specs.Bounds.{bound_of, time_based_bound, back_pressure_bound}
 use Rattle.lt_bp.specs.Laws as pressure
 use Rattle.lt_tb.specs.Laws as counting
+use Rattle.lt_place.specs.declared.layout.Layout.{Layout}
 use Rattle.lt_net.specs.Channels.{ShapesFit}
-use Rattle.lt_replay.specs.Sound.{AreSound}
+use Rattle.lt_replay.specs.Sound.{IsSound, AreSound}
 
 either : (p : Protocol) → (p ≡ BackPressure) ⊎ (p ≡ TimeBased)
 either BackPressure = inl refl
@@ -42,3 +45,8 @@ are_sound shapes_fit one_by_pressure least_by_pressure one_by_counting least_by_
       ];
       numbered = λ low. few_channels (node_count s) (chan_count s) (length l.names) (ap length is.nodes) fits.few low;
     }
+
+-- the same of an equal layout, shape and timing
+pub sound_of_equals : (l l' : Layout) (s s' : Shape) (t t' : Timing) (rows : ℕ) → l' ≡ l → s' ≡ s → t' ≡ t → IsSound l s t rows → IsSound l' s' t' rows
+sound_of_equals l l' s s' t t' rows same_layout same_shape same_timing sound =
+    subst (λ z. IsSound z s' t' rows) (sym same_layout) (subst (λ z. IsSound l z t' rows) (sym same_shape) (subst (λ z. IsSound l s z rows) (sym same_timing) sound))

@@ -4,11 +4,12 @@ use Rattle.lt_base.specs.declared.value.Value.{Value}
 use Rattle.lt_base.specs.Program.{Function}
 use Rattle.lt_arch.specs.declared.timing.Protocol.{Protocol}
 use Rattle.lt_arch.specs.declared.timing.Timing.{Timing}
+use Rattle.lt_arch.specs.declared.timing.Protocol.TheVariants.{TimeBased}
+use Rattle.lt_arch.specs.Readers.{send_of, execute_of}
 use Rattle.lt_arch.specs.State.{Phase, first_phase}
 use Rattle.lt_place.specs.declared.layout.Layout.{Layout}
 use Rattle.lt_place.specs.Layout.{part_of}
 use Rattle.lt_place.specs.Sizes.{IsCompilable}
-use Rattle.lt_net.specs.Wakes.{AreConfigured}
 
 -- the machine runs this function, has made no step, and has one left for each row
 pub record IsReady {M : Type 0} (stands : M → Function → List (List Value) → Type 0) (made left : M → ℕ) (f : Function) (rows : ℕ) (m : M) : Type 0 where
@@ -24,8 +25,14 @@ AreReadySoFar {M} stands made left l rows ms = (n : ℕ) (m : M) → slice_get m
 abbrev pub AreCompilable : Layout → Type 0
 AreCompilable l = (n : ℕ) → n < length l.nodes → IsCompilable (part_of l n).flat.func
 
--- one controller for each node of a timing, at its protocol's start
+-- the controller is at its protocol's start and, where that counts activations, has the two countdowns of node n
+pub record IsControllerOf {C : Type 0} (phase : C → Phase) (protocol : C → Protocol) (send execute : C → ℕ) (t : Timing) (n : ℕ) (c : C) : Type 0 where
+  pub phase_is : phase c ≡ first_phase t.protocol
+  pub protocol_is : protocol c ≡ t.protocol
+  pub send_is : t.protocol ≡ TimeBased → send c ≡ send_of t n
+  pub execute_is : t.protocol ≡ TimeBased → execute c ≡ execute_of t n
+
+-- there is one for each node
 pub record AreControllers {C : Type 0} (phase : C → Phase) (protocol : C → Protocol) (send execute : C → ℕ) (t : Timing) (cs : List C) : Type 0 where
   pub count : length cs ≡ length t.nodes
-  pub phases : (n : ℕ) (c : C) → slice_get cs n ≡ Some c → phase c ≡ first_phase t.protocol
-  pub configured : AreConfigured protocol send execute t cs
+  pub each : (n : ℕ) (c : C) → slice_get cs n ≡ Some c → IsControllerOf phase protocol send execute t n c

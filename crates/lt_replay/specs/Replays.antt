@@ -15,7 +15,6 @@ use Rattle.lt_answer.specs.Answered.{Answered, OfFile, Verdict}
 use Rattle.lt_judge.specs.declared.fault.ScheduleFault.{ScheduleFault}
 use Rattle.lt_judge.specs.declared.fault.ScheduleFault.TheVariants.{Read}
 use Rattle.lt_judge.specs.Verdict.{verdict}
-use Rattle.lt_machine.specs.declared.step_machine.StepMachine.{StepMachine}
 use Rattle.lt_place.specs.declared.layout.Layout.{Layout}
 use Rattle.lt_net.specs.Net.{NetState}
 use Rattle.lt_play.specs.declared.fault.PlayFault.{PlayFault}
@@ -26,7 +25,7 @@ use Rattle.lt_replay.specs.declared.replayed.Replayed.{Replayed}
 use Rattle.lt_replay.specs.Run.{IsRun, HasSteps}
 
 -- what is taken from a net: the cells of its outputs, its horizon and its machines
-pub record IsTaken {C : Type 0} (net : NetState C StepMachine) (taken : Replayed) : Type 0 where
+pub record IsTaken {C M : Type 0} (net : NetState C M) (taken : Replayed M) : Type 0 where
   pub cells : taken.cells ≡ map (λ track. track.cells) net.tracks
   pub horizon : net.watch.horizon ≡ Some taken.horizon
   pub machines : taken.machines ≡ net.machines
@@ -37,7 +36,7 @@ link_fault link.Failed = Fault Link
 link_fault link.Memory = Memory
 
 -- the cells and the machines are those to which these events lead
-pub record IsReplay (stands : StepMachine → Function → List (List Value) → Type 0) (made : StepMachine → ℕ) (l : Layout) (s : Shape) (t : Timing) (inputs : List (List Value)) (fabric : FabricState) (events : List Event) (taken : Replayed) : Type 0 where
+pub record IsReplay {M : Type 0} (stands : M → Function → List (List Value) → Type 0) (made : M → ℕ) (l : Layout) (s : Shape) (t : Timing) (inputs : List (List Value)) (fabric : FabricState) (events : List Event) (taken : Replayed M) : Type 0 where
   pub run : IsRun l s t inputs fabric events taken.cells taken.horizon
   pub steps : HasSteps stands made l s t inputs events run.lists.got taken.machines
 
@@ -52,8 +51,8 @@ unfoldable pub replay_verdict : {T : Type 0} → (end : List Event → T → Typ
 replay_verdict end s t rows file = OfFile (Schedule Read) file (λ bytes outcome. EndsWith end (verdict s t rows bytes) outcome)
 
 -- the network took the file of this name to its end, or a fault stands against it
-pub record HasReplayed (stands : StepMachine → Function → List (List Value) → Type 0) (made : StepMachine → ℕ) (l : Layout) (s : Shape) (t : Timing) (inputs : List (List Value))
-    (name : List ℕ) (files files' : FilesState) (fabric fabric' : FabricState) (result : Result Replayed (Or PlayFault)) : Type 0 where
+pub record HasReplayed {M : Type 0} (stands : M → Function → List (List Value) → Type 0) (made : M → ℕ) (l : Layout) (s : Shape) (t : Timing) (inputs : List (List Value))
+    (name : List ℕ) (files files' : FilesState) (fabric fabric' : FabricState) (result : Result (Replayed M) (Or PlayFault)) : Type 0 where
   -- by the verdict of the file
   pub answered : Answered play_blame (replay_verdict (IsReplay stands made l s t inputs fabric') s t (length inputs) (files.named name)) (world files fabric) (world files' fabric') result
   -- whether or not the files tell their bytes

@@ -2,7 +2,7 @@
 //! fabric, and the cells are taken.
 #![tactic(auto)]
 
-mod actors;
+mod controllers;
 pub mod laws;
 mod machines;
 mod replayed;
@@ -10,5 +10,6 @@ mod replaying;
 mod setup;
 mod taking;
 
+pub use machines::machines_of;
 pub use replayed::Replayed;
 pub use replaying::replay;

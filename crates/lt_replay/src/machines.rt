@@ -57,8 +57,28 @@ fn add_machine(
     Ok(())
 }
 
-/// A machine for each node of a placed layout, with a step for each row.
-pub(crate) fn machines_of(
+// The machines of the nodes, in order.
+fn each_machine(
+    alloc: Global,
+    layout: &Layout,
+    imports: Vec<Import>,
+    rows: u32,
+) -> Result<Vec<StepMachine>, Memory>
+    requires placed { (f : Originated) × IsPlaced f layout.now × HasCodeRoom f.func }
+    requires imports { length imports.items ≡ length layout.now.nodes }
+    ensures count { IfOk result (λ machines. length machines.items ≡ length layout.now.nodes) }
+    ensures ready { IfOk result (λ machines. AreReadySoFar ⟦<StepMachine as Machine>⟧.stands ⟦<StepMachine as Machine>⟧.made ⟦<StepMachine as Machine>⟧.left layout.now rows machines.items) }
+{
+    parts_compile();
+    let mut machines = Vec::with_capacity(alloc, imports.len())?;
+    for import in imports {
+        add_machine(alloc, layout, import, rows, &mut machines)?;
+    }
+    Ok(machines)
+}
+
+/// A machine for each node of a placed layout, of its part, with a step for each row. There is an import for each node.
+pub fn machines_of(
     alloc: Global,
     layout: &Layout,
     imports: Vec<Import>,
@@ -68,10 +88,6 @@ pub(crate) fn machines_of(
     requires imports { length imports.items ≡ length layout.now.nodes }
     ensures { IfOk result (λ machines. AreReady ⟦<StepMachine as Machine>⟧.stands ⟦<StepMachine as Machine>⟧.made ⟦<StepMachine as Machine>⟧.left layout.now rows machines.items) }
 {
-    parts_compile();
-    let mut machines = Vec::with_capacity(alloc, imports.len())?;
-    for import in imports {
-        add_machine(alloc, layout, import, rows, &mut machines)?;
-    }
+    let machines = each_machine(alloc, layout, imports, rows)?;
     Ok(machines)
 }

@@ -15,15 +15,14 @@ ghost use Rattle.lt_replay.specs.Sound.{IsSound};
 ghost use Rattle.lt_replay.specs.Replays.{HasReplayed, link_fault};
 
 use crate::Replayed;
-use crate::actors::{Actors, actors_of};
+use crate::controllers::controllers_of;
 use crate::laws::networks_are_sound;
 use crate::setup::{Setup, copies};
 use crate::taking::take;
 use lt_arch::{Controller, Shape, Timing};
 use lt_base::{Inputs, Or};
 use lt_io::{Fabric, Files, LinkErr};
-use lt_judge::NodeController;
-use lt_machine::{Import, Machine, StepMachine};
+use lt_machine::Machine;
 use lt_place::Layout;
 use lt_play::{PlayFault, Playback, play};
 use lt_rows::Lines;
@@ -39,18 +38,19 @@ fn link_fault(e: LinkErr) -> Or<PlayFault>
 }
 
 // Plays the schedule with what acts at the nodes, and takes what it comes to.
-fn perform<F: Files, W: Fabric>(
+fn perform<F: Files, W: Fabric, C: Controller, M: Machine>(
     alloc: Global,
     lines: &mut Lines,
     files: &mut F,
     schedule: &str,
     fabric: &mut W,
     setup: Setup,
-    actors: Actors,
+    machines: Vec<M>,
+    controllers: Vec<C>,
     inputs: &Inputs,
     width: u32,
     outputs: u32,
-) -> Result<Replayed, Or<PlayFault>>
+) -> Result<Replayed<M>, Or<PlayFault>>
     requires fresh { lines.old ≡ fresh }
     requires count { (F.state files.old).faults < 2 ^ 64 - 1 }
     requires link_count { (W.state fabric.old).faults < 2 ^ 64 - 1 }
@@ -58,12 +58,12 @@ fn perform<F: Files, W: Fabric>(
     requires placed { (f : Originated) × IsPlaced f setup.layout × RowsFit f.func inputs.now.rows }
     requires sound { IsSound setup.layout setup.shape setup.timing (length inputs.now.rows) }
     requires few { length setup.layout.names ≤ 32 }
-    requires machines { AreReady ⟦<StepMachine as Machine>⟧.stands ⟦<StepMachine as Machine>⟧.made ⟦<StepMachine as Machine>⟧.left setup.layout (length inputs.now.rows) actors.machines.items }
-    requires controllers { AreControllers ⟦<NodeController as Controller>⟧.phase ⟦<NodeController as Controller>⟧.protocol ⟦<NodeController as Controller>⟧.send ⟦<NodeController as Controller>⟧.execute setup.timing actors.controllers.items }
+    requires machines { AreReady M.stands M.made M.left setup.layout (length inputs.now.rows) machines.items }
+    requires controllers { AreControllers C.phase C.protocol C.send C.execute setup.timing controllers.items }
     requires width { inputs.now.width ≡ width }
     requires wide { HasRowValues width inputs.now.rows }
     requires outputs { length setup.layout.outs ≡ outputs }
-    ensures { HasReplayed ⟦<StepMachine as Machine>⟧.stands ⟦<StepMachine as Machine>⟧.made setup.layout setup.shape setup.timing inputs.now.rows schedule.now
+    ensures { HasReplayed M.stands M.made setup.layout setup.shape setup.timing inputs.now.rows schedule.now
         (F.state files.old) (F.state files.new) (W.state fabric.old) (W.state fabric.new) result }
 {
     let started = Playback::start(
@@ -73,13 +73,14 @@ fn perform<F: Files, W: Fabric>(
         setup.timing,
         inputs,
         width,
-        actors.machines,
-        actors.controllers,
+        machines,
+        controllers,
         fabric,
     );
     match started {
         Ok(mut playback) => {
             play(lines, files, schedule, &mut playback, fabric)?;
+            playback.net.kept();
             Ok(take(alloc, playback.net, outputs)?)
         }
         Err(e) => Err(link_fault(e)),
@@ -87,10 +88,10 @@ fn perform<F: Files, W: Fabric>(
 }
 
 /// Takes the nodes of a layout along a schedule file, over a fabric that has no channels yet: its channels are those of the shape.
-/// There is an import for each node, and `width` is the number of inputs of `main`.
+/// There is a machine for each node, of its part, and `width` is the number of inputs of `main`.
 ///
 /// The schedule is refused at its first row or event that is refused. A failed call on the files or on the fabric ends the run.
-pub fn replay<F: Files, W: Fabric>(
+pub fn replay<F: Files, W: Fabric, M: Machine>(
     alloc: Global,
     files: &mut F,
     schedule: &str,
@@ -100,8 +101,8 @@ pub fn replay<F: Files, W: Fabric>(
     timing: &Timing,
     inputs: &Inputs,
     width: u32,
-    imports: Vec<Import>,
-) -> Result<Replayed, Or<PlayFault>>
+    machines: Vec<M>,
+) -> Result<Replayed<M>, Or<PlayFault>>
     requires count { (F.state files.old).faults < 2 ^ 64 - 1 }
     requires link_count { (W.state fabric.old).faults < 2 ^ 64 - 1 }
     requires empty { (W.state fabric.old).kinds ≡ [] }
@@ -112,17 +113,26 @@ pub fn replay<F: Files, W: Fabric>(
     requires few { length layout.now.names ≤ 32 }
     requires width { inputs.now.width ≡ width }
     requires wide { HasRowValues width inputs.now.rows }
-    requires imports { length imports.items ≡ length layout.now.nodes }
-    ensures { HasReplayed ⟦<StepMachine as Machine>⟧.stands ⟦<StepMachine as Machine>⟧.made layout.now shape.now timing.now inputs.now.rows schedule.now
+    requires machines { AreReady M.stands M.made M.left layout.now (length inputs.now.rows) machines.items }
+    ensures { HasReplayed M.stands M.made layout.now shape.now timing.now inputs.now.rows schedule.now
         (F.state files.old) (F.state files.new) (W.state fabric.old) (W.state fabric.new) result }
 {
     networks_are_sound();
     let outputs = layout.outs.len() as u32;
-    let rows = inputs.rows();
     let mut lines = Lines::new(alloc)?;
     let setup = copies(layout, shape, timing)?;
-    let actors = actors_of(alloc, layout, timing, imports, rows)?;
+    let controllers = controllers_of(alloc, timing)?;
     perform(
-        alloc, &mut lines, files, schedule, fabric, setup, actors, inputs, width, outputs,
+        alloc,
+        &mut lines,
+        files,
+        schedule,
+        fabric,
+        setup,
+        machines,
+        controllers,
+        inputs,
+        width,
+        outputs,
     )
 }

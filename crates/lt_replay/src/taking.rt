@@ -5,14 +5,14 @@ ghost use Rattle.lt_replay.specs.Replays.{IsTaken};
 use crate::Replayed;
 use lt_arch::Controller;
 use lt_base::{Cell, List, Memory};
-use lt_machine::StepMachine;
+use lt_machine::Machine;
 use lt_net::Net;
 use std::alloc::Global;
 
 // The cells of each output.
-fn cells_of<C: Controller>(
+fn cells_of<C: Controller, M: Machine>(
     alloc: Global,
-    net: &Net<C, StepMachine>,
+    net: &Net<C, M>,
     outputs: u32,
 ) -> Result<List<List<Cell>>, Memory>
     requires { length net.now.plant.tracks ≡ outputs }
@@ -27,11 +27,11 @@ fn cells_of<C: Controller>(
 }
 
 /// The cells, the horizon and the machines of a net that took an end.
-pub(crate) fn take<C: Controller>(
+pub(crate) fn take<C: Controller, M: Machine>(
     alloc: Global,
-    net: Net<C, StepMachine>,
+    net: Net<C, M>,
     outputs: u32,
-) -> Result<Replayed, Memory>
+) -> Result<Replayed<M>, Memory>
     requires outputs { length net.plant.tracks ≡ outputs }
     requires end { (h : ℕ) × (net.plant.watch.horizon ≡ Some h) }
     ensures { IfOk result (IsTaken net.plant) }

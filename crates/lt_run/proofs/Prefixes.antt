@@ -1,6 +1,7 @@
 -- What a run shows of its program: each output is on a node, and over a faithful fabric shows the first cells of its stream.
-use Rattle.std.proofs.Common.{◌≡◌, ◌∙◌, ℕ, ◌<◌, true, inl, List, length, take, IsTrue, [], refl, sym, ap, subst}
-use Rattle.std.specs.Prelude.{slice_index_or}
+use Rattle.std.proofs.Common.{◌≡◌, ◌∙◌, ℕ, ◌<◌, true, inl, List, [], length, take, IsTrue, refl, sym, ap, subst}
+use Rattle.std.specs.Prelude.{slice_index_or, nat_eq}
+use Rattle.std.proofs.lemmas.List.{get_or-map}
 use Rattle.std.proofs.lemmas.List.Folds.{list_any_at}
 use Rattle.lt_base.specs.declared.value.Value.{Value}
 use Rattle.lt_base.specs.declared.value.Cell.{Cell}
@@ -24,44 +25,49 @@ use Rattle.lt_front.specs.Flattened.{KeepsMain}
 use Rattle.lt_replay.specs.Run.{IsRun}
 use Rattle.lt_load.specs.Main.{main_in}
 use Rattle.lt_load.proofs.Flattens.{main_good, flat_stream, outputs_same}
-use Rattle.lt_run.specs.Main.{output_names}
-use Rattle.lt_run.specs.Printed.{IsHomeOf, Shows, output_of}
+use Rattle.lt_run.specs.Main.{output_names, output_streams}
+use Rattle.lt_run.specs.Printed.{ShowsAt}
 
 -- each output of a placed function is on a node
-home_of : (f : Originated) (l : Layout) → IsPlaced f l → (y : ℕ) → y < length f.func.outs → (n : ℕ) × IsHomeOf l (slice_index_or f.func.outs y 0) n
+home_of : (f : Originated) (l : Layout) → IsPlaced f l → (y : ℕ) → y < length f.func.outs → (n : ℕ) × (n < length l.nodes) × (x : ℕ) × Gives (part_of l n) (slice_index_or f.func.outs y 0) x
 home_of f l placed y inside =
     let v = slice_index_or f.func.outs y 0 in
     let n = node_of f placed.placement v in
     let nb : n < length l.nodes = subst (λ k. n < k) (sym placed.layout.nodes) (node_below f placed.placement v) in
-    let out : has v f.func.outs ≡ true = list_any_at (Rattle.std.specs.Prelude.nat_eq v) f.func.outs y 0 inside (same_self v) in
+    let out : has v f.func.outs ≡ true = list_any_at (nat_eq v) f.func.outs y 0 inside (same_self v) in
     let g = (placed.layout.parts n nb).gives v (placed.good.outs y 0 inside) refl (inl out) in
-    (n, record { within = nb; own = g.0; gives = g.1 })
+    (n, nb, g.0, g.1)
 
 module _ (p : WholeProgram) (good : GoodProgram p) (f : Originated) (keeps : KeepsMain p f) (l : Layout) (placed : IsPlaced f l) where
   flat_outs : f.func.outs ≡ (main_in p).outs
   flat_outs = outputs_same p good f keeps
 
-  layout_outs : l.outs ≡ (main_in p).outs
+  pub layout_outs : l.outs ≡ (main_in p).outs
   layout_outs = placed.layout.outs ∙ flat_outs
 
-  home : (y : ℕ) → y < length (main_in p).outs → (n : ℕ) × IsHomeOf l (output_of p y) n
+  pub home : (y : ℕ) → y < length l.outs → (n : ℕ) × (n < length l.nodes) × (x : ℕ) × Gives (part_of l n) (slice_index_or l.outs y 0) x
   home y inside =
-      subst (λ (outs : List ℕ). (n : ℕ) × IsHomeOf l (slice_index_or outs y 0) n) flat_outs (home_of f l placed y (subst (λ (outs : List ℕ). y < length outs) (sym flat_outs) inside))
+      subst (λ (outs : List ℕ). (n : ℕ) × (n < length l.nodes) × (x : ℕ) × Gives (part_of l n) (slice_index_or outs y 0) x) (sym placed.layout.outs)
+      (home_of f l placed y (subst (λ (outs : List ℕ). y < length outs) placed.layout.outs inside))
+
+  -- an output's stream in the flat form is that of the program
+  output_stream : (inputs : List (List Value)) (y : ℕ) → y < length l.outs → stream_of [] f.func inputs (slice_index_or l.outs y 0) ≡ slice_index_or (output_streams p inputs) y []
+  output_stream inputs y inside =
+      let main = main_in p in
+      let here : y < length main.outs = subst (λ (outs : List ℕ). y < length outs) layout_outs inside in
+      let v = slice_index_or main.outs y 0 in
+      ap (λ (outs : List ℕ). stream_of [] f.func inputs (slice_index_or outs y 0)) layout_outs
+      ∙ flat_stream p good f keeps inputs v ((main_good p good).outs y 0 here)
+      ∙ sym (get_or-map (stream_of p.funcs main inputs) main.outs y 0 [] here)
 
   module _ (s : Shape) (t : Timing) (inputs : List (List Value)) (fit : RowsFit f.func inputs) (fabric : FabricState) (events : List Event) (cells : List (List Cell)) (horizon : ℕ) (run : IsRun l s t inputs fabric events cells horizon) where
+    pub whole : IsTrue fabric.faithful → (y n x : ℕ) → y < length l.outs → n < length l.nodes → Gives (part_of l n) (slice_index_or l.outs y 0) x →
+        slice_index_or cells y [] ≡ take (executed_of (reached s t (length inputs) events) n) (slice_index_or (output_streams p inputs) y [])
+    whole faithful y n x inside below gives =
+        run.fronts f placed fit faithful y n x inside below gives ∙ ap (take (executed_of (reached s t (length inputs) events) n)) (output_stream inputs y inside)
 
-
-
-    prefix : IsTrue fabric.faithful → (y n : ℕ) → y < length (main_in p).outs → IsHomeOf l (output_of p y) n →
-        slice_index_or cells y [] ≡ take (executed_of (reached s t (length inputs) events) n) (stream_of p.funcs (main_in p) inputs (output_of p y))
-    prefix faithful y n inside home =
-        let same : slice_index_or l.outs y 0 ≡ output_of p y = ap (λ (outs : List ℕ). slice_index_or outs y 0) layout_outs in
-        run.fronts f placed fit faithful y n home.own (subst (λ (outs : List ℕ). y < length outs) (sym layout_outs) inside) home.within (subst (λ v. Gives (part_of l n) v home.own) (sym same) home.gives)
-        ∙ ap (take (executed_of (reached s t (length inputs) events) n))
-        (ap (stream_of [] f.func inputs) same ∙ flat_stream p good f keeps inputs (output_of p y) ((main_good p good).outs y 0 inside))
-
-    pub shows : (names : List (List ℕ)) → names ≡ output_names p → Shows p l s t inputs fabric events names cells horizon
-    shows names are = record { names_are = are; run = run; home = home; prefixes = prefix }
+    abbrev pub shows : (names : List (List ℕ)) → names ≡ output_names p → ShowsAt p l s t inputs fabric events names cells horizon
+    shows names are = record { names_are = are; outputs_are = layout_outs; run = run; home = home; whole = whole }
 
     -- there is a column for each output
     pub columns : length cells ≡ length (main_in p).outs

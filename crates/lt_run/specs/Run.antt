@@ -1,10 +1,11 @@
 -- A run of a program along a schedule: what is right of it, given the files' bytes and what the fabric holds at its end.
-use Rattle.std.specs.Prelude.{◌≡◌, ℕ, List, length, Option}
+use Rattle.std.specs.Prelude.{◌≡◌, ℕ, IsTrue, List, length, Option, Result, IfErr}
 use Rattle.lt_base.specs.declared.value.Value.{Value}
 use Rattle.lt_base.specs.Program.{WholeProgram}
 use Rattle.lt_arch.specs.declared.event.Event.{Event}
 use Rattle.lt_arch.specs.declared.shape.Shape.{Shape}
 use Rattle.lt_arch.specs.declared.timing.Timing.{Timing}
+use Rattle.lt_io.specs.FilesState.{FilesState}
 use Rattle.lt_io.specs.FabricState.{FabricState}
 use Rattle.lt_place.specs.declared.layout.Layout.{Layout}
 use Rattle.lt_place.specs.Layout.{IsLayoutOf}
@@ -14,18 +15,19 @@ use Rattle.lt_judge.specs.declared.fault.ScheduleFault.TheVariants as schedule
 use Rattle.lt_base.specs.declared.memory.Or.{Or}
 use Rattle.lt_base.specs.declared.memory.Or.TheVariants.{Fault, Memory}
 use Rattle.lt_answer.specs.World.{Content}
-use Rattle.lt_answer.specs.Answered.{Verdict, AndThen}
+use Rattle.lt_answer.specs.Answered.{Answered, Verdict, AndThen}
 use Rattle.lt_verdict.specs.Rules.{Raised}
 use Rattle.lt_play.specs.declared.fault.PlayFault.{PlayFault}
 use Rattle.lt_play.specs.declared.fault.PlayFault.TheVariants.{Schedule, Link}
 use Rattle.lt_play.specs.Blamed.{play_blame}
+use Rattle.lt_play.specs.Played.{world, IsNearPlay}
 use Rattle.lt_replay.specs.Replays.{replay_verdict}
 use Rattle.lt_load.specs.declared.fault.What.TheVariants.{ScheduleBytes}
 use Rattle.lt_load.specs.declared.fault.CommandFault.{CommandFault}
 use Rattle.lt_load.specs.declared.fault.CommandFault.TheVariants as fault
 use Rattle.lt_load.specs.Plan.{Plan, LoadedPlan, load_verdict}
 use Rattle.lt_run.specs.declared.outputs.Outputs.{Outputs}
-use Rattle.lt_run.specs.Printed.{Shows}
+use Rattle.lt_run.specs.Printed.{ShowsAt, loaded_verdict}
 
 -- a replay's fault as a command's, beside the shape whose nodes it names
 abbrev pub command_fault : Shape → PlayFault → CommandFault
@@ -43,13 +45,20 @@ AsCommand s Memory (Fault g) = ⊥
 AsCommand s Memory Memory = Unit {0}
 
 -- what the outputs show of a run that ends at some horizon
-abbrev pub OutputsShow : WholeProgram → Layout → Shape → Timing → (inputs : List (List Value)) → FabricState → List Event → Outputs → Type 0
-OutputsShow p l s t inputs fabric events outputs = (horizon : ℕ) × Shows p l s t inputs fabric events outputs.names outputs.cells horizon
+pub record Shows (p : WholeProgram) (l : Layout) (s : Shape) (t : Timing) (inputs : List (List Value)) (fabric : FabricState) (events : List Event) (outputs : Outputs) : Type 0 where
+  pub horizon : ℕ
+  pub told : ShowsAt p l s t inputs fabric events outputs.names outputs.cells horizon
+
+-- a replay of a loaded program along the file of this name, by what its outputs show
+pub record HasOutputs (k : LoadedPlan) (name : List ℕ) (files files' : FilesState) (fabric fabric' : FabricState) (result : Result Outputs (Or PlayFault)) : Type 0 where
+  pub answered : Answered play_blame (loaded_verdict (Shows k.checked.program k.layout k.shape k.timing k.inputs.rows fabric') k (files.named name)) (world files fabric) (world files' fabric') result
+  -- a refused file was read to at most a piece past the row that is refused
+  pub near : IsTrue files.told → IfErr result (IsNearPlay (files.named name) files'.place)
 
 -- a program on these nodes, under these bounds of time and on these rows of inputs, along a schedule file: what the outputs show, or
 -- the first row or event that is refused
 abbrev pub placed_run_verdict : WholeProgram → Layout → Shape → Timing → (inputs : List (List Value)) → FabricState → Option (List ℕ) → Verdict Outputs CommandFault
-placed_run_verdict p l s t inputs fabric file = Raised (command_fault s) (replay_verdict (OutputsShow p l s t inputs fabric) s t (length inputs) file)
+placed_run_verdict p l s t inputs fabric file = Raised (command_fault s) (replay_verdict (Shows p l s t inputs fabric) s t (length inputs) file)
 
 -- the same of what was loaded
 abbrev pub along_loaded : FabricState → LoadedPlan → Option (List ℕ) → Verdict Outputs CommandFault

@@ -5,22 +5,21 @@ ghost use Rattle.lt_run.specs.Main.{name_in};
 use crate::Outputs;
 use crate::outputs::output_names;
 use lt_base::{Cell, Func, List, Memory, Name};
-use lt_machine::StepMachine;
 use lt_replay::Replayed;
 use std::alloc::Global;
 
 /// The outputs by name, each with a cell for each instant that its node executed, the horizon of the schedule in ticks, and the
 /// machine of each node, which made a step for each of these instants.
 #[derive(Drop)]
-pub struct Printed {
+pub struct Printed<M> {
     pub names: List<Name>,
     pub cells: List<List<Cell>>,
     pub horizon: u64,
-    pub machines: List<StepMachine>,
+    pub machines: List<M>,
     ghost paired: { length names ≡ length cells },
 }
 
-impl Printed {
+impl<M: Drop> Printed<M> {
     /// The outputs alone.
     pub fn outputs(self) -> Outputs
         ensures names { result.names ≡ self.names }
@@ -34,11 +33,11 @@ impl Printed {
 }
 
 /// The outputs of a function by name, with what a replay gave.
-pub(crate) fn name_outputs(
+pub(crate) fn name_outputs<M: Drop>(
     alloc: Global,
     main: &Func,
-    replayed: Replayed,
-) -> Result<Printed, Memory>
+    replayed: Replayed<M>,
+) -> Result<Printed<M>, Memory>
     requires width { length replayed.cells ≡ length main.now.outs }
     ensures names { IfOk result (λ printed. printed.names ≡ map (name_in main.now) main.now.outs) }
     ensures cells { IfOk result (λ printed. printed.cells ≡ replayed.cells) }

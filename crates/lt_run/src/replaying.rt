@@ -1,37 +1,41 @@
 // A loaded program along a schedule.
 ghost use Rattle.std.specs.Prelude.{◌≡◌, ◌<◌, ◌-◌, ◌^◌, [], length};
+ghost use Rattle.lt_net.specs.Starts.{AreReady};
 ghost use Rattle.lt_run.specs.Printed.{HasPrinted};
+ghost use Rattle.lt_run.specs.Run.{HasOutputs};
 
-use crate::Printed;
 use crate::printed::name_outputs;
+use crate::{Outputs, Printed};
 use lt_base::Or;
+use lt_base::tables::imp;
 use lt_io::{Fabric, Files};
 use lt_load::{Loaded, main_of};
-use lt_machine::{Import, Machine, StepMachine};
+use lt_machine::{Import, Machine};
+use lt_norm::Flat;
 use lt_play::PlayFault;
+use lt_replay::machines_of;
 use std::alloc::Global;
 
-/// Has the nodes of a loaded program take the events of a schedule file, row by row, over a fabric that has no channel yet: a
-/// machine of step code on each node makes a step for each instant that the node executes. There is one import for each node.
+/// Has the nodes of a loaded program take the events of a schedule file, row by row, over a fabric that has no channel yet. There is
+/// a machine for each node, of its part, which makes a step for each instant that the node executes.
 ///
 /// The file is refused at its first row or event that is refused. What is kept besides the cells does not grow with the schedule.
-pub fn replay<F: Files, W: Fabric>(
+pub fn replay<F: Files, W: Fabric, M: Machine>(
     alloc: Global,
     loaded: &Loaded,
     files: &mut F,
     schedule: &str,
     fabric: &mut W,
-    imports: Vec<Import>,
-) -> Result<Printed, Or<PlayFault>>
+    machines: Vec<M>,
+) -> Result<Printed<M>, Or<PlayFault>>
     requires count { (F.state files.old).faults < 2 ^ 64 - 1 }
     requires link_count { (W.state fabric.old).faults < 2 ^ 64 - 1 }
     requires empty { (W.state fabric.old).kinds ≡ [] }
-    requires imports { length imports.items ≡ length loaded.now.layout.nodes }
-    ensures { HasPrinted ⟦<StepMachine as Machine>⟧.stands ⟦<StepMachine as Machine>⟧.made loaded.now schedule.now
-        (F.state files.old) (F.state files.new) (W.state fabric.old) (W.state fabric.new) result }
+    requires machines { AreReady M.stands M.made M.left loaded.now.layout (length loaded.now.inputs.rows) machines.items }
+    ensures { HasPrinted M.stands M.made loaded.now schedule.now (F.state files.old) (F.state files.new) (W.state fabric.old) (W.state fabric.new) result }
 {
-    loaded.kept();
-    let main = main_of(&loaded.checked.program);
+    let checked = &loaded.checked;
+    checked.program.kept();
     let replayed = lt_replay::replay(
         alloc,
         files,
@@ -41,8 +45,40 @@ pub fn replay<F: Files, W: Fabric>(
         &loaded.shape,
         &loaded.timing,
         &loaded.inputs,
-        main.n_in,
-        imports,
+        width_of(&checked.flat),
+        machines,
     )?;
-    Ok(name_outputs(alloc, main, replayed)?)
+    Ok(name_outputs(alloc, main_of(&checked.program), replayed)?)
+}
+
+// The number of inputs of a flat function.
+fn width_of(flat: &Flat) -> u32
+    ensures { result ≡ flat.now.func.n_in }
+{
+    flat.func.n_in
+}
+
+/// Replays a loaded program by a machine of step code on each node, with the table of the imported operators: what its outputs
+/// show.
+pub(crate) fn replay_code<F: Files, W: Fabric>(
+    alloc: Global,
+    loaded: &Loaded,
+    files: &mut F,
+    schedule: &str,
+    fabric: &mut W,
+) -> Result<Outputs, Or<PlayFault>>
+    requires count { (F.state files.old).faults < 2 ^ 64 - 1 }
+    requires link_count { (W.state fabric.old).faults < 2 ^ 64 - 1 }
+    requires empty { (W.state fabric.old).kinds ≡ [] }
+    ensures { HasOutputs loaded.now schedule.now (F.state files.old) (F.state files.new) (W.state fabric.old) (W.state fabric.new) result }
+{
+    loaded.kept();
+    let nodes = loaded.layout.nodes.len();
+    let mut imports = Vec::with_capacity(alloc, nodes)?;
+    for _node in 0..nodes {
+        imports.push(Import::new(imp))?;
+    }
+    let machines = machines_of(alloc, &loaded.layout, imports, loaded.inputs.rows())?;
+    let printed = replay(alloc, loaded, files, schedule, fabric, machines)?;
+    Ok(printed.outputs())
 }

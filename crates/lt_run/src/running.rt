@@ -1,18 +1,17 @@
 // A run of a program along a schedule.
-ghost use Rattle.std.specs.Prelude.{◌≡◌, ◌<◌, ◌-◌, ◌^◌, [], IfOk, length, option_map};
+ghost use Rattle.std.specs.Prelude.{◌≡◌, ◌<◌, ◌-◌, ◌^◌, [], option_map};
 ghost use Rattle.lt_answer.specs.Answered.{Answered};
 ghost use Rattle.lt_play.specs.Played.{world};
 ghost use Rattle.lt_load.specs.Blamed.{command_blame};
 ghost use Rattle.lt_run.specs.Run.{AsCommand, along_loaded, run_verdict};
 
-use crate::{Outputs, replay};
+use crate::Outputs;
+use crate::replaying::replay_code;
 use lt_arch::Shape;
-use lt_base::tables::imp;
-use lt_base::{Memory, Or};
+use lt_base::Or;
 use lt_io::{Fabric, Files};
 use lt_judge::ScheduleFault;
 use lt_load::{CommandFault, Loaded, What, load};
-use lt_machine::Import;
 use lt_play::PlayFault;
 use std::alloc::Global;
 
@@ -53,22 +52,10 @@ fn run_loaded<F: Files, W: Fabric>(
     ensures { Answered command_blame (along_loaded (W.state fabric.new) loaded.now ((F.state files.old).named schedule.now))
         (world (F.state files.old) (W.state fabric.old)) (world (F.state files.new) (W.state fabric.new)) result }
 {
-    let imports = operators(alloc, loaded.layout.nodes.len())?;
-    match replay(alloc, loaded, files, schedule, fabric, imports) {
-        Ok(printed) => Ok(printed.outputs()),
+    match replay_code(alloc, loaded, files, schedule, fabric) {
+        Ok(outputs) => Ok(outputs),
         Err(fault) => Err(as_command(&loaded.shape, fault)),
     }
-}
-
-// The imported operators, once for each node.
-fn operators(alloc: Global, nodes: usize) -> Result<Vec<Import>, Memory>
-    ensures { IfOk result (λ imports. length imports.items ≡ nodes) }
-{
-    let mut imports = Vec::with_capacity(alloc, nodes)?;
-    for _node in 0..nodes {
-        imports.push(Import::new(imp))?;
-    }
-    Ok(imports)
 }
 
 // A replay's fault as the command's, with a copy of the shape whose nodes it names.

@@ -1,6 +1,6 @@
 use Rattle.std.proofs.Common.{◌∙◌, ap}
 use Rattle.std.specs.Prelude.{option_map}
-use Rattle.lt_run.specs.Setups.{check_verdict}
+use Rattle.lt_load.specs.Setups.{check_verdict}
 use Rattle.lt_cli.specs.Commands.{checked_text}
 use Rattle.lt_cli.proofs.Texts.{text_shown, not_shown, text_refused}
 use Rattle.lt_cli.proofs.answer.check_answer.Goals as goal

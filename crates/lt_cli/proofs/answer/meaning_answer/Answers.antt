@@ -1,5 +1,5 @@
 use Rattle.std.proofs.Common.{◌∙◌}
-use Rattle.lt_run.specs.Run.{meaning_verdict}
+use Rattle.lt_run.specs.Meaning.{meaning_verdict}
 use Rattle.lt_cli.specs.Texts.{outputs_text}
 use Rattle.lt_cli.specs.Commands.{printed_text}
 use Rattle.lt_cli.proofs.Texts.{text_shown, not_shown, text_refused}

@@ -1,5 +1,5 @@
 use Rattle.lt_plan.specs.Text.{plan_of}
-use Rattle.lt_run.specs.Loaded.{config_verdict}
+use Rattle.lt_load.specs.Loaded.{config_verdict}
 use Rattle.lt_cli.proofs.Texts.{text_shown, not_shown, text_refused}
 use Rattle.lt_cli.proofs.answer.plan_answer.Goals as goal
 

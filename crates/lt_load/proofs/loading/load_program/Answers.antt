@@ -9,7 +9,7 @@ use Rattle.lt_load.specs.declared.fault.CommandFault.{CommandFault}
 use Rattle.lt_load.specs.declared.fault.CommandFault.TheVariants as fault
 use Rattle.lt_load.specs.Blamed.{command_blame}
 use Rattle.lt_load.specs.Loaded.{whole_verdict, program_verdict}
-use Rattle.lt_load.proofs.Steps.{Names, IsContent, content_raised, raised_refusal, refused_step, last_step}
+use Rattle.lt_load.proofs.Steps.{IsContent, content_raised, raised_refusal, refused_step, last_step}
 use Rattle.lt_load.proofs.loading.load_program.Goals as goal
 
 abbrev read_verdict : List ℕ → Verdict ExaminedText CommandFault

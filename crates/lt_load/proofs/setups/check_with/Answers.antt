@@ -1,4 +1,4 @@
-use Rattle.std.proofs.Common.{◌≡◌, List, Option, ℕ, Result, Ok, sym, ap}
+use Rattle.std.proofs.Common.{◌≡◌, List, ℕ, Ok, sym, ap}
 use Rattle.lt_answer.specs.Answered.{Verdict, AndThen, Settles}
 use Rattle.lt_verdict.specs.Rules.{Exactly}
 use Rattle.lt_front.specs.Checked.{examined_part}

@@ -3,7 +3,7 @@ use Rattle.lt_front.specs.Examined.{ExaminedText}
 use Rattle.lt_run.specs.Main.{output_streams}
 use Rattle.lt_run.specs.Meaning.{printed_verdict}
 use Rattle.lt_load.proofs.Mains.{has_room}
-use Rattle.lt_run.proofs.Outputs.{streams_are, whole_width, prints_these}
+use Rattle.lt_run.proofs.Streams.{streams_are, whole_width, prints_these}
 use Rattle.lt_load.proofs.Equals.{fit_at}
 use Rattle.lt_run.proofs.Showing.{cells_stop, cells_shown, streams_at}
 use Rattle.lt_load.proofs.Steps.{memory_settled}

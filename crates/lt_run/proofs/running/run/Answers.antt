@@ -1,6 +1,6 @@
 use Rattle.std.specs.Prelude.{option_map}
 use Rattle.lt_load.proofs.Steps.{counts_on}
-use Rattle.lt_run.proofs.Running.{not_loaded, loaded_run}
+use Rattle.lt_run.proofs.Onward.{not_loaded, loaded_run}
 use Rattle.lt_run.proofs.running.run.Goals as goal
 
 pub returns-in_err-loaded : goal.returns-in_err-loaded

@@ -10,9 +10,9 @@ returns-clause-ready g c =
     let opened = rw c.in_ok-open.was at c.open.ensures.opened in
     record {
       reads = record { width_is = c.requires.width; room_is = c.in_ok-row.ensures; wide = c.requires.wide };
-      plays = plays_first g.C.Controller.phase g.M.Machine.stands g.M.Machine.made g.M.Machine.left g.M.Machine.size c.args.inputs.rows c.args.layout c.args.shape c.args.timing _ c.args.machines.items c.args.controllers.items c.in_ok-net.net (g.W.Fabric.state c.open.new.self)
+      plays = plays_first g.C.Controller.phase g.M.Machine.stands g.M.Machine.made g.M.Machine.left g.M.Machine.size c.args.inputs.now.rows c.args.layout c.args.shape c.args.timing _ c.args.machines.items c.args.controllers.items c.in_ok-net.net (g.W.Fabric.state c.open.new.self)
           net.running net.made c.requires.numbered
-          (net.opened c.args.inputs.rows (g.W.Fabric.state c.args.fabric.now) (g.W.Fabric.state c.open.new.self) c.open.ensures.keeps
+          (net.opened c.args.inputs.now.rows (g.W.Fabric.state c.args.fabric.now) (g.W.Fabric.state c.open.new.self) c.open.ensures.keeps
           (subst (OpensFabric (g.W.Fabric.state c.args.fabric.now) (g.W.Fabric.state c.open.new.self)) (c.as_slice.ensures ∙ c.in_ok-kinds.ensures) opened))
-          (net.given placed.0 c.args.inputs.rows placed.1 placed.2 c.rows-count.ensures);
+          (net.given placed.0 c.args.inputs.now.rows placed.1 placed.2 c.rows-count.ensures);
     }

@@ -8,7 +8,7 @@ use Rattle.lt_play.proofs.playback.PlaybackReplica.take_line.Goals as goal
 
 pub event-requires-clause-row : goal.event-requires-clause-row
 event-requires-clause-row g c = λ none.
-    row_fits c.args.self.now.net.plant c.args.self.now.inputs.rows (c.requires.stands).1.plays.given c.in-Ok.e
+    row_fits c.args.self.now.net.plant c.args.self.now.inputs.now.rows (c.requires.stands).1.plays.given c.in-Ok.e
     (subst (λ s. IsPlacedIn s c.in-Ok.e) c.shape.ensures c.in-Ok.ensures.of_shape.placed) (given c.given-row.result)
     (c.given-row.ensures ∙ ap (λ (r : List Value). if c.read_next-has.result then Some r else None) c.deref.ensures.value ∙ c.read_next-has.ensures.row)
 
@@ -24,11 +24,11 @@ returns-in-Ok-event-clause-takes g c = λ before p.
     record {
       event = c.in-Ok.e;
       reads = sym (subst (λ s. Rattle.std.specs.Prelude.Ok c.in-Ok.e ≡ Rattle.lt_rows.specs.Events.event_of s c.args.line.now) c.shape.ensures c.in-Ok.ensures.event);
-      free = free_of g.C.Controller.phase g.M.Machine.stands g.M.Machine.made g.M.Machine.left g.M.Machine.size c.args.self.now.inputs.rows before c.args.steps.now c.args.self.now.net (g.W.Fabric.state c.args.outside.now) p.plays
+      free = free_of g.C.Controller.phase g.M.Machine.stands g.M.Machine.made g.M.Machine.left g.M.Machine.size c.args.self.now.inputs.now.rows before c.args.steps.now c.args.self.now.net (g.W.Fabric.state c.args.outside.now) p.plays
           c.in-Ok.e c.event.result c.in-Ok-event.field-0 c.in-Ok-event.is (c.event.ensures.offence p.plays.running);
       stands_on = record {
         reads = record { width_is = p.reads.width_is; room_is = c.read_next-has.ensures.room; wide = p.reads.wide };
-        plays = plays_on g.C.Controller.phase g.M.Machine.stands g.M.Machine.made g.M.Machine.left g.M.Machine.size c.args.self.now.inputs.rows before c.args.steps.now c.args.self.now.net (g.W.Fabric.state c.args.outside.now) p.plays
+        plays = plays_on g.C.Controller.phase g.M.Machine.stands g.M.Machine.made g.M.Machine.left g.M.Machine.size c.args.self.now.inputs.now.rows before c.args.steps.now c.args.self.now.net (g.W.Fabric.state c.args.outside.now) p.plays
             c.event.new.self (g.W.Fabric.state c.event.new.fabric) c.in-Ok.e there (given c.given-row.result)
             (c.given-row.ensures ∙ ap (λ (r : List Value). if c.read_next-has.result then Some r else None) c.deref.ensures.value ∙ c.read_next-has.ensures.row)
             c.in-Ok-event.ensures.fixed c.in-Ok-event.ensures.sizes c.event.new.steps c.in-Ok-event.ensures.running c.in-Ok-event.ensures.happens c.in-Ok-event.ensures.holds c.in-Ok-event.ensures.kinds c.in-Ok-event.ensures.keeps
@@ -40,6 +40,6 @@ pub returns-in-Err-Offence-clause-takes : goal.returns-in-Err-Offence-clause-tak
 returns-in-Err-Offence-clause-takes g c = λ before p. (
   c.in-Ok.e,
   sym (subst (λ s. Rattle.std.specs.Prelude.Ok c.in-Ok.e ≡ Rattle.lt_rows.specs.Events.event_of s c.args.line.now) c.shape.ensures c.in-Ok.ensures.event),
-  offence_by g.C.Controller.phase g.M.Machine.stands g.M.Machine.made g.M.Machine.left g.M.Machine.size c.args.self.now.inputs.rows before c.args.steps.now c.args.self.now.net (g.W.Fabric.state c.args.outside.now) p.plays
+  offence_by g.C.Controller.phase g.M.Machine.stands g.M.Machine.made g.M.Machine.left g.M.Machine.size c.args.self.now.inputs.now.rows before c.args.steps.now c.args.self.now.net (g.W.Fabric.state c.args.outside.now) p.plays
       c.in-Ok.e c.event.result c.in-Err-Offence.offence (c.in-Err-Offence.is ∙ ap (λ f. Rattle.std.specs.Prelude.Err f) c.in-Err-Offence.field-0-is) (c.event.ensures.offence p.plays.running),
 )

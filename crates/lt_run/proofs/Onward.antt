@@ -2,6 +2,7 @@
 use Rattle.std.proofs.Common.{◌≡◌, ◌∙◌, ℕ, List, Option, Result, Ok, Err, refl, sym, subst, inl, inr}
 use Rattle.std.specs.Prelude.{IsErrAnd, length}
 use Rattle.lt_base.specs.declared.memory.Or.{Or}
+use Rattle.lt_base.specs.Or.{MapsFault}
 use Rattle.lt_base.specs.declared.memory.Or.TheVariants.{Fault, Memory}
 use Rattle.lt_base.specs.declared.value.Value.{Value}
 use Rattle.lt_base.specs.declared.value.Cell.{Cell}
@@ -12,7 +13,6 @@ use Rattle.lt_arch.specs.declared.shape.Shape.{Shape}
 use Rattle.lt_arch.specs.declared.timing.Timing.{Timing}
 use Rattle.lt_io.specs.FilesState.{FilesState}
 use Rattle.lt_io.specs.FabricState.{FabricState}
-use Rattle.lt_machine.specs.declared.step_machine.StepMachine.{StepMachine}
 use Rattle.lt_place.specs.declared.layout.Layout.{Layout}
 use Rattle.lt_net.specs.Channels.{IsShapeOf}
 use Rattle.lt_answer.specs.World.{World, Blames, alone}
@@ -31,9 +31,9 @@ use Rattle.lt_load.specs.Plan.{Plan, LoadedPlan, IsLoadedFrom, Loads, load_verdi
 use Rattle.lt_load.proofs.Raising.{raised_value, raised_fault}
 use Rattle.lt_run.specs.declared.outputs.Outputs.{Outputs}
 use Rattle.lt_run.specs.declared.printed.Printed.{Printed}
-use Rattle.lt_run.specs.Printed.{HasPrinted, ReplayShows, Shows}
-use Rattle.lt_run.specs.Run.{AsCommand, IsLaidOutBy, OutputsShow, along_loaded, along_verdict, command_fault, placed_run_verdict, run_verdict}
-use Rattle.lt_run.proofs.Replaying.{answered_value, answered_short, answered_fault}
+use Rattle.lt_run.specs.Printed.{HasPrinted, ReplayShows, ShowsAt}
+use Rattle.lt_run.specs.Run.{AsCommand, HasOutputs, IsLaidOutBy, Shows, along_loaded, along_verdict, command_fault, placed_run_verdict, run_verdict}
+use Rattle.lt_run.proofs.Replays.{answered_value, answered_short, answered_fault}
 
 same_blame : (s : Shape) (e : PlayFault) → command_blame (command_fault s e) ≡ play_blame e
 same_blame s (Schedule (schedule.Row row f)) = refl
@@ -43,59 +43,85 @@ same_blame s (Schedule schedule.Read) = refl
 same_blame s Link = refl
 
 -- the outputs of what a replay answers show the same
-outputs_show : (stands : StepMachine → Function → List (List Value) → Type 0) (made : StepMachine → ℕ) (p : WholeProgram) (l : Layout) (s : Shape) (t : Timing) (inputs : List (List Value)) (fabric : FabricState) (printed : Printed) (outputs : Outputs)
-    → outputs.names ≡ printed.names → outputs.cells ≡ printed.cells → (events : List Event) → ReplayShows stands made p l s t inputs fabric events printed → OutputsShow p l s t inputs fabric events outputs
-outputs_show stands made p l s t inputs fabric printed outputs names cells events shown =
-    (printed.horizon, subst (λ (ns : List (List ℕ)). Shows p l s t inputs fabric events ns outputs.cells printed.horizon) (sym names)
-    (subst (λ (cs : List (List Cell)). Shows p l s t inputs fabric events printed.names cs printed.horizon) (sym cells) shown.shows))
+outputs_show : {M : Type 0} (stands : M → Function → List (List Value) → Type 0) (made : M → ℕ) (p : WholeProgram) (l : Layout) (s : Shape) (t : Timing) (inputs : List (List Value)) (fabric : FabricState) (printed : Printed M) (outputs : Outputs)
+    → outputs.names ≡ printed.names → outputs.cells ≡ printed.cells → (events : List Event) → ReplayShows stands made p l s t inputs fabric events printed → Shows p l s t inputs fabric events outputs
+outputs_show stands made p l s t inputs fabric printed outputs names cells events shown = record {
+  horizon = printed.horizon;
+  told =
+      subst (λ (ns : List (List ℕ)). ShowsAt p l s t inputs fabric events ns outputs.cells printed.horizon) (sym names)
+      (subst (λ (cs : List (List Cell)). ShowsAt p l s t inputs fabric events printed.names cs printed.horizon) (sym cells) shown.shows);
+}
 
-module _ (stands : StepMachine → Function → List (List Value) → Type 0) (made : StepMachine → ℕ) (k : LoadedPlan) (name : List ℕ) (files files' : FilesState) (fabric fabric' : FabricState) where
+module _ {M : Type 0} (stands : M → Function → List (List Value) → Type 0) (made : M → ℕ) (k : LoadedPlan) (name : List ℕ) (files files' : FilesState) (fabric fabric' : FabricState) where
   abbrev file : Option (List ℕ)
   file = files.named name
 
-  abbrev printed_end : List Event → Printed → Type 0
+  abbrev printed_end : List Event → Printed M → Type 0
   printed_end = ReplayShows stands made k.checked.program k.layout k.shape k.timing k.inputs.rows fabric'
 
   abbrev outputs_end : List Event → Outputs → Type 0
-  outputs_end = OutputsShow k.checked.program k.layout k.shape k.timing k.inputs.rows fabric'
+  outputs_end = Shows k.checked.program k.layout k.shape k.timing k.inputs.rows fabric'
 
-  abbrev right : Result Outputs PlayFault → Type 0
-  right = replay_verdict outputs_end k.shape k.timing (length k.inputs.rows) file
-
-  abbrev Runs : Result Outputs (Or CommandFault) → Type 0
-  Runs r = Answered command_blame (along_loaded fabric' k file) (world files fabric) (world files' fabric') r
+  abbrev Outs : Result Outputs (Or PlayFault) → Type 0
+  Outs r = HasOutputs k name files files' fabric fabric' r
 
   -- the outputs of what a replay answers
-  pub outputs_of : (printed : Printed) (outputs : Outputs) → outputs.names ≡ printed.names → outputs.cells ≡ printed.cells → HasPrinted stands made k name files files' fabric fabric' (Ok printed) → Runs (Ok outputs)
-  outputs_of printed outputs names cells has =
-      raised_value (command_fault k.shape) play_blame command_blame (same_blame k.shape) right (world files fabric) (world files' fabric') outputs
-      (answered_value printed_end outputs_end k.shape k.timing (length k.inputs.rows) file (world files fabric) (world files' fabric') printed outputs
-      (outputs_show stands made k.checked.program k.layout k.shape k.timing k.inputs.rows fabric' printed outputs names cells) has.answered)
-
-  refused : (e : Or PlayFault) → HasPrinted stands made k name files files' fabric fabric' (Err e) → Answered play_blame right (world files fabric) (world files' fabric') (Err e)
-  refused e has = answered_fault printed_end outputs_end k.shape k.timing (length k.inputs.rows) file (world files fabric) (world files' fabric') e has.answered
+  pub outputs_of : (printed : Printed M) (outputs : Outputs) → outputs.names ≡ printed.names → outputs.cells ≡ printed.cells → HasPrinted stands made k name files files' fabric fabric' (Ok printed) → Outs (Ok outputs)
+  outputs_of printed outputs names cells has = record {
+    answered =
+        answered_value printed_end outputs_end k.shape k.timing (length k.inputs.rows) file (world files fabric) (world files' fabric') printed outputs
+        (outputs_show stands made k.checked.program k.layout k.shape k.timing k.inputs.rows fabric' printed outputs names cells) has.answered;
+    near = λ told. tt;
+  }
 
   -- its refusal
-  pub fault_of : (e : Or PlayFault) (g : Or CommandFault) → AsCommand k.shape e g → HasPrinted stands made k name files files' fabric fabric' (Err e) → Runs (Err g)
-  fault_of (Fault f) (Fault g) is has =
-      raised_fault (command_fault k.shape) play_blame command_blame (same_blame k.shape) right (world files fabric) (world files' fabric') (Fault f) (Fault g) is (refused (Fault f) has)
+  pub not_printed : (e : Or PlayFault) (r : Result Outputs (Or PlayFault)) → IsErrAnd r (λ f. f ≡ e) → HasPrinted stands made k name files files' fabric fabric' (Err e) → Outs r
+  not_printed e (Ok x) is has = absurd is
+  not_printed e (Err f) is has =
+      let told : Outs (Err e) = record {
+        answered = answered_fault printed_end outputs_end k.shape k.timing (length k.inputs.rows) file (world files fabric) (world files' fabric') e has.answered;
+        near = has.near;
+      } in
+      subst (λ (g : Or PlayFault). Outs (Err g)) (sym is) told
+
+-- no memory was found before the replay
+pub not_begun : (k : LoadedPlan) (name : List ℕ) (files : FilesState) (fabric : FabricState) (r : Result Outputs (Or PlayFault)) → IsErrAnd r (λ f. f ≡ Memory) → HasOutputs k name files files fabric fabric r
+not_begun k name files fabric (Ok x) is = absurd is
+not_begun k name files fabric (Err f) is =
+    subst (λ (g : Or PlayFault). HasOutputs k name files files fabric fabric (Err g)) (sym is) (record { answered = runs_short (world files fabric); near = λ told. tt })
+
+-- the same of an equal plan
+pub outputs_at : (k l : LoadedPlan) → k ≡ l → (name : List ℕ) (files files' : FilesState) (fabric fabric' : FabricState) (r : Result Outputs (Or PlayFault)) → HasOutputs k name files files' fabric fabric' r → HasOutputs l name files files' fabric fabric' r
+outputs_at k l is name files files' fabric fabric' r has = subst (λ (m : LoadedPlan). HasOutputs m name files files' fabric fabric' r) is has
+
+-- what was replayed, as the command's
+
+module _ (k : LoadedPlan) (name : List ℕ) (files files' : FilesState) (fabric fabric' : FabricState) where
+  abbrev right : Result Outputs PlayFault → Type 0
+  right = replay_verdict (Shows k.checked.program k.layout k.shape k.timing k.inputs.rows fabric') k.shape k.timing (length k.inputs.rows) (files.named name)
+
+  abbrev Runs : Result Outputs (Or CommandFault) → Type 0
+  Runs r = Answered command_blame (along_loaded fabric' k (files.named name)) (world files fabric) (world files' fabric') r
+
+  pub shown_by : (outputs : Outputs) → HasOutputs k name files files' fabric fabric' (Ok outputs) → Runs (Ok outputs)
+  shown_by outputs has = raised_value (command_fault k.shape) play_blame command_blame (same_blame k.shape) right (world files fabric) (world files' fabric') outputs has.answered
+
+  raised : (e : Or PlayFault) (g : Or CommandFault) → MapsFault e g (λ f h. h ≡ command_fault k.shape f) → Answered play_blame right (world files fabric) (world files' fabric') (Err e) → Runs (Err g)
+  raised e g is first = raised_fault (command_fault k.shape) play_blame command_blame (same_blame k.shape) right (world files fabric) (world files' fabric') e g is first
+
+  pub fault_of : (e : Or PlayFault) (g : Or CommandFault) → AsCommand k.shape e g → HasOutputs k name files files' fabric fabric' (Err e) → Runs (Err g)
+  fault_of (Fault f) (Fault g) is has = raised (Fault f) (Fault g) is has.answered
   fault_of (Fault f) Memory is has =
-      let first = refused (Fault f) has in
+      let first = has.answered in
       let short : Answered play_blame right (world files fabric) (world files' fabric') (Err Memory) = record {
         keeps = first.keeps;
         cause = subst (Blames (world files fabric) (world files' fabric')) is first.cause;
         exact = λ told calm. tt;
         sound = first.sound;
       } in
-      raised_fault (command_fault k.shape) play_blame command_blame (same_blame k.shape) right (world files fabric) (world files' fabric') Memory Memory tt short
+      raised Memory Memory tt short
   fault_of Memory (Fault g) is has = absurd is
-  fault_of Memory Memory is has =
-      raised_fault (command_fault k.shape) play_blame command_blame (same_blame k.shape) right (world files fabric) (world files' fabric') Memory Memory tt (refused Memory has)
-
--- no memory was found before the replay
-pub not_begun : (k : LoadedPlan) (file : Option (List ℕ)) (fabric : FabricState) (w : World) (r : Result Outputs (Or CommandFault)) → IsErrAnd r (λ f. f ≡ Memory) → Answered command_blame (along_loaded fabric k file) w w r
-not_begun k file fabric w (Ok x) is = absurd is
-not_begun k file fabric w (Err f) is = subst (λ (g : Or CommandFault). Answered command_blame (along_loaded fabric k file) w w (Err g)) (sym is) (runs_short w)
+  fault_of Memory Memory is has = raised Memory Memory tt has.answered
 
 -- what was loaded, and then its run
 
