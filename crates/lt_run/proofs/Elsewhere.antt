@@ -6,8 +6,8 @@ use Rattle.lt_base.specs.declared.memory.Or.TheVariants.{Fault, Memory}
 use Rattle.lt_base.specs.Program.{WholeProgram}
 use Rattle.lt_arch.specs.declared.shape.Shape.{Shape}
 use Rattle.lt_io.specs.FilesState.{FilesState}
-use Rattle.lt_answer.specs.World.{Blame, Content, Reading, Linking, Blames, alone}
-use Rattle.lt_answer.specs.Answered.{Answered}
+use Rattle.lt_answer.specs.World.{World, Blame, Content, Reading, Linking, Blames, alone}
+use Rattle.lt_answer.specs.Answered.{Answered, Verdict, RefusesReading}
 use Rattle.lt_front.specs.Examined.{ExaminedText}
 use Rattle.lt_front.specs.Front.{examine_verdict}
 use Rattle.lt_inputs.specs.Inputs.{inputs_of}
@@ -28,7 +28,7 @@ use Rattle.lt_load.specs.Setups.{placed_verdict, accepted_verdict, fitting_verdi
 use Rattle.lt_load.specs.Plan.{Loads, chosen_setup_verdict, fitting_plan_verdict, inputs_plan_verdict, load_verdict, plain_verdict, setup_plan_verdict}
 use Rattle.lt_load.proofs.OneCheck.{place_fault, timing_fault}
 use Rattle.lt_load.proofs.Steps.{IsContent, content_then, content_raised}
-use Rattle.lt_run.specs.Near.{IsNearCommand, IsNearFault}
+use Rattle.lt_run.specs.Near.{IsNearCommand, IsNearFault, ReadNear}
 use Rattle.lt_run.specs.Run.{AsCommand, command_fault}
 
 -- which faults are those of what was read, where a schedule's are set apart
@@ -175,3 +175,32 @@ near_as_command s file place Memory Memory is near = tt
 -- on files of the same names
 pub near_names : {T : Type 0} (n m : List ℕ → Option (List ℕ)) (name : List ℕ) (place : ℕ) (r : Result T (Or CommandFault)) → n ≡ m → IfErr r (IsNearCommand (n name) place) → IfErr r (IsNearCommand (m name) place)
 near_names n m name place r same near = subst (λ (names : List ℕ → Option (List ℕ)). IfErr r (IsNearCommand (names name) place)) same near
+
+-- a run whose refusal is right and so far read
+
+by_read : (file : Option (List ℕ)) (place : ℕ) (e : CommandFault) → command_blame e ≡ Reading → IsNearFault file place e
+by_read file place (fault.Program f) is = absurd (cc)
+by_read file place (fault.Config f) is = absurd (cc)
+by_read file place (fault.Place f main) is = absurd (cc)
+by_read file place (fault.Timing f names mixed) is = absurd (cc)
+by_read file place (fault.Inputs f) is = absurd (cc)
+by_read file place fault.TooManyCells is = absurd (cc)
+by_read file place (fault.Row row f) is = absurd (cc)
+by_read file place (fault.Offence event offence s) is = absurd (cc)
+by_read file place (fault.Limit what) is = absurd (cc)
+by_read file place fault.Read is = tt
+by_read file place fault.Link is = absurd (cc)
+
+module _ {T : Type 0} (file : Option (List ℕ)) (place : ℕ) (V : Verdict T CommandFault) (a b : World) where
+  reads_near : RefusesReading command_blame V → RefusesReading command_blame (ReadNear file place V)
+  reads_near reading = (reading.0, reading.1, (reading.2, by_read file place reading.0 reading.1))
+
+  pub answered_near : (r : Result T (Or CommandFault)) → Answered command_blame V a b r → (IsTrue a.files.told → IfErr r (IsNearCommand file place)) → Answered command_blame (ReadNear file place V) a b r
+  answered_near (Ok x) answered near = record { keeps = answered.keeps; cause = answered.cause; exact = answered.exact; sound = λ told sound rose. reads_near (answered.sound told sound rose) }
+  answered_near (Err (Fault e)) answered near = record {
+    keeps = answered.keeps;
+    cause = answered.cause;
+    exact = λ told calm. (answered.exact told calm, near told);
+    sound = λ told sound rose. reads_near (answered.sound told sound rose);
+  }
+  answered_near (Err Memory) answered near = record { keeps = answered.keeps; cause = answered.cause; exact = λ told calm. tt; sound = λ told sound rose. reads_near (answered.sound told sound rose) }

@@ -1,7 +1,8 @@
 -- How far the schedule file of a refused run was read.
-use Rattle.std.specs.Prelude.{ℕ, List, Option}
+use Rattle.std.specs.Prelude.{ℕ, List, Option, Ok, Err}
 use Rattle.lt_base.specs.declared.memory.Or.{Or}
 use Rattle.lt_base.specs.declared.memory.Or.TheVariants.{Fault, Memory}
+use Rattle.lt_answer.specs.Answered.{Verdict}
 use Rattle.lt_judge.specs.declared.fault.ScheduleFault.TheVariants as schedule
 use Rattle.lt_judge.specs.Near.{IsNearFile}
 use Rattle.lt_load.specs.declared.fault.What.{What}
@@ -33,3 +34,8 @@ IsNearFault file place fault.Link = Unit {0}
 abbrev pub IsNearCommand : Option (List ℕ) → (place : ℕ) → Or CommandFault → Type 0
 IsNearCommand file place (Fault f) = IsNearFault file place f
 IsNearCommand file place Memory = Unit {0}
+
+-- the same of a verdict's refusals
+abbrev pub ReadNear : {T : Type 0} → Option (List ℕ) → (place : ℕ) → Verdict T CommandFault → Verdict T CommandFault
+ReadNear file place V (Ok x) = V (Ok x)
+ReadNear file place V (Err e) = V (Err e) × IsNearFault file place e

@@ -32,11 +32,8 @@ pub fn run<F: Files, W: Fabric>(
     requires count { (F.state files.old).faults < 2 ^ 64 - 1 }
     requires link_count { (W.state fabric.old).faults < 2 ^ 64 - 1 }
     requires empty { (W.state fabric.old).kinds ≡ [] }
-    ensures answered { Answered command_blame (run_verdict (F.state files.old).named program.now inputs.now schedule.now (option_map (λ s. s.now) config.entry) (W.state fabric.new))
+    ensures { Answered command_blame (run_verdict (F.state files.old).named program.now inputs.now schedule.now (option_map (λ s. s.now) config.entry) (world (F.state files.new) (W.state fabric.new)))
         (world (F.state files.old) (W.state fabric.old)) (world (F.state files.new) (W.state fabric.new)) result }
-
-    // A refused schedule was read to at most a piece past the row that is refused.
-    ensures near { IsTrue (F.state files.old).told → IfErr result (IsNearCommand ((F.state files.old).named schedule.now) (F.state files.new).place) }
 {
     let loaded = load(alloc, files, program, inputs, config)?;
     run_loaded(alloc, files, fabric, &loaded, schedule)
