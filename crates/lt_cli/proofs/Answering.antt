@@ -32,7 +32,7 @@ module _ (named : List ℕ → Option (List ℕ)) (a b : FilesState) (w : Fabric
   plan_answers config horizon answers = record { answered = beside a b w r answers.answered; of_said = answers.of_command; leaves = refl }
 
 pub run_answers : (named : List ℕ → Option (List ℕ)) (a b : World) (r : Result (List ℕ) (Or Refusal)) (program inputs schedule : List ℕ) (config : Option (List ℕ))
-    → AnswersText printed_text (run_verdict named program inputs schedule config b.fabric) a b r → AnswersCommand named (run program inputs schedule config) a b r
+    → AnswersText printed_text (run_verdict named program inputs schedule config b) a b r → AnswersCommand named (run program inputs schedule config) a b r
 run_answers named a b r program inputs schedule config answers = record { answered = answers.answered; of_said = answers.of_command; leaves = tt }
 
 -- the words ask for a command

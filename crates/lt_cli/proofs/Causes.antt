@@ -114,10 +114,10 @@ module _ {T : Type 0} (shown : T → List ℕ) (V : Verdict T CommandFault) (one
   missing_exact ends told sound enough ran = (λ rose. refused_missing (ran.sound told sound rose), λ is. ends_rose ends enough told ran.outcome is)
 
 -- the verdict of the command that the words say
-pub asked_ran : (words : List (List ℕ)) (said : Said) (old new : Objects) (ends : Status) → command_of words ≡ Some said → Ran (words_verdict old.files.named new.fabric words) old new ends
-    → Ran (command_verdict old.files.named new.fabric said) old new ends
+pub asked_ran : (words : List (List ℕ)) (said : Said) (old new : Objects) (ends : Status) → command_of words ≡ Some said → Ran (words_verdict old.files.named (world_of new) words) old new ends
+    → Ran (command_verdict old.files.named (world_of new) said) old new ends
 unfolding words_verdict
-asked_ran words said old new ends is ran = subst (λ (s : Option Said). Ran (asked_verdict old.files.named new.fabric s) old new ends) is ran
+asked_ran words said old new ends is ran = subst (λ (s : Option Said). Ran (asked_verdict old.files.named (world_of new) s) old new ends) is ran
 
 -- only a run touches the fabric
 pub left_fabric : (words : List (List ℕ)) (said : Said) (old new : FabricState) → command_of words ≡ Some said → LeavesFabric (command_of words) old new → LeavesFabric (Some said) old new

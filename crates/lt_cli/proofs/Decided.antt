@@ -1,7 +1,7 @@
 -- All right outcomes of a command have one status.
 use Rattle.std.proofs.Common.{◌≡◌, ℕ, List, Bool, Option, refl, ap}
 use Rattle.std.specs.Prelude.{if◌then◌else◌}
-use Rattle.lt_io.specs.FabricState.{FabricState}
+use Rattle.lt_answer.specs.World.{World}
 use Rattle.lt_front.specs.declared.fault.ProgramFault.{ProgramFault}
 use Rattle.lt_front.specs.Limits.{is_limit}
 use Rattle.lt_verdict.proofs.Decided.{HasOneKind}
@@ -25,10 +25,10 @@ check_decided named program config = one_check fault_status tells_limits (λ f g
 pub meaning_decided : (named : List ℕ → Option (List ℕ)) (program inputs : List ℕ) → HasOneKind fault_status (meaning_verdict named program inputs)
 meaning_decided named program inputs = one_meaning fault_status tells_limits named program inputs
 
-pub run_decided : (named : List ℕ → Option (List ℕ)) (program inputs schedule : List ℕ) (config : Option (List ℕ)) (fabric : FabricState)
-    → HasOneKind fault_status (run_verdict named program inputs schedule config fabric)
-run_decided named program inputs schedule config fabric =
-    one_run fault_status tells_limits (λ f g main main'. refl) (λ f g names names' mixed mixed'. refl) named program inputs schedule config fabric
+pub run_decided : (named : List ℕ → Option (List ℕ)) (program inputs schedule : List ℕ) (config : Option (List ℕ)) (new : World)
+    → HasOneKind fault_status (run_verdict named program inputs schedule config new)
+run_decided named program inputs schedule config new =
+    one_run fault_status tells_limits (λ f g main main'. refl) (λ f g names names' mixed mixed'. refl) named program inputs schedule config new
 
 pub plan_decided : (file : Option (List ℕ)) → HasOneKind fault_status (config_verdict file)
 plan_decided file = config_decided fault_status file

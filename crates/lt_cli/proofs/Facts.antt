@@ -7,15 +7,15 @@ use Rattle.lt_cli.specs.declared.status.Status.{Status}
 use Rattle.lt_cli.specs.declared.status.Status.TheVariants as status
 use Rattle.lt_cli.specs.Texts.{status_of, out_text, err_text}
 use Rattle.lt_cli.specs.Commands.{command_verdict, asked_verdict, words_verdict}
-use Rattle.lt_cli.specs.Objects.{Objects}
+use Rattle.lt_cli.specs.Objects.{Objects, world_of}
 use Rattle.lt_cli.specs.Asked.{EndsBySaid}
 use Rattle.lt_cli.specs.Clauses.{IsWordsExact}
 use Rattle.lt_cli.proofs.Gave.{Gave}
 
-pub words_exact : (words : List (List ℕ)) (old new : Objects) (ends : Status) → EndsBySaid (command_of words) old new ends → Gave (words_verdict old.files.named new.fabric words) old new ends → IsWordsExact words old new ends
+pub words_exact : (words : List (List ℕ)) (old new : Objects) (ends : Status) → EndsBySaid (command_of words) old new ends → Gave (words_verdict old.files.named (world_of new) words) old new ends → IsWordsExact words old new ends
 unfolding words_verdict
 words_exact words old new ends by_said g =
-    let refused : command_of words ≡ None → g.outcome ≡ Err Words = λ is. subst (λ (s : Option Said). asked_verdict old.files.named new.fabric s g.outcome) is g.right in
+    let refused : command_of words ≡ None → g.outcome ≡ Err Words = λ is. subst (λ (s : Option Said). asked_verdict old.files.named (world_of new) s g.outcome) is g.right in
     let here : ends ≡ status.Words → g.outcome ≡ Err Words = λ at. refused (by_said.words_only at) in
     record {
       exact = (by_said.words_only, λ is. g.status ∙ ap status_of (refused is));
@@ -26,11 +26,11 @@ words_exact words old new ends by_said g =
     }
 
 -- the verdict of the command that the words say
-pub asked_gave : (words : List (List ℕ)) (said : Said) (old new : Objects) (ends : Status) → command_of words ≡ Some said → Gave (words_verdict old.files.named new.fabric words) old new ends → Gave (command_verdict old.files.named new.fabric said) old new ends
+pub asked_gave : (words : List (List ℕ)) (said : Said) (old new : Objects) (ends : Status) → command_of words ≡ Some said → Gave (words_verdict old.files.named (world_of new) words) old new ends → Gave (command_verdict old.files.named (world_of new) said) old new ends
 unfolding words_verdict
 asked_gave words said old new ends is g = record {
   outcome = g.outcome;
-  right = subst (λ (s : Option Said). asked_verdict old.files.named new.fabric s g.outcome) is g.right;
+  right = subst (λ (s : Option Said). asked_verdict old.files.named (world_of new) s g.outcome) is g.right;
   status = g.status;
   out = g.out;
   err = g.err;

@@ -10,7 +10,7 @@ use Rattle.lt_words.specs.Reading.{Said, check, meaning, run, plan, command_of}
 use Rattle.lt_cli.specs.declared.status.Status.{Status}
 use Rattle.lt_cli.specs.declared.status.Status.TheVariants as status
 use Rattle.lt_cli.specs.Commands.{checked_text, printed_text, command_verdict, words_verdict}
-use Rattle.lt_cli.specs.Objects.{Objects, IsQuiet, Tells}
+use Rattle.lt_cli.specs.Objects.{Objects, IsQuiet, Tells, world_of}
 use Rattle.lt_cli.specs.Asked.{Asked}
 use Rattle.lt_cli.specs.RunShown.{IsRunShown}
 use Rattle.lt_cli.specs.Clauses.{Performs, IsExact, IsMissingExact}
@@ -24,8 +24,8 @@ use Rattle.lt_cli.proofs.Decided.{check_decided, meaning_decided, run_decided, p
 
 module _ (asked : List (List ℕ)) (old new : Objects) (ends : Status) (did : Asked asked old new ends) where
   -- what was printed for the command that the words say
-  given : (said : Said) → command_of asked ≡ Some said → Tells old → IsQuiet old new → ends ≢ status.Memory → Gave (command_verdict old.files.named new.fabric said) old new ends
-  given said is tells quiet enough = asked_gave asked said old new ends is (gave (words_verdict old.files.named new.fabric asked) old new ends did.ran tells quiet enough)
+  given : (said : Said) → command_of asked ≡ Some said → Tells old → IsQuiet old new → ends ≢ status.Memory → Gave (command_verdict old.files.named (world_of new) said) old new ends
+  given said is tells quiet enough = asked_gave asked said old new ends is (gave (words_verdict old.files.named (world_of new) asked) old new ends did.ran tells quiet enough)
 
   check_exact : (program : List ℕ) (config : Option (List ℕ)) → command_of asked ≡ Some (check program config) → Tells old → IsQuiet old new → ends ≢ status.Memory
       → IsExact checked_text (check_verdict old.files.named program config) old new ends
@@ -38,9 +38,9 @@ module _ (asked : List (List ℕ)) (old new : Objects) (ends : Status) (did : As
       exact printed_text (meaning_verdict old.files.named program inputs) (meaning_decided old.files.named program inputs) old new ends (given (meaning program inputs) is tells quiet enough)
 
   run_exact : (program inputs schedule : List ℕ) (config : Option (List ℕ)) → command_of asked ≡ Some (run program inputs schedule config) → Tells old → IsQuiet old new → ends ≢ status.Memory
-      → IsExact printed_text (run_verdict old.files.named program inputs schedule config new.fabric) old new ends
+      → IsExact printed_text (run_verdict old.files.named program inputs schedule config (world_of new)) old new ends
   run_exact program inputs schedule config is tells quiet enough =
-      exact printed_text (run_verdict old.files.named program inputs schedule config new.fabric) (run_decided old.files.named program inputs schedule config new.fabric) old new ends
+      exact printed_text (run_verdict old.files.named program inputs schedule config (world_of new)) (run_decided old.files.named program inputs schedule config (world_of new)) old new ends
       (given (run program inputs schedule config) is tells quiet enough)
 
   shown : (program inputs schedule : List ℕ) (config : Option (List ℕ)) → command_of asked ≡ Some (run program inputs schedule config) → Tells old → IsQuiet old new → ends ≡ status.Ok
@@ -73,9 +73,9 @@ module _ (asked : List (List ℕ)) (old new : Objects) (ends : Status) (did : As
         (asked_ran asked (meaning program inputs) old new ends is did.ran)
 
     run_missing : (program inputs schedule : List ℕ) (config : Option (List ℕ)) → command_of asked ≡ Some (run program inputs schedule config) → IsTrue old.files.sound → ends ≢ status.Memory
-        → new.fabric.faults ≡ old.fabric.faults → IsMissingExact (run_verdict old.files.named program inputs schedule config new.fabric) old new
+        → new.fabric.faults ≡ old.fabric.faults → IsMissingExact (run_verdict old.files.named program inputs schedule config (world_of new)) old new
     run_missing program inputs schedule config is sound enough steady =
-        missing_exact printed_text (run_verdict old.files.named program inputs schedule config new.fabric) (run_decided old.files.named program inputs schedule config new.fabric) old new steady ends (tells sound) sound enough
+        missing_exact printed_text (run_verdict old.files.named program inputs schedule config (world_of new)) (run_decided old.files.named program inputs schedule config (world_of new)) old new steady ends (tells sound) sound enough
         (asked_ran asked (run program inputs schedule config) old new ends is did.ran)
 
     plan_missing : (config : List ℕ) (horizon : Option ℕ) → command_of asked ≡ Some (plan config horizon) → IsTrue old.files.sound → ends ≢ status.Memory → IsMissingExact (config_verdict (old.files.named config)) old new
@@ -87,15 +87,15 @@ module _ (asked : List (List ℕ)) (old new : Objects) (ends : Status) (did : As
     pub performed : Performs asked old new ends
     performed = record {
       by_said = did.by_said;
-      words = λ told quiet enough. words_exact asked old new ends did.by_said (gave (words_verdict old.files.named new.fabric asked) old new ends did.ran told quiet enough);
+      words = λ told quiet enough. words_exact asked old new ends did.by_said (gave (words_verdict old.files.named (world_of new) asked) old new ends did.ran told quiet enough);
       check = check_exact;
       meaning = meaning_exact;
       run = run_exact;
       plan = plan_exact;
       run_shown = shown;
-      outside = λ at. outside_caused (words_verdict old.files.named new.fabric asked) old new ends did.ran at;
-      failed = λ rose. call_failed old new (words_verdict old.files.named new.fabric asked) ends did.ran rose;
-      write = λ at. write_caused (words_verdict old.files.named new.fabric asked) old new ends did.ran at;
+      outside = λ at. outside_caused (words_verdict old.files.named (world_of new) asked) old new ends did.ran at;
+      failed = λ rose. call_failed old new (words_verdict old.files.named (world_of new) asked) ends did.ran rose;
+      write = λ at. write_caused (words_verdict old.files.named (world_of new) asked) old new ends did.ran at;
       steady = did.ran.keeps.world.steady;
       check_missing = check_missing;
       meaning_missing = meaning_missing;

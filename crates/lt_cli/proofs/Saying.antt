@@ -55,7 +55,7 @@ pub asked_whole : (words : List (List ℕ)) (a b : World) (o0 o1 e : SinkState) 
     → Asked words (record { files = a.files; fabric = a.fabric; out = o0; err = e }) (record { files = b.files; fabric = b.fabric; out = o1; err = e }) ends
 unfolding words_verdict
 asked_whole words a b o0 o1 e text ends answers written = record {
-  ran = ran_whole (asked_verdict a.files.named b.fabric (command_of words)) a b o0 o1 e text ends answers.answered written;
+  ran = ran_whole (asked_verdict a.files.named b (command_of words)) a b o0 o1 e text ends answers.answered written;
   by_said = text_said _ _ (command_of words) text o0 o1 ends answers.of_said answers.leaves written.reaches;
 }
 
@@ -65,7 +65,7 @@ pub asked_refused : (words : List (List ℕ)) (a b : World) (o e0 e1 : SinkState
     → Asked words (record { files = a.files; fabric = a.fabric; out = o; err = e0 }) (record { files = b.files; fabric = b.fabric; out = o; err = e1 }) ends
 unfolding words_verdict
 asked_refused words a b o e0 e1 refusal ends answers written = record {
-  ran = ran_refused (asked_verdict a.files.named b.fabric (command_of words)) a b o e0 e1 refusal ends answers.answered written;
+  ran = ran_refused (asked_verdict a.files.named b (command_of words)) a b o e0 e1 refusal ends answers.answered written;
   by_said = line_said _ _ (command_of words) refusal (line_of refusal ++ 10 ∷ []) e0 e1 ends answers.of_said answers.leaves written.reaches;
 }
 
@@ -74,6 +74,6 @@ pub asked_short : (words : List (List ℕ)) (a b : World) (o e : SinkState) → 
     → Asked words (record { files = a.files; fabric = a.fabric; out = o; err = e }) (record { files = b.files; fabric = b.fabric; out = o; err = e }) status.Memory
 unfolding words_verdict
 asked_short words a b o e answers = record {
-  ran = ran_short (asked_verdict a.files.named b.fabric (command_of words)) a b o e answers.answered;
+  ran = ran_short (asked_verdict a.files.named b (command_of words)) a b o e answers.answered;
   by_said = short_said _ _ (command_of words) answers.leaves;
 }

@@ -24,9 +24,9 @@ use Rattle.lt_replay.specs.Replays.{EndsWith, replay_verdict}
 use Rattle.lt_run.specs.Main.{output_streams}
 use Rattle.lt_load.specs.Plan.{Plan, load_verdict}
 use Rattle.lt_run.specs.declared.outputs.Outputs.{Outputs}
-use Rattle.lt_run.specs.Run.{Shows, along_verdict, run_verdict}
+use Rattle.lt_run.specs.Run.{Shows, along_verdict, ordered_verdict, run_verdict}
 use Rattle.lt_cli.specs.Commands.{printed_text}
-use Rattle.lt_cli.specs.Objects.{Objects}
+use Rattle.lt_cli.specs.Objects.{Objects, world_of}
 use Rattle.lt_cli.specs.Taken.{TookText}
 use Rattle.lt_cli.specs.RunShown.{IsOutputShown, IsRunShown}
 
@@ -103,6 +103,6 @@ module _ (named : List ℕ → Option (List ℕ)) (program inputs schedule : Lis
   steps_shown (inl refused) = absurd refused
   steps_shown (inr (p, loaded, played)) = along_shown p loaded played
 
-  pub run_shown : run_verdict named program inputs schedule config new.fabric (Ok printed) → IsRunShown named program inputs schedule config old new
-  unfolding run_verdict
+  pub run_shown : run_verdict named program inputs schedule config (world_of new) (Ok printed) → IsRunShown named program inputs schedule config old new
+  unfolding ordered_verdict
   run_shown right = steps_shown right

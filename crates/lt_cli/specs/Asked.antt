@@ -13,7 +13,7 @@ use Rattle.lt_cli.specs.declared.status.Status.{Status}
 use Rattle.lt_cli.specs.declared.status.Status.TheVariants as status
 use Rattle.lt_cli.specs.Blamed.{blame_of}
 use Rattle.lt_cli.specs.Commands.{text_verdict, asked_verdict, words_verdict}
-use Rattle.lt_cli.specs.Objects.{Objects}
+use Rattle.lt_cli.specs.Objects.{Objects, world_of}
 use Rattle.lt_cli.specs.Ran.{Ran}
 
 -- the words are not refused
@@ -50,7 +50,7 @@ pub record AnswersText {T : Type 0} (shown : T → List ℕ) (V : Verdict T Comm
 
 -- the text or the refusal that is right where this is said; the last two whether or not the files tell their bytes
 pub record Answers (named : List ℕ → Option (List ℕ)) (said : Option Said) (old new : World) (result : Result (List ℕ) (Or Refusal)) : Type 0 where
-  pub answered : Answered blame_of (asked_verdict named new.fabric said) old new result
+  pub answered : Answered blame_of (asked_verdict named new said) old new result
   pub of_said : IsOfSaid said result
   pub leaves : LeavesFabric said old.fabric new.fabric
 
@@ -67,5 +67,5 @@ pub record EndsBySaid (said : Option Said) (old new : Objects) (ends : Status) :
 
 -- what a call does that is asked for this by its words
 pub record Asked (words : List (List ℕ)) (old new : Objects) (ends : Status) : Type 0 where
-  pub ran : Ran (words_verdict old.files.named new.fabric words) old new ends
+  pub ran : Ran (words_verdict old.files.named (world_of new) words) old new ends
   pub by_said : EndsBySaid (command_of words) old new ends

@@ -17,7 +17,7 @@ use Rattle.lt_run.specs.Run.{run_verdict}
 use Rattle.lt_cli.specs.Commands.{checked_text, printed_text, words_verdict}
 use Rattle.lt_cli.specs.Taken.{TookLine, TookText}
 use Rattle.lt_cli.specs.RunShown.{IsRunShown}
-use Rattle.lt_cli.specs.Objects.{Objects, IsQuiet, Tells}
+use Rattle.lt_cli.specs.Objects.{Objects, IsQuiet, Tells, world_of}
 use Rattle.lt_cli.specs.Ran.{Ran}
 use Rattle.lt_cli.specs.Asked.{EndsBySaid}
 
@@ -74,7 +74,7 @@ pub record Performs (asked : List (List ℕ)) (old new : Objects) (ends : Status
   pub meaning : (program inputs : List ℕ) → command_of asked ≡ Some (said.meaning program inputs) → Tells old → IsQuiet old new → ends ≢ status.Memory
       → IsExact printed_text (meaning_verdict old.files.named program inputs) old new ends
   pub run : (program inputs schedule : List ℕ) (config : Option (List ℕ)) → command_of asked ≡ Some (said.run program inputs schedule config) → Tells old → IsQuiet old new → ends ≢ status.Memory
-      → IsExact printed_text (run_verdict old.files.named program inputs schedule config new.fabric) old new ends
+      → IsExact printed_text (run_verdict old.files.named program inputs schedule config (world_of new)) old new ends
   pub plan : (config : List ℕ) (horizon : Option ℕ) → command_of asked ≡ Some (said.plan config horizon) → Tells old → IsQuiet old new → ends ≢ status.Memory
       → IsExact (λ setup. plan_of setup horizon) (config_verdict (old.files.named config)) old new ends
   -- what a run shows that ended well, fact by fact
@@ -94,8 +94,8 @@ pub record Performs (asked : List (List ℕ)) (old new : Objects) (ends : Status
   pub run_missing : (program inputs schedule : List ℕ) (config : Option (List ℕ)) → command_of asked ≡ Some (said.run program inputs schedule config) → IsTrue old.files.sound → ends ≢ status.Memory
       -- no call on the fabric failed, which may come before the schedule's file is opened
       → new.fabric.faults ≡ old.fabric.faults
-      → IsMissingExact (run_verdict old.files.named program inputs schedule config new.fabric) old new
+      → IsMissingExact (run_verdict old.files.named program inputs schedule config (world_of new)) old new
   pub plan_missing : (config : List ℕ) (horizon : Option ℕ) → command_of asked ≡ Some (said.plan config horizon) → IsTrue old.files.sound → ends ≢ status.Memory
       → IsMissingExact (config_verdict (old.files.named config)) old new
   -- all of it: what was to be printed, how far it was, and whose count rose
-  pub ran : Ran (words_verdict old.files.named new.fabric asked) old new ends
+  pub ran : Ran (words_verdict old.files.named (world_of new) asked) old new ends

@@ -117,7 +117,7 @@ fn run_answer<F: Files, W: Fabric>(
     requires files { (F.state files.old).faults < 2 ^ 64 - 1 }
     requires fabric { (W.state fabric.old).faults < 2 ^ 64 - 1 }
     requires empty { (W.state fabric.old).kinds ≡ [] }
-    ensures { AnswersText printed_text (run_verdict (F.state files.old).named program.now inputs.now schedule.now (option_map (λ s. s.now) config.entry) (W.state fabric.new))
+    ensures { AnswersText printed_text (run_verdict (F.state files.old).named program.now inputs.now schedule.now (option_map (λ s. s.now) config.entry) (world (F.state files.new) (W.state fabric.new)))
         (world (F.state files.old) (W.state fabric.old)) (world (F.state files.new) (W.state fabric.new)) result }
 {
     match run(alloc, files, fabric, program, inputs, schedule, config) {

@@ -9,6 +9,7 @@ use Rattle.lt_arch.specs.declared.shape.Shape.{Shape}
 use Rattle.lt_arch.specs.declared.timing.Timing.{Timing}
 use Rattle.lt_io.specs.FabricState.{FabricState}
 use Rattle.lt_place.specs.declared.layout.Layout.{Layout}
+use Rattle.lt_answer.specs.World.{World}
 use Rattle.lt_front.specs.Examined.{ExaminedText}
 use Rattle.lt_front.specs.Flattened.{flat_of}
 use Rattle.lt_meaning.specs.Streams.{cell_count, most_cells}
@@ -30,7 +31,7 @@ use Rattle.lt_load.proofs.OneShape.{one_shape}
 use Rattle.lt_run.specs.declared.outputs.Outputs.{Outputs}
 use Rattle.lt_run.specs.Main.{cells_verdict, output_streams}
 use Rattle.lt_run.specs.Meaning.{printed_verdict, streams_verdict, inputs_streams_verdict, meaning_verdict}
-use Rattle.lt_run.specs.Run.{IsLaidOutBy, along_verdict, command_fault, placed_run_verdict, run_verdict}
+use Rattle.lt_run.specs.Run.{IsLaidOutBy, along_verdict, command_fault, ordered_verdict, placed_run_verdict, run_verdict}
 
 cells_decided : {K : Type 0} (kind : CommandFault → K) (p : WholeProgram) (rows : List (List Value)) → HasOneOutcome kind (cells_verdict p rows)
 cells_decided kind p rows =
@@ -103,9 +104,15 @@ module _ {K : Type 0} (kind : CommandFault → K) (fabric : FabricState) (file :
   along_decided : HasOneKind kind (along_verdict fabric file plan)
   along_decided = record { one_kind = along_kind; not_both = along_both }
 
-pub run_decided : {K : Type 0} (kind : CommandFault → K) → TellsLimits kind → MergesPlaces kind → MergesTimings kind → (named : List ℕ → Option (List ℕ)) (program inputs schedule : List ℕ) (config : Option (List ℕ)) (fabric : FabricState)
-    → HasOneKind kind (run_verdict named program inputs schedule config fabric)
-unfolding run_verdict
-run_decided kind along places timings named program inputs schedule config fabric =
+ordered_decided : {K : Type 0} (kind : CommandFault → K) → TellsLimits kind → MergesPlaces kind → MergesTimings kind → (named : List ℕ → Option (List ℕ)) (program inputs schedule : List ℕ) (config : Option (List ℕ)) (fabric : FabricState)
+    → HasOneKind kind (ordered_verdict named program inputs schedule config fabric)
+unfolding ordered_verdict
+ordered_decided kind along places timings named program inputs schedule config fabric =
     and_then kind (load_verdict named program inputs config) (λ plan. along_verdict fabric (named schedule) plan) (load_decided kind along places timings named program inputs config) (λ plan.
     along_decided kind fabric (named schedule) plan)
+
+pub run_decided : {K : Type 0} (kind : CommandFault → K) → TellsLimits kind → MergesPlaces kind → MergesTimings kind → (named : List ℕ → Option (List ℕ)) (program inputs schedule : List ℕ) (config : Option (List ℕ)) (new : World)
+    → HasOneKind kind (run_verdict named program inputs schedule config new)
+run_decided kind along places timings named program inputs schedule config new =
+    let one = ordered_decided kind along places timings named program inputs schedule config new.fabric in
+    record { one_kind = λ e f p q. one.one_kind e f p.0 q.0; not_both = λ e x p q. one.not_both e x p.0 q }

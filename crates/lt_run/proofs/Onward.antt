@@ -32,7 +32,7 @@ use Rattle.lt_load.proofs.Raising.{raised_value, raised_fault}
 use Rattle.lt_run.specs.declared.outputs.Outputs.{Outputs}
 use Rattle.lt_run.specs.declared.printed.Printed.{Printed}
 use Rattle.lt_run.specs.Printed.{HasPrinted, ReplayShows, ShowsAt}
-use Rattle.lt_run.specs.Run.{AsCommand, HasOutputs, IsLaidOutBy, Shows, along_loaded, along_verdict, command_fault, placed_run_verdict, run_verdict}
+use Rattle.lt_run.specs.Run.{AsCommand, HasOutputs, IsLaidOutBy, Shows, along_loaded, along_verdict, command_fault, placed_run_verdict, ordered_verdict}
 use Rattle.lt_run.proofs.Replays.{answered_value, answered_short, answered_fault}
 
 same_blame : (s : Shape) (e : PlayFault) → command_blame (command_fault s e) ≡ play_blame e
@@ -126,8 +126,8 @@ module _ (k : LoadedPlan) (name : List ℕ) (files files' : FilesState) (fabric 
 -- what was loaded, and then its run
 
 module _ (program inputs schedule : List ℕ) (config : Option (List ℕ)) (a : FilesState) where
-  wider : (fabric : FabricState) (o : Result Outputs CommandFault) → AndThen (Loads (load_verdict a.named program inputs config)) (λ k. along_loaded fabric k (a.named schedule)) o → run_verdict a.named program inputs schedule config fabric o
-  unfolding run_verdict along_verdict
+  wider : (fabric : FabricState) (o : Result Outputs CommandFault) → AndThen (Loads (load_verdict a.named program inputs config)) (λ k. along_loaded fabric k (a.named schedule)) o → ordered_verdict a.named program inputs schedule config fabric o
+  unfolding ordered_verdict along_verdict
   wider fabric (Ok x) (inl p) = absurd p
   wider fabric (Err e) (inl p) = inl p
   wider fabric o (inr q) =
@@ -143,19 +143,19 @@ module _ (program inputs schedule : List ℕ) (config : Option (List ℕ)) (a : 
   module _ (b : FilesState) (fabric : FabricState) where
     -- it was not loaded
     pub not_loaded : (e : Or CommandFault) (r : Result Outputs (Or CommandFault)) → IsErrAnd r (λ f. f ≡ e) → Answered command_blame (Loads (load_verdict a.named program inputs config)) (alone a) (alone b) (Err e)
-        → Answered command_blame (run_verdict a.named program inputs schedule config fabric) (world a fabric) (world b fabric) r
+        → Answered command_blame (ordered_verdict a.named program inputs schedule config fabric) (world a fabric) (world b fabric) r
     not_loaded e (Ok x) is first = absurd is
     not_loaded e (Err f) is first =
         let stopped : Answered command_blame (AndThen (Loads (load_verdict a.named program inputs config)) (λ k. along_loaded fabric k (a.named schedule))) (world a fabric) (world b fabric) (Err e) =
         stops (world a fabric) (world b fabric) e (beside a b fabric (Err e) first) in
-        subst (λ (g : Or CommandFault). Answered command_blame (run_verdict a.named program inputs schedule config fabric) (world a fabric) (world b fabric) (Err g)) (sym is)
-        (widened (AndThen (Loads (load_verdict a.named program inputs config)) (λ k. along_loaded fabric k (a.named schedule))) (run_verdict a.named program inputs schedule config fabric) (world a fabric) (world b fabric) (Err e) (wider fabric) stopped)
+        subst (λ (g : Or CommandFault). Answered command_blame (ordered_verdict a.named program inputs schedule config fabric) (world a fabric) (world b fabric) (Err g)) (sym is)
+        (widened (AndThen (Loads (load_verdict a.named program inputs config)) (λ k. along_loaded fabric k (a.named schedule))) (ordered_verdict a.named program inputs schedule config fabric) (world a fabric) (world b fabric) (Err e) (wider fabric) stopped)
 
     -- it was, and then run
     pub loaded_run : (k : LoadedPlan) (c : FilesState) (fabric' : FabricState) (r : Result Outputs (Or CommandFault)) → Answered command_blame (Loads (load_verdict a.named program inputs config)) (alone a) (alone b) (Ok k)
-        → Answered command_blame (along_loaded fabric' k (b.named schedule)) (world b fabric) (world c fabric') r → Answered command_blame (run_verdict a.named program inputs schedule config fabric') (world a fabric) (world c fabric') r
+        → Answered command_blame (along_loaded fabric' k (b.named schedule)) (world b fabric) (world c fabric') r → Answered command_blame (ordered_verdict a.named program inputs schedule config fabric') (world a fabric) (world c fabric') r
     loaded_run k c fabric' r first second =
         let on : Answered command_blame (AndThen (Loads (load_verdict a.named program inputs config)) (λ k. along_loaded fabric' k (a.named schedule))) (world a fabric) (world c fabric') r =
         goes_on (world a fabric) (world b fabric) (world c fabric') k r (beside a b fabric (Ok k) first)
         (renamed (λ names. along_loaded fabric' k (names schedule)) b.named a.named (world b fabric) (world c fabric') r first.keeps.files.named second) in
-        widened (AndThen (Loads (load_verdict a.named program inputs config)) (λ k. along_loaded fabric' k (a.named schedule))) (run_verdict a.named program inputs schedule config fabric') (world a fabric) (world c fabric') r (wider fabric') on
+        widened (AndThen (Loads (load_verdict a.named program inputs config)) (λ k. along_loaded fabric' k (a.named schedule))) (ordered_verdict a.named program inputs schedule config fabric') (world a fabric) (world c fabric') r (wider fabric') on

@@ -2,3 +2,4 @@ pub mod Main
 pub mod Meaning
 pub mod Printed
 pub mod Run
+pub mod Near

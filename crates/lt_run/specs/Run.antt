@@ -14,7 +14,7 @@ use Rattle.lt_front.specs.Flattened.{flat_of}
 use Rattle.lt_judge.specs.declared.fault.ScheduleFault.TheVariants as schedule
 use Rattle.lt_base.specs.declared.memory.Or.{Or}
 use Rattle.lt_base.specs.declared.memory.Or.TheVariants.{Fault, Memory}
-use Rattle.lt_answer.specs.World.{Content}
+use Rattle.lt_answer.specs.World.{World, Content}
 use Rattle.lt_answer.specs.Answered.{Answered, Verdict, AndThen}
 use Rattle.lt_verdict.specs.Rules.{Raised}
 use Rattle.lt_play.specs.declared.fault.PlayFault.{PlayFault}
@@ -27,6 +27,7 @@ use Rattle.lt_load.specs.declared.fault.CommandFault.{CommandFault}
 use Rattle.lt_load.specs.declared.fault.CommandFault.TheVariants as fault
 use Rattle.lt_load.specs.Plan.{Plan, LoadedPlan, load_verdict}
 use Rattle.lt_run.specs.declared.outputs.Outputs.{Outputs}
+use Rattle.lt_run.specs.Near.{ReadNear}
 use Rattle.lt_run.specs.Printed.{ShowsAt, loaded_verdict}
 
 -- a replay's fault as a command's, beside the shape whose nodes it names
@@ -75,5 +76,9 @@ along_verdict fabric file plan outcome =
     (l : Layout) × (s : Shape) × IsLaidOutBy plan l s × placed_run_verdict plan.checked.program l s plan.setup.timing plan.inputs.rows fabric file outcome
 
 -- the program, the setup, the placement, the timing, the inputs and the schedule, in this order
-unfoldable pub run_verdict : (named : List ℕ → Option (List ℕ)) (program inputs schedule : List ℕ) (config : Option (List ℕ)) → FabricState → Verdict Outputs CommandFault
-run_verdict named program inputs schedule config fabric = AndThen (load_verdict named program inputs config) (λ plan. along_verdict fabric (named schedule) plan)
+unfoldable pub ordered_verdict : (named : List ℕ → Option (List ℕ)) (program inputs schedule : List ℕ) (config : Option (List ℕ)) → FabricState → Verdict Outputs CommandFault
+ordered_verdict named program inputs schedule config fabric = AndThen (load_verdict named program inputs config) (λ plan. along_verdict fabric (named schedule) plan)
+
+-- and where it is the schedule that is refused, its file was read to at most a piece past the row that is refused
+abbrev pub run_verdict : (named : List ℕ → Option (List ℕ)) (program inputs schedule : List ℕ) (config : Option (List ℕ)) → (new : World) → Verdict Outputs CommandFault
+run_verdict named program inputs schedule config new = ReadNear (named schedule) new.files.place (ordered_verdict named program inputs schedule config new.fabric)

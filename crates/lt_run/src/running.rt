@@ -1,8 +1,9 @@
 // A run of a program along a schedule.
-ghost use Rattle.std.specs.Prelude.{◌≡◌, ◌<◌, ◌-◌, ◌^◌, [], option_map};
+ghost use Rattle.std.specs.Prelude.{◌≡◌, ◌<◌, ◌-◌, ◌^◌, [], IfErr, IsTrue, option_map};
 ghost use Rattle.lt_answer.specs.Answered.{Answered};
 ghost use Rattle.lt_play.specs.Played.{world};
 ghost use Rattle.lt_load.specs.Blamed.{command_blame};
+ghost use Rattle.lt_run.specs.Near.{IsNearCommand};
 ghost use Rattle.lt_run.specs.Run.{AsCommand, along_loaded, run_verdict};
 
 use crate::Outputs;
@@ -31,7 +32,7 @@ pub fn run<F: Files, W: Fabric>(
     requires count { (F.state files.old).faults < 2 ^ 64 - 1 }
     requires link_count { (W.state fabric.old).faults < 2 ^ 64 - 1 }
     requires empty { (W.state fabric.old).kinds ≡ [] }
-    ensures { Answered command_blame (run_verdict (F.state files.old).named program.now inputs.now schedule.now (option_map (λ s. s.now) config.entry) (W.state fabric.new))
+    ensures { Answered command_blame (run_verdict (F.state files.old).named program.now inputs.now schedule.now (option_map (λ s. s.now) config.entry) (world (F.state files.new) (W.state fabric.new)))
         (world (F.state files.old) (W.state fabric.old)) (world (F.state files.new) (W.state fabric.new)) result }
 {
     let loaded = load(alloc, files, program, inputs, config)?;
@@ -49,8 +50,9 @@ fn run_loaded<F: Files, W: Fabric>(
     requires count { (F.state files.old).faults < 2 ^ 64 - 1 }
     requires link_count { (W.state fabric.old).faults < 2 ^ 64 - 1 }
     requires empty { (W.state fabric.old).kinds ≡ [] }
-    ensures { Answered command_blame (along_loaded (W.state fabric.new) loaded.now ((F.state files.old).named schedule.now))
+    ensures answered { Answered command_blame (along_loaded (W.state fabric.new) loaded.now ((F.state files.old).named schedule.now))
         (world (F.state files.old) (W.state fabric.old)) (world (F.state files.new) (W.state fabric.new)) result }
+    ensures near { IsTrue (F.state files.old).told → IfErr result (IsNearCommand ((F.state files.old).named schedule.now) (F.state files.new).place) }
 {
     match replay_code(alloc, loaded, files, schedule, fabric) {
         Ok(outputs) => Ok(outputs),

@@ -1,0 +1,41 @@
+-- How far the schedule file of a refused run was read.
+use Rattle.std.specs.Prelude.{ℕ, List, Option, Ok, Err}
+use Rattle.lt_base.specs.declared.memory.Or.{Or}
+use Rattle.lt_base.specs.declared.memory.Or.TheVariants.{Fault, Memory}
+use Rattle.lt_answer.specs.Answered.{Verdict}
+use Rattle.lt_judge.specs.declared.fault.ScheduleFault.TheVariants as schedule
+use Rattle.lt_judge.specs.Near.{IsNearFile}
+use Rattle.lt_load.specs.declared.fault.What.{What}
+use Rattle.lt_load.specs.declared.fault.What.TheVariants.{ProgramBytes, ConfigBytes, InputsBytes, ScheduleBytes}
+use Rattle.lt_load.specs.declared.fault.CommandFault.{CommandFault}
+use Rattle.lt_load.specs.declared.fault.CommandFault.TheVariants as fault
+
+-- where the schedule's bytes are too many
+abbrev pub IsNearLimit : Option (List ℕ) → (place : ℕ) → What → Type 0
+IsNearLimit file place ProgramBytes = Unit {0}
+IsNearLimit file place ConfigBytes = Unit {0}
+IsNearLimit file place InputsBytes = Unit {0}
+IsNearLimit file place ScheduleBytes = IsNearFile file place (Fault schedule.Bytes)
+
+-- a schedule file that is refused was read to at most a piece past the row that is refused
+abbrev pub IsNearFault : Option (List ℕ) → (place : ℕ) → CommandFault → Type 0
+IsNearFault file place (fault.Program f) = Unit {0}
+IsNearFault file place (fault.Config f) = Unit {0}
+IsNearFault file place (fault.Place f main) = Unit {0}
+IsNearFault file place (fault.Timing f names mixed) = Unit {0}
+IsNearFault file place (fault.Inputs f) = Unit {0}
+IsNearFault file place fault.TooManyCells = Unit {0}
+IsNearFault file place (fault.Row row f) = IsNearFile file place (Fault (schedule.Row row f))
+IsNearFault file place (fault.Offence event offence s) = IsNearFile file place (Fault (schedule.Offence event offence))
+IsNearFault file place (fault.Limit what) = IsNearLimit file place what
+IsNearFault file place fault.Read = Unit {0}
+IsNearFault file place fault.Link = Unit {0}
+
+abbrev pub IsNearCommand : Option (List ℕ) → (place : ℕ) → Or CommandFault → Type 0
+IsNearCommand file place (Fault f) = IsNearFault file place f
+IsNearCommand file place Memory = Unit {0}
+
+-- the same of a verdict's refusals
+abbrev pub ReadNear : {T : Type 0} → Option (List ℕ) → (place : ℕ) → Verdict T CommandFault → Verdict T CommandFault
+ReadNear file place V (Ok x) = V (Ok x)
+ReadNear file place V (Err e) = V (Err e) × IsNearFault file place e
