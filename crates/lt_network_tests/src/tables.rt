@@ -76,11 +76,12 @@ fn printed(
     }
 }
 
-// The cells of all outputs, one output behind the other.
+// The cells of all outputs, one output behind the other, each with an absence at its end.
 fn cells_of(alloc: Global, printed: &Printed<TableMachine>) -> Result<Vec<Cell>, Memory> {
     let mut cells = Vec::new(alloc);
     for column in printed.cells.as_slice() {
         cells.extend_from_slice(column.as_slice())?;
+        cells.push(Cell::Absent)?;
     }
     Ok(cells)
 }
@@ -93,9 +94,16 @@ fn shown(alloc: Global, setup: &str, schedule: &str) -> Result<(Vec<Cell>, u64),
     Ok((cells, printed.horizon))
 }
 
+fn cell(int: Option<i64>) -> Cell {
+    match int {
+        Some(n) => Cell::Here(Value::Int(n)),
+        None => Cell::Absent,
+    }
+}
+
 #[test]
 fn tables_show_what_step_code_shows(rt: HostRuntime) -> Result<(), Fail> {
-    let wanted = [1, 11, 10].map(|n| Cell::Here(Value::Int(n)));
+    let wanted = [Some(1), Some(11), None, Some(10), None].map(|int| cell(int));
     let (cells, horizon) = shown(rt.alloc(), BACK_PRESSURE, ACKNOWLEDGED)?;
     assert_eq!(rt; cells.as_slice(), wanted.as_slice());
     assert_eq!(rt; horizon, 20);
