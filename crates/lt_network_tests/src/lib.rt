@@ -1,0 +1,7 @@
+//! Tests of a network with machines of another kind than those of a run.
+#![tactic(auto)]
+
+#[cfg(test)]
+mod machines;
+#[cfg(test)]
+mod tables;
