@@ -1,5 +1,5 @@
 -- A run: what was loaded, and then its replay.
-use Rattle.std.proofs.Common.{◌≡◌, ◌∙◌, ℕ, List, Option, Result, Ok, Err, refl, sym, subst, inl, inr}
+use Rattle.std.proofs.Common.{◌≡◌, ℕ, List, Option, Result, Ok, Err, refl, sym, subst, inl, inr}
 use Rattle.std.specs.Prelude.{IsErrAnd, length}
 use Rattle.lt_base.specs.declared.memory.Or.{Or}
 use Rattle.lt_base.specs.Or.{MapsFault}
@@ -15,8 +15,8 @@ use Rattle.lt_io.specs.FilesState.{FilesState}
 use Rattle.lt_io.specs.FabricState.{FabricState}
 use Rattle.lt_place.specs.declared.layout.Layout.{Layout}
 use Rattle.lt_net.specs.Channels.{IsShapeOf}
-use Rattle.lt_answer.specs.World.{World, Blames, alone}
-use Rattle.lt_answer.specs.Answered.{Answered, AndThen, RefusesReading}
+use Rattle.lt_answer.specs.World.{Blames, alone}
+use Rattle.lt_answer.specs.Answered.{Answered, AndThen}
 use Rattle.lt_answer.proofs.Stages.{beside, goes_on, renamed, runs_short, stops, widened}
 use Rattle.lt_front.specs.Examined.{ExaminedText}
 use Rattle.lt_judge.specs.declared.fault.ScheduleFault.TheVariants as schedule
@@ -33,7 +33,7 @@ use Rattle.lt_run.specs.declared.outputs.Outputs.{Outputs}
 use Rattle.lt_run.specs.declared.printed.Printed.{Printed}
 use Rattle.lt_run.specs.Printed.{HasPrinted, ReplayShows, ShowsAt}
 use Rattle.lt_run.specs.Run.{AsCommand, HasOutputs, IsLaidOutBy, Shows, along_loaded, along_verdict, command_fault, placed_run_verdict, ordered_verdict}
-use Rattle.lt_run.proofs.Replays.{answered_value, answered_short, answered_fault}
+use Rattle.lt_run.proofs.Replays.{answered_value, answered_fault}
 
 same_blame : (s : Shape) (e : PlayFault) → command_blame (command_fault s e) ≡ play_blame e
 same_blame s (Schedule (schedule.Row row f)) = refl

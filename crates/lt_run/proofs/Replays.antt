@@ -1,5 +1,5 @@
 -- What a replay answers, in the words of what its value shows.
-use Rattle.std.proofs.Common.{◌≡◌, ℕ, List, Option, Some, None, Result, Ok, Err, IsTrue, ap, subst, sym}
+use Rattle.std.proofs.Common.{◌≡◌, ℕ, List, Option, Some, None, Result, Ok, Err, ap, subst, sym}
 use Rattle.std.specs.Prelude.{IsErrAnd, length}
 use Rattle.lt_base.specs.declared.memory.Or.{Or}
 use Rattle.lt_base.specs.declared.memory.Or.TheVariants.{Fault, Memory}
@@ -19,7 +19,7 @@ use Rattle.lt_judge.specs.Verdict.{verdict}
 use Rattle.lt_play.specs.declared.fault.PlayFault.{PlayFault}
 use Rattle.lt_play.specs.declared.fault.PlayFault.TheVariants.{Schedule}
 use Rattle.lt_play.specs.Blamed.{play_blame}
-use Rattle.lt_play.specs.Played.{world, IsNearPlay}
+use Rattle.lt_play.specs.Played.{world}
 use Rattle.lt_replay.specs.declared.replayed.Replayed.{Replayed}
 use Rattle.lt_replay.specs.Run.{HasSteps}
 use Rattle.lt_replay.specs.Replays.{EndsWith, HasReplayed, IsReplay, replay_verdict}

@@ -4,7 +4,7 @@ use Rattle.lt_front.specs.Checked.{CheckedText, IsChecked}
 use Rattle.lt_load.specs.Main.{main_in}
 use Rattle.lt_load.specs.Plan.{LoadedPlan}
 use Rattle.lt_run.specs.Main.{name_in}
-use Rattle.lt_run.proofs.Replays.{has_columns, named, not_named, not_replayed, prints_at, shows_too}
+use Rattle.lt_run.proofs.Replays.{has_columns, named, not_replayed, prints_at, shows_too}
 use Rattle.lt_run.proofs.replaying.replay.Goals as goal
 
 pub returns-in_err-replayed : goal.returns-in_err-replayed
