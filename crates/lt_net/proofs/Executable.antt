@@ -129,4 +129,5 @@ module _ {C M : Type 0} (phase : C → Phase) (protocol : C → Protocol) (send 
           let r = more_rows in
           omega (arith, c, most, i, e, r);
       inboxes = kept.sized.inboxes;
+      ports = room.ports n nb;
     }

@@ -85,6 +85,7 @@ module _ {C M : Type 0} (phase : C → Phase) (protocol : C → Protocol) (send 
           tracks = new.tracks;
           routes = rest.routes i;
           exits = rest.exits i;
+          ports = rest.ports i;
           values = rest.values i;
           outs = rest.outs i;
         }
@@ -113,6 +114,7 @@ module _ {C M : Type 0} (phase : C → Phase) (protocol : C → Protocol) (send 
               cells = λ y h. subst (λ k. net.rows ≤ k) (sym (ap (λ ts. (track_at ts y).room) ex.tracks ∙ tracked-room net.exits n ex.outs (length net.exits) net.tracks (let e = z.exits.size in let t = z.tracks in omega (arith, e, t)) y)) (z.cells y h);
               routes = z.routes;
               exits = z.exits;
+              ports = z.ports;
             })
 
         pub ran_taken : (old fabric : FabricState) → Holds now old → Acknowledges (record net { controllers = cs }) new n at old fabric → IsTaken phase stands made left now new (Act n at) row old fabric

@@ -24,6 +24,8 @@ use Rattle.lt_place.specs.declared.layout.Layout.{Layout}
 use Rattle.lt_place.specs.Layout.{IsPlaced, part_of, no_part}
 use Rattle.lt_net.specs.declared.route.Route.{Route}
 use Rattle.lt_net.specs.declared.route.Exit.{Exit}
+use Rattle.lt_net.specs.declared.ports.Ports.{Ports}
+use Rattle.lt_net.specs.Ports.{ports_of, no_ports}
 use Rattle.lt_net.specs.Layout.{joins}
 use Rattle.lt_net.specs.Local.{firsts}
 use Rattle.lt_net.specs.Net.{NetState}
@@ -34,6 +36,7 @@ use Rattle.lt_net.specs.Kept.{Kept, IsSized, HasRoom}
 use Rattle.lt_net.specs.Starts.{no_lists, literals_on, first_inbox, route_to, exit_for, most_fed, most_given, IsBlank, AreReady, AreAtStart, IsFresh}
 use Rattle.lt_net.proofs.FirstTables.{are_routes, are_exits, types_are, few_types, first_box, on_channel}
 use Rattle.lt_net.proofs.FixedParts.{fixed}
+use Rattle.lt_net.proofs.Firsts.{length-firsts, get-firsts}
 
 pub none_sent : (p : Protocol) → 0 - unsent (first_phase p) ≡ 0
 none_sent BackPressure = refl
@@ -48,7 +51,7 @@ module _ {C M : Type 0} (phase : C → Phase) (stands : M → Function → List 
     (executed : List ℕ) (executed_are : executed ≡ replicate (node_count s) 0) (boxes : List InboxState) (boxes_are : boxes ≡ map (first_inbox l.cross) s.channels) (buffers : List (List Value)) (buffers_are : buffers ≡ map (literals_on l.cross) s.channels)
     (tracks : List TrackState) (tracks_count : length tracks ≡ length l.outs) (blank : All (IsBlank rows) tracks)
     (routes : List Route) (routes_are : routes ≡ firsts (route_to l s.channels) (length l.cross)) (exits : List Exit) (exits_are : exits ≡ map (exit_for l.nodes) l.outs)
-    (values outs : ℕ) (values_are : values ≡ max (length l.cross) (most_fed l.nodes)) (outs_are : outs ≡ most_given l.nodes) where
+    (ports : List Ports) (ports_are : ports ≡ firsts (ports_of s.channels) (node_count s)) (values outs : ℕ) (values_are : values ≡ max (length l.cross) (most_fed l.nodes)) (outs_are : outs ≡ most_given l.nodes) where
   abbrev net : NetState C M
   net = record {
     layout = l;
@@ -64,6 +67,7 @@ module _ {C M : Type 0} (phase : C → Phase) (stands : M → Function → List 
     tracks = tracks;
     routes = routes;
     exits = exits;
+    ports = ports;
     values = values;
     outs = outs;
   }
@@ -134,4 +138,5 @@ module _ {C M : Type 0} (phase : C → Phase) (stands : M → Function → List 
     cells = λ y lt. (blank_at y lt).room;
     routes = are_routes f l placed s routes routes_are;
     exits = are_exits f l placed exits exits_are;
+    ports = λ n lt. record { there = omega (arith, lt, ap length ports_are, length-firsts (ports_of s.channels) (node_count s)); are = ap (λ ps. slice_index_or ps n no_ports) ports_are ∙ get-firsts (ports_of s.channels) (node_count s) n no_ports lt };
   }

@@ -10,6 +10,7 @@ ghost use Rattle.lt_net.specs.Kept.{Kept, HasRoom};
 ghost use Rattle.lt_net.specs.Wakes.{AreConfigured};
 ghost use Rattle.lt_net.specs.Starts.{most_fed, most_given, IsBlank, AreReady, AreAtStart, IsMadeOf, IsFresh};
 
+use crate::listing::ports;
 use crate::literals::{buffers, inboxes};
 use crate::plant::Plant;
 use crate::tables::{exits, routes};
@@ -109,6 +110,7 @@ impl<C: Controller, M: Machine> Plant<C, M> {
         let tracks = tracks(alloc, &layout, rows)?;
         let routes = routes(alloc, &layout, &shape)?;
         let exits = exits(alloc, &layout)?;
+        let ports = ports(alloc, &shape)?;
         let values = values(alloc, &layout)?;
         let outs = outs(alloc, &layout)?;
         Ok(Plant {
@@ -125,6 +127,7 @@ impl<C: Controller, M: Machine> Plant<C, M> {
             tracks,
             routes,
             exits,
+            ports,
             values,
             outs,
         })

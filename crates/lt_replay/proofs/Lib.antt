@@ -1,5 +1,4 @@
 pub mod Members
-pub mod OutputsFew
 pub mod SoundNetworks
 pub mod PartRead
 pub mod ReadySoFar

@@ -49,7 +49,6 @@ fn perform<F: Files, W: Fabric, C: Controller, M: Machine>(
     controllers: Vec<C>,
     inputs: &Inputs,
     width: u32,
-    outputs: u32,
 ) -> Result<Replayed<M>, Or<PlayFault>>
     requires fresh { lines.old ≡ fresh }
     requires count { (F.state files.old).faults < 2 ^ 64 - 1 }
@@ -62,7 +61,6 @@ fn perform<F: Files, W: Fabric, C: Controller, M: Machine>(
     requires controllers { AreControllers C.phase C.protocol C.send C.execute setup.timing controllers.items }
     requires width { inputs.now.width ≡ width }
     requires wide { HasRowValues width inputs.now.rows }
-    requires outputs { length setup.layout.outs ≡ outputs }
     ensures { HasReplayed M.stands M.made setup.layout setup.shape setup.timing inputs.now.rows schedule.now
         (F.state files.old) (F.state files.new) (W.state fabric.old) (W.state fabric.new) result }
 {
@@ -81,7 +79,7 @@ fn perform<F: Files, W: Fabric, C: Controller, M: Machine>(
         Ok(mut playback) => {
             play(lines, files, schedule, &mut playback, fabric)?;
             playback.net.kept();
-            Ok(take(alloc, playback.net, outputs)?)
+            Ok(take(alloc, playback.net)?)
         }
         Err(e) => Err(link_fault(e)),
     }
@@ -118,7 +116,6 @@ pub fn replay<F: Files, W: Fabric, M: Machine>(
         (F.state files.old) (F.state files.new) (W.state fabric.old) (W.state fabric.new) result }
 {
     networks_are_sound();
-    let outputs = layout.outs.len() as u32;
     let mut lines = Lines::new(alloc)?;
     let setup = copies(layout, shape, timing)?;
     let controllers = controllers_of(alloc, timing)?;
@@ -133,6 +130,5 @@ pub fn replay<F: Files, W: Fabric, M: Machine>(
         controllers,
         inputs,
         width,
-        outputs,
     )
 }

@@ -1,13 +1,6 @@
-use Rattle.lt_replay.proofs.OutputsFew.{few_outputs}
 use Rattle.lt_replay.proofs.SoundNetworks.{sound_of_equals}
-use Rattle.std.proofs.Common.{length, arith}
+use Rattle.std.proofs.Common.{length}
 use Rattle.lt_replay.proofs.replaying.replay.Goals as goal
-
-pub overflow_cast-outputs : goal.overflow_cast-outputs
-overflow_cast-outputs g c =
-    let few = few_outputs c.requires.placed.0 c.args.layout.now c.requires.placed.1 c.requires.placed.2 in
-    let count = c.len-outputs.ensures in
-    omega (arith, few, count)
 
 pub perform-requires-clause-sound : goal.perform-requires-clause-sound
 perform-requires-clause-sound g c =
