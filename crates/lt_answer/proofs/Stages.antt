@@ -1,8 +1,11 @@
 -- Steps one after another.
-use Rattle.std.proofs.Common.{◌≡◌, ℕ, List, Option, ◌<◌, Result, Ok, Err, MatchResult, IsTrue, refl, sym, ◌∙◌, subst, arith, inl, inr}
+use Rattle.std.proofs.Common.{◌≡◌, ℕ, List, [], ◌++◌, Option, ◌<◌, Result, Ok, Err, MatchResult, IsTrue, is_ok, refl, sym, ◌∙◌, subst, append-nil, arith, inl, inr}
+use Rattle.std.specs.Prelude.{IsErrAnd}
 use Rattle.lt_base.specs.declared.memory.Or.{Or}
 use Rattle.lt_base.specs.declared.memory.Or.TheVariants.{Fault, Memory}
 use Rattle.lt_io.specs.FilesState.{FilesState}
+use Rattle.lt_io.specs.Visits.{Errand, Visited}
+use Rattle.lt_io.proofs.Visiting.{visited_none, unvisited, visited_then, visited_stop}
 use Rattle.lt_io.specs.FabricState.{FabricState}
 use Rattle.lt_answer.specs.World.{World, KeepsWorld, IsCalm, Blame, Content, Reading, Linking, Blames, alone}
 use Rattle.lt_answer.specs.Answered.{Answered, Verdict, Settles, OrBlames, AndThen}
@@ -34,16 +37,21 @@ pub calm_itself : (w : World) → IsCalm w w
 calm_itself w = record { files = refl; fabric = refl }
 
 -- a step that touches nothing gives its value
-pub settles : {T E : Type 0} {blame : E → Blame} {V : Verdict T E} (w : World) (x : T) → V (Ok x) → Answered blame V w w (Ok x)
-settles w x right = record { keeps = keeps_itself w; cause = calm_itself w; exact = λ _ _. right; sound = λ _ _ rose. absurd (omega (arith, rose)) }
+pub settles : {T E : Type 0} {blame : E → Blame} {V : Verdict T E} (w : World) (x : T) → V (Ok x) → Answered blame [] V w w (Ok x)
+settles w x right = record { keeps = keeps_itself w; visits = visited_none w.files.visits _; cause = calm_itself w; exact = λ _ _. right; sound = λ _ _ rose. absurd (omega (arith, rose)) }
 
 -- it refuses
-pub refuses : {T E : Type 0} {blame : E → Blame} {V : Verdict T E} (w : World) (e : E) → Blames w w (blame e) → V (Err e) → Answered blame V w w (Err (Fault e))
-refuses w e blamed right = record { keeps = keeps_itself w; cause = blamed; exact = λ _ _. right; sound = λ _ _ rose. absurd (omega (arith, rose)) }
+pub refuses : {T E : Type 0} {blame : E → Blame} {es : List Errand} {V : Verdict T E} (w : World) (e : E) → Blames w w (blame e) → V (Err e) → Answered blame es V w w (Err (Fault e))
+refuses {es} w e blamed right = record { keeps = keeps_itself w; visits = unvisited es w.files.visits; cause = blamed; exact = λ _ _. right; sound = λ _ _ rose. absurd (omega (arith, rose)) }
 
 -- it finds no memory
-pub runs_short : {T E : Type 0} {blame : E → Blame} {V : Verdict T E} (w : World) → Answered blame V w w (Err Memory)
-runs_short w = record { keeps = keeps_itself w; cause = calm_itself w; exact = λ _ _. tt; sound = λ _ _ rose. absurd (omega (arith, rose)) }
+pub runs_short : {T E : Type 0} {blame : E → Blame} {es : List Errand} {V : Verdict T E} (w : World) → Answered blame es V w w (Err Memory)
+runs_short {es} w = record { keeps = keeps_itself w; visits = unvisited es w.files.visits; cause = calm_itself w; exact = λ _ _. tt; sound = λ _ _ rose. absurd (omega (arith, rose)) }
+
+-- the same, by the error that is handed on
+pub runs_short_by : {T E : Type 0} {blame : E → Blame} {es : List Errand} {V : Verdict T E} (w : World) (r : Result T (Or E)) → IsErrAnd r (λ f. f ≡ Memory) → Answered blame es V w w r
+runs_short_by w (Ok x) is = absurd is
+runs_short_by {T} {E} {blame} {es} {V} w (Err e) is = subst (λ (f : Or E). Answered {T = T} blame es V w w (Err f)) (sym is) (runs_short w)
 
 calm_on : (a b c : World) → IsCalm a b → IsCalm b c → IsCalm a c
 calm_on a b c first second = record { files = second.files ∙ first.files; fabric = second.fabric ∙ first.fabric }
@@ -65,15 +73,16 @@ settles_too V W wider (Err (Fault e)) right = wider (Err e) right
 settles_too V W wider (Err Memory) right = tt
 
 -- a step that gave a value, and then another
-pub goes_on : {T U E : Type 0} {blame : E → Blame} {V : Verdict T E} {next : T → Verdict U E} (a b c : World) (x : T) (r : Result U (Or E))
-    → Answered blame V a b (Ok x) → Answered blame (next x) b c r → Answered blame (AndThen V next) a c r
-goes_on {blame} {V} {next} a b c x r first second =
+pub goes_on : {T U E : Type 0} {blame : E → Blame} {es fs : List Errand} {V : Verdict T E} {next : T → Verdict U E} (a b c : World) (x : T) (r : Result U (Or E))
+    → Answered blame es V a b (Ok x) → Answered blame fs (next x) b c r → Answered blame (es ++ fs) (AndThen V next) a c r
+goes_on {blame} {es} {fs} {V} {next} a b c x r first second =
     let calm : IsCalm a b = first.cause in
     let told : IsTrue a.files.told → IsTrue b.files.told = λ t. first.keeps.files.told ∙ t in
     let right : IsTrue a.files.told → V (Ok x) = λ t. first.exact t calm in
     let wider : IsTrue a.files.told → (o : Result _ _) → next x o → AndThen V next o = λ t o h. inr (x, right t, h) in
     record {
       keeps = keeps_on a b c first.keeps second.keeps;
+      visits = visited_then es fs a.files.visits b.files.visits c.files.visits (is_ok r) first.visits second.visits;
       cause = cause_on blame a b c calm r second.cause;
       exact = λ t whole. settles_too (next x) (AndThen V next) (wider t) r (second.exact (told t) (record { files = whole.files ∙ sym calm.files; fabric = whole.fabric ∙ sym calm.fabric }));
       sound = λ t s rose.
@@ -82,29 +91,32 @@ goes_on {blame} {V} {next} a b c x r first second =
     }
 
 -- a step that was refused
-pub stops : {T U E : Type 0} {blame : E → Blame} {V : Verdict T E} {next : T → Verdict U E} (a b : World) (e : Or E)
-    → Answered blame V a b (Err e) → Answered {T = U} blame (AndThen V next) a b (Err e)
-stops {blame} {V} {next} a b (Fault e) first =
+pub stops : {T U E : Type 0} {blame : E → Blame} {es : List Errand} {V : Verdict T E} {next : T → Verdict U E} (fs : List Errand) (a b : World) (e : Or E)
+    → Answered blame es V a b (Err e) → Answered {T = U} blame (es ++ fs) (AndThen V next) a b (Err e)
+stops {blame} {es} {V} {next} fs a b (Fault e) first =
     record {
       keeps = first.keeps;
+      visits = visited_stop es fs a.files.visits b.files.visits first.visits;
       cause = first.cause;
       exact = λ t calm. inl (first.exact t calm);
       sound = λ t s rose. let reading = first.sound t s rose in (reading.0, reading.1, inl reading.2);
     }
-stops {blame} {V} {next} a b Memory first =
+stops {blame} {es} {V} {next} fs a b Memory first =
     record {
       keeps = first.keeps;
+      visits = visited_stop es fs a.files.visits b.files.visits first.visits;
       cause = first.cause;
       exact = λ t calm. tt;
       sound = λ t s rose. let reading = first.sound t s rose in (reading.0, reading.1, inl reading.2);
     }
 
 -- a step that needs no fabric, beside one
-pub beside : {T E : Type 0} {blame : E → Blame} {V : Verdict T E} (a b : FilesState) (w : FabricState) (r : Result T (Or E))
-    → Answered blame V (alone a) (alone b) r → Answered blame V (record { files = a; fabric = w }) (record { files = b; fabric = w }) r
-beside {blame} {V} a b w r answered =
+pub beside : {T E : Type 0} {blame : E → Blame} {es : List Errand} {V : Verdict T E} (a b : FilesState) (w : FabricState) (r : Result T (Or E))
+    → Answered blame es V (alone a) (alone b) r → Answered blame es V (record { files = a; fabric = w }) (record { files = b; fabric = w }) r
+beside {blame} {es} {V} a b w r answered =
     record {
       keeps = record { files = answered.keeps.files; fabric = (keeps_itself (record { files = a; fabric = w })).fabric; steady = λ sound. refl };
+      visits = answered.visits;
       cause = cause_beside blame a b w r answered.cause;
       exact = λ t calm. answered.exact t (record { files = calm.files; fabric = refl });
       sound = answered.sound;
@@ -123,14 +135,19 @@ beside {blame} {V} a b w r answered =
     cause_beside blame a b w (Err Memory) cause = record { files = cause.files; fabric = refl }
 
 -- a step on files with the same names
-pub renamed : {T E : Type 0} {blame : E → Blame} (V : (List ℕ → Option (List ℕ)) → Verdict T E) (n m : List ℕ → Option (List ℕ)) (a b : World) (r : Result T (Or E)) → n ≡ m → Answered blame (V n) a b r → Answered blame (V m) a b r
-renamed {blame} V n m a b r same answered = subst (λ (names : List ℕ → Option (List ℕ)). Answered blame (V names) a b r) same answered
+pub renamed : {T E : Type 0} {blame : E → Blame} {es : List Errand} (V : (List ℕ → Option (List ℕ)) → Verdict T E) (n m : List ℕ → Option (List ℕ)) (a b : World) (r : Result T (Or E)) → n ≡ m → Answered blame es (V n) a b r → Answered blame es (V m) a b r
+renamed {blame} {es} V n m a b r same answered = subst (λ (names : List ℕ → Option (List ℕ)). Answered blame es (V names) a b r) same answered
 
 -- a step that is right of one verdict is right of a wider one
-pub widened : {T E : Type 0} {blame : E → Blame} (V W : Verdict T E) (a b : World) (r : Result T (Or E)) → ((o : Result T E) → V o → W o) → Answered blame V a b r → Answered blame W a b r
+pub widened : {T E : Type 0} {blame : E → Blame} {es : List Errand} (V W : Verdict T E) (a b : World) (r : Result T (Or E)) → ((o : Result T E) → V o → W o) → Answered blame es V a b r → Answered blame es W a b r
 widened {blame} V W a b r wider answered = record {
   keeps = answered.keeps;
+  visits = answered.visits;
   cause = answered.cause;
   exact = λ told calm. settles_too V W wider r (answered.exact told calm);
   sound = λ told sound rose. let reading = answered.sound told sound rose in (reading.0, reading.1, wider (Err reading.0) reading.2);
 }
+
+-- a step with no errand after these
+pub errands_all : {T E : Type 0} {blame : E → Blame} {es : List Errand} {V : Verdict T E} (a b : World) (r : Result T (Or E)) → Answered blame (es ++ []) V a b r → Answered blame es V a b r
+errands_all {blame} {es} {V} a b r answered = subst (λ (fs : List Errand). Answered blame fs V a b r) (append-nil es) answered

@@ -1,7 +1,8 @@
 -- What a step answers against its verdict: a fact of the value that it gives, or of the fault by which it refuses.
-use Rattle.std.specs.Prelude.{◌≡◌, ◌<◌, ◌⊎◌, ℕ, IsTrue, List, Option, Some, None, Result, Ok, Err, MatchResult}
+use Rattle.std.specs.Prelude.{◌≡◌, ◌<◌, ◌⊎◌, ℕ, IsTrue, List, Option, Some, None, Result, Ok, Err, MatchResult, is_ok}
 use Rattle.lt_base.specs.declared.memory.Or.{Or}
 use Rattle.lt_base.specs.declared.memory.Or.TheVariants.{Fault, Memory}
+use Rattle.lt_io.specs.Visits.{Errand, Visited}
 use Rattle.lt_answer.specs.World.{World, KeepsWorld, IsCalm, Blame, Reading, Blames}
 
 -- which outcomes are right
@@ -26,8 +27,11 @@ OrBlames blame old new Memory = IsCalm old new
 abbrev pub RefusesReading : {T E : Type 0} → (E → Blame) → Verdict T E → Type 0
 RefusesReading blame V = (e : _) × (blame e ≡ Reading) × V (Err e)
 
-pub record Answered {T E : Type 0} (blame : E → Blame) (V : Verdict T E) (old new : World) (result : Result T (Or E)) : Type 0 where
+-- what a step answers, with the files that it was to visit
+pub record Answered {T E : Type 0} (blame : E → Blame) (errands : List Errand) (V : Verdict T E) (old new : World) (result : Result T (Or E)) : Type 0 where
   pub keeps : KeepsWorld old new
+  -- it visited these files in their order, each once and within its budget, and no others; where it was refused, maybe not all of them
+  pub visits : Visited errands old.files.visits new.files.visits (is_ok result)
   -- a count rose where the refusal blames its object, and else all stayed
   pub cause : MatchResult result (λ _. IsCalm old new) (OrBlames blame old new)
   -- where the files tell their bytes and no count rose, the answer is right

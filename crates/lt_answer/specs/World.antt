@@ -1,7 +1,7 @@
 -- The files and the fabric that a call is handed, and how their counts of faults move.
 use Rattle.std.specs.Prelude.{◌≡◌, ◌<◌, true, false, IsTrue, []}
-use Rattle.lt_io.specs.FilesState.{FilesState, KeepsFiles}
-use Rattle.lt_io.specs.FabricState.{FabricState, KeepsFabric}
+use Rattle.lt_io.specs.FilesState.{FilesState, KeepsNames}
+use Rattle.lt_io.specs.FabricState.{FabricState, KeepsPromises}
 
 pub record World : Type 0 where
   pub files : FilesState
@@ -9,8 +9,8 @@ pub record World : Type 0 where
 
 -- what no call changes
 pub record KeepsWorld (old new : World) : Type 0 where
-  pub files : KeepsFiles old.files new.files
-  pub fabric : KeepsFabric old.fabric new.fabric
+  pub files : KeepsNames old.files new.files
+  pub fabric : KeepsPromises old.fabric new.fabric
   -- the count of a sound fabric
   pub steady : IsTrue old.fabric.sound → new.fabric.faults ≡ old.fabric.faults
 

@@ -9,18 +9,19 @@ use Rattle.lt_answer.specs.Answered.{RefusesReading}
 use Rattle.lt_load.specs.declared.fault.CommandFault.{CommandFault}
 use Rattle.lt_load.specs.declared.fault.CommandFault.TheVariants.{Read}
 use Rattle.lt_cli.specs.declared.refusal.Refusal.{Refusal}
+use Rattle.lt_cli.specs.declared.refusal.Refusal.TheVariants.{Command}
 use Rattle.lt_cli.specs.declared.status.Status.{Status}
 use Rattle.lt_cli.specs.declared.status.Status.TheVariants as status
 use Rattle.lt_cli.specs.Blamed.{blame_of}
 use Rattle.lt_cli.specs.Texts.{status_of, refusal_status, fault_status, line_of, out_text, err_text}
 use Rattle.lt_words.specs.Reading.{Said, command_of}
-use Rattle.lt_cli.specs.Commands.{text_verdict, command_verdict, asked_verdict, words_verdict}
+use Rattle.lt_cli.specs.Commands.{answer_verdict, text_verdict, command_verdict, asked_verdict, words_verdict}
 use Rattle.lt_cli.specs.Asked.{LeavesFabric}
 use Rattle.lt_cli.specs.Objects.{Objects, world_of}
 use Rattle.lt_cli.specs.Ran.{Ran, Ends, Printed, Reported, Took, OutcomeBlames}
 use Rattle.lt_cli.specs.Ran.{printed, unprinted, both_whole, out_broke, err_broke, both_short}
 use Rattle.lt_cli.specs.Taken.{TookLine}
-use Rattle.lt_cli.specs.Clauses.{IsMissingExact, IsOutsideCaused, IsWriteCaused}
+use Rattle.lt_cli.specs.Clauses.{IsMissingFor, IsMissingExact, IsOutsideCaused, IsWriteCaused}
 use Rattle.lt_cli.proofs.Refusals.{not_write, outside_blames, blamed_reads, reading_line, linking_line}
 use Rattle.lt_cli.proofs.Exact.{refused_status}
 
@@ -87,7 +88,8 @@ write_caused V old new ends ran at = write_ends V old new ends ran.outcome at
 
 -- a missing file
 
-module _ {T : Type 0} (shown : T → List ℕ) (V : Verdict T CommandFault) (one : HasOneKind fault_status V) (old new : Objects) (steady : new.fabric.faults ≡ old.fabric.faults) where
+module _ {T E : Type 0} (raise : E → Refusal) (missing : E) (outside : refusal_status (raise missing) ≡ status.Outside) (only : (e : E) → blame_of (raise e) ≡ Reading → e ≡ missing)
+    (shown : T → List ℕ) (V : Verdict T E) (one : HasOneKind (λ e. refusal_status (raise e)) V) (old new : Objects) (steady : new.fabric.faults ≡ old.fabric.faults) where
   -- a refusal's content is not to blame where a missing file is
   no_content : (r : Refusal) → blame_of r ≡ Content → (blame_of r ≡ Reading) ⊎ (blame_of r ≡ Linking) → ⊥
   no_content r is (inl reading) = let wrong : Content ≡ Reading = sym is ∙ reading in cc
@@ -99,19 +101,23 @@ module _ {T : Type 0} (shown : T → List ℕ) (V : Verdict T CommandFault) (one
   blamed_rose r Reading is blamed right = blamed.0
   blamed_rose r Linking is blamed right = absurd (omega (arith, blamed.1, steady))
 
-  outcome_rose : (outcome : Result (List ℕ) Refusal) → OutcomeBlames old new outcome → (IsCalm (world_of old) (world_of new) → text_verdict shown V outcome) → V (Err Read) → old.files.faults < new.files.faults
-  outcome_rose (Ok text) cause right is = let wrong : status.Ok ≡ status.Outside = refused_status shown V one (Ok text) Read (right cause) is in cc
-  outcome_rose (Err r) cause right is = blamed_rose r (blame_of r) refl cause (λ calm. refused_status shown V one (Err r) Read (right calm) is)
+  outcome_rose : (outcome : Result (List ℕ) Refusal) → OutcomeBlames old new outcome → (IsCalm (world_of old) (world_of new) → answer_verdict raise shown V outcome) → V (Err missing) → old.files.faults < new.files.faults
+  outcome_rose (Ok text) cause right is = let wrong : status.Ok ≡ status.Outside = refused_status raise shown V one (Ok text) missing (right cause) is ∙ outside in cc
+  outcome_rose (Err r) cause right is = blamed_rose r (blame_of r) refl cause (λ calm. refused_status raise shown V one (Err r) missing (right calm) is ∙ outside)
 
-  ends_rose : (ends : Status) → ends ≢ status.Memory → IsTrue old.files.told → Ends (text_verdict shown V) old new ends → V (Err Read) → old.files.faults < new.files.faults
+  ends_rose : (ends : Status) → ends ≢ status.Memory → IsTrue old.files.told → Ends (answer_verdict raise shown V) old new ends → V (Err missing) → old.files.faults < new.files.faults
   ends_rose ends enough told (printed p) is = outcome_rose p.outcome p.cause (p.right told) is
   ends_rose ends enough told (unprinted p) is = absurd (enough p.no_memory)
 
-  refused_missing : RefusesReading blame_of (text_verdict shown V) → V (Err Read)
-  refused_missing (r, blamed, right) = subst (λ f. V (Err f)) (blamed_reads right.0 (sym (ap blame_of right.2) ∙ blamed)) right.1
+  refused_missing : RefusesReading blame_of (answer_verdict raise shown V) → V (Err missing)
+  refused_missing (r, blamed, right) = subst (λ f. V (Err f)) (only right.0 (sym (ap blame_of right.2) ∙ blamed)) right.1
 
-  pub missing_exact : (ends : Status) → IsTrue old.files.told → IsTrue old.files.sound → ends ≢ status.Memory → Ran (text_verdict shown V) old new ends → IsMissingExact V old new
-  missing_exact ends told sound enough ran = (λ rose. refused_missing (ran.sound told sound rose), λ is. ends_rose ends enough told ran.outcome is)
+  pub missing_for : (ends : Status) → IsTrue old.files.told → IsTrue old.files.sound → ends ≢ status.Memory → Ran (answer_verdict raise shown V) old new ends → IsMissingFor missing V old new
+  missing_for ends told sound enough ran = (λ rose. refused_missing (ran.sound told sound rose), λ is. ends_rose ends enough told ran.outcome is)
+
+pub missing_exact : {T : Type 0} (shown : T → List ℕ) (V : Verdict T CommandFault) (one : HasOneKind fault_status V) (old new : Objects) (steady : new.fabric.faults ≡ old.fabric.faults) (ends : Status)
+    → IsTrue old.files.told → IsTrue old.files.sound → ends ≢ status.Memory → Ran (text_verdict shown V) old new ends → IsMissingExact V old new
+missing_exact shown V one old new steady ends told sound enough ran = missing_for (λ f. Command f) Read refl blamed_reads shown V one old new steady ends told sound enough ran
 
 -- the verdict of the command that the words say
 pub asked_ran : (words : List (List ℕ)) (said : Said) (old new : Objects) (ends : Status) → command_of words ≡ Some said → Ran (words_verdict old.files.named (world_of new) words) old new ends

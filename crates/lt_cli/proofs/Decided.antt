@@ -1,19 +1,32 @@
 -- All right outcomes of a command have one status.
-use Rattle.std.proofs.Common.{◌≡◌, ℕ, List, Bool, Option, refl, ap}
+use Rattle.std.proofs.Common.{◌≡◌, ◌∙◌, ℕ, List, length, Bool, Option, Some, Result, Ok, Err, refl, sym, ap}
 use Rattle.std.specs.Prelude.{if◌then◌else◌}
 use Rattle.lt_answer.specs.World.{World}
 use Rattle.lt_front.specs.declared.fault.ProgramFault.{ProgramFault}
 use Rattle.lt_front.specs.Limits.{is_limit}
-use Rattle.lt_verdict.proofs.Decided.{HasOneKind}
+use Rattle.lt_verdict.proofs.Decided.{HasOneKind, and_then}
 use Rattle.lt_load.specs.Loaded.{config_verdict}
 use Rattle.lt_load.specs.Setups.{check_verdict}
 use Rattle.lt_run.specs.Meaning.{meaning_verdict}
 use Rattle.lt_run.specs.Run.{run_verdict}
 use Rattle.lt_run.proofs.OneRun.{meaning_decided as one_meaning, run_decided as one_run}
+use Rattle.lt_arch.specs.declared.shape.Shape.{Shape}
+use Rattle.lt_front.specs.Flattened.{flat_of}
+use Rattle.lt_inspect.specs.Inspected.{audit_verdict, trace_verdict}
+use Rattle.lt_load.specs.declared.fault.CommandFault.{CommandFault}
+use Rattle.lt_load.specs.Plan.{Plan}
+use Rattle.lt_load.specs.Pacing.{plain_load_verdict}
 use Rattle.lt_load.proofs.OneLoad.{config_decided}
+use Rattle.lt_load.proofs.OnePlain.{plain_load_decided}
+use Rattle.lt_load.proofs.OneShape.{one_shape}
+use Rattle.lt_cli.specs.Draws.{Drawing, too_many, drawing, plan_drawn_verdict, sim_verdict}
+use Rattle.lt_cli.proofs.Inspected.{audit_once, trace_once}
 use Rattle.lt_load.proofs.OneCheck.{check_decided as one_check}
+use Rattle.lt_watch.specs.Watch.{watch_verdict}
+use Rattle.lt_watch.proofs.OneWatch.{watch_decided}
 use Rattle.lt_cli.specs.declared.status.Status.TheVariants as status
-use Rattle.lt_cli.specs.Texts.{fault_status, program_status}
+use Rattle.lt_cli.specs.Texts.{refusal_status, fault_status, program_status}
+use Rattle.lt_cli.specs.Commands.{watch_refusal}
 
 -- whether a limit is passed is all that the status tells of a program's fault
 tells_limits : (e f : ProgramFault) → is_limit e ≡ is_limit f → program_status e ≡ program_status f
@@ -32,3 +45,39 @@ run_decided named program inputs schedule config new =
 
 pub plan_decided : (file : Option (List ℕ)) → HasOneKind fault_status (config_verdict file)
 plan_decided file = config_decided fault_status file
+
+-- a drawn schedule
+
+one_drawn : (seed horizon : ℕ) (plan : Plan) (r r' : Result Drawing CommandFault) → plan_drawn_verdict seed horizon plan r → plan_drawn_verdict seed horizon plan r' → r ≡ r'
+unfolding plan_drawn_verdict
+one_drawn seed horizon plan r r' (l, s, laid, is) (m, z, other, it) =
+    let same : z ≡ s = one_shape (flat_of plan.checked.program) plan.setup.placement m l other.layout laid.layout plan.setup.pace plan.setup.timing z s other.shape laid.shape in
+    sym is ∙ ap (λ (t : Shape). drawing t plan.setup.timing (length plan.inputs.rows) seed horizon) (sym same) ∙ it
+
+-- the fault of an outcome
+abbrev error_of : Result Drawing CommandFault → CommandFault
+error_of (Ok d) = too_many
+error_of (Err e) = e
+
+drawn_decided : (seed horizon : ℕ) (plan : Plan) → HasOneKind fault_status (plan_drawn_verdict seed horizon plan)
+drawn_decided seed horizon plan = record {
+  one_kind = λ e f p q. ap (λ (r : Result Drawing CommandFault). fault_status (error_of r)) (one_drawn seed horizon plan (Err e) (Err f) p q);
+  not_both = λ e x p q. (let same = one_drawn seed horizon plan (Err e) (Ok x) p q in cc);
+}
+
+pub sim_decided : (named : List ℕ → Option (List ℕ)) (program inputs config : List ℕ) (seed horizon : ℕ) → HasOneKind fault_status (sim_verdict named program inputs config seed horizon)
+unfolding sim_verdict
+sim_decided named program inputs config seed horizon =
+    and_then fault_status (plain_load_verdict named program inputs config) _
+    (plain_load_decided fault_status tells_limits (λ f g main main'. refl) (λ f g names names' mixed mixed'. refl) named program inputs config) (λ plan. drawn_decided seed horizon plan)
+
+pub audit_decided : (named : List ℕ → Option (List ℕ)) (program inputs schedule config : List ℕ) → HasOneKind fault_status (audit_verdict named program inputs schedule config)
+audit_decided named program inputs schedule config = audit_once fault_status tells_limits (λ f g main main'. refl) named program inputs schedule config
+
+pub trace_decided : (named : List ℕ → Option (List ℕ)) (program inputs schedule config : List ℕ) (node : Option (List ℕ)) (from to : ℕ) → HasOneKind fault_status (trace_verdict named program inputs schedule config node from to)
+trace_decided named program inputs schedule config node from to = trace_once fault_status tells_limits (λ f g main main'. refl) named program inputs schedule config node from to
+
+pub watched_decided : (named : List ℕ → Option (List ℕ)) (program inputs schedule observer : List ℕ) (config : Option (List ℕ)) (new : World)
+    → HasOneKind (λ e. refusal_status (watch_refusal e)) (watch_verdict named program inputs schedule observer config new)
+watched_decided named program inputs schedule observer config new =
+    watch_decided (λ e. refusal_status (watch_refusal e)) tells_limits (λ f g main main'. refl) (λ f g names names' mixed mixed'. refl) (λ e f. refl) named program inputs schedule observer config new

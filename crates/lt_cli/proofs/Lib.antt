@@ -1,9 +1,11 @@
 pub mod Lines
 pub mod Ends
-pub mod Saying
+pub mod Obeyed
+pub mod Drawn
 pub mod Gave
 pub mod Refusals
 pub mod Exact
+pub mod Inspected
 pub mod Decided
 pub mod Facts
 pub mod Causes
@@ -11,5 +13,5 @@ pub mod Failed
 pub mod Shown
 pub mod Performed
 pub mod Texts
-pub mod Answering
+pub mod Asking
 pub mod Missing

@@ -1,26 +1,34 @@
 -- All that holds of a call of `ltta`, from what it printed and whose count rose.
-use Rattle.std.proofs.Common.{◌≡◌, ◌≢◌, ℕ, IsTrue, List, Option, Some, sym, ◌∙◌, ap}
+use Rattle.std.proofs.Common.{◌≡◌, ◌≢◌, ℕ, IsTrue, List, Option, Some, refl, sym, ◌∙◌, ap}
 use Rattle.lt_io.specs.FabricState.{FabricState}
 use Rattle.lt_plan.specs.Text.{plan_of}
 use Rattle.lt_load.specs.Loaded.{config_verdict}
 use Rattle.lt_load.specs.Setups.{check_verdict}
 use Rattle.lt_run.specs.Meaning.{meaning_verdict}
 use Rattle.lt_run.specs.Run.{run_verdict}
-use Rattle.lt_words.specs.Reading.{Said, check, meaning, run, plan, command_of}
+use Rattle.lt_words.specs.Reading.{Said, check, meaning, run, plan, sim, watch, audit, trace, command_of}
+use Rattle.lt_inspect.specs.Inspected.{audit_verdict, trace_verdict}
+use Rattle.lt_watch.specs.declared.fault.WatchFault.TheVariants as watched
+use Rattle.lt_watch.specs.Watch.{watch_verdict}
+use Rattle.lt_load.specs.declared.fault.CommandFault.TheVariants as fault
+use Rattle.lt_cli.specs.declared.refusal.Refusal.TheVariants.{Command}
+use Rattle.lt_cli.specs.Draws.{sim_verdict}
+use Rattle.lt_cli.specs.Texts.{drawing_text, watched_text, audited_text}
 use Rattle.lt_cli.specs.declared.status.Status.{Status}
 use Rattle.lt_cli.specs.declared.status.Status.TheVariants as status
-use Rattle.lt_cli.specs.Commands.{checked_text, printed_text, command_verdict, words_verdict}
+use Rattle.lt_cli.specs.Commands.{checked_text, printed_text, watch_refusal, command_verdict, words_verdict}
 use Rattle.lt_cli.specs.Objects.{Objects, IsQuiet, Tells, world_of}
 use Rattle.lt_cli.specs.Asked.{Asked}
 use Rattle.lt_cli.specs.RunShown.{IsRunShown}
-use Rattle.lt_cli.specs.Clauses.{Performs, IsExact, IsMissingExact}
+use Rattle.lt_cli.specs.Clauses.{Performs, IsExact, IsExactFor, IsMissingExact, IsMissingFor}
 use Rattle.lt_cli.proofs.Gave.{Gave, gave}
 use Rattle.lt_cli.proofs.Facts.{words_exact, asked_gave}
-use Rattle.lt_cli.proofs.Exact.{exact}
-use Rattle.lt_cli.proofs.Causes.{outside_caused, write_caused, missing_exact, asked_ran, left_fabric}
+use Rattle.lt_cli.proofs.Exact.{exact_for}
+use Rattle.lt_cli.proofs.Causes.{outside_caused, write_caused, missing_exact, missing_for, asked_ran, left_fabric}
+use Rattle.lt_cli.proofs.Refusals.{watch_reads}
 use Rattle.lt_cli.proofs.Failed.{call_failed}
 use Rattle.lt_cli.proofs.Shown.{run_shown}
-use Rattle.lt_cli.proofs.Decided.{check_decided, meaning_decided, run_decided, plan_decided}
+use Rattle.lt_cli.proofs.Decided.{check_decided, meaning_decided, run_decided, plan_decided, sim_decided, watched_decided, audit_decided, trace_decided}
 
 module _ (asked : List (List ℕ)) (old new : Objects) (ends : Status) (did : Asked asked old new ends) where
   -- what was printed for the command that the words say
@@ -30,17 +38,17 @@ module _ (asked : List (List ℕ)) (old new : Objects) (ends : Status) (did : As
   check_exact : (program : List ℕ) (config : Option (List ℕ)) → command_of asked ≡ Some (check program config) → Tells old → IsQuiet old new → ends ≢ status.Memory
       → IsExact checked_text (check_verdict old.files.named program config) old new ends
   check_exact program config is tells quiet enough =
-      exact checked_text (check_verdict old.files.named program config) (check_decided old.files.named program config) old new ends (given (check program config) is tells quiet enough)
+      exact_for (λ f. Command f) checked_text (check_verdict old.files.named program config) (check_decided old.files.named program config) old new ends (given (check program config) is tells quiet enough)
 
   meaning_exact : (program inputs : List ℕ) → command_of asked ≡ Some (meaning program inputs) → Tells old → IsQuiet old new → ends ≢ status.Memory
       → IsExact printed_text (meaning_verdict old.files.named program inputs) old new ends
   meaning_exact program inputs is tells quiet enough =
-      exact printed_text (meaning_verdict old.files.named program inputs) (meaning_decided old.files.named program inputs) old new ends (given (meaning program inputs) is tells quiet enough)
+      exact_for (λ f. Command f) printed_text (meaning_verdict old.files.named program inputs) (meaning_decided old.files.named program inputs) old new ends (given (meaning program inputs) is tells quiet enough)
 
   run_exact : (program inputs schedule : List ℕ) (config : Option (List ℕ)) → command_of asked ≡ Some (run program inputs schedule config) → Tells old → IsQuiet old new → ends ≢ status.Memory
       → IsExact printed_text (run_verdict old.files.named program inputs schedule config (world_of new)) old new ends
   run_exact program inputs schedule config is tells quiet enough =
-      exact printed_text (run_verdict old.files.named program inputs schedule config (world_of new)) (run_decided old.files.named program inputs schedule config (world_of new)) old new ends
+      exact_for (λ f. Command f) printed_text (run_verdict old.files.named program inputs schedule config (world_of new)) (run_decided old.files.named program inputs schedule config (world_of new)) old new ends
       (given (run program inputs schedule config) is tells quiet enough)
 
   shown : (program inputs schedule : List ℕ) (config : Option (List ℕ)) → command_of asked ≡ Some (run program inputs schedule config) → Tells old → IsQuiet old new → ends ≡ status.Ok
@@ -52,7 +60,31 @@ module _ (asked : List (List ℕ)) (old new : Objects) (ends : Status) (did : As
   plan_exact : (config : List ℕ) (horizon : Option ℕ) → command_of asked ≡ Some (plan config horizon) → Tells old → IsQuiet old new → ends ≢ status.Memory
       → IsExact (λ setup. plan_of setup horizon) (config_verdict (old.files.named config)) old new ends
   plan_exact config horizon is tells quiet enough =
-      exact (λ setup. plan_of setup horizon) (config_verdict (old.files.named config)) (plan_decided (old.files.named config)) old new ends (given (plan config horizon) is tells quiet enough)
+      exact_for (λ f. Command f) (λ setup. plan_of setup horizon) (config_verdict (old.files.named config)) (plan_decided (old.files.named config)) old new ends (given (plan config horizon) is tells quiet enough)
+
+  sim_exact : (program inputs config : List ℕ) (seed horizon : ℕ) → command_of asked ≡ Some (sim program inputs config seed horizon) → Tells old → IsQuiet old new → ends ≢ status.Memory
+      → IsExact drawing_text (sim_verdict old.files.named program inputs config seed horizon) old new ends
+  sim_exact program inputs config seed horizon is tells quiet enough =
+      exact_for (λ f. Command f) drawing_text (sim_verdict old.files.named program inputs config seed horizon) (sim_decided old.files.named program inputs config seed horizon) old new ends
+      (given (sim program inputs config seed horizon) is tells quiet enough)
+
+  watch_exact : (program inputs schedule observer : List ℕ) (config : Option (List ℕ)) → command_of asked ≡ Some (watch program inputs schedule observer config) → Tells old → IsQuiet old new → ends ≢ status.Memory
+      → IsExactFor watch_refusal watched_text (watch_verdict old.files.named program inputs schedule observer config (world_of new)) old new ends
+  watch_exact program inputs schedule observer config is tells quiet enough =
+      exact_for watch_refusal watched_text (watch_verdict old.files.named program inputs schedule observer config (world_of new)) (watched_decided old.files.named program inputs schedule observer config (world_of new)) old new ends
+      (given (watch program inputs schedule observer config) is tells quiet enough)
+
+  audit_exact : (program inputs schedule config : List ℕ) → command_of asked ≡ Some (audit program inputs schedule config) → Tells old → IsQuiet old new → ends ≢ status.Memory
+      → IsExact audited_text (audit_verdict old.files.named program inputs schedule config) old new ends
+  audit_exact program inputs schedule config is tells quiet enough =
+      exact_for (λ f. Command f) audited_text (audit_verdict old.files.named program inputs schedule config) (audit_decided old.files.named program inputs schedule config) old new ends
+      (given (audit program inputs schedule config) is tells quiet enough)
+
+  trace_exact : (program inputs schedule config : List ℕ) (node : Option (List ℕ)) (from to : ℕ) → command_of asked ≡ Some (trace program inputs schedule config node from to) → Tells old → IsQuiet old new → ends ≢ status.Memory
+      → IsExact (λ text. text) (trace_verdict old.files.named program inputs schedule config node from to) old new ends
+  trace_exact program inputs schedule config node from to is tells quiet enough =
+      exact_for (λ f. Command f) (λ text. text) (trace_verdict old.files.named program inputs schedule config node from to) (trace_decided old.files.named program inputs schedule config node from to) old new ends
+      (given (trace program inputs schedule config node from to) is tells quiet enough)
 
   -- the fabric's count, where nothing touches it
   untouched : new.fabric ≡ old.fabric → new.fabric.faults ≡ old.fabric.faults
@@ -84,14 +116,47 @@ module _ (asked : List (List ℕ)) (old new : Objects) (ends : Status) (did : As
         (untouched (left_fabric asked (plan config horizon) old.fabric new.fabric is did.by_said.leaves)) ends (tells sound) sound enough
         (asked_ran asked (plan config horizon) old new ends is did.ran)
 
+    sim_missing : (program inputs config : List ℕ) (seed horizon : ℕ) → command_of asked ≡ Some (sim program inputs config seed horizon) → IsTrue old.files.sound → ends ≢ status.Memory
+        → IsMissingExact (sim_verdict old.files.named program inputs config seed horizon) old new
+    sim_missing program inputs config seed horizon is sound enough =
+        missing_exact drawing_text (sim_verdict old.files.named program inputs config seed horizon) (sim_decided old.files.named program inputs config seed horizon) old new
+        (untouched (left_fabric asked (sim program inputs config seed horizon) old.fabric new.fabric is did.by_said.leaves)) ends (tells sound) sound enough
+        (asked_ran asked (sim program inputs config seed horizon) old new ends is did.ran)
+
+    watch_missing : (program inputs schedule observer : List ℕ) (config : Option (List ℕ)) → command_of asked ≡ Some (watch program inputs schedule observer config) → IsTrue old.files.sound → ends ≢ status.Memory
+        → new.fabric.faults ≡ old.fabric.faults → IsMissingFor (watched.Command fault.Read) (watch_verdict old.files.named program inputs schedule observer config (world_of new)) old new
+    watch_missing program inputs schedule observer config is sound enough steady =
+        missing_for watch_refusal (watched.Command fault.Read) refl watch_reads watched_text (watch_verdict old.files.named program inputs schedule observer config (world_of new))
+        (watched_decided old.files.named program inputs schedule observer config (world_of new)) old new steady ends (tells sound) sound enough
+        (asked_ran asked (watch program inputs schedule observer config) old new ends is did.ran)
+
+    audit_missing : (program inputs schedule config : List ℕ) → command_of asked ≡ Some (audit program inputs schedule config) → IsTrue old.files.sound → ends ≢ status.Memory
+        → IsMissingExact (audit_verdict old.files.named program inputs schedule config) old new
+    audit_missing program inputs schedule config is sound enough =
+        missing_exact audited_text (audit_verdict old.files.named program inputs schedule config) (audit_decided old.files.named program inputs schedule config) old new
+        (untouched (left_fabric asked (audit program inputs schedule config) old.fabric new.fabric is did.by_said.leaves)) ends (tells sound) sound enough
+        (asked_ran asked (audit program inputs schedule config) old new ends is did.ran)
+
+    trace_missing : (program inputs schedule config : List ℕ) (node : Option (List ℕ)) (from to : ℕ) → command_of asked ≡ Some (trace program inputs schedule config node from to) → IsTrue old.files.sound → ends ≢ status.Memory
+        → IsMissingExact (trace_verdict old.files.named program inputs schedule config node from to) old new
+    trace_missing program inputs schedule config node from to is sound enough =
+        missing_exact (λ text. text) (trace_verdict old.files.named program inputs schedule config node from to) (trace_decided old.files.named program inputs schedule config node from to) old new
+        (untouched (left_fabric asked (trace program inputs schedule config node from to) old.fabric new.fabric is did.by_said.leaves)) ends (tells sound) sound enough
+        (asked_ran asked (trace program inputs schedule config node from to) old new ends is did.ran)
+
     pub performed : Performs asked old new ends
     performed = record {
       by_said = did.by_said;
+      visits = did.visits;
       words = λ told quiet enough. words_exact asked old new ends did.by_said (gave (words_verdict old.files.named (world_of new) asked) old new ends did.ran told quiet enough);
       check = check_exact;
       meaning = meaning_exact;
       run = run_exact;
       plan = plan_exact;
+      sim = sim_exact;
+      watch = watch_exact;
+      audit = audit_exact;
+      trace = trace_exact;
       run_shown = shown;
       outside = λ at. outside_caused (words_verdict old.files.named (world_of new) asked) old new ends did.ran at;
       failed = λ rose. call_failed old new (words_verdict old.files.named (world_of new) asked) ends did.ran rose;
@@ -101,5 +166,9 @@ module _ (asked : List (List ℕ)) (old new : Objects) (ends : Status) (did : As
       meaning_missing = meaning_missing;
       run_missing = run_missing;
       plan_missing = plan_missing;
+      sim_missing = sim_missing;
+      watch_missing = watch_missing;
+      audit_missing = audit_missing;
+      trace_missing = trace_missing;
       ran = did.ran;
     }

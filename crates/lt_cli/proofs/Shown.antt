@@ -8,7 +8,6 @@ use Rattle.lt_arch.specs.declared.shape.Shape.{Shape}
 use Rattle.lt_arch.specs.declared.timing.Timing.{Timing}
 use Rattle.lt_arch.specs.State.{executed_of}
 use Rattle.lt_arch.specs.Schedule.{reached}
-use Rattle.lt_timing.specs.Bounds.{bound_of}
 use Rattle.lt_io.specs.FabricState.{FabricState}
 use Rattle.lt_answer.specs.Answered.{AndThen}
 use Rattle.lt_judge.specs.declared.fault.ScheduleFault.{ScheduleFault}
@@ -16,7 +15,8 @@ use Rattle.lt_judge.specs.Verdict.{verdict}
 use Rattle.lt_front.specs.Flattened.{flat_of}
 use Rattle.lt_place.specs.declared.layout.Layout.{Layout}
 use Rattle.lt_place.specs.Layout.{IsLayoutOf, Gives, part_of}
-use Rattle.lt_net.specs.Channels.{IsShapeOf}
+use Rattle.lt_lead.specs.Paced.{IsShapeBy, bound_by}
+use Rattle.lt_lead.proofs.ByPace.{nodes_are}
 use Rattle.lt_net.specs.Local.{local_stream, fed_row}
 use Rattle.lt_net.specs.Net.{between, row_at}
 use Rattle.lt_net.proofs.Firsts.{length-firsts}
@@ -49,17 +49,17 @@ has_read end s t rows (Some bytes) x is = let e = ends_with end x (verdict s t r
 
 -- one output
 
-module _ (p : Plan) (l : Layout) (s : Shape) (fabric : FabricState) (events : List Event) (printed : Outputs) (shaped : IsShapeOf l p.setup.timing.protocol s) (laid : IsLayoutOf (flat_of p.checked.program) p.setup.placement l)
+module _ (p : Plan) (l : Layout) (s : Shape) (fabric : FabricState) (events : List Event) (printed : Outputs) (shaped : IsShapeBy l p.setup.pace p.setup.timing s) (laid : IsLayoutOf (flat_of p.checked.program) p.setup.placement l)
     (shows : Shows p.checked.program l s p.setup.timing p.inputs.rows fabric events printed) where
   -- a node of the layout is one of the shape
   in_shape : (n : ℕ) → n < length l.nodes → n < length s.nodes
   in_shape n within =
-      let names : length s.nodes ≡ length l.names = ap (λ (ns : List (List ℕ)). length ns) shaped.nodes in
+      let names : length s.nodes ≡ length l.names = ap (λ (ns : List (List ℕ)). length ns) (nodes_are l p.setup.pace p.setup.timing s shaped) in
       let same : length l.names ≡ length l.nodes = ap (λ (ns : List (List ℕ)). length ns) laid.names ∙ sym laid.nodes in
       omega (arith, within, names, same)
 
   output_shown : (y n x : ℕ) → y < length l.outs → n < length l.nodes → Gives (part_of l n) (slice_index_or l.outs y 0) x
-      → IsOutputShown p.checked.program l s p.setup.timing p.inputs.rows fabric events shows.told.run.lists.got shows.horizon y n x (slice_index_or printed.cells y [])
+      → IsOutputShown p.checked.program l s p.setup.timing p.setup.pace p.inputs.rows fabric events shows.told.run.lists.got shows.horizon y n x (slice_index_or printed.cells y [])
   output_shown y n x out within gives =
       let cells : List Cell = slice_index_or printed.cells y [] in
       let rows = p.inputs.rows in
@@ -74,7 +74,7 @@ module _ (p : Plan) (l : Layout) (s : Shape) (fabric : FabricState) (events : Li
         count = count;
         local = subst (λ (m : ℕ). cells ≡ local_stream l got n (row_at rows) m x) (sym count) local;
         whole = λ faithful. subst (λ (m : ℕ). cells ≡ take m (slice_index_or (output_streams p.checked.program rows) y [])) (sym count) (shows.told.whole faithful y n x out within gives);
-        enough = subst (λ (m : ℕ). min (bound_of p.setup.timing n shows.horizon) (length rows) ≤ m) (sym count) (shows.told.run.enough n (in_shape n within));
+        enough = subst (λ (m : ℕ). min (bound_by p.setup.pace p.setup.timing n shows.horizon) (length rows) ≤ m) (sym count) (shows.told.run.enough p.setup.pace (record { shaped = shaped; fits = p.setup.paced }) n (in_shape n within));
       }
 
 module _ (named : List ℕ → Option (List ℕ)) (program inputs schedule : List ℕ) (config : Option (List ℕ)) (old new : Objects) (printed : Outputs) (text : TookText (printed_text printed) old new) where

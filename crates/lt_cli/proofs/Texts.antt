@@ -1,29 +1,41 @@
 -- A step's answer as a text.
-use Rattle.std.proofs.Common.{◌≡◌, ℕ, List, Result, Ok, Err, refl, sym, subst}
+use Rattle.std.proofs.Common.{◌≡◌, ℕ, List, Result, Ok, Err, false, refl, sym, ◌∙◌, subst}
 use Rattle.std.specs.Prelude.{IsErrAnd}
 use Rattle.lt_base.specs.Or.{MapsFault}
 use Rattle.lt_base.specs.declared.memory.Or.{Or}
 use Rattle.lt_base.specs.declared.memory.Or.TheVariants.{Fault, Memory}
+use Rattle.lt_io.specs.Visits.{Errand}
+use Rattle.lt_io.proofs.Visiting.{visited_any}
 use Rattle.lt_answer.specs.Answered.{Verdict}
-use Rattle.lt_answer.specs.World.{World}
+use Rattle.lt_answer.specs.World.{World, Blame, Blames}
 use Rattle.lt_answer.specs.Answered.{Answered, RefusesReading}
 use Rattle.lt_load.specs.Blamed.{command_blame}
 use Rattle.lt_load.specs.declared.fault.CommandFault.{CommandFault}
 use Rattle.lt_cli.specs.declared.refusal.Refusal.{Refusal}
 use Rattle.lt_cli.specs.declared.refusal.Refusal.TheVariants.{Command}
 use Rattle.lt_cli.specs.Blamed.{blame_of}
-use Rattle.lt_cli.specs.Commands.{text_verdict}
-use Rattle.lt_cli.specs.Asked.{AnswersText}
+use Rattle.lt_watch.specs.declared.fault.WatchFault.{WatchFault}
+use Rattle.lt_watch.specs.declared.fault.WatchFault.TheVariants as watch
+use Rattle.lt_watch.specs.Blamed.{watch_blame}
+use Rattle.lt_cli.specs.Commands.{answer_verdict, watch_refusal}
+use Rattle.lt_cli.proofs.Refusals.{watch_blames}
+use Rattle.lt_cli.specs.Asked.{Answers, AnswersText, IsOfCommand}
 
-module _ {T : Type 0} (shown : T → List ℕ) (V : Verdict T CommandFault) (a b : World) where
-  blamed : RefusesReading command_blame V → RefusesReading blame_of (text_verdict shown V)
-  blamed reading = (Command reading.0, reading.1, (reading.0, reading.2, refl))
+-- faults as refusals that blame the same, none of them that of the words
+pub record IsRaise {E : Type 0} (raise : E → Refusal) (blame : E → Blame) : Type 0 where
+  pub same : (e : E) → blame_of (raise e) ≡ blame e
+  pub of_command : (e : E) → IsOfCommand (Err (Fault (raise e)))
+
+module _ {T E : Type 0} (raise : E → Refusal) (blame : E → Blame) (is_raise : IsRaise raise blame) (shown : T → List ℕ) (V : Verdict T E) (a b : World) where
+  blamed : RefusesReading blame V → RefusesReading blame_of (answer_verdict raise shown V)
+  blamed reading = (raise reading.0, is_raise.same reading.0 ∙ reading.1, (reading.0, reading.2, refl))
 
   -- it is shown so
-  pub text_shown : (x : T) (text : List ℕ) → Answered command_blame V a b (Ok x) → text ≡ shown x → AnswersText shown V a b (Ok text)
-  text_shown x text ran is = record {
+  pub answer_shown : {es : List Errand} (x : T) (text : List ℕ) → Answered blame es V a b (Ok x) → text ≡ shown x → Answers raise shown es V a b (Ok text)
+  answer_shown x text ran is = record {
     answered = record {
       keeps = ran.keeps;
+      visits = ran.visits;
       cause = ran.cause;
       exact = λ told calm. (x, ran.exact told calm, is);
       sound = λ told sound rose. blamed (ran.sound told sound rose);
@@ -31,34 +43,59 @@ module _ {T : Type 0} (shown : T → List ℕ) (V : Verdict T CommandFault) (a b
     of_command = tt;
   }
 
-  text_short : (x : T) → Answered command_blame V a b (Ok x) → AnswersText shown V a b (Err Memory)
-  text_short x ran = record {
-    answered = record { keeps = ran.keeps; cause = ran.cause; exact = λ told calm. tt; sound = λ told sound rose. blamed (ran.sound told sound rose) };
+  answer_short : {es : List Errand} (x : T) → Answered blame es V a b (Ok x) → Answers raise shown es V a b (Err Memory)
+  answer_short {es} x ran = record {
+    answered = record { keeps = ran.keeps; visits = visited_any es a.files.visits b.files.visits false ran.visits; cause = ran.cause; exact = λ told calm. tt; sound = λ told sound rose. blamed (ran.sound told sound rose) };
     of_command = tt;
   }
 
-  command_refused : (fault : CommandFault) → Answered command_blame V a b (Err (Fault fault)) → AnswersText shown V a b (Err (Fault (Command fault)))
-  command_refused fault ran = record {
+  raised : {es : List Errand} (fault : E) → Answered blame es V a b (Err (Fault fault)) → Answers raise shown es V a b (Err (Fault (raise fault)))
+  raised fault ran = record {
     answered = record {
       keeps = ran.keeps;
-      cause = ran.cause;
+      visits = ran.visits;
+      cause = subst (Blames a b) (sym (is_raise.same fault)) ran.cause;
       exact = λ told calm. (fault, ran.exact told calm, refl);
       sound = λ told sound rose. blamed (ran.sound told sound rose);
     };
-    of_command = tt;
+    of_command = is_raise.of_command fault;
   }
 
   -- it was refused, or no memory was found for it
-  pub text_refused : (e : Or CommandFault) (e' : Or Refusal) → MapsFault e e' (λ fault refusal. refusal ≡ Command fault) → Answered command_blame V a b (Err e) → AnswersText shown V a b (Err e')
-  text_refused (Fault fault) (Fault refusal) is ran = subst (λ (r : Refusal). AnswersText shown V a b (Err (Fault r))) (sym is) (command_refused fault ran)
-  text_refused (Fault fault) Memory is ran = absurd is
-  text_refused Memory (Fault refusal) is ran = absurd is
-  text_refused Memory Memory is ran = record {
-    answered = record { keeps = ran.keeps; cause = ran.cause; exact = λ told calm. tt; sound = λ told sound rose. blamed (ran.sound told sound rose) };
+  pub answer_refused : {es : List Errand} (e : Or E) (e' : Or Refusal) → MapsFault e e' (λ fault refusal. refusal ≡ raise fault) → Answered blame es V a b (Err e) → Answers raise shown es V a b (Err e')
+  answer_refused {es} (Fault fault) (Fault refusal) is ran = subst (λ (r : Refusal). Answers raise shown es V a b (Err (Fault r))) (sym is) (raised fault ran)
+  answer_refused (Fault fault) Memory is ran = absurd is
+  answer_refused Memory (Fault refusal) is ran = absurd is
+  answer_refused Memory Memory is ran = record {
+    answered = record { keeps = ran.keeps; visits = ran.visits; cause = ran.cause; exact = λ told calm. tt; sound = λ told sound rose. blamed (ran.sound told sound rose) };
     of_command = tt;
   }
 
   -- no memory was found for the text
-  pub not_shown : (x : T) (r : Result (List ℕ) (Or Refusal)) → IsErrAnd r (λ f. f ≡ Memory) → Answered command_blame V a b (Ok x) → AnswersText shown V a b r
-  not_shown x (Ok text) is ran = absurd is
-  not_shown x (Err e) is ran = subst (λ (f : Or Refusal). AnswersText shown V a b (Err f)) (sym is) (text_short x ran)
+  pub answer_not_shown : {es : List Errand} (x : T) (r : Result (List ℕ) (Or Refusal)) → IsErrAnd r (λ f. f ≡ Memory) → Answered blame es V a b (Ok x) → Answers raise shown es V a b r
+  answer_not_shown x (Ok text) is ran = absurd is
+  answer_not_shown {es} x (Err e) is ran = subst (λ (f : Or Refusal). Answers raise shown es V a b (Err f)) (sym is) (answer_short x ran)
+
+-- those of a command on its files
+
+pub command_raise : IsRaise (λ fault. Command fault) command_blame
+command_raise = record { same = λ e. refl; of_command = λ e. tt }
+
+module _ {T : Type 0} (shown : T → List ℕ) (V : Verdict T CommandFault) (a b : World) where
+  pub text_shown : {es : List Errand} (x : T) (text : List ℕ) → Answered command_blame es V a b (Ok x) → text ≡ shown x → AnswersText shown es V a b (Ok text)
+  text_shown x text ran is = answer_shown (λ fault. Command fault) command_blame command_raise shown V a b x text ran is
+
+  pub text_refused : {es : List Errand} (e : Or CommandFault) (e' : Or Refusal) → MapsFault e e' (λ fault refusal. refusal ≡ Command fault) → Answered command_blame es V a b (Err e) → AnswersText shown es V a b (Err e')
+  text_refused e e' is ran = answer_refused (λ fault. Command fault) command_blame command_raise shown V a b e e' is ran
+
+  pub not_shown : {es : List Errand} (x : T) (r : Result (List ℕ) (Or Refusal)) → IsErrAnd r (λ f. f ≡ Memory) → Answered command_blame es V a b (Ok x) → AnswersText shown es V a b r
+  not_shown x r is ran = answer_not_shown (λ fault. Command fault) command_blame command_raise shown V a b x r is ran
+
+-- those of a watched run
+pub watch_raise : IsRaise watch_refusal watch_blame
+watch_raise = record { same = watch_blames; of_command = watch_of_command }
+  where
+    watch_of_command : (e : WatchFault) → IsOfCommand (Err (Fault (watch_refusal e)))
+    watch_of_command (watch.Command f) = tt
+    watch_of_command watch.ObserverBytes = tt
+    watch_of_command (watch.Observer f) = tt

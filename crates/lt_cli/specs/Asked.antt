@@ -1,61 +1,105 @@
--- What the answer to some words does, and a call of `ltta` that is asked for it.
-use Rattle.std.specs.Prelude.{◌≡◌, ◌⊎◌, ℕ, List, Option, Some, None, Result, Ok, Err}
+-- What a command does, and a call of `ltta` that is asked for it.
+use Rattle.std.specs.Prelude.{◌≡◌, ◌⊎◌, ℕ, List, [], ◌∷◌, ◌++◌, length, Option, Some, None, Result, Ok, Err, true, false}
 use Rattle.lt_base.specs.declared.memory.Or.{Or}
 use Rattle.lt_base.specs.declared.memory.Or.TheVariants.{Fault, Memory}
+use Rattle.lt_io.specs.Visits.{Errand, Visited}
 use Rattle.lt_io.specs.FabricState.{FabricState}
+use Rattle.lt_io.specs.FilesState.{FilesState}
+use Rattle.lt_io.specs.SinkState.{SinkState, KeepsSink}
 use Rattle.lt_answer.specs.World.{World}
 use Rattle.lt_answer.specs.Answered.{Verdict, Answered}
-use Rattle.lt_words.specs.Reading.{Said, check, meaning, run, plan, command_of}
+use Rattle.lt_words.specs.Reading.{Said, check, meaning, run, plan, sim, watch, audit, trace, command_of}
 use Rattle.lt_load.specs.declared.fault.CommandFault.{CommandFault}
+use Rattle.lt_load.specs.Plan.{LoadedPlan}
 use Rattle.lt_cli.specs.declared.refusal.Refusal.{Refusal}
-use Rattle.lt_cli.specs.declared.refusal.Refusal.TheVariants.{Words, Command}
+use Rattle.lt_cli.specs.declared.refusal.Refusal.TheVariants.{Words, Command, ObserverBytes, Observer}
 use Rattle.lt_cli.specs.declared.status.Status.{Status}
 use Rattle.lt_cli.specs.declared.status.Status.TheVariants as status
 use Rattle.lt_cli.specs.Blamed.{blame_of}
-use Rattle.lt_cli.specs.Commands.{text_verdict, asked_verdict, words_verdict}
+use Rattle.lt_cli.specs.Texts.{refusal_status, line_of, drawing_text}
+use Rattle.lt_cli.specs.Commands.{answer_verdict, command_verdict, said_errands, asked_errands, words_verdict}
 use Rattle.lt_cli.specs.Objects.{Objects, world_of}
-use Rattle.lt_cli.specs.Ran.{Ran}
+use Rattle.lt_cli.specs.Written.{Written}
+use Rattle.lt_cli.specs.Draws.{Drawing, drawing}
+use Rattle.lt_cli.specs.Ran.{Ran, Reported}
 
 -- the words are not refused
 abbrev pub IsOfCommand : Result (List ℕ) (Or Refusal) → Type 0
 IsOfCommand (Ok text) = Unit {0}
 IsOfCommand (Err (Fault Words)) = ⊥
 IsOfCommand (Err (Fault (Command fault))) = Unit {0}
+IsOfCommand (Err (Fault ObserverBytes)) = Unit {0}
+IsOfCommand (Err (Fault (Observer fault))) = Unit {0}
 IsOfCommand (Err Memory) = Unit {0}
 
--- they are, or memory was wanting
-abbrev pub IsOfNone : Result (List ℕ) (Or Refusal) → Type 0
-IsOfNone (Ok text) = ⊥
-IsOfNone (Err (Fault Words)) = Unit {0}
-IsOfNone (Err (Fault (Command fault))) = ⊥
-IsOfNone (Err Memory) = Unit {0}
-
--- words that say no command are refused, and no others
-abbrev pub IsOfSaid : Option Said → Result (List ℕ) (Or Refusal) → Type 0
-IsOfSaid None result = IsOfNone result
-IsOfSaid (Some said) result = IsOfCommand result
-
--- only a run touches the fabric
+-- only a run touches the fabric, watched or not
 abbrev pub LeavesFabric : Option Said → (old new : FabricState) → Type 0
 LeavesFabric None old new = new ≡ old
 LeavesFabric (Some (check program config)) old new = new ≡ old
 LeavesFabric (Some (meaning program inputs)) old new = new ≡ old
 LeavesFabric (Some (run program inputs schedule config)) old new = Unit {0}
 LeavesFabric (Some (plan config horizon)) old new = new ≡ old
+LeavesFabric (Some (sim program inputs config seed horizon)) old new = new ≡ old
+LeavesFabric (Some (watch program inputs schedule observer config)) old new = Unit {0}
+LeavesFabric (Some (audit program inputs schedule config)) old new = new ≡ old
+LeavesFabric (Some (trace program inputs schedule config place from to)) old new = new ≡ old
 
 -- the text of a value that is right, or the refusal that is
-pub record AnswersText {T : Type 0} (shown : T → List ℕ) (V : Verdict T CommandFault) (old new : World) (result : Result (List ℕ) (Or Refusal)) : Type 0 where
-  pub answered : Answered blame_of (text_verdict shown V) old new result
+pub record Answers {T E : Type 0} (raise : E → Refusal) (shown : T → List ℕ) (errands : List Errand) (V : Verdict T E) (old new : World) (result : Result (List ℕ) (Or Refusal)) : Type 0 where
+  pub answered : Answered blame_of errands (answer_verdict raise shown V) old new result
   pub of_command : IsOfCommand result
 
--- the text or the refusal that is right where this is said; the last two whether or not the files tell their bytes
-pub record Answers (named : List ℕ → Option (List ℕ)) (said : Option Said) (old new : World) (result : Result (List ℕ) (Or Refusal)) : Type 0 where
-  pub answered : Answered blame_of (asked_verdict named new said) old new result
-  pub of_said : IsOfSaid said result
-  pub leaves : LeavesFabric said old.fabric new.fabric
+abbrev pub AnswersText : {T : Type 0} (shown : T → List ℕ) (errands : List Errand) (V : Verdict T CommandFault) (old new : World) (result : Result (List ℕ) (Or Refusal)) → Type 0
+AnswersText shown errands V old new result = Answers (λ fault. Command fault) shown errands V old new result
 
-abbrev pub AnswersCommand : (named : List ℕ → Option (List ℕ)) → Said → (old new : World) → (result : Result (List ℕ) (Or Refusal)) → Type 0
-AnswersCommand named said old new result = Answers named (Some said) old new result
+-- an answer ends a call: `out` takes its text, or `err` its refusal's line
+abbrev pub Finishes : Result (List ℕ) (Or Refusal) → (out out' err err' : SinkState) → (ends : Status) → Type 0
+Finishes (Ok text) out out' err err' ends = Written status.Ok text out out' ends × (err' ≡ err)
+Finishes (Err (Fault refusal)) out out' err err' ends = Written (refusal_status refusal) (line_of refusal ++ 10 ∷ []) err err' ends × (out' ≡ out)
+Finishes (Err Memory) out out' err err' ends = (ends ≡ status.Memory) × (out' ≡ out) × (err' ≡ err)
+
+-- what is to be printed of a drawn schedule: its file, or its refusal
+abbrev pub shown_drawing : Result Drawing CommandFault → Result (List ℕ) Refusal
+shown_drawing (Ok d) = Ok (drawing_text d)
+shown_drawing (Err fault) = Err (Command fault)
+
+abbrev pub drawn_outcome : LoadedPlan → (seed horizon : ℕ) → Result (List ℕ) Refusal
+drawn_outcome k seed horizon = shown_drawing (drawing k.shape k.timing (length k.inputs.rows) seed horizon)
+
+-- an outcome reaches the sinks, whatever else there is
+pub record IsReported (outcome : Result (List ℕ) Refusal) (out out' err err' : SinkState) (ends : Status) : Type 0 where
+  pub out_keeps : KeepsSink out out'
+  pub err_keeps : KeepsSink err err'
+  pub reported : (files files' : FilesState) (fabric fabric' : FabricState) →
+      Reported outcome (record { files = files; fabric = fabric; out = out; err = err }) (record { files = files'; fabric = fabric'; out = out'; err = err' }) ends
+
+-- what was loaded ends a call that draws a schedule: `out` takes it, or `err` the line of a refusal
+abbrev pub FinishesDrawn : Result LoadedPlan (Or CommandFault) → (seed horizon : ℕ) → (out out' err err' : SinkState) → (ends : Status) → Type 0
+FinishesDrawn (Ok k) seed horizon out out' err err' ends = IsReported (drawn_outcome k seed horizon) out out' err err' ends
+FinishesDrawn (Err (Fault fault)) seed horizon out out' err err' ends = Finishes (Err (Fault (Command fault))) out out' err err' ends
+FinishesDrawn (Err Memory) seed horizon out out' err err' ends = Finishes (Err Memory) out out' err err' ends
+
+-- a call with these errands visits its files
+pub record Visits (errands : List Errand) (old new : Objects) (ends : Status) : Type 0 where
+  -- in their order, each once and within its errand, and no others; it may have stopped behind any of them
+  pub within : Visited errands old.files.visits new.files.visits false
+  -- and all of them where it ends well
+  pub all : ends ≡ status.Ok → Visited errands old.files.visits new.files.visits true
+
+-- and one that is asked for this
+abbrev pub VisitsFiles : Option Said → (old new : Objects) → (ends : Status) → Type 0
+VisitsFiles said old new ends = Visits (asked_errands said) old new ends
+
+-- what a call does for a command with these errands and this verdict on its text; the status never says that the words are wrong
+pub record Obeys (errands : List Errand) (V : Verdict (List ℕ) Refusal) (old new : Objects) (ends : Status) : Type 0 where
+  pub ran : Ran V old new ends
+  pub visits : Visits errands old new ends
+  pub not_words : ends ≡ status.Words → ⊥
+
+-- what it does for a command; the last whether or not the objects tell what they hold
+pub record ObeysCommand (said : Said) (old new : Objects) (ends : Status) : Type 0 where
+  pub obeys : Obeys (said_errands said) (command_verdict old.files.named (world_of new) said) old new ends
+  pub leaves : LeavesFabric (Some said) old.fabric new.fabric
 
 -- a call ends so where this is said, whether or not the objects tell what they hold
 pub record EndsBySaid (said : Option Said) (old new : Objects) (ends : Status) : Type 0 where
@@ -69,3 +113,4 @@ pub record EndsBySaid (said : Option Said) (old new : Objects) (ends : Status) :
 pub record Asked (words : List (List ℕ)) (old new : Objects) (ends : Status) : Type 0 where
   pub ran : Ran (words_verdict old.files.named (world_of new) words) old new ends
   pub by_said : EndsBySaid (command_of words) old new ends
+  pub visits : VisitsFiles (command_of words) old new ends

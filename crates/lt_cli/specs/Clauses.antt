@@ -3,10 +3,11 @@ use Rattle.std.specs.Prelude.{◌≡◌, ◌≢◌, ◌<◌, ◌⊎◌, ◌↔�
 use Rattle.lt_answer.specs.Answered.{Verdict}
 use Rattle.lt_load.specs.declared.fault.CommandFault.{CommandFault}
 use Rattle.lt_load.specs.declared.fault.CommandFault.TheVariants.{Read}
-use Rattle.lt_cli.specs.declared.refusal.Refusal.TheVariants.{Words}
+use Rattle.lt_cli.specs.declared.refusal.Refusal.{Refusal}
+use Rattle.lt_cli.specs.declared.refusal.Refusal.TheVariants.{Words, Command}
 use Rattle.lt_cli.specs.declared.status.Status.{Status}
 use Rattle.lt_cli.specs.declared.status.Status.TheVariants as status
-use Rattle.lt_cli.specs.Texts.{fault_status, fault_line, line_of}
+use Rattle.lt_cli.specs.Texts.{refusal_status, line_of, drawing_text, watched_text, audited_text}
 use Rattle.lt_words.specs.Reading.{command_of}
 use Rattle.lt_words.specs.Reading as said
 use Rattle.lt_plan.specs.Text.{plan_of}
@@ -14,28 +15,40 @@ use Rattle.lt_load.specs.Loaded.{config_verdict}
 use Rattle.lt_load.specs.Setups.{check_verdict}
 use Rattle.lt_run.specs.Meaning.{meaning_verdict}
 use Rattle.lt_run.specs.Run.{run_verdict}
-use Rattle.lt_cli.specs.Commands.{checked_text, printed_text, words_verdict}
+use Rattle.lt_inspect.specs.Inspected.{audit_verdict, trace_verdict}
+use Rattle.lt_watch.specs.declared.fault.WatchFault.TheVariants as watched
+use Rattle.lt_watch.specs.Watch.{watch_verdict}
+use Rattle.lt_cli.specs.Draws.{sim_verdict}
+use Rattle.lt_cli.specs.Commands.{checked_text, printed_text, watch_refusal, words_verdict}
 use Rattle.lt_cli.specs.Taken.{TookLine, TookText}
 use Rattle.lt_cli.specs.RunShown.{IsRunShown}
 use Rattle.lt_cli.specs.Objects.{Objects, IsQuiet, Tells, world_of}
 use Rattle.lt_cli.specs.Ran.{Ran}
-use Rattle.lt_cli.specs.Asked.{EndsBySaid}
+use Rattle.lt_cli.specs.Asked.{EndsBySaid, VisitsFiles}
 
 -- the status says that the words are wrong exactly where they say no command, and then the usage line was printed
 pub record IsWordsExact (words : List (List ℕ)) (old new : Objects) (ends : Status) : Type 0 where
   pub exact : (ends ≡ status.Words) ↔ (command_of words ≡ None)
   pub line : ends ≡ status.Words → TookLine (line_of Words) old new
 
--- a command with this verdict, whose values are shown so: each status comes exactly where it is right, with its text or its line
-pub record IsExact {T : Type 0} (shown : T → List ℕ) (V : Verdict T CommandFault) (old new : Objects) (ends : Status) : Type 0 where
+-- a command with this verdict, whose values are shown so and whose faults are these refusals: each status comes exactly where it is
+-- right, with its text or its line
+pub record IsExactFor {T E : Type 0} (raise : E → Refusal) (shown : T → List ℕ) (V : Verdict T E) (old new : Objects) (ends : Status) : Type 0 where
   pub ok : (ends ≡ status.Ok) ↔ ((x : T) × V (Ok x))
   pub text : ends ≡ status.Ok → (x : T) × V (Ok x) × TookText (shown x) old new
-  pub refused : (code : Status) → code ≢ status.Ok → (ends ≡ code) ↔ ((f : CommandFault) × V (Err f) × (fault_status f ≡ code))
-  pub line : ends ≢ status.Ok → (f : CommandFault) × V (Err f) × (fault_status f ≡ ends) × TookLine (fault_line f) old new
+  pub refused : (code : Status) → code ≢ status.Ok → (ends ≡ code) ↔ ((f : E) × V (Err f) × (refusal_status (raise f) ≡ code))
+  pub line : ends ≢ status.Ok → (f : E) × V (Err f) × (refusal_status (raise f) ≡ ends) × TookLine (line_of (raise f)) old new
 
--- a command on sound files: a call on them fails exactly where the first file in order that is refused is missing
+abbrev pub IsExact : {T : Type 0} (shown : T → List ℕ) (V : Verdict T CommandFault) (old new : Objects) (ends : Status) → Type 0
+IsExact shown V old new ends = IsExactFor (λ fault. Command fault) shown V old new ends
+
+-- a command on sound files, whose fault where one is missing is this: a call on them fails exactly where the first file in order that
+-- is refused is missing
+abbrev pub IsMissingFor : {T E : Type 0} → (missing : E) → Verdict T E → (old new : Objects) → Type 0
+IsMissingFor missing V old new = (old.files.faults < new.files.faults) ↔ V (Err missing)
+
 abbrev pub IsMissingExact : {T : Type 0} → Verdict T CommandFault → (old new : Objects) → Type 0
-IsMissingExact V old new = (old.files.faults < new.files.faults) ↔ V (Err Read)
+IsMissingExact V old new = IsMissingFor Read V old new
 
 -- a failed call on an object: its count of faults rose, and this line was printed
 pub record IsCallFailed (line_text : List ℕ) (before after : ℕ) (old new : Objects) : Type 0 where
@@ -67,6 +80,9 @@ pub record Performs (asked : List (List ℕ)) (old new : Objects) (ends : Status
   -- the status says that the words are wrong only where they say no command, and then none but those of a failed write and of want
   -- of memory comes in its place; only a run touches the fabric
   pub by_said : EndsBySaid (command_of asked) old new ends
+  -- whether or not the files tell their bytes: the command's files are opened in their order, each once, and no more of each is read than
+  -- its limit and what shows that it is passed
+  pub visits : VisitsFiles (command_of asked) old new ends
   -- where the objects tell what they hold, no count rose and memory was found: each status exactly where it is right, with its text or its line
   pub words : Tells old → IsQuiet old new → ends ≢ status.Memory → IsWordsExact asked old new ends
   pub check : (program : List ℕ) (config : Option (List ℕ)) → command_of asked ≡ Some (said.check program config) → Tells old → IsQuiet old new → ends ≢ status.Memory
@@ -77,6 +93,14 @@ pub record Performs (asked : List (List ℕ)) (old new : Objects) (ends : Status
       → IsExact printed_text (run_verdict old.files.named program inputs schedule config (world_of new)) old new ends
   pub plan : (config : List ℕ) (horizon : Option ℕ) → command_of asked ≡ Some (said.plan config horizon) → Tells old → IsQuiet old new → ends ≢ status.Memory
       → IsExact (λ setup. plan_of setup horizon) (config_verdict (old.files.named config)) old new ends
+  pub sim : (program inputs config : List ℕ) (seed horizon : ℕ) → command_of asked ≡ Some (said.sim program inputs config seed horizon) → Tells old → IsQuiet old new → ends ≢ status.Memory
+      → IsExact drawing_text (sim_verdict old.files.named program inputs config seed horizon) old new ends
+  pub watch : (program inputs schedule observer : List ℕ) (config : Option (List ℕ)) → command_of asked ≡ Some (said.watch program inputs schedule observer config) → Tells old → IsQuiet old new → ends ≢ status.Memory
+      → IsExactFor watch_refusal watched_text (watch_verdict old.files.named program inputs schedule observer config (world_of new)) old new ends
+  pub audit : (program inputs schedule config : List ℕ) → command_of asked ≡ Some (said.audit program inputs schedule config) → Tells old → IsQuiet old new → ends ≢ status.Memory
+      → IsExact audited_text (audit_verdict old.files.named program inputs schedule config) old new ends
+  pub trace : (program inputs schedule config : List ℕ) (node : Option (List ℕ)) (from to : ℕ) → command_of asked ≡ Some (said.trace program inputs schedule config node from to) → Tells old → IsQuiet old new → ends ≢ status.Memory
+      → IsExact (λ text. text) (trace_verdict old.files.named program inputs schedule config node from to) old new ends
   -- what a run shows that ended well, fact by fact
   pub run_shown : (program inputs schedule : List ℕ) (config : Option (List ℕ)) → command_of asked ≡ Some (said.run program inputs schedule config) → Tells old → IsQuiet old new → ends ≡ status.Ok
       → IsRunShown old.files.named program inputs schedule config old new
@@ -97,5 +121,14 @@ pub record Performs (asked : List (List ℕ)) (old new : Objects) (ends : Status
       → IsMissingExact (run_verdict old.files.named program inputs schedule config (world_of new)) old new
   pub plan_missing : (config : List ℕ) (horizon : Option ℕ) → command_of asked ≡ Some (said.plan config horizon) → IsTrue old.files.sound → ends ≢ status.Memory
       → IsMissingExact (config_verdict (old.files.named config)) old new
+  pub sim_missing : (program inputs config : List ℕ) (seed horizon : ℕ) → command_of asked ≡ Some (said.sim program inputs config seed horizon) → IsTrue old.files.sound → ends ≢ status.Memory
+      → IsMissingExact (sim_verdict old.files.named program inputs config seed horizon) old new
+  pub watch_missing : (program inputs schedule observer : List ℕ) (config : Option (List ℕ)) → command_of asked ≡ Some (said.watch program inputs schedule observer config) → IsTrue old.files.sound → ends ≢ status.Memory
+      → new.fabric.faults ≡ old.fabric.faults
+      → IsMissingFor (watched.Command Read) (watch_verdict old.files.named program inputs schedule observer config (world_of new)) old new
+  pub audit_missing : (program inputs schedule config : List ℕ) → command_of asked ≡ Some (said.audit program inputs schedule config) → IsTrue old.files.sound → ends ≢ status.Memory
+      → IsMissingExact (audit_verdict old.files.named program inputs schedule config) old new
+  pub trace_missing : (program inputs schedule config : List ℕ) (node : Option (List ℕ)) (from to : ℕ) → command_of asked ≡ Some (said.trace program inputs schedule config node from to) → IsTrue old.files.sound → ends ≢ status.Memory
+      → IsMissingExact (trace_verdict old.files.named program inputs schedule config node from to) old new
   -- all of it: what was to be printed, how far it was, and whose count rose
   pub ran : Ran (words_verdict old.files.named (world_of new) asked) old new ends

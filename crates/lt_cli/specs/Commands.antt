@@ -1,25 +1,45 @@
 -- What is right to print for the words and the bytes of the files.
-use Rattle.std.specs.Prelude.{◌≡◌, ℕ, List, Option, Some, None, Err}
+use Rattle.std.specs.Prelude.{◌≡◌, ℕ, List, [], Option, Some, None, Err}
 use Rattle.lt_print.specs.Canonical.{canonical}
 use Rattle.lt_front.specs.Examined.{ExaminedText}
 use Rattle.lt_plan.specs.Text.{plan_of}
-use Rattle.lt_words.specs.Reading.{Said, check, meaning, run, plan, command_of}
+use Rattle.lt_words.specs.Reading.{Said, check, meaning, run, plan, sim, audit, trace, command_of}
+use Rattle.lt_words.specs.Reading as said
+use Rattle.lt_io.specs.Visits.{Errand}
 use Rattle.lt_answer.specs.Answered.{Verdict}
 use Rattle.lt_verdict.specs.Rules.{Raised, Shown}
 use Rattle.lt_answer.specs.World.{World}
 use Rattle.lt_load.specs.declared.fault.CommandFault.{CommandFault}
+use Rattle.lt_load.specs.Errands.{config_errand, check_errands, load_errands}
 use Rattle.lt_load.specs.Loaded.{config_verdict}
 use Rattle.lt_load.specs.Setups.{check_verdict}
 use Rattle.lt_run.specs.declared.outputs.Outputs.{Outputs}
+use Rattle.lt_run.specs.Errands.{meaning_errands, run_errands}
 use Rattle.lt_run.specs.Meaning.{meaning_verdict}
 use Rattle.lt_run.specs.Run.{run_verdict}
+use Rattle.lt_inspect.specs.Errands.{inspect_errands}
+use Rattle.lt_inspect.specs.Inspected.{audit_verdict, trace_verdict}
+use Rattle.lt_watch.specs.Errands.{watch_errands}
+use Rattle.lt_watch.specs.declared.fault.WatchFault.{WatchFault}
+use Rattle.lt_watch.specs.declared.fault.WatchFault.TheVariants as watched
+use Rattle.lt_watch.specs.Watch.{watch_verdict}
 use Rattle.lt_cli.specs.declared.refusal.Refusal.{Refusal}
-use Rattle.lt_cli.specs.declared.refusal.Refusal.TheVariants.{Words, Command}
-use Rattle.lt_cli.specs.Texts.{outputs_text}
+use Rattle.lt_cli.specs.declared.refusal.Refusal.TheVariants.{Words, Command, ObserverBytes, Observer}
+use Rattle.lt_cli.specs.Draws.{sim_verdict}
+use Rattle.lt_cli.specs.Texts.{outputs_text, watched_text, audited_text, drawing_text}
 
 -- the text of what a command gives, or its refusal
+abbrev pub answer_verdict : {T E : Type 0} → (E → Refusal) → (T → List ℕ) → Verdict T E → Verdict (List ℕ) Refusal
+answer_verdict raise shown V = Raised raise (Shown shown V)
+
 abbrev pub text_verdict : {T : Type 0} → (T → List ℕ) → Verdict T CommandFault → Verdict (List ℕ) Refusal
-text_verdict shown V = Raised (λ fault. Command fault) (Shown shown V)
+text_verdict shown V = answer_verdict (λ fault. Command fault) shown V
+
+-- the refusal of a watched run
+abbrev pub watch_refusal : WatchFault → Refusal
+watch_refusal (watched.Command fault) = Command fault
+watch_refusal watched.ObserverBytes = ObserverBytes
+watch_refusal (watched.Observer fault) = Observer fault
 
 -- a program in its canonical form
 abbrev pub checked_text : ExaminedText → List ℕ
@@ -35,6 +55,26 @@ command_verdict named new (check program config) = text_verdict checked_text (ch
 command_verdict named new (meaning program inputs) = text_verdict printed_text (meaning_verdict named program inputs)
 command_verdict named new (run program inputs schedule config) = text_verdict printed_text (run_verdict named program inputs schedule config new)
 command_verdict named new (plan config horizon) = text_verdict (λ setup. plan_of setup horizon) (config_verdict (named config))
+command_verdict named new (sim program inputs config seed horizon) = text_verdict drawing_text (sim_verdict named program inputs config seed horizon)
+command_verdict named new (said.watch program inputs schedule observer config) = answer_verdict watch_refusal watched_text (watch_verdict named program inputs schedule observer config new)
+command_verdict named new (audit program inputs schedule config) = text_verdict audited_text (audit_verdict named program inputs schedule config)
+command_verdict named new (trace program inputs schedule config node from to) = text_verdict (λ text. text) (trace_verdict named program inputs schedule config node from to)
+
+-- the files of a command, in their order, and how far each may be read
+abbrev pub said_errands : Said → List Errand
+said_errands (check program config) = check_errands program config
+said_errands (meaning program inputs) = meaning_errands program inputs
+said_errands (run program inputs schedule config) = run_errands program inputs schedule config
+said_errands (plan config horizon) = config_errand config
+said_errands (sim program inputs config seed horizon) = load_errands program inputs (Some config)
+said_errands (said.watch program inputs schedule observer config) = watch_errands program inputs schedule observer config
+said_errands (audit program inputs schedule config) = inspect_errands program inputs schedule config
+said_errands (trace program inputs schedule config place from to) = inspect_errands program inputs schedule config
+
+-- words that say no command have none
+abbrev pub asked_errands : Option Said → List Errand
+asked_errands None = []
+asked_errands (Some said) = said_errands said
 
 -- of the words a command's text or refusal, or that they say none
 abbrev pub asked_verdict : (named : List ℕ → Option (List ℕ)) → (new : World) → Option Said → Verdict (List ℕ) Refusal

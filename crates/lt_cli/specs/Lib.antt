@@ -1,6 +1,7 @@
 pub mod Status
 pub mod Lines
 pub mod ScheduleLines
+pub mod Draws
 pub mod Texts
 pub mod Blamed
 pub mod Objects

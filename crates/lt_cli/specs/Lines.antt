@@ -14,6 +14,9 @@ use Rattle.lt_run.specs.Main.{name_in}
 use Rattle.lt_inputs.specs.declared.fault.InputKind.{InputKind}
 use Rattle.lt_inputs.specs.declared.fault.InputKind.TheVariants as inputs
 use Rattle.lt_inputs.specs.declared.fault.InputFault.{InputFault}
+use Rattle.lt_past.specs.declared.fault.ObserverKind.{ObserverKind}
+use Rattle.lt_past.specs.declared.fault.ObserverKind.TheVariants as observer
+use Rattle.lt_past.specs.declared.fault.ObserverFault.{ObserverFault}
 
 -- a kind's number and name
 abbrev pub config_kind_text : ConfigKind → List ℕ
@@ -72,3 +75,16 @@ inputs_line_of _ f = codes "inputs " ++ inputs_kind_text f.kind ++ codes " at ro
 -- the line of refused inputs, without its line feed
 abbrev pub inputs_line : InputFault → List ℕ
 inputs_line f = inputs_line_of f.kind f
+
+-- a kind's number and name
+abbrev pub observer_kind_text : ObserverKind → List ℕ
+observer_kind_text observer.BadByte = codes "1 BadByte"
+observer_kind_text observer.Unexpected = codes "2 Unexpected"
+observer_kind_text observer.TooDeep = codes "3 TooDeep"
+observer_kind_text observer.UnknownName = codes "4 UnknownName"
+observer_kind_text observer.NotBool = codes "5 NotBool"
+observer_kind_text observer.NotBase = codes "6 NotBase"
+
+-- the line of a refused observer, without its line feed
+abbrev pub observer_line : ObserverFault → List ℕ
+observer_line f = codes "observer " ++ observer_kind_text f.kind ++ codes " at byte " ++ decimal f.at

@@ -8,11 +8,11 @@ use Rattle.lt_arch.specs.declared.shape.Shape.{Shape}
 use Rattle.lt_arch.specs.declared.timing.Timing.{Timing}
 use Rattle.lt_arch.specs.State.{executed_of}
 use Rattle.lt_arch.specs.Schedule.{reached}
-use Rattle.lt_timing.specs.Bounds.{bound_of}
 use Rattle.lt_io.specs.FabricState.{FabricState}
 use Rattle.lt_place.specs.declared.layout.Layout.{Layout}
 use Rattle.lt_place.specs.Layout.{IsLayoutOf, Gives, part_of}
-use Rattle.lt_net.specs.Channels.{IsShapeOf}
+use Rattle.lt_config.specs.declared.pace.Pace.{Pace}
+use Rattle.lt_lead.specs.Paced.{IsShapeBy, bound_by}
 use Rattle.lt_net.specs.Local.{local_stream}
 use Rattle.lt_net.specs.Net.{between, row_at}
 use Rattle.lt_judge.specs.Verdict.{verdict}
@@ -26,15 +26,15 @@ use Rattle.lt_cli.specs.Objects.{Objects}
 use Rattle.lt_cli.specs.Taken.{TookText}
 
 -- the cells of an output of `main`, by its place y among them, on node n that has it as its own variable x, where each channel has delivered these payloads
-pub record IsOutputShown (p : WholeProgram) (l : Layout) (s : Shape) (t : Timing) (inputs : List (List Value)) (fabric : FabricState) (events : List Event) (got : ℕ → List (List Value)) (horizon y n x : ℕ) (cells : List Cell) : Type 0 where
+pub record IsOutputShown (p : WholeProgram) (l : Layout) (s : Shape) (t : Timing) (pace : Pace) (inputs : List (List Value)) (fabric : FabricState) (events : List Event) (got : ℕ → List (List Value)) (horizon y n x : ℕ) (cells : List Cell) : Type 0 where
   -- one for each instant that the node has executed
   pub count : length cells ≡ executed_of (reached s t (length inputs) events) n
   -- they are the stream of the node's part, on the first rows of inputs and on what was delivered to it
   pub local : cells ≡ local_stream l (between s got) n (row_at inputs) (length cells) x
   -- over a faithful fabric they are the first of the output's stream in the whole program, which knows no nodes
   pub whole : IsTrue fabric.faithful → cells ≡ take (length cells) (slice_index_or (output_streams p inputs) y [])
-  -- they are at least as many as the protocol's bound for the horizon, or one for each row of inputs
-  pub enough : min (bound_of t n horizon) (length inputs) ≤ length cells
+  -- they are at least as many as the bound for the horizon, by who paces the rounds, or one for each row of inputs
+  pub enough : min (bound_by pace t n horizon) (length inputs) ≤ length cells
 
 -- a run of this program on these inputs, along this schedule and with this setup, files of these names, ended well
 pub record IsRunShown (named : List ℕ → Option (List ℕ)) (program inputs schedule : List ℕ) (config : Option (List ℕ)) (old new : Objects) : Type 0 where
@@ -45,7 +45,7 @@ pub record IsRunShown (named : List ℕ → Option (List ℕ)) (program inputs s
   pub layout : Layout
   pub laid : IsLayoutOf (flat_of plan.checked.program) plan.setup.placement layout
   pub shape : Shape
-  pub shaped : IsShapeOf layout plan.setup.timing.protocol shape
+  pub shaped : IsShapeBy layout plan.setup.pace plan.setup.timing shape
   -- the schedule's file reads as these events, none of which is refused
   pub bytes : List ℕ
   pub file : named schedule ≡ Some bytes
@@ -58,4 +58,4 @@ pub record IsRunShown (named : List ℕ → Option (List ℕ)) (program inputs s
   pub shows : Shows plan.checked.program layout shape plan.setup.timing plan.inputs.rows new.fabric events printed
   -- of each output, on its node
   pub outputs : (y n x : ℕ) → y < length layout.outs → n < length layout.nodes → Gives (part_of layout n) (slice_index_or layout.outs y 0) x →
-      IsOutputShown plan.checked.program layout shape plan.setup.timing plan.inputs.rows new.fabric events shows.told.run.lists.got shows.horizon y n x (slice_index_or printed.cells y [])
+      IsOutputShown plan.checked.program layout shape plan.setup.timing plan.setup.pace plan.inputs.rows new.fabric events shows.told.run.lists.got shows.horizon y n x (slice_index_or printed.cells y [])

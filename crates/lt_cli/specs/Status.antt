@@ -14,3 +14,4 @@ number_of status.Outside = 6
 number_of status.Write = 7
 number_of status.Limit = 8
 number_of status.Memory = 9
+number_of status.Observer = 10

@@ -1,7 +1,8 @@
 -- What is printed: the lines of refusals, and the text of outputs.
-use Rattle.std.specs.Prelude.{ℕ, true, false, List, [], ◌++◌, ◌∷◌, codes, zip, Result, Ok, Err, if◌then◌else◌}
+use Rattle.std.specs.Prelude.{ℕ, true, false, List, [], ◌++◌, ◌∷◌, codes, zip, Option, Some, None, Result, Ok, Err, if◌then◌else◌}
 use Rattle.std.specs.List.{flat_map}
-use Rattle.std.specs.Fmt.{signed_decimal}
+use Rattle.std.specs.Fmt.{decimal, signed_decimal}
+use Rattle.lt_arch.specs.declared.shape.Shape.{Shape}
 use Rattle.lt_base.specs.declared.value.Value.TheVariants.{Int, Bool as Truth}
 use Rattle.lt_base.specs.declared.value.Cell.{Cell}
 use Rattle.lt_base.specs.declared.value.Cell.TheVariants.{Absent, Here}
@@ -16,10 +17,16 @@ use Rattle.lt_load.specs.declared.fault.What.TheVariants.{ProgramBytes, ConfigBy
 use Rattle.lt_load.specs.declared.fault.CommandFault.{CommandFault}
 use Rattle.lt_load.specs.declared.fault.CommandFault.TheVariants as fault
 use Rattle.lt_texts.specs.Lines.{program_line}
-use Rattle.lt_cli.specs.Lines.{config_line, place_line, timing_line, inputs_line}
-use Rattle.lt_cli.specs.ScheduleLines.{row_line, offence_line}
+use Rattle.lt_cli.specs.Lines.{config_line, place_line, timing_line, inputs_line, observer_line}
+use Rattle.lt_audit.specs.declared.miss.Miss.{Miss}
+use Rattle.lt_inspect.specs.declared.audited.Audited.{Audited}
+use Rattle.lt_sim.specs.File.{file_text}
+use Rattle.lt_watch.specs.declared.watched.Watched.{Watched}
+use Rattle.lt_watch.specs.declared.watched.Watched.TheVariants.{Holds, Fails}
+use Rattle.lt_cli.specs.ScheduleLines.{row_line, offence_line, node_name, channel_text}
+use Rattle.lt_cli.specs.Draws.{Drawing}
 use Rattle.lt_cli.specs.declared.refusal.Refusal.{Refusal}
-use Rattle.lt_cli.specs.declared.refusal.Refusal.TheVariants.{Words, Command}
+use Rattle.lt_cli.specs.declared.refusal.Refusal.TheVariants.{Words, Command, ObserverBytes, Observer}
 use Rattle.lt_cli.specs.declared.status.Status.{Status}
 use Rattle.lt_cli.specs.declared.status.Status.TheVariants as status
 
@@ -45,8 +52,11 @@ fault_line fault.Read = codes "fault: read"
 fault_line fault.Link = codes "fault: link"
 
 abbrev pub line_of : Refusal → List ℕ
-line_of Words = codes "words: usage: ltta check P [C] | meaning P I | run P I S [C] | plan C [--horizon H]"
+line_of Words =
+    codes "words: usage: ltta check P [C] | meaning P I | run P I S [C] | plan C [--horizon H] | sim P I C --seed N --horizon H | watch P I S O [C] | audit P I S C | trace P I S C [--node NAME] [--from T] [--to T]"
 line_of (Command f) = fault_line f
+line_of ObserverBytes = codes "limit: observer bytes 65536"
+line_of (Observer f) = observer_line f
 
 -- the status of a refusal
 
@@ -77,6 +87,8 @@ fault_status fault.Link = status.Outside
 abbrev pub refusal_status : Refusal → Status
 refusal_status Words = status.Words
 refusal_status (Command f) = fault_status f
+refusal_status ObserverBytes = status.Limit
+refusal_status (Observer f) = status.Observer
 
 -- the status of a text, or of a refusal
 abbrev pub status_of : Result (List ℕ) Refusal → Status
@@ -110,3 +122,28 @@ output_line name cells = name ++ 58 ∷ cells_text cells ++ 10 ∷ []
 -- a line for each output, in order
 abbrev pub outputs_text : List (List ℕ) → List (List Cell) → List ℕ
 outputs_text names cells = flat_map (λ output. output_line output.0 output.1) (zip names cells)
+
+-- what an observer makes of a run
+abbrev pub watched_text : Watched → List ℕ
+watched_text (Holds n) = codes "holds " ++ decimal n ++ 10 ∷ []
+watched_text (Fails i) = codes "fails at " ++ decimal i ++ 10 ∷ []
+
+-- what is executed, and with how many messages of which channel
+abbrev pub executes_text : Shape → Miss → List ℕ
+executes_text s m = codes " executes " ++ decimal m.instant ++ codes " with " ++ decimal m.delivered ++ codes " of" ++ channel_text s m.channel ++ 10 ∷ []
+
+-- the event at which a node executes with a message too few or too many
+abbrev pub miss_text : Shape → Miss → List ℕ
+miss_text s m = codes "event " ++ decimal m.event ++ codes ": " ++ node_name s m.node ++ executes_text s m
+
+-- that one, or that there is none among so many events
+abbrev pub audit_text : Shape → (events : ℕ) → Option Miss → List ℕ
+audit_text s events None = codes "clean " ++ decimal events ++ 10 ∷ []
+audit_text s events (Some m) = miss_text s m
+
+abbrev pub audited_text : Audited → List ℕ
+audited_text a = audit_text a.shape a.events a.miss
+
+-- the file of a drawn schedule
+abbrev pub drawing_text : Drawing → List ℕ
+drawing_text d = file_text d.shape d.events

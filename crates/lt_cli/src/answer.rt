@@ -1,81 +1,46 @@
-// What is printed for the words.
-ghost use Rattle.std.specs.Prelude.{◌≡◌, ◌<◌, ◌-◌, ◌^◌, [], map, option_map, string_bytes};
-ghost use Rattle.lt_words.specs.Reading.{command_of, said_of};
+// What is printed for a command.
+ghost use Rattle.std.specs.Prelude.{◌≡◌, ◌<◌, ◌-◌, ◌^◌, [], option_map};
 ghost use Rattle.lt_answer.specs.World.{alone};
 ghost use Rattle.lt_play.specs.Played.{world};
 ghost use Rattle.lt_plan.specs.Text.{plan_of};
+ghost use Rattle.lt_load.specs.Errands.{config_errand, check_errands};
+ghost use Rattle.lt_run.specs.Errands.{meaning_errands, run_errands};
 ghost use Rattle.lt_load.specs.Loaded.{config_verdict};
 ghost use Rattle.lt_load.specs.Setups.{check_verdict};
 ghost use Rattle.lt_run.specs.Meaning.{meaning_verdict};
 ghost use Rattle.lt_run.specs.Run.{run_verdict};
-ghost use Rattle.lt_cli.specs.Commands.{checked_text, printed_text};
-ghost use Rattle.lt_cli.specs.Asked.{Answers, AnswersCommand, AnswersText};
+ghost use Rattle.lt_inspect.specs.Errands.{inspect_errands};
+ghost use Rattle.lt_inspect.specs.Inspected.{audit_verdict, trace_verdict};
+ghost use Rattle.lt_watch.specs.Errands.{watch_errands};
+ghost use Rattle.lt_watch.specs.Watch.{watch_verdict};
+ghost use Rattle.lt_cli.specs.Texts.{audited_text, watched_text};
+ghost use Rattle.lt_cli.specs.Commands.{checked_text, printed_text, watch_refusal};
+ghost use Rattle.lt_cli.specs.Asked.{Answers, AnswersText};
 
 use crate::Refusal;
+use crate::judgement::{audited_text, watched_text};
 use crate::print::outputs_text;
+use crate::refusal::watch_refusal;
 use lt_base::{List, Or};
+use lt_inspect::{audit, trace};
 use lt_io::{Fabric, Files};
 use lt_load::{check, load_config};
 use lt_plan::plan_text;
 use lt_print::print;
 use lt_run::{meaning, run};
-use lt_words::{Command, read_words};
+use lt_watch::watch;
 use std::alloc::Global;
 use std::mem::forget;
 
-/// What is printed for the words, or why they are refused.
-pub fn answer<F: Files, W: Fabric>(
-    alloc: Global,
-    words: &[String],
-    files: &mut F,
-    fabric: &mut W,
-) -> Result<List<u8>, Or<Refusal>>
-    requires files { (F.state files.old).faults < 2 ^ 64 - 1 }
-    requires fabric { (W.state fabric.old).faults < 2 ^ 64 - 1 }
-    requires empty { (W.state fabric.old).kinds ≡ [] }
-    ensures { Answers (F.state files.old).named (command_of (map string_bytes words.now)) (world (F.state files.old) (W.state fabric.old)) (world (F.state files.new) (W.state fabric.new)) result }
-{
-    let command = read_words(alloc, words)?;
-    match command {
-        Some(command) => command_answer(alloc, files, fabric, command),
-        None => Err(Or::Fault(Refusal::Words)),
-    }
-}
-
-// What is printed for a command.
-fn command_answer<F: Files, W: Fabric>(
-    alloc: Global,
-    files: &mut F,
-    fabric: &mut W,
-    command: Command<'_>,
-) -> Result<List<u8>, Or<Refusal>>
-    requires files { (F.state files.old).faults < 2 ^ 64 - 1 }
-    requires fabric { (W.state fabric.old).faults < 2 ^ 64 - 1 }
-    requires empty { (W.state fabric.old).kinds ≡ [] }
-    ensures { AnswersCommand (F.state files.old).named (said_of command.entry) (world (F.state files.old) (W.state fabric.old)) (world (F.state files.new) (W.state fabric.new)) result }
-{
-    match command {
-        Command::Check { program, config } => check_answer(alloc, files, program, config),
-        Command::Meaning { program, inputs } => meaning_answer(alloc, files, program, inputs),
-        Command::Run {
-            program,
-            inputs,
-            schedule,
-            config,
-        } => run_answer(alloc, files, fabric, program, inputs, schedule, config),
-        Command::Plan { config, horizon } => plan_answer(alloc, files, config, horizon),
-    }
-}
-
-// The canonical text of a program that passes all checks, with a setup's beside its own.
-fn check_answer<F: Files>(
+/// The canonical text of a program that passes all checks, with a setup's beside its own.
+pub(crate) fn check_answer<F: Files>(
     alloc: Global,
     files: &mut F,
     program: &str,
     config: Option<&str>,
 ) -> Result<List<u8>, Or<Refusal>>
     requires { (F.state files.old).faults < 2 ^ 64 - 1 }
-    ensures { AnswersText checked_text (check_verdict (F.state files.old).named program.now (option_map (λ s. s.now) config.entry)) (alone (F.state files.old)) (alone (F.state files.new)) result }
+    ensures { AnswersText checked_text (check_errands program.now (option_map (λ s. s.now) config.entry)) (check_verdict (F.state files.old).named program.now (option_map (λ s. s.now) config.entry)) (alone (F.state files.old)) (alone (F.state files.new)) result }
 {
     match check(alloc, files, program, config) {
         Ok(checked) => {
@@ -88,15 +53,15 @@ fn check_answer<F: Files>(
     }
 }
 
-// The outputs of a program on all rows of its inputs.
-fn meaning_answer<F: Files>(
+/// The outputs of a program on all rows of its inputs.
+pub(crate) fn meaning_answer<F: Files>(
     alloc: Global,
     files: &mut F,
     program: &str,
     inputs: &str,
 ) -> Result<List<u8>, Or<Refusal>>
     requires { (F.state files.old).faults < 2 ^ 64 - 1 }
-    ensures { AnswersText printed_text (meaning_verdict (F.state files.old).named program.now inputs.now) (alone (F.state files.old)) (alone (F.state files.new)) result }
+    ensures { AnswersText printed_text (meaning_errands program.now inputs.now) (meaning_verdict (F.state files.old).named program.now inputs.now) (alone (F.state files.old)) (alone (F.state files.new)) result }
 {
     match meaning(alloc, files, program, inputs) {
         Ok(printed) => Ok(outputs_text(alloc, printed.names.as_slice(), printed.cells.as_slice())?),
@@ -104,8 +69,8 @@ fn meaning_answer<F: Files>(
     }
 }
 
-// The outputs of a run, with a setup as it says.
-fn run_answer<F: Files, W: Fabric>(
+/// The outputs of a run, with a setup as it says.
+pub(crate) fn run_answer<F: Files, W: Fabric>(
     alloc: Global,
     files: &mut F,
     fabric: &mut W,
@@ -117,7 +82,7 @@ fn run_answer<F: Files, W: Fabric>(
     requires files { (F.state files.old).faults < 2 ^ 64 - 1 }
     requires fabric { (W.state fabric.old).faults < 2 ^ 64 - 1 }
     requires empty { (W.state fabric.old).kinds ≡ [] }
-    ensures { AnswersText printed_text (run_verdict (F.state files.old).named program.now inputs.now schedule.now (option_map (λ s. s.now) config.entry) (world (F.state files.new) (W.state fabric.new)))
+    ensures { AnswersText printed_text (run_errands program.now inputs.now schedule.now (option_map (λ s. s.now) config.entry)) (run_verdict (F.state files.old).named program.now inputs.now schedule.now (option_map (λ s. s.now) config.entry) (world (F.state files.new) (W.state fabric.new)))
         (world (F.state files.old) (W.state fabric.old)) (world (F.state files.new) (W.state fabric.new)) result }
 {
     match run(alloc, files, fabric, program, inputs, schedule, config) {
@@ -126,18 +91,84 @@ fn run_answer<F: Files, W: Fabric>(
     }
 }
 
-// The plan of a setup.
-fn plan_answer<F: Files>(
+/// The plan of a setup.
+pub(crate) fn plan_answer<F: Files>(
     alloc: Global,
     files: &mut F,
     config: &str,
     horizon: Option<u64>,
 ) -> Result<List<u8>, Or<Refusal>>
     requires { (F.state files.old).faults < 2 ^ 64 - 1 }
-    ensures { AnswersText (λ setup. plan_of setup horizon) (config_verdict ((F.state files.old).named config.now)) (alone (F.state files.old)) (alone (F.state files.new)) result }
+    ensures { AnswersText (λ setup. plan_of setup horizon) (config_errand config.now) (config_verdict ((F.state files.old).named config.now)) (alone (F.state files.old)) (alone (F.state files.new)) result }
 {
     match load_config(alloc, files, config) {
         Ok(config) => Ok(plan_text(alloc, &config, horizon)?),
+        Err(e) => Err(e.map(Refusal::Command)),
+    }
+}
+
+/// What an observer makes of a run.
+pub(crate) fn watch_answer<F: Files, W: Fabric>(
+    alloc: Global,
+    files: &mut F,
+    fabric: &mut W,
+    program: &str,
+    inputs: &str,
+    schedule: &str,
+    observer: &str,
+    config: Option<&str>,
+) -> Result<List<u8>, Or<Refusal>>
+    requires files { (F.state files.old).faults < 2 ^ 64 - 1 }
+    requires fabric { (W.state fabric.old).faults < 2 ^ 64 - 1 }
+    requires empty { (W.state fabric.old).kinds ≡ [] }
+    ensures { Answers watch_refusal watched_text (watch_errands program.now inputs.now schedule.now observer.now (option_map (λ s. s.now) config.entry)) (watch_verdict (F.state files.old).named program.now inputs.now schedule.now observer.now (option_map (λ s. s.now) config.entry) (world (F.state files.new) (W.state fabric.new)))
+        (world (F.state files.old) (W.state fabric.old)) (world (F.state files.new) (W.state fabric.new)) result }
+{
+    match watch(
+        alloc, files, fabric, program, inputs, schedule, observer, config,
+    ) {
+        Ok(watched) => Ok(watched_text(alloc, watched)?),
+        Err(e) => Err(e.map(watch_refusal)),
+    }
+}
+
+/// The first event of a schedule at which a node executes with a message too few or too many.
+pub(crate) fn audit_answer<F: Files>(
+    alloc: Global,
+    files: &mut F,
+    program: &str,
+    inputs: &str,
+    schedule: &str,
+    config: &str,
+) -> Result<List<u8>, Or<Refusal>>
+    requires { (F.state files.old).faults < 2 ^ 64 - 1 }
+    ensures { AnswersText audited_text (inspect_errands program.now inputs.now schedule.now config.now) (audit_verdict (F.state files.old).named program.now inputs.now schedule.now config.now) (alone (F.state files.old)) (alone (F.state files.new)) result }
+{
+    match audit(alloc, files, program, inputs, schedule, config) {
+        Ok(audited) => Ok(audited_text(alloc, &audited)?),
+        Err(e) => Err(e.map(Refusal::Command)),
+    }
+}
+
+/// A schedule of the events that are selected.
+pub(crate) fn trace_answer<F: Files>(
+    alloc: Global,
+    files: &mut F,
+    program: &str,
+    inputs: &str,
+    schedule: &str,
+    config: &str,
+    node: Option<&str>,
+    from: u64,
+    to: u64,
+) -> Result<List<u8>, Or<Refusal>>
+    requires { (F.state files.old).faults < 2 ^ 64 - 1 }
+    ensures { AnswersText (λ text. text) (inspect_errands program.now inputs.now schedule.now config.now) (trace_verdict (F.state files.old).named program.now inputs.now schedule.now config.now (option_map (λ s. s.now) node.entry) from to) (alone (F.state files.old)) (alone (F.state files.new)) result }
+{
+    match trace(
+        alloc, files, program, inputs, schedule, config, node, from, to,
+    ) {
+        Ok(text) => Ok(text),
         Err(e) => Err(e.map(Refusal::Command)),
     }
 }

@@ -3,16 +3,21 @@
 
 mod answer;
 mod config_line;
+mod drawing;
 mod inputs_line;
+mod judgement;
 mod numbers;
+mod observer_line;
 mod place_line;
 mod print;
+mod process;
 mod refusal;
 mod schedule_line;
 mod status;
 mod timing_line;
 mod top;
 
+pub use process::program;
 pub use refusal::Refusal;
 pub use status::Status;
 pub use top::ltta;

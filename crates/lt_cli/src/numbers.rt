@@ -11,3 +11,10 @@ pub(crate) fn append_number(line: &mut List<u8>, number: u32) -> Result<(), Memo
 {
     line.extend(Buffer::new().format(number).as_bytes())
 }
+
+/// Appends a length or a place in decimal digits.
+pub(crate) fn append_size(line: &mut List<u8>, size: usize) -> Result<(), Memory>
+    ensures { OnOk result (line.new ≡ line.old ++ decimal size) }
+{
+    line.extend(Buffer::new().format(size).as_bytes())
+}

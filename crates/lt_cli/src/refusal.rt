@@ -1,10 +1,12 @@
 // Why a command is refused.
 ghost use Rattle.std.specs.Prelude.{◌≡◌, IfOk};
+ghost use Rattle.lt_cli.specs.Commands.{watch_refusal};
 ghost use Rattle.lt_cli.specs.Texts.{fault_line, fault_status, inputs_status, limit_line, line_of, program_status, refusal_status, row_status};
 
 use crate::Status;
 use crate::config_line::config_line;
 use crate::inputs_line::inputs_line;
+use crate::observer_line::observer_line;
 use crate::place_line::place_line;
 use crate::schedule_line::{offence_line, row_line};
 use crate::timing_line::timing_line;
@@ -12,8 +14,10 @@ use lt_base::{List, Memory};
 use lt_front::ProgramFault;
 use lt_inputs::InputKind;
 use lt_load::{CommandFault, What};
+use lt_past::ObserverFault;
 use lt_rows::RowFault;
 use lt_texts::program_line;
+use lt_watch::WatchFault;
 use std::alloc::Global;
 
 /// Why a command is refused.
@@ -23,6 +27,10 @@ pub enum Refusal {
     Words,
     /// The command's files are at fault, or a call on them failed.
     Command(CommandFault),
+    /// The file of an observer has more than 65,536 bytes.
+    ObserverBytes,
+    /// The observer is at fault.
+    Observer(ObserverFault),
 }
 
 impl Refusal {
@@ -33,6 +41,8 @@ impl Refusal {
         match self {
             Refusal::Words => Status::Words,
             Refusal::Command(fault) => fault_status(fault),
+            Refusal::ObserverBytes => Status::Limit,
+            Refusal::Observer(_) => Status::Observer,
         }
     }
 
@@ -44,11 +54,24 @@ impl Refusal {
             Refusal::Words => {
                 List::from_slice(
                     alloc,
-                    b"words: usage: ltta check P [C] | meaning P I | run P I S [C] | plan C [--horizon H]",
+                    b"words: usage: ltta check P [C] | meaning P I | run P I S [C] | plan C [--horizon H] | sim P I C --seed N --horizon H | watch P I S O [C] | audit P I S C | trace P I S C [--node NAME] [--from T] [--to T]",
                 )
             }
             Refusal::Command(fault) => fault_line(alloc, fault),
+            Refusal::ObserverBytes => List::from_slice(alloc, b"limit: observer bytes 65536"),
+            Refusal::Observer(fault) => observer_line(alloc, *fault),
         }
+    }
+}
+
+/// Why a watched run is refused, as a refusal.
+pub(crate) fn watch_refusal(fault: WatchFault) -> Refusal
+    ensures { result ≡ watch_refusal fault }
+{
+    match fault {
+        WatchFault::Command(fault) => Refusal::Command(fault),
+        WatchFault::ObserverBytes => Refusal::ObserverBytes,
+        WatchFault::Observer(fault) => Refusal::Observer(fault),
     }
 }
 

@@ -92,7 +92,8 @@ fn append_node(line: &mut List<u8>, shape: &Shape, node: u32) -> Result<(), Memo
     append_name(line, shape, node)
 }
 
-fn append_name(line: &mut List<u8>, shape: &Shape, node: u32) -> Result<(), Memory>
+/// Appends a node's name.
+pub(crate) fn append_name(line: &mut List<u8>, shape: &Shape, node: u32) -> Result<(), Memory>
     ensures { OnOk result (line.new ≡ line.old ++ node_name shape.now node) }
 {
     match shape.nodes.as_slice().get(node as usize) {
@@ -101,8 +102,8 @@ fn append_name(line: &mut List<u8>, shape: &Shape, node: u32) -> Result<(), Memo
     }
 }
 
-// Appends a space, the channel's kind, a space and its ends.
-fn append_channel(line: &mut List<u8>, shape: &Shape, channel: u32) -> Result<(), Memory>
+/// Appends a space, the channel's kind, a space and its ends.
+pub(crate) fn append_channel(line: &mut List<u8>, shape: &Shape, channel: u32) -> Result<(), Memory>
     ensures { OnOk result (line.new ≡ line.old ++ channel_text shape.now channel) }
 {
     match shape.channels.as_slice().get(channel as usize) {

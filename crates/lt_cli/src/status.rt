@@ -24,6 +24,8 @@ pub enum Status {
     Limit,
     /// No memory was found.
     Memory,
+    /// The observer is at fault.
+    Observer,
 }
 
 impl Status {
@@ -44,6 +46,7 @@ impl Status {
             Status::Write => 7,
             Status::Limit => 8,
             Status::Memory => 9,
+            Status::Observer => 10,
         }
     }
 }

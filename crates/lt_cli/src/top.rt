@@ -2,18 +2,25 @@
 ghost use Rattle.std.specs.Prelude.{◌≡◌, ◌<◌, ◌-◌, ◌^◌, ◌++◌, ◌∷◌, [], IfOk, map, string_bytes};
 ghost use Rattle.lt_cli.specs.Clauses.{Performs};
 ghost use Rattle.lt_cli.specs.Objects.{Objects};
-ghost use Rattle.lt_cli.specs.Asked.{Asked};
+ghost use Rattle.lt_words.specs.Reading.{said_of};
+ghost use Rattle.lt_words.specs.Ranges.{HasRanges};
+ghost use Rattle.lt_cli.specs.Asked.{Asked, Finishes, ObeysCommand};
 ghost use Rattle.lt_cli.specs.Texts.{refusal_status, line_of};
 ghost use Rattle.lt_cli.specs.Written.{Written};
 
-use crate::answer::answer;
+use crate::answer::{
+    audit_answer, check_answer, meaning_answer, plan_answer, run_answer, trace_answer, watch_answer,
+};
+use crate::drawing::draw;
 use crate::{Refusal, Status};
 use lt_base::{List, Memory, Or};
 use lt_io::{Fabric, Files, Sink, SinkErr, write_all};
+use lt_load::load_plain;
+use lt_words::{Command, read_words};
 use std::alloc::Global;
 
 /// Does what the words say: reads the files that they name, and writes a text to `out` or a refusal's line to `err`.
-/// A run opens the channels of its nodes on the fabric, which is empty before, and sends its messages there. No other
+/// A run, watched or not, opens the channels of its nodes on the fabric, which is empty before, and sends its messages there. No other
 /// command touches it.
 pub fn ltta<F: Files, W: Fabric, O: Sink, E: Sink>(
     alloc: Global,
@@ -52,7 +59,114 @@ fn perform<F: Files, W: Fabric, O: Sink, E: Sink>(
         let new : Objects = record { files = F.state files.new; fabric = W.state fabric.new; out = O.state out.new; err = E.state err.new } in
         Asked (map string_bytes words.now) old new result }
 {
-    match answer(alloc, words, files, fabric) {
+    match read_words(alloc, words) {
+        Ok(Some(command)) => obey(alloc, command, files, fabric, out, err),
+        Ok(None) => refuse(alloc, err, &Refusal::Words),
+        Err(_) => Status::Memory,
+    }
+}
+
+// Does what a command says.
+fn obey<F: Files, W: Fabric, O: Sink, E: Sink>(
+    alloc: Global,
+    command: Command<'_>,
+    files: &mut F,
+    fabric: &mut W,
+    out: &mut O,
+    err: &mut E,
+) -> Status
+    requires files { (F.state files.old).faults < 2 ^ 64 - 1 }
+    requires fabric { (W.state fabric.old).faults < 2 ^ 64 - 1 }
+    requires empty { (W.state fabric.old).kinds ≡ [] }
+    requires out { (O.state out.old).faults < 2 ^ 64 - 1 }
+    requires err { (E.state err.old).faults < 2 ^ 64 - 1 }
+    requires ranges { HasRanges command }
+    ensures { let old : Objects = record { files = F.state files.old; fabric = W.state fabric.old; out = O.state out.old; err = E.state err.old } in
+        let new : Objects = record { files = F.state files.new; fabric = W.state fabric.new; out = O.state out.new; err = E.state err.new } in
+        ObeysCommand (said_of command.entry) old new result }
+{
+    match command {
+        Command::Check { program, config } => {
+            let answer = check_answer(alloc, files, program, config);
+            finish(alloc, out, err, answer)
+        }
+        Command::Meaning { program, inputs } => {
+            let answer = meaning_answer(alloc, files, program, inputs);
+            finish(alloc, out, err, answer)
+        }
+        Command::Run {
+            program,
+            inputs,
+            schedule,
+            config,
+        } => {
+            let answer = run_answer(alloc, files, fabric, program, inputs, schedule, config);
+            finish(alloc, out, err, answer)
+        }
+        Command::Plan { config, horizon } => {
+            let answer = plan_answer(alloc, files, config, horizon);
+            finish(alloc, out, err, answer)
+        }
+        Command::Sim {
+            program,
+            inputs,
+            config,
+            seed,
+            horizon,
+        } => {
+            let loaded = load_plain(alloc, files, program, inputs, config);
+            draw(alloc, out, err, loaded, seed, horizon)
+        }
+        Command::Watch {
+            program,
+            inputs,
+            schedule,
+            observer,
+            config,
+        } => {
+            let answer = watch_answer(
+                alloc, files, fabric, program, inputs, schedule, observer, config,
+            );
+            finish(alloc, out, err, answer)
+        }
+        Command::Audit {
+            program,
+            inputs,
+            schedule,
+            config,
+        } => {
+            let answer = audit_answer(alloc, files, program, inputs, schedule, config);
+            finish(alloc, out, err, answer)
+        }
+        Command::Trace {
+            program,
+            inputs,
+            schedule,
+            config,
+            node,
+            from,
+            to,
+        } => {
+            let answer = trace_answer(
+                alloc, files, program, inputs, schedule, config, node, from, to,
+            );
+            finish(alloc, out, err, answer)
+        }
+    }
+}
+
+// Writes an answer's text to `out`, or the line of its refusal to `err`.
+fn finish<O: Sink, E: Sink>(
+    alloc: Global,
+    out: &mut O,
+    err: &mut E,
+    answer: Result<List<u8>, Or<Refusal>>,
+) -> Status
+    requires out { (O.state out.old).faults < 2 ^ 64 - 1 }
+    requires err { (E.state err.old).faults < 2 ^ 64 - 1 }
+    ensures { Finishes answer (O.state out.old) (O.state out.new) (E.state err.old) (E.state err.new) result }
+{
+    match answer {
         Ok(text) => print(out, &text),
         Err(Or::Fault(refusal)) => refuse(alloc, err, &refusal),
         Err(Or::Memory) => Status::Memory,
@@ -70,7 +184,8 @@ fn print<O: Sink>(out: &mut O, text: &List<u8>) -> Status
     }
 }
 
-fn refuse<E: Sink>(alloc: Global, err: &mut E, refusal: &Refusal) -> Status
+/// Writes a refusal's line to `err`.
+pub(crate) fn refuse<E: Sink>(alloc: Global, err: &mut E, refusal: &Refusal) -> Status
     requires { (E.state err.old).faults < 2 ^ 64 - 1 }
     ensures { Written (refusal_status refusal.now) (line_of refusal.now ++ 10 ∷ []) (E.state err.old) (E.state err.new) result }
 {

@@ -8,13 +8,14 @@ use lt_cli::{Status, ltta};
 use lt_io::{Fabric, MemFabric, MemFile, MemFiles, MemSink};
 use std::alloc::Global;
 
-/// The contents of the files `p`, `i`, `s` and `c`, as scripts have them.
+/// The contents of the files `p`, `i`, `s`, `c` and `o`, as scripts have them.
 #[derive(Clone, Copy)]
 pub struct Texts<'a> {
     pub program: &'a str,
     pub inputs: &'a str,
     pub schedule: &'a str,
     pub setup: &'a str,
+    pub observer: &'a str,
 }
 
 /// The sum of what came before, on three rows, along a schedule with three activations.
@@ -23,6 +24,7 @@ pub const COUNTING: Texts = Texts {
     inputs: "instant,x/0,1/1,2/2,3/",
     schedule: "time,event,place/0,act,all/4,act,all/8,act,all/12,end,/",
     setup: "protocol = 'backpressure'/period = [1, 1000]/delay = [0, 1000]/[nodes]/all = ['x', 'y']/",
+    observer: "",
 };
 
 /// Two nodes that read each other's last value, on three rows, along a schedule in which both execute an instant, send, and one
@@ -32,6 +34,7 @@ pub const ACROSS: Texts = Texts {
     inputs: "instant,x/0,1/1,1/2,1/",
     schedule: "time,event,place/0,act,a/0,act,b/3,ack,a>b/3,ack,b>a/10,act,a/10,act,b/12,data,a>b/12,data,b>a/20,act,a/20,end,",
     setup: "protocol = 'backpressure'/period = [9, 11]/delay = [1, 4]/[nodes]/a = ['x', 'u']/b = ['v']/",
+    observer: "",
 };
 
 /// Which calls are to fail; 0 for none.
@@ -86,6 +89,7 @@ fn files(alloc: Global, texts: Texts, fails: u64) -> Result<MemFiles, Memory>
         ("i", texts.inputs),
         ("s", texts.schedule),
         ("c", texts.setup),
+        ("o", texts.observer),
     ];
     let mut files = List::new(alloc);
     for (name, text) in named {

@@ -21,3 +21,5 @@ mod setups;
 mod streams;
 #[cfg(test)]
 mod texts;
+#[cfg(test)]
+mod views;

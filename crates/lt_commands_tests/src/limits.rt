@@ -20,6 +20,9 @@ c {262144*/}
 i {67108865*/}
 > meaning p i
 8 limit: inputs bytes 67108864/
+i {67108864*/}
+> meaning p i
+4 inputs 2 Header at row 0/
 i instant,x/0,1/1,2/2,3/
 s {1073741825*/}
 > run p i s
@@ -71,6 +74,13 @@ p node f0(a: int) returns (b: int) let b = a; tel {11*node f@(a: int) returns (b
 p node f0(a: int) returns (b: int) let b = a{127* + a}; tel {10*node f@(a: int) returns (b: int) let b = f#(a) + f#(a); tel }node main(x: int) returns (y: int) let y = f10(x); tel
 > check p
 8 limit: parts 262144/
+- as many parts as there may be, and one more
+p node f0(a: int) returns (b: int) let b = a{125* + a}; tel {10*node f@(a: int) returns (b: int) let b = f#(a) + f#(a); tel }node main(x: int) returns (y: int) let y = -f10(x) + x; tel
+> check p
+0 node f0(a: int) returns (b: int)/let/  b = a{125* + a};/tel/{10*node f@(a: int) returns (b: int)/let/  b = f#(a) + f#(a);/tel/}node main(x: int) returns (y: int)/let/  y = -f10(x) + x;/tel/
+p node f0(a: int) returns (b: int) let b = a{125* + a}; tel {10*node f@(a: int) returns (b: int) let b = f#(a) + f#(a); tel }node main(x: int) returns (y: int) let y = -f10(x) + -x; tel
+> check p
+8 limit: parts 262144/
 - the height of an expression, and the place of its two hundredth parenthesis or sign
 p node main(x: int) returns (y: int) let y = {199*(}x{199*)}; tel
 > check p
@@ -84,6 +94,31 @@ p node main(x: int) returns (y: int) let y = x{199* + x}; tel
 p node main(x: int) returns (y: int) let y = x{200* + x}; tel
 > check p
 2 syntax 4 TooDeep at byte 841/
+- the same through calls, delays, starts and a merge
+p node f(a: int) returns (b: int) let b = a; tel node main(x: int) returns (y: int) let y = {199*f(}x{199*)}; tel
+> check p
+0 node f(a: int) returns (b: int)/let/  b = a;/tel/node main(x: int) returns (y: int)/let/  y = {199*f(}x{199*)};/tel/
+p node f(a: int) returns (b: int) let b = a; tel node main(x: int) returns (y: int) let y = {200*f(}x{200*)}; tel
+> check p
+2 syntax 4 TooDeep at byte 489/
+p node main(x: int) returns (y: int) let y = {199*0 fby }x; tel
+> check p
+0 node main(x: int) returns (y: int)/let/  y = {199*0 fby }x;/tel/
+p node main(x: int) returns (y: int) let y = {200*0 fby }x; tel
+> check p
+2 syntax 4 TooDeep at byte 1239/
+p node main(x: int) returns (y: int) let y = {199*x -> }x; tel
+> check p
+0 node main(x: int) returns (y: int)/let/  y = {199*x -> }x;/tel/
+p node main(x: int) returns (y: int) let y = {200*x -> }x; tel
+> check p
+2 syntax 4 TooDeep at byte 1040/
+p node main(c: bool) returns (y: int) let y = merge c (1{197* + 1}) 0; tel
+> check p
+0 node main(c: bool) returns (y: int)/let/  y = merge c (1{197* + 1}) 0;/tel/
+p node main(c: bool) returns (y: int) let y = merge c (1{198* + 1}) 0; tel
+> check p
+2 syntax 4 TooDeep at byte 843/
 - nodes
 p node main(x: int) returns (y: int) let y = x; tel
 c protocol = 'backpressure'/period = [9, 11]/delay = [1, 4]/[nodes]/a = ['x', 'y']/{31*n# = []/}
@@ -100,10 +135,30 @@ i instant,x/{100001*#,1/}
 8 limit: input rows 100000/
 > run p i s
 8 limit: input rows 100000/
+- as many rows as there may be
+p node main(x: int) returns (y: int) let y = x; tel
+i instant,x/{100000*#,1/}
+> meaning p i
+0 y:{100000* 1}/
+- as many cells as a meaning may have, and more
+p node main(x: int) returns (y: int) var {158*v#: int; }let y = x; {158*v# = x; }tel
+> meaning p i
+0 y:{100000* 1}/
+p node main(x: int) returns (y: int) var {159*v#: int; }let y = x; {159*v# = x; }tel
+> meaning p i
+8 limit: meaning cells 16000000/
 - an activation at each tick
+p node main(x: int) returns (y: int) let y = 0 fby (y + x); tel
 i instant,x/0,1/1,2/2,3/
+s time,event,place/{4999999*#,act,all/}4999999,end,/
+> run p i s
+0 y: 0 1 3/
 s time,event,place/{5000001*#,act,all/}
 > run p i s
+8 limit: events 5000000/
+- a schedule that is drawn with more events than there may be
+c protocol = 'backpressure'/period = [1, 1]/delay = [0, 0]/[nodes]/all = ['x', 'y']/
+> sim p i c --seed 1 --horizon 5000000
 8 limit: events 5000000/
 - a meaning has a limit on its cells; a run makes a step for each instant that is executed, whatever the rows are
 p node f0(a: int) returns (b: int) let b = a; tel {10*node f@(a: int) returns (b: int) let b = f#(a) + f#(a); tel }node main(x: int) returns (y: int) let y = f10(x); tel

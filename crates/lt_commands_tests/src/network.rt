@@ -88,6 +88,32 @@ s time,event,place/0,act,a/3,ack,a>b/
 5 schedule 4 UnknownPlace at row 2/
 ";
 
+const LEADER: &str = "\
+- the same with a as the leader: b sends when it finds a's message
+p node main(x: int) returns (u: int; v: int) let u = x + (0 fby v); v = 10 + (0 fby u); tel
+i instant,x/0,1/1,1/2,1/
+c protocol = 'leader'/leader = 'a'/period = [9, 11]/delay = [1, 4]/send = 5/execute = 3/[nodes]/a = ['x', 'u']/b = ['v']/
+s time,event,place/0,act,a/9,act,a/11,act,b/18,act,a/22,act,b/27,act,a/33,act,b/36,act,a/44,act,b/45,act,a/46,data,a>b/54,act,a/55,act,b/56,data,b>a/63,act,a/66,act,b/72,act,a/72,end,/
+> run p i s c
+0 u: 1 11/v: 10/
+> check p c
+0 node main(x: int) returns (u: int; v: int)/let/  u = x + (0 fby v);/  v = 10 + (0 fby u);/tel/
+- with b as the leader a has not sent at its countdown
+c protocol = 'leader'/leader = 'b'/period = [9, 11]/delay = [1, 4]/send = 5/execute = 3/[nodes]/a = ['x', 'u']/b = ['v']/
+> run p i s c
+5 schedule offence at event 11: NothingSent data a>b/
+- there is a channel from the leader to every node, and else only where something crosses
+p node main(x: int) returns (u: int; v: int; w: int) let u = x + (0 fby v); v = 10 + (0 fby u); w = 0 fby u; tel
+c protocol = 'leader'/leader = 'a'/period = [9, 11]/delay = [1, 4]/send = 5/execute = 3/[nodes]/a = ['x', 'u']/b = ['v']/c = ['w']/
+s time,event,place/0,data,b>c/0,end,/
+> run p i s c
+5 schedule 4 UnknownPlace at row 1/
+- the leader's timing has to be accepted
+c protocol = 'leader'/leader = 'a'/period = [9, 11]/delay = [1, 4]/send = 2/execute = 3/[nodes]/a = ['x', 'u']/b = ['v']/c = ['w']/
+> run p i s c
+3 timing 2 Send: 46 is not above 48/
+";
+
 const CRUISE: &str = "\
 - the cruise controller of the examples on its four nodes
 p node limit(v: int) returns (r: int) let r = max(0, min(v, 100)); tel node main(speed: int; button: bool) returns (on: bool; gap: int when act; throttle: int) var was: bool; act: bool; seen: int; target: int when act; cmd: int; let was = false fby button; on = (false fby on) xor (button and not was); act = false fby on; seen = 0 fby speed; target = 60; gap = target - (seen when act); cmd = merge act (limit(gap + (0 fby gap))) 0; throttle = 0 fby cmd; tel
@@ -103,6 +129,7 @@ fn runs_on_nodes(rt: HostRuntime) -> Result<(), Fail> {
     holds(&rt, rt.alloc(), BACK_PRESSURE)?;
     holds(&rt, rt.alloc(), OFFENCES)?;
     holds(&rt, rt.alloc(), TIME_BASED)?;
+    holds(&rt, rt.alloc(), LEADER)?;
     holds(&rt, rt.alloc(), CRUISE)?;
     Ok(())
 }

@@ -5,21 +5,31 @@ use std::test::Fail;
 
 const WORDS: &str = "\
 > run p i
-1 words: usage: ltta check P [C] | meaning P I | run P I S [C] | plan C [--horizon H]/
+1 words: usage: ltta check P [C] | meaning P I | run P I S [C] | plan C [--horizon H] | sim P I C --seed N --horizon H | watch P I S O [C] | audit P I S C | trace P I S C [--node NAME] [--from T] [--to T]/
 > check p c c
-1 words: usage: ltta check P [C] | meaning P I | run P I S [C] | plan C [--horizon H]/
+1 words: usage: ltta check P [C] | meaning P I | run P I S [C] | plan C [--horizon H] | sim P I C --seed N --horizon H | watch P I S O [C] | audit P I S C | trace P I S C [--node NAME] [--from T] [--to T]/
 > meaning p
-1 words: usage: ltta check P [C] | meaning P I | run P I S [C] | plan C [--horizon H]/
+1 words: usage: ltta check P [C] | meaning P I | run P I S [C] | plan C [--horizon H] | sim P I C --seed N --horizon H | watch P I S O [C] | audit P I S C | trace P I S C [--node NAME] [--from T] [--to T]/
 > run p i s c c
-1 words: usage: ltta check P [C] | meaning P I | run P I S [C] | plan C [--horizon H]/
+1 words: usage: ltta check P [C] | meaning P I | run P I S [C] | plan C [--horizon H] | sim P I C --seed N --horizon H | watch P I S O [C] | audit P I S C | trace P I S C [--node NAME] [--from T] [--to T]/
 > plan
-1 words: usage: ltta check P [C] | meaning P I | run P I S [C] | plan C [--horizon H]/
+1 words: usage: ltta check P [C] | meaning P I | run P I S [C] | plan C [--horizon H] | sim P I C --seed N --horizon H | watch P I S O [C] | audit P I S C | trace P I S C [--node NAME] [--from T] [--to T]/
 > plan c --horizon -1
-1 words: usage: ltta check P [C] | meaning P I | run P I S [C] | plan C [--horizon H]/
+1 words: usage: ltta check P [C] | meaning P I | run P I S [C] | plan C [--horizon H] | sim P I C --seed N --horizon H | watch P I S O [C] | audit P I S C | trace P I S C [--node NAME] [--from T] [--to T]/
+> sim p i c --seed 0
+1 words: usage: ltta check P [C] | meaning P I | run P I S [C] | plan C [--horizon H] | sim P I C --seed N --horizon H | watch P I S O [C] | audit P I S C | trace P I S C [--node NAME] [--from T] [--to T]/
+> sim p i c --seed 18446744073709551616 --horizon 7
+1 words: usage: ltta check P [C] | meaning P I | run P I S [C] | plan C [--horizon H] | sim P I C --seed N --horizon H | watch P I S O [C] | audit P I S C | trace P I S C [--node NAME] [--from T] [--to T]/
+> watch p i s
+1 words: usage: ltta check P [C] | meaning P I | run P I S [C] | plan C [--horizon H] | sim P I C --seed N --horizon H | watch P I S O [C] | audit P I S C | trace P I S C [--node NAME] [--from T] [--to T]/
+> audit p i s
+1 words: usage: ltta check P [C] | meaning P I | run P I S [C] | plan C [--horizon H] | sim P I C --seed N --horizon H | watch P I S O [C] | audit P I S C | trace P I S C [--node NAME] [--from T] [--to T]/
+> trace p i s c --to 1000000000000001
+1 words: usage: ltta check P [C] | meaning P I | run P I S [C] | plan C [--horizon H] | sim P I C --seed N --horizon H | watch P I S O [C] | audit P I S C | trace P I S C [--node NAME] [--from T] [--to T]/
 > walk p i s
-1 words: usage: ltta check P [C] | meaning P I | run P I S [C] | plan C [--horizon H]/
+1 words: usage: ltta check P [C] | meaning P I | run P I S [C] | plan C [--horizon H] | sim P I C --seed N --horizon H | watch P I S O [C] | audit P I S C | trace P I S C [--node NAME] [--from T] [--to T]/
 > help
-1 words: usage: ltta check P [C] | meaning P I | run P I S [C] | plan C [--horizon H]/
+1 words: usage: ltta check P [C] | meaning P I | run P I S [C] | plan C [--horizon H] | sim P I C --seed N --horizon H | watch P I S O [C] | audit P I S C | trace P I S C [--node NAME] [--from T] [--to T]/
 ";
 
 const FILES: &str = "\
@@ -39,6 +49,14 @@ const FILES: &str = "\
 > run p i q
 6 fault: read/
 > plan q
+6 fault: read/
+> sim p i q --seed 0 --horizon 7
+6 fault: read/
+> watch p i s q
+6 fault: read/
+> audit p i q c
+6 fault: read/
+> trace p i s q
 6 fault: read/
 - a setup before the inputs, and the inputs before a schedule
 i instant,y/
@@ -103,8 +121,14 @@ s time,event,place/0,data,all>all/4,act,all/12,end,/
 s time,event/0,act,all/4,act,all/12,end,/
 > run p i s
 5 schedule 5 NotCsv at row 0/
-- a line that is too long
-s time,event,place/{4097*x}
+- the greatest time, and the longest line, in which the time has zeros before it
+s time,event,place/1000000000000000,act,all/
+> run p i s
+5 schedule offence at event 1: NodeOverdue all/
+s time,event,place/{4088*0},act,all/4,act,all/12,end,/
+> run p i s
+0 y: 0/
+s time,event,place/{4089*0},act,all/4,act,all/12,end,/
 > run p i s
 5 schedule 5 NotCsv at row 1/
 - the first deadline is the horizon

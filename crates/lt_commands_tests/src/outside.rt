@@ -82,12 +82,21 @@ fn a_message_without_memory_ends_it(rt: HostRuntime) -> Result<(), Fail> {
     Ok(())
 }
 
+// A text and a line are taken at one write.
 #[test]
 fn a_failed_write_ends_it(rt: HostRuntime) -> Result<(), Fail> {
+    let soon = Texts {
+        schedule: "time,event,place/5,act,all/5,act,all/6,end,/",
+        ..COUNTING
+    };
     let failing_out = Fails { out: 1, ..NONE };
     let failing_err = Fails { err: 1, ..NONE };
-    for (line, fails) in [("run p i s", failing_out), ("run", failing_err)] {
-        let ended = call(rt.alloc(), line, COUNTING, fails)?;
+    for (line, texts, fails) in [
+        ("run p i s c", ACROSS, failing_out),
+        ("run p i s", soon, failing_err),
+        ("run", COUNTING, failing_err),
+    ] {
+        let ended = call(rt.alloc(), line, texts, fails)?;
         assert_eq!(rt; ended.status, Status::Write, "{line}");
         assert_eq!(rt; ended.out.as_slice(), b"".as_slice());
         assert_eq!(rt; ended.err.as_slice(), b"".as_slice());

@@ -1,7 +1,7 @@
 // Scripts of calls.
 //
-// A line `p TEXT`, `i TEXT`, `s TEXT` or `c TEXT` says what that file holds from there on; at first the files are those of
-// the counter. A line `> WORDS` is a call, and the line below it has the status and what is written: with status 0 to
+// A line `p TEXT`, `i TEXT`, `s TEXT`, `c TEXT` or `o TEXT` says what that file holds from there on; at first the files are
+// those of the counter. A line `> WORDS` is a call, and the line below it has the status and what is written: with status 0 to
 // `out`, else to `err`. A line `- WORDS` says what is shown.
 
 use crate::calls::{COUNTING, NONE, Texts, call};
@@ -25,6 +25,8 @@ pub fn holds<R: Abort>(rt: &R, alloc: Global, script: &str) -> Result<(), Memory
             texts.schedule = text;
         } else if key == "c" {
             texts.setup = text;
+        } else if key == "o" {
+            texts.observer = text;
         } else if key == ">" {
             words = text;
         } else if key != "-" && key != "" {

@@ -8,4 +8,5 @@ pub mod GoodNodes
 pub mod Ascending
 pub mod Pairs
 pub mod Told
+pub mod Leaders
 pub mod OneSetup

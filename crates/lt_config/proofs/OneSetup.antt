@@ -18,6 +18,7 @@ use Rattle.lt_place.specs.declared.placement.Placement.TheVariants.{All as Every
 use Rattle.lt_config.specs.declared.config.Config.{Config}
 use Rattle.lt_config.specs.declared.pace.Pace.{Pace}
 use Rattle.lt_config.specs.declared.limits.TheConstants.{MOST_NODES}
+use Rattle.lt_config.specs.Paced.{FitsPace}
 use Rattle.lt_config.specs.Setup.{NodeNumbers, PairNumbers, Setup}
 use Rattle.lt_config.specs.Reading.{numbers_of, delays_of, placed_of, setup_in}
 use denote.Struct.Props.{props}
@@ -116,17 +117,17 @@ abbrev parts_of : Config → Parts
 parts_of c = record { timing = c.timing; placement = c.placement; mixed = c.mixed; pace = c.pace }
 
 abbrev PartsFacts : Parts → Type 0
-PartsFacts s = (length s.timing.nodes ≡ length (node_names s.placement)) × (length s.timing.nodes ≤ MOST_NODES)
+PartsFacts s = (length s.timing.nodes ≡ length (node_names s.placement)) × (length s.timing.nodes ≤ MOST_NODES) × FitsPace s.pace s.timing
 
 abbrev config_made : (s : Parts) → PartsFacts s → Config
-config_made s f = record { timing = s.timing; placement = s.placement; mixed = s.mixed; pace = s.pace; same_nodes = f.0; few = f.1 }
+config_made s f = record { timing = s.timing; placement = s.placement; mixed = s.mixed; pace = s.pace; same_nodes = f.0; few = f.1; paced = f.2 }
 
 parts_facts : (s : Parts) → IsProp (PartsFacts s)
 parts_facts s = hlevel props
 
 one_of_parts : (a b : Config) → parts_of a ≡ parts_of b → a ≡ b
 one_of_parts a b e =
-    subst (λ s. (q : PartsFacts s) → a ≡ config_made s q) e (λ q. ap (config_made (parts_of a)) (parts_facts (parts_of a) (a.same_nodes, a.few) q)) (b.same_nodes, b.few)
+    subst (λ s. (q : PartsFacts s) → a ≡ config_made s q) e (λ q. ap (config_made (parts_of a)) (parts_facts (parts_of a) (a.same_nodes, a.few, a.paced) q)) (b.same_nodes, b.few, b.paced)
 
 -- two values that say the same are equal
 pub one_setup : (a b : Config) → setup_in a ≡ setup_in b → a ≡ b

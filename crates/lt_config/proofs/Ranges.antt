@@ -1,5 +1,5 @@
 -- The numbers of a setup are in range.
-use Rattle.std.proofs.Common.{◌≡◌, ◌≤◌, max, ℕ, ℤ, pos, negsuc, Bool, true, false, not, ◌&&◌, List, Option, Some, None, Ordering, Less, Equal, Greater, refl, sym, ap, subst, ◌∙◌, arith, nat_le}
+use Rattle.std.proofs.Common.{◌≡◌, ◌≤◌, max, ℕ, ℤ, pos, negsuc, Bool, true, false, not, if◌then◌else◌, ◌&&◌, List, Option, Some, None, Ordering, Less, Equal, Greater, refl, sym, ap, subst, ◌∙◌, arith, nat_le}
 use Rattle.std.proofs.lemmas.Bool.{and_parts, false≢true}
 use Rattle.std.specs.Prelude.{option_and_then}
 use Rattle.std.specs.Option.{option_map_or}
@@ -11,7 +11,7 @@ use Rattle.lt_config.specs.declared.keys.Key.TheVariants.{Period, Delay, Send, E
 use Rattle.lt_config.specs.Keys.{value_at, table_at}
 use Rattle.lt_config.specs.Values.{pair_of, all_values, is_table_of, is_between, is_at_most, is_bounds, is_period, is_delay, is_countdown}
 use Rattle.lt_config.specs.Faults.{or_else}
-use Rattle.lt_config.specs.Setup.{natural, naturals, bounds_of, countdown_of, period_of, delay_of, send_of, execute_of, greatest_upper, most_delay}
+use Rattle.lt_config.specs.Setup.{natural, naturals, bounds_of, countdown_of, period_of, delay_of, send_of, execute_of, follows, paced_send, greatest_upper, most_delay}
 use Rattle.lt_config.proofs.NoFault.{NoFault, there, inside, not_false}
 
 -- ---- one value
@@ -97,6 +97,14 @@ module _ (t : Members) (good : NoFault t) (name : List ℕ) where
 
   pub send_good : IsGood (send_of t name)
   send_good = own_counts name (value_at t Sends) (value_at t Send) _ (good.outside Sends) (good.outside Send) refl
+
+  -- the greatest countdown is in range too
+  pub paced_good : IsGood (paced_send t name)
+  paced_good = by (follows t name)
+    where
+      by : (b : Bool) → IsGood (if b then GREATEST_COUNTDOWN else send_of t name)
+      by true = (omega arith, omega arith)
+      by false = send_good
 
   pub execute_good : IsGood (execute_of t name)
   execute_good = own_counts name (value_at t Executes) (value_at t Execute) _ (good.outside Executes) (good.outside Execute) refl

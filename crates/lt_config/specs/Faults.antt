@@ -6,25 +6,37 @@ use Rattle.std.specs.Str.{bytes_eq}
 use Rattle.toml.specs.Data.{Members, no_members, member, as_str}
 use Rattle.lt_arch.specs.Names.{is_identifier}
 use Rattle.lt_config.specs.declared.keys.Key.{Key}
-use Rattle.lt_config.specs.declared.keys.Key.TheVariants.{Protocol, Period, Delay, Send, Execute, Nodes, Periods, Delays, Sends, Executes}
+use Rattle.lt_config.specs.declared.keys.Key.TheVariants.{Protocol, Period, Delay, Send, Execute, Leader, Nodes, Periods, Delays, Sends, Executes}
 use Rattle.lt_config.specs.declared.fault.ConfigKind.{ConfigKind}
 use Rattle.lt_config.specs.declared.fault.ConfigKind.TheVariants.{Missing, WrongKind, UnknownKey, OutOfRange, BadName}
 use Rattle.lt_config.specs.declared.fault.ConfigFault.{ConfigFault}
 use Rattle.lt_config.specs.Keys.{keys, tables, key_text, value_at, table_at, entry_at}
-use Rattle.lt_config.specs.Values.{has_kind, in_range}
+use Rattle.lt_config.specs.Values.{has_kind, is_node, in_range}
 
 -- ---- a key with a fault
 
-abbrev pub is_time_based : Members → Bool
-is_time_based t = option_map_or (λ text. bytes_eq text (codes "timebased")) (option_and_then as_str (value_at t Protocol)) false
+-- the protocol is one in which a node leads
+abbrev pub says_leader : List ℕ → Bool
+says_leader text = bytes_eq text (codes "leader")
 
--- the plain keys are needed, the countdowns where the protocol is time-based
+abbrev pub is_led : Members → Bool
+is_led t = option_map_or says_leader (option_and_then as_str (value_at t Protocol)) false
+
+-- or one in which all nodes count their activations alike
+abbrev pub says_time : List ℕ → Bool
+says_time text = bytes_eq text (codes "timebased") || says_leader text
+
+abbrev pub is_time_based : Members → Bool
+is_time_based t = option_map_or says_time (option_and_then as_str (value_at t Protocol)) false
+
+-- the plain keys are needed, the countdowns where nodes count their activations, and the leader where one leads
 abbrev pub is_needed : Members → Key → Bool
 is_needed t Protocol = true
 is_needed t Period = true
 is_needed t Delay = true
 is_needed t Send = is_time_based t
 is_needed t Execute = is_time_based t
+is_needed t Leader = is_led t
 is_needed t Nodes = true
 is_needed t Periods = false
 is_needed t Delays = false
@@ -38,7 +50,7 @@ abbrev pub is_wrong : Members → Key → Bool
 is_wrong t key = option_map_or (λ d. not (has_kind key d)) (value_at t key) false
 
 abbrev pub is_outside : Members → Key → Bool
-is_outside t key = option_map_or (λ d. not (in_range key d)) (value_at t key) false
+is_outside t key = option_map_or (λ d. not (in_range t key d)) (value_at t key) false
 
 -- ---- a name with a fault
 
@@ -49,9 +61,6 @@ first_not p (member k d ms) = if p k then first_not p ms else Some k
 
 abbrev pub is_key : List ℕ → Bool
 is_key name = list_any (λ key. bytes_eq name (key_text key)) keys
-
-abbrev pub is_node : Members → (name : List ℕ) → Bool
-is_node t name = is_some (entry_at t Nodes name)
 
 -- at place i the name has a `>` between the names of two different nodes
 abbrev pub is_cut : Members → (name : List ℕ) → (i : ℕ) → Bool

@@ -1,4 +1,5 @@
 pub mod Limits
+pub mod Paced
 pub mod Keys
 pub mod Values
 pub mod Wanted

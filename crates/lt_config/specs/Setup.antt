@@ -1,19 +1,21 @@
 -- What the table of a setup says, where it has no fault.
-use Rattle.std.specs.Prelude.{ℕ, ◌++◌, max, Bool, List, [], ◌∷◌, length, map, Option, Some, is_some, option_and_then, unwrap_or, if◌then◌else◌, ℤ, pos, negsuc, slice_index_or}
+use Rattle.std.specs.Prelude.{ℕ, ◌++◌, ◌&&◌, max, not, position, Bool, false, List, [], ◌∷◌, length, map, Option, Some, is_some, option_and_then, unwrap_or, if◌then◌else◌, ℤ, pos, negsuc, slice_index_or}
 use Rattle.std.specs.List.{list_any}
 use Rattle.std.specs.Option.{option_map_or}
+use Rattle.std.specs.Str.{bytes_eq}
 use Rattle.toml.specs.Data.{Data, Items, no_items, item, Members, no_members, member, as_str, as_integer, as_array}
 use Rattle.lt_arch.specs.declared.timing.Protocol.{Protocol}
 use Rattle.lt_arch.specs.declared.timing.Protocol.TheVariants.{BackPressure, TimeBased}
 use Rattle.lt_arch.specs.Pairs.{ordered_pairs}
 use Rattle.lt_place.specs.declared.named.NamedNode.{NamedNode}
 use Rattle.lt_config.specs.declared.pace.Pace.{Pace}
-use Rattle.lt_config.specs.declared.pace.Pace.TheVariants.{Plain}
+use Rattle.lt_config.specs.declared.pace.Pace.TheVariants.{Plain, Leader as Led}
 use Rattle.lt_config.specs.declared.keys.Key.{Key}
-use Rattle.lt_config.specs.declared.keys.Key.TheVariants.{Period, Delay, Send, Execute, Nodes, Periods, Delays, Sends, Executes}
+use Rattle.lt_config.specs.declared.keys.Key.TheVariants.{Period, Delay, Send, Execute, Leader, Nodes, Periods, Delays, Sends, Executes}
+use Rattle.lt_config.specs.Limits.{greatest_countdown}
 use Rattle.lt_config.specs.Keys.{tables, value_at, table_at, entry_at}
 use Rattle.lt_config.specs.Values.{pair_of}
-use Rattle.lt_config.specs.Faults.{or_else, is_time_based}
+use Rattle.lt_config.specs.Faults.{or_else, is_led, is_time_based}
 
 -- the numbers of a node, and of an ordered pair of nodes
 pub record NodeNumbers : Type 0 where
@@ -75,8 +77,24 @@ send_of t node = countdown_of (own_or_plain t Sends Send node)
 abbrev pub execute_of : Members → (node : List ℕ) → ℕ
 execute_of t node = countdown_of (own_or_plain t Executes Execute node)
 
+-- the name at the key of the leader
+abbrev pub leader_name : Members → Option (List ℕ)
+leader_name t = option_and_then as_str (value_at t Leader)
+
+-- the node has this name
+abbrev pub has_name : (name : List ℕ) → NamedNode → Bool
+has_name name node = bytes_eq node.name name
+
+-- a node leads, and it is another one
+abbrev pub follows : Members → (node : List ℕ) → Bool
+follows t node = is_led t && not (option_map_or (λ name. bytes_eq node name) (leader_name t) false)
+
+-- a node that follows sends when it finds a message, and so long before its countdown ends
+abbrev pub paced_send : Members → (node : List ℕ) → ℕ
+paced_send t node = if follows t node then greatest_countdown else send_of t node
+
 abbrev pub node_numbers : Members → (node : List ℕ) → NodeNumbers
-node_numbers t node = record { tmin = (period_of t node).0; tmax = (period_of t node).1; send = send_of t node; execute = execute_of t node }
+node_numbers t node = record { tmin = (period_of t node).0; tmax = (period_of t node).1; send = paced_send t node; execute = execute_of t node }
 
 -- `a>b`
 abbrev pub pair_name : (a b : List ℕ) → List ℕ
@@ -123,6 +141,14 @@ names_of t = map (λ node. node.name) (nodes_of t)
 abbrev pub protocol_of : Members → Protocol
 protocol_of t = if is_time_based t then TimeBased else BackPressure
 
+-- the number of the node of a name
+abbrev pub number_of : List NamedNode → (name : List ℕ) → ℕ
+number_of nodes name = unwrap_or (position (has_name name) nodes) 0
+
+-- who paces the rounds
+abbrev pub pace_of : Members → Pace
+pace_of t = if is_led t then Led (option_map_or (number_of (nodes_of t)) (leader_name t) 0) else Plain
+
 abbrev pub is_mixed : Members → Bool
 is_mixed t = list_any (λ key. is_some (value_at t key)) tables
 
@@ -134,5 +160,5 @@ setup_of t = record {
   protocol = protocol_of t;
   placed = Some (nodes_of t);
   mixed = is_mixed t;
-  pace = Plain;
+  pace = pace_of t;
 }

@@ -5,7 +5,8 @@ use Rattle.std.specs.Str.{bytes_eq}
 use Rattle.toml.specs.Data.{Data, Items, no_items, item, Members, no_members, member, as_str, as_integer, as_array, as_table}
 use Rattle.lt_config.specs.Limits.{greatest_bound, greatest_countdown, most_nodes}
 use Rattle.lt_config.specs.declared.keys.Key.{Key}
-use Rattle.lt_config.specs.declared.keys.Key.TheVariants.{Protocol, Period, Delay, Send, Execute, Nodes, Periods, Delays, Sends, Executes}
+use Rattle.lt_config.specs.Keys.{entry_at}
+use Rattle.lt_config.specs.declared.keys.Key.TheVariants.{Protocol, Period, Delay, Send, Execute, Leader, Nodes, Periods, Delays, Sends, Executes}
 
 -- ---- the kinds of values
 
@@ -54,6 +55,7 @@ has_kind Period d = is_pair d
 has_kind Delay d = is_pair d
 has_kind Send d = is_integer d
 has_kind Execute d = is_integer d
+has_kind Leader d = is_some (as_str d)
 has_kind Nodes d = is_table_of is_texts d
 has_kind Periods d = is_table_of is_pair d
 has_kind Delays d = is_table_of is_pair d
@@ -88,7 +90,7 @@ abbrev pub is_countdown : Data → Bool
 is_countdown d = option_map_or (is_between 1 greatest_countdown) (as_integer d) false
 
 abbrev pub names_protocol : List ℕ → Bool
-names_protocol text = bytes_eq text (codes "backpressure") || bytes_eq text (codes "timebased")
+names_protocol text = bytes_eq text (codes "backpressure") || (bytes_eq text (codes "timebased") || bytes_eq text (codes "leader"))
 
 abbrev pub count_members : Members → ℕ
 count_members no_members = 0
@@ -98,15 +100,20 @@ count_members (member k d ms) = count_members ms + 1
 abbrev pub is_count_of_nodes : ℕ → Bool
 is_count_of_nodes n = nat_le 1 n && nat_le n most_nodes
 
--- a value in the range of a key, where it has the key's kind
-abbrev pub in_range : Key → Data → Bool
-in_range Protocol d = option_map_or names_protocol (as_str d) false
-in_range Period d = is_period d
-in_range Delay d = is_delay d
-in_range Send d = is_countdown d
-in_range Execute d = is_countdown d
-in_range Nodes d = option_map_or (λ nodes. is_count_of_nodes (count_members nodes)) (as_table d) false
-in_range Periods d = is_table_of is_period d
-in_range Delays d = is_table_of is_delay d
-in_range Sends d = is_table_of is_countdown d
-in_range Executes d = is_table_of is_countdown d
+-- the setup has a node of this name
+abbrev pub is_node : Members → (name : List ℕ) → Bool
+is_node t name = is_some (entry_at t Nodes name)
+
+-- a value in the range of a key of this setup, where it has the key's kind
+abbrev pub in_range : Members → Key → Data → Bool
+in_range t Protocol d = option_map_or names_protocol (as_str d) false
+in_range t Period d = is_period d
+in_range t Delay d = is_delay d
+in_range t Send d = is_countdown d
+in_range t Execute d = is_countdown d
+in_range t Leader d = option_map_or (is_node t) (as_str d) false
+in_range t Nodes d = option_map_or (λ nodes. is_count_of_nodes (count_members nodes)) (as_table d) false
+in_range t Periods d = is_table_of is_period d
+in_range t Delays d = is_table_of is_delay d
+in_range t Sends d = is_table_of is_countdown d
+in_range t Executes d = is_table_of is_countdown d

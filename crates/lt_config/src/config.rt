@@ -2,6 +2,7 @@
 ghost use Rattle.std.specs.Prelude.{◌≡◌, ◌≤◌, length};
 ghost use Rattle.lt_place.specs.Placement.{node_names};
 ghost use Rattle.lt_config.specs.declared.limits.TheConstants.{MOST_NODES};
+ghost use Rattle.lt_config.specs.Paced.{FitsPace};
 
 use crate::Pace;
 use lt_arch::Timing;
@@ -17,4 +18,5 @@ pub struct Config {
     pub pace: Pace,
     ghost same_nodes: { length timing.nodes ≡ length (node_names placement) },
     ghost few: { length timing.nodes ≤ MOST_NODES },
+    ghost paced: { FitsPace pace timing },
 }

@@ -4,7 +4,7 @@ ghost use Rattle.toml.specs.Data.{as_str};
 ghost use Rattle.toml.specs.View.{table_view};
 ghost use Rattle.lt_config.specs.Keys.{keys, value_at};
 ghost use Rattle.lt_config.specs.declared.keys.Key.TheVariants.{Protocol};
-ghost use Rattle.lt_config.specs.Faults.{is_time_based, is_needed, is_missing, is_wrong, is_outside, first_fault};
+ghost use Rattle.lt_config.specs.Faults.{says_time, is_led, is_time_based, is_needed, is_missing, is_wrong, is_outside, first_fault};
 ghost use Rattle.lt_config.specs.Judged.{Judged, IsFault};
 
 use crate::keys::{KEYS, Key, key_text, value_at};
@@ -24,12 +24,28 @@ fn protocol_text<'a>(table: &'a Table) -> Option<&'a str>
     }
 }
 
-/// Whether the protocol is the time-based one.
+/// Whether the protocol is the one in which a node leads.
+pub fn is_led(table: &Table) -> bool
+    ensures { result ≡ is_led (table_view table.now) }
+{
+    match protocol_text(table) {
+        Some(text) => text == "leader",
+        None => false,
+    }
+}
+
+fn says_time(text: &str) -> bool
+    ensures { result ≡ says_time text.now }
+{
+    text == "timebased" || text == "leader"
+}
+
+/// Whether nodes count their activations.
 pub fn is_time_based(table: &Table) -> bool
     ensures { result ≡ is_time_based (table_view table.now) }
 {
     match protocol_text(table) {
-        Some(text) => text == "timebased",
+        Some(text) => says_time(text),
         None => false,
     }
 }
@@ -40,6 +56,7 @@ fn is_needed(table: &Table, key: Key) -> bool
     match key {
         Key::Protocol | Key::Period | Key::Delay | Key::Nodes => true,
         Key::Send | Key::Execute => is_time_based(table),
+        Key::Leader => is_led(table),
         Key::Periods | Key::Delays | Key::Sends | Key::Executes => false,
     }
 }
@@ -63,7 +80,7 @@ fn is_outside(table: &Table, key: Key) -> bool
     ensures { result ≡ is_outside (table_view table.now) key }
 {
     match value_at(table, key) {
-        Some(value) => !in_range(key, value),
+        Some(value) => !in_range(table, key, value),
         None => false,
     }
 }

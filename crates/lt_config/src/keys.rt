@@ -14,6 +14,7 @@ pub enum Key {
     Delay,
     Send,
     Execute,
+    Leader,
     Nodes,
     Periods,
     Delays,
@@ -22,12 +23,13 @@ pub enum Key {
 }
 
 /// The keys, in the order in which they are tried.
-pub const KEYS: [Key; 10] = [
+pub const KEYS: [Key; 11] = [
     Key::Protocol,
     Key::Period,
     Key::Delay,
     Key::Send,
     Key::Execute,
+    Key::Leader,
     Key::Nodes,
     Key::Periods,
     Key::Delays,
@@ -47,6 +49,7 @@ pub fn key_text(key: Key) -> &'static str
         Key::Delay => "delay",
         Key::Send => "send",
         Key::Execute => "execute",
+        Key::Leader => "leader",
         Key::Nodes => "nodes",
         Key::Periods => "periods",
         Key::Delays => "delays",

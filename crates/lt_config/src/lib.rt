@@ -5,6 +5,7 @@ mod config;
 mod fault;
 mod judge;
 mod keys;
+mod leading;
 mod limits;
 mod names;
 mod nodes;

@@ -3,10 +3,11 @@ ghost use Rattle.std.specs.Prelude.{◌≡◌, ◌<◌, ◌==◌, ◌||◌, opti
 ghost use Rattle.std.specs.List.{list_all};
 ghost use Rattle.toml.specs.View.{view, table_view};
 ghost use Rattle.lt_arch.specs.Names.{is_letter, is_digit, is_word_start, is_word_byte, is_word, is_identifier};
-ghost use Rattle.lt_config.specs.Faults.{first_not, is_key, is_node, is_cut, is_node_pair, is_entry_of, stray_of, first_stray, first_unknown, bad_name};
+ghost use Rattle.lt_config.specs.Faults.{first_not, is_key, is_cut, is_node_pair, is_entry_of, stray_of, first_stray, first_unknown, bad_name};
 ghost use Rattle.lt_config.specs.Keys.{table_at, tables};
 
-use crate::keys::{KEYS, Key, TABLES, entry_at, key_text, table_at};
+use crate::keys::{KEYS, Key, TABLES, key_text, table_at};
+use crate::values::is_node;
 use toml::Table;
 
 fn is_word_start(byte: u8) -> bool
@@ -85,12 +86,6 @@ fn first_other<'a>(table: &'a Table) -> Option<&'a str>
         }
     }
     None
-}
-
-fn is_node(table: &Table, name: &str) -> bool
-    ensures { result ≡ is_node (table_view table.now) name.now }
-{
-    entry_at(table, Key::Nodes, name).is_some()
 }
 
 /// Whether the byte at a place is a `>` between the names of two different nodes.

@@ -8,11 +8,13 @@ ghost use Rattle.lt_config.specs.Reading.{config_of, setup_in, Reads};
 
 use crate::judge::{fault, judge};
 use crate::keys::{TABLES, value_at};
+use crate::leading::pace_of;
 use crate::nodes::named_nodes;
 use crate::timing::timing_of;
-use crate::{Config, ConfigFault, ConfigKind, Pace};
+use crate::{Config, ConfigFault, ConfigKind};
 use lt_base::{Memory, Or};
 use lt_place::Placement;
+use lt_place::laws::names_differ;
 use std::alloc::Global;
 use toml::Table;
 
@@ -34,12 +36,14 @@ fn setup_of(alloc: Global, table: &Table) -> Result<Config, Memory>
     ensures { IfOk result (λ config. setup_in config ≡ setup_of (table_view table.now)) }
 {
     let named = named_nodes(alloc, table)?;
+    names_differ();
     let timing = timing_of(alloc, table, &named.nodes)?;
+    let pace = pace_of(table, named.nodes.as_slice());
     Ok(Config {
         timing,
         placement: Placement::Named(named),
         mixed: is_mixed(table),
-        pace: Pace::Plain,
+        pace,
     })
 }
 

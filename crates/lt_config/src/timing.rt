@@ -9,6 +9,7 @@ ghost use Rattle.lt_config.specs.Reading.{numbers_of, delays_of};
 
 use crate::judge::is_time_based;
 use crate::keys::Key;
+use crate::leading::paced_send;
 use crate::numbers::{bounds_of, countdown_of, most_delay, own_or_plain};
 use lt_arch::{NodeTime, PairTime, Protocol, Timing};
 use lt_base::{List, Memory};
@@ -21,7 +22,7 @@ fn node_time(table: &Table, name: &str) -> NodeTime
     ensures { numbers_of result ≡ node_numbers (table_view table.now) name.now }
 {
     let (tmin, tmax) = bounds_of(own_or_plain(table, Key::Periods, Key::Period, name));
-    let send = countdown_of(own_or_plain(table, Key::Sends, Key::Send, name));
+    let send = paced_send(table, name);
     let execute = countdown_of(own_or_plain(table, Key::Executes, Key::Execute, name));
     NodeTime {
         tmin,

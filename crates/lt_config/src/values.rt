@@ -4,9 +4,9 @@ ghost use Rattle.std.specs.Option.{option_map_or};
 ghost use Rattle.toml.specs.View.{view, items_view, table_view};
 ghost use Rattle.toml.specs.Data.{as_str, as_table};
 ghost use Rattle.lt_config.specs.Wanted.{is_wanted};
-ghost use Rattle.lt_config.specs.Values.{pair_items, pair_of, all_texts, is_texts, all_values, is_table_of, is_pair, is_integer, has_kind, is_between, is_bounds, is_period, is_delay, is_countdown, names_protocol, is_count_of_nodes, in_range, count_members};
+ghost use Rattle.lt_config.specs.Values.{pair_items, pair_of, all_texts, is_texts, all_values, is_table_of, is_pair, is_integer, has_kind, is_node, is_between, is_bounds, is_period, is_delay, is_countdown, names_protocol, is_count_of_nodes, in_range, count_members};
 
-use crate::keys::Key;
+use crate::keys::{Key, entry_at};
 use crate::limits::MOST_NODES;
 use lt_arch::{GREATEST_BOUND, GREATEST_COUNTDOWN};
 use toml::{Table, Value};
@@ -70,7 +70,7 @@ pub fn has_kind(key: Key, value: &Value) -> bool
     ensures { result ≡ has_kind key (view value.now) }
 {
     match key {
-        Key::Protocol => value.as_str().is_some(),
+        Key::Protocol | Key::Leader => value.as_str().is_some(),
         Key::Period | Key::Delay => is_pair(value),
         Key::Send | Key::Execute => is_integer(value),
         Key::Nodes => is_table_of(value, Wanted::Texts),
@@ -131,7 +131,7 @@ fn is_protocol(value: &Value) -> bool
 fn names_protocol(text: &str) -> bool
     ensures { result ≡ names_protocol text.now }
 {
-    text == "backpressure" || text == "timebased"
+    text == "backpressure" || text == "timebased" || text == "leader"
 }
 
 #[tactic(auto, using(crate::proofs::Tables::count_view))]
@@ -144,15 +144,32 @@ fn has_some_nodes(value: &Value) -> bool
     }
 }
 
-/// Whether a value is in the range of a key.
-pub fn in_range(key: Key, value: &Value) -> bool
-    ensures { result ≡ in_range key (view value.now) }
+/// Whether the setup has a node of a name.
+pub fn is_node(table: &Table, name: &str) -> bool
+    ensures { result ≡ is_node (table_view table.now) name.now }
+{
+    entry_at(table, Key::Nodes, name).is_some()
+}
+
+fn names_node(table: &Table, value: &Value) -> bool
+    ensures { result ≡ option_map_or (is_node (table_view table.now)) (as_str (view value.now)) false }
+{
+    match value.as_str() {
+        Some(name) => is_node(table, name),
+        None => false,
+    }
+}
+
+/// Whether a value is in the range of a key of this setup.
+pub fn in_range(table: &Table, key: Key, value: &Value) -> bool
+    ensures { result ≡ in_range (table_view table.now) key (view value.now) }
 {
     match key {
         Key::Protocol => is_protocol(value),
         Key::Period => is_period(value),
         Key::Delay => is_delay(value),
         Key::Send | Key::Execute => is_countdown(value),
+        Key::Leader => names_node(table, value),
         Key::Nodes => has_some_nodes(value),
         Key::Periods => is_table_of(value, Wanted::Period),
         Key::Delays => is_table_of(value, Wanted::Delay),

@@ -4,6 +4,7 @@ ghost use Rattle.std.specs.Prelude.{◌≡◌, length};
 use lt_arch::{Protocol, Timing};
 use lt_base::Or;
 use lt_config::{Config, ConfigFault, ConfigKind, Pace, read_config};
+use lt_lead::lead_bound;
 use lt_place::Placement;
 use lt_plan::plan_text;
 use std::alloc::Global;
@@ -15,6 +16,9 @@ const EQUAL: &str =
 
 const MIXED: &str =
     "protocol = 'timebased'\nperiod = [9, 11]\ndelay = [1, 4]\nsend = 3\nexecute = 4\nnodes = {a = ['x', 'u'], b = ['v']}\nperiods = {b = [20, 22]}\nsends = {b = 2}\nexecutes = {b = 1}\n";
+
+const LED: &str =
+    "protocol = 'leader'\nleader = 'b'\nperiod = [9, 11]\ndelay = [1, 4]\nsend = 5\nexecute = 3\nnodes = {a = ['x', 'u'], b = ['v']}\nsends = {a = 7}\n";
 
 // The fault of some bytes, if they have one.
 fn fault_of(alloc: Global, bytes: &[u8]) -> Option<ConfigFault> {
@@ -79,6 +83,21 @@ fn first_faults(rt: HostRuntime) {
                 ConfigKind::BadName,
                 "a-",
             ),
+            (
+                "protocol = 'leader'\nperiod = [9, 11]\ndelay = [1, 4]\nsend = 5\nexecute = 3\nnodes = {a = []}\n",
+                ConfigKind::Missing,
+                "leader",
+            ),
+            (
+                "protocol = 'backpressure'\nperiod = [9, 11]\ndelay = [1, 4]\nleader = 1\nnodes = {a = []}\n",
+                ConfigKind::WrongKind,
+                "leader",
+            ),
+            (
+                "protocol = 'backpressure'\nperiod = [9, 11]\ndelay = [1, 4]\nleader = 'c'\nnodes = {a = []}\nsends = {a = 0}\n",
+                ConfigKind::OutOfRange,
+                "leader",
+            ),
         ],
     );
 }
@@ -106,6 +125,17 @@ fn numbers(timing: &Timing) -> Option<[u64; 14]> {
     ])
 }
 
+// The bounds of two nodes for the horizon 1000, the second of which leads.
+fn lead_bounds(timing: &Timing) -> Option<(u64, u64)> {
+    if timing.node_count() != 2 {
+        return None;
+    }
+    Some((
+        lead_bound(timing, 1, 1, 1000),
+        lead_bound(timing, 1, 0, 1000),
+    ))
+}
+
 fn read(alloc: Global, text: &str) -> Result<Config, Fail> {
     match read_config(alloc, text.as_bytes()) {
         Ok(config) => Ok(config),
@@ -125,6 +155,31 @@ fn good_setups(rt: HostRuntime) -> Result<(), Fail> {
         (config.timing.protocol, config.mixed, config.pace),
         (Protocol::TimeBased, true, Pace::Plain)
     );
+    let config = read(alloc, LED)?;
+    assert_eq!(rt;
+        numbers(&config.timing),
+        Some([
+            9,
+            11,
+            4_000_000_000_000_000_000,
+            3,
+            9,
+            11,
+            5,
+            3,
+            1,
+            4,
+            1,
+            4,
+            4,
+            11
+        ])
+    );
+    assert_eq!(rt;
+        (config.timing.protocol, config.pace),
+        (Protocol::TimeBased, Pace::Leader(1))
+    );
+    assert_eq!(rt; lead_bounds(&config.timing), Some((12, 12)));
     let config = Config::plain(alloc)?;
     assert!(rt; matches!(config.placement, Placement::All));
     assert_eq!(rt;

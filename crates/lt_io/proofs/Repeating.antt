@@ -4,9 +4,11 @@ use Rattle.std.proofs.lemmas.List.{nil_from_length, take-append-le, drop-append-
 use Rattle.std.proofs.Math.Seq.{drop-append-add}
 use Rattle.std.proofs.Math.Nat.{suc-mul}
 use Rattle.lt_io.specs.FilesState.{ReadsNext}
+use Rattle.lt_io.specs.Visits.{Visit, took, unread}
 use Rattle.lt_io.specs.declared.fault.Failed.{Failed}
 use Rattle.lt_io.specs.RepeatFiles.{RepeatState, repeated, IsWithin, repeat_files_state}
 use Rattle.lt_io.proofs.Reading.{next_part}
+use Rattle.lt_io.proofs.Visiting.{unread_took}
 
 pub length-repeated : (n : ℕ) (line : List ℕ) → length (repeated n line) ≡ n * length line
 unfolding repeated
@@ -42,12 +44,13 @@ none_left_of s within all =
     nil_from_length _ (omega (arith, length-drop (s.whole * length s.line + s.since) (repeated s.times s.line), length-repeated s.times s.line, ap (λ n. n * length s.line) all))
 
 -- a read at the end
-pub reads_none : (s : RepeatState) (buf : List ℕ) → IsTrue s.is_open → IsWithin s → s.whole ≡ s.times → ReadsNext {E = Failed} (repeat_files_state s) (repeat_files_state s) buf (Ok 0)
-reads_none s buf opened within all = record {
+pub reads_none : (s : RepeatState) (vs : List Visit) (buf : List ℕ) → IsTrue s.is_open → IsWithin s → s.whole ≡ s.times → vs ≡ took 0 s.visits → ReadsNext {E = Failed} (repeat_files_state s) (repeat_files_state (record s { visits = vs })) buf (Ok 0)
+reads_none s vs buf opened within all visits = record {
   cause = refl;
-  keeps = record { sound = refl; told = refl; named = refl };
+  keeps = record { sound = refl; told = refl; named = refl; visits = ap unread visits ∙ unread_took 0 s.visits };
   opened = opened;
   bound = (omega arith, refl);
+  visits = visits;
   file = λ _. refl;
   bytes = λ _. record {
     next = refl;
@@ -58,11 +61,11 @@ reads_none s buf opened within all = record {
 }
 
 -- a read of the next bytes of a line, which ends at this place
-pub reads_line : (s : RepeatState) (w o n : ℕ) (old new : List ℕ) → IsTrue s.is_open → IsWithin s → s.whole ≢ s.times
+pub reads_line : (s : RepeatState) (w o n : ℕ) (vs : List Visit) (old new : List ℕ) → IsTrue s.is_open → IsWithin s → s.whole ≢ s.times
     → w * length s.line + o ≡ s.whole * length s.line + s.since + n
-    → take n new ≡ take n (drop s.since s.line) → n ≡ min (length (drop s.since s.line)) (length old) → length new ≡ length old
-    → ReadsNext {E = Failed} (repeat_files_state s) (repeat_files_state (record s { whole = w; since = o })) new (Ok n)
-reads_line s w o n old new opened within more place front count room =
+    → take n new ≡ take n (drop s.since s.line) → n ≡ min (length (drop s.since s.line)) (length old) → length new ≡ length old → vs ≡ took n s.visits
+    → ReadsNext {E = Failed} (repeat_files_state s) (repeat_files_state (record s { whole = w; since = o; visits = vs })) new (Ok n)
+reads_line s w o n vs old new opened within more place front count room visits =
     let bytes = repeated s.times s.line in
     let before = s.whole * length s.line + s.since in
     let part = drop s.since s.line in
@@ -74,7 +77,8 @@ reads_line s w o n old new opened within more place front count room =
     let fits : n ≤ length new = omega arith in
     record {
       cause = refl;
-      keeps = record { sound = refl; told = refl; named = refl };
+      keeps = record { sound = refl; told = refl; named = refl; visits = ap unread visits ∙ unread_took n s.visits };
+      visits = visits;
       opened = opened;
       bound = (fits, omega (arith, length-take n new));
       file = λ _. refl;

@@ -32,11 +32,19 @@ abbrev pub kind_of : FabricState → ℕ → List Ty
 kind_of s ch = slice_index_or s.kinds ch []
 
 -- what no call changes; and none ends `prompt`
+pub record KeepsPromises (old new : FabricState) : Type 0 where
+  pub faithful : new.faithful ≡ old.faithful
+  pub sound : new.sound ≡ old.sound
+  pub told : new.told ≡ old.told
+  pub prompt : IsTrue old.prompt → IsTrue new.prompt
+
+-- what no call but `open` changes: the same, and the types of the channels' payloads
 pub record KeepsFabric (old new : FabricState) : Type 0 where
   pub faithful : new.faithful ≡ old.faithful
   pub sound : new.sound ≡ old.sound
   pub told : new.told ≡ old.told
   pub prompt : IsTrue old.prompt → IsTrue new.prompt
+  pub kinds : new.kinds ≡ old.kinds
 
 -- all channels and lists are as they were
 pub record SameLists (old new : FabricState) : Type 0 where
@@ -80,7 +88,7 @@ pub record Delivers (old new : FabricState) (ch : ℕ) (message : Message) : Typ
 -- a call of `open`
 pub record OpensChannels {T : Type 0} (old new : FabricState) (kinds : List (List Ty)) (result : Result T LinkErr) : Type 0 where
   pub cause : LinkCounted old.faults new.faults result
-  pub keeps : KeepsFabric old new
+  pub keeps : KeepsPromises old new
   pub opened : OnOk result (OpensFabric old new kinds)
   pub same : OnErr result (SameLists old new)
   pub sound : IsTrue old.sound → new.faults ≡ old.faults

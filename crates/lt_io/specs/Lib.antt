@@ -1,4 +1,6 @@
 pub mod Counts
+pub mod Visits
+pub mod Noted
 pub mod FilesState
 pub mod SinkState
 pub mod FabricState
@@ -6,6 +8,7 @@ pub mod Calls
 pub mod MemFiles
 pub mod MemSink
 pub mod RepeatFiles
+pub mod Real
 pub mod ChannelState
 pub mod MemFabric
 pub mod FlipState

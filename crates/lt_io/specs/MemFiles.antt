@@ -21,7 +21,7 @@ abbrev pub lookup : List MemFile → List ℕ → Option (List ℕ)
 lookup files name = option_map (λ file. file.bytes) (find (λ file. bytes_eq file.name name) files)
 
 abbrev pub mem_files_state : MemFiles → FilesState
-mem_files_state m = record { sound = never_fails m.calls; told = true; named = lookup m.files; bytes = bytes_at m.files m.current; place = m.place; is_open = m.is_open; faults = m.calls.faults }
+mem_files_state m = record { sound = never_fails m.calls; told = true; named = lookup m.files; bytes = bytes_at m.files m.current; place = m.place; visits = m.history.visits; is_open = m.is_open; faults = m.calls.faults }
 
 -- the calls on these files
 abbrev pub files_calls : MemFiles → Calls

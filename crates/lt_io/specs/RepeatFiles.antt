@@ -2,6 +2,7 @@
 use Rattle.std.specs.Prelude.{◌≡◌, ◌<◌, ◌≤◌, ◌+◌, ◌*◌, max, ℕ, zero, suc, Bool, true, List, [], ◌++◌, length, codes, Option, Some, None, if◌then◌else◌}
 use Rattle.std.specs.Str.{bytes_eq}
 use Rattle.lt_io.specs.FilesState.{FilesState}
+use Rattle.lt_io.specs.Visits.{Visit}
 
 pub record RepeatState : Type 0 where
   -- the bytes, and how many times the file has them
@@ -11,6 +12,7 @@ pub record RepeatState : Type 0 where
   pub whole : ℕ
   pub since : ℕ
   pub is_open : Bool
+  pub visits : List Visit
   pub faults : ℕ
 
 -- these bytes, so many times
@@ -29,4 +31,4 @@ abbrev pub only_file : List ℕ → List ℕ → Option (List ℕ)
 only_file bytes name = if bytes_eq name (codes "lines") then Some bytes else None
 
 abbrev pub repeat_files_state : RepeatState → FilesState
-repeat_files_state s = record { sound = true; told = true; named = only_file (repeated s.times s.line); bytes = repeated s.times s.line; place = s.whole * length s.line + s.since; is_open = s.is_open; faults = s.faults }
+repeat_files_state s = record { sound = true; told = true; named = only_file (repeated s.times s.line); bytes = repeated s.times s.line; place = s.whole * length s.line + s.since; visits = s.visits; is_open = s.is_open; faults = s.faults }

@@ -10,6 +10,7 @@ mod fault;
 mod files;
 mod flip_channel;
 mod flip_fabric;
+mod history;
 mod mem_fabric;
 mod mem_files;
 mod mem_sink;

@@ -4,6 +4,7 @@ ghost use Rattle.lt_io.specs.MemFiles.{lookup, bytes_at, place_of};
 
 use crate::calls::Calls;
 use crate::copy::copy_from;
+use crate::history::{History, Note};
 use crate::{Failed, Files};
 use lt_base::{List, Name};
 
@@ -23,6 +24,7 @@ pub struct MemFiles {
     current: usize,
     place: usize,
     is_open: bool,
+    history: History,
 }
 
 impl MemFiles {
@@ -43,6 +45,7 @@ impl MemFiles {
             current: 0,
             place: 0,
             is_open: false,
+            history: History::new(),
         }
     }
 }
@@ -65,6 +68,7 @@ impl Files for MemFiles {
         ensures calls { CountsCall (files_calls self.old) (files_calls self.new) }
     {
         self.is_open = false;
+        self.history = self.history.then(&Note::Open(name));
         self.calls.call()?;
         match find(self.files.as_slice(), name) {
             Some(i) => {
@@ -87,6 +91,7 @@ impl Files for MemFiles {
         self.calls.call()?;
         let count = read_part(&self.files, self.current, self.place, buf);
         self.place += count;
+        self.history = self.history.then(&Note::Read(count));
         Ok(count)
     }
 }

@@ -1,6 +1,7 @@
 // The program's files and streams. What they hold is not told.
-ghost use Rattle.std.specs.Prelude.{◌≡◌, ◌<◌, ◌-◌, ◌^◌, false, is_some, None, []};
+ghost use Rattle.std.specs.Prelude.{◌≡◌, ◌<◌, ◌+◌, ◌-◌, ◌^◌, false, is_some, None, []};
 
+use crate::history::{History, Note};
 use crate::{Failed, Files, Sink, SinkErr};
 use std::io::{Read, Write};
 use std::{fs, rt};
@@ -10,6 +11,7 @@ use std::{fs, rt};
 pub struct RealFiles<R: rt::Files> {
     runtime: R,
     file: Option<R::File>,
+    history: History,
     faults: u64,
 }
 
@@ -21,41 +23,60 @@ impl<R: rt::Files> RealFiles<R> {
         RealFiles {
             runtime,
             file: None,
+            history: History::new(),
             faults: 0,
         }
     }
 }
 
+impl<R: rt::Files> RealFiles<R> {
+    fn fault(&mut self) -> Failed
+        requires { self.old.faults < 2 ^ 64 - 1 }
+        ensures { self.new ≡ record self.old { faults = self.old.faults + 1 } }
+    {
+        self.faults += 1;
+        Failed
+    }
+}
+
 impl<R: rt::Files> Files for RealFiles<R> {
-    ghost state = { λ s. record { sound = false; told = false; named = λ _. None; bytes = []; place = 0; is_open = is_some s.file; faults = s.faults } };
+    ghost use Rattle.std.specs.Prelude.{◌<◌, ◌-◌, ◌^◌, IsTrue};
+    ghost use Rattle.std.specs.Io.KnownBytes.{ReadConsumes};
+    ghost use Rattle.lt_io.specs.FilesState.{ReadsNext};
+    ghost use Rattle.lt_io.specs.Real.{left_in};
+
+    ghost state = { λ s. record { sound = false; told = false; named = λ _. None; bytes = []; place = 0; visits = s.history.visits; is_open = is_some s.file; faults = s.faults } };
 
     ghost sound_tells = { λ files sound. sound };
 
     fn open(&mut self, name: &str) -> Result<(), Failed> {
         self.file = None;
+        self.history = self.history.then(&Note::Open(name));
         match fs::open(&self.runtime, name) {
             Ok(file) => {
                 self.file = Some(file);
                 Ok(())
             }
-            Err(_) => {
-                self.faults += 1;
-                Err(Failed)
-            }
+            Err(_) => Err(self.fault()),
         }
     }
 
-    fn read(&mut self, buf: &mut [u8]) -> Result<usize, Failed> {
+    fn read(&mut self, buf: &mut [u8]) -> Result<usize, Failed>
+        requires count { (⟦<RealFiles<R> as Files>⟧.state self.old).faults < 2 ^ 64 - 1 }
+        requires opened { IsTrue (⟦<RealFiles<R> as Files>⟧.state self.old).is_open }
+        ensures reads { ReadsNext (⟦<RealFiles<R> as Files>⟧.state self.old) (⟦<RealFiles<R> as Files>⟧.state self.new) buf.new result }
+
+        // What was read is what the system's file gave, and the end is its end.
+        ensures system { ReadConsumes (left_in R.File.remaining self.old.file) (left_in R.File.remaining self.new.file) result buf.new }
+    {
         let Some(file) = &mut self.file else {
             unreachable!();
         };
-        match file.read(buf) {
-            Ok(count) => Ok(count),
-            Err(_) => {
-                self.faults += 1;
-                Err(Failed)
-            }
-        }
+        let Ok(count) = file.read(buf) else {
+            return Err(self.fault());
+        };
+        self.history = self.history.then(&Note::Read(count));
+        Ok(count)
     }
 }
 
@@ -76,6 +97,7 @@ impl<W: Write> RealSink<W> {
 
 impl<W: Write> Sink for RealSink<W> {
     ghost use Rattle.std.specs.Prelude.{◌<◌, ◌-◌, ◌^◌, false, [], length, IsErrOf};
+    ghost use Rattle.std.specs.Io.KnownBytes.{WriteAppends};
     ghost use Rattle.lt_io.specs.SinkState.{SinkState, WritesFront};
 
     ghost state = { λ s. record { sound = false; told = false; taken = []; faults = s.faults } };
@@ -85,6 +107,9 @@ impl<W: Write> Sink for RealSink<W> {
         requires some { 0 < length bytes.now }
         ensures writes { WritesFront (⟦<RealSink<W> as Sink>⟧.state self.old) (⟦<RealSink<W> as Sink>⟧.state self.new) bytes.now result }
         ensures never { ¬ IsErrOf result SinkErr.Memory }
+
+        // The system's stream took what it is said to have taken.
+        ensures system { WriteAppends (W.contents self.old.stream) (W.contents self.new.stream) result bytes.now }
     {
         match self.stream.write(bytes) {
             Ok(count) if count > 0 => Ok(count),

@@ -2,6 +2,7 @@
 ghost use Rattle.std.specs.Prelude.{◌≡◌, ◌<◌, ◌≤◌, ◌+◌, ◌*◌, ◌^◌, length, true};
 
 use crate::copy::copy_from;
+use crate::history::{History, Note};
 use crate::{Failed, Files};
 use lt_base::List;
 use std::marker::Model;
@@ -15,6 +16,7 @@ pub struct RepeatFiles {
     whole: u64,
     since: usize,
     is_open: bool,
+    history: History,
     faults: u64,
 }
 
@@ -23,9 +25,9 @@ impl Model for RepeatFiles {
 
     ghost Value = { RepeatState };
 
-    ghost view = { λ f. record { line = f.line; times = f.times; whole = f.whole; since = f.since; is_open = f.is_open; faults = f.faults } };
+    ghost view = { λ f. record { line = f.line; times = f.times; whole = f.whole; since = f.since; is_open = f.is_open; visits = f.history.visits; faults = f.faults } };
 
-    ghost invariant = { λ f. IsWithin (record { line = f.line; times = f.times; whole = f.whole; since = f.since; is_open = f.is_open; faults = f.faults }) };
+    ghost invariant = { λ f. IsWithin (record { line = f.line; times = f.times; whole = f.whole; since = f.since; is_open = f.is_open; visits = f.history.visits; faults = f.faults }) };
 }
 
 impl RepeatFiles {
@@ -45,6 +47,7 @@ impl RepeatFiles {
             whole: 0,
             since: 0,
             is_open: false,
+            history: History::new(),
             faults: 0,
         }
     }
@@ -59,6 +62,7 @@ impl Files for RepeatFiles {
     ghost sound_tells = { λ files sound. refl };
 
     fn open(&mut self, name: &str) -> Result<(), Failed> {
+        self.history = self.history.then(&Note::Open(name));
         self.is_open = name == "lines";
         if !self.is_open {
             self.faults += 1;
@@ -71,9 +75,11 @@ impl Files for RepeatFiles {
 
     fn read(&mut self, buf: &mut [u8]) -> Result<usize, Failed> {
         if self.whole == self.times {
+            self.history = self.history.then(&Note::Read(0));
             return Ok(0);
         }
         let count = copy_from(self.line.as_slice(), self.since, buf);
+        self.history = self.history.then(&Note::Read(count));
         self.since += count;
         if self.since == self.line.len() {
             self.whole += 1;

@@ -1,7 +1,8 @@
 // Whole files that are read, and whole texts that are written.
-ghost use Rattle.std.specs.Prelude.{◌≡◌, ◌<◌, ◌≤◌, ◌+◌, ◌-◌, ◌^◌, ◌++◌, [], IsTrue, IsSome, IsNone, IsSomeAnd, IfOk, OnOk, MatchResult, length};
+ghost use Rattle.std.specs.Prelude.{◌≡◌, ◌<◌, ◌≤◌, ◌+◌, ◌-◌, ◌^◌, ◌++◌, ◌∷◌, [], IsTrue, IsSome, IsNone, IsSomeAnd, IfOk, OnOk, MatchResult, is_ok, length};
 ghost use Rattle.lt_io.specs.Counts.{SinkCounted, OrCounted};
-ghost use Rattle.lt_io.specs.FilesState.{KeepsFiles, left};
+ghost use Rattle.lt_io.specs.FilesState.{KeepsNames, KeepsFiles, left};
+ghost use Rattle.lt_io.specs.Visits.{Visited, taken_of};
 ghost use Rattle.lt_io.specs.SinkState.{KeepsSink};
 ghost use Rattle.lt_io.specs.Transfer.{whole_of, IsFront};
 
@@ -18,7 +19,7 @@ pub enum Whole {
     TooLong,
 }
 
-/// Reads a whole file of at most this many bytes. No more bytes are read than the limit and one.
+/// Reads a whole file of at most this many bytes.
 pub fn read_file<F: Files>(
     alloc: Global,
     files: &mut F,
@@ -28,7 +29,10 @@ pub fn read_file<F: Files>(
     requires count { (F.state files.old).faults < 2 ^ 64 - 1 }
     requires limit { limit < 2 ^ 63 }
     ensures cause { OrCounted (F.state files.old).faults (F.state files.new).faults result }
-    ensures keeps { KeepsFiles (F.state files.old) (F.state files.new) }
+    ensures keeps { KeepsNames (F.state files.old) (F.state files.new) }
+
+    // No other file is opened, and of this one no more than the limit and a byte is read.
+    ensures visits { Visited ((record { name = name.now; most = limit + 1 }) ∷ []) (F.state files.old).visits (F.state files.new).visits (is_ok result) }
 
     // Where the files tell their bytes: the named file's, if it is there and within the limit.
     ensures whole { IsTrue (F.state files.old).told
@@ -37,8 +41,6 @@ pub fn read_file<F: Files>(
         → (F.state files.old).faults < (F.state files.new).faults }
     ensures sound { IsTrue (F.state files.old).sound → IsSome ((F.state files.old).named name.now)
         → (F.state files.new).faults ≡ (F.state files.old).faults }
-    ensures budget { IsTrue (F.state files.old).told → (F.state files.new).faults ≡ (F.state files.old).faults
-        → (F.state files.new).place ≤ limit + 1 }
 {
     match files.open(name) {
         Ok(()) => read_rest(alloc, files, limit),
@@ -55,8 +57,7 @@ fn read_rest<F: Files>(alloc: Global, files: &mut F, limit: usize) -> Result<Who
     ensures keeps { KeepsFiles (F.state files.old) (F.state files.new) }
     ensures whole { IsTrue (F.state files.old).told → IfOk result (λ whole. whole ≡ whole_of limit (left (F.state files.old))) }
     ensures sound { IsTrue (F.state files.old).sound → (F.state files.new).faults ≡ (F.state files.old).faults }
-    ensures budget { IsTrue (F.state files.old).told → (F.state files.new).faults ≡ (F.state files.old).faults
-        → (F.state files.new).place ≤ (F.state files.old).place + limit + 1 }
+    ensures taken { taken_of (F.state files.new).visits ≤ taken_of (F.state files.old).visits + limit + 1 }
 {
     let mut held = List::new(alloc);
     while held.len() <= limit {
@@ -69,6 +70,7 @@ fn read_rest<F: Files>(alloc: Global, files: &mut F, limit: usize) -> Result<Who
 }
 
 /// Reads a piece of at most `room` bytes onto the end, and says how many they are.
+#[tactic(auto, using(crate::proofs::Visiting::took_most))]
 fn read_piece<F: Files>(
     files: &mut F,
     held: &mut List<u8>,
@@ -83,11 +85,10 @@ fn read_piece<F: Files>(
     ensures longer { IfOk result (λ n. (n ≤ room) × (length held.new ≡ length held.old + n)) }
     ensures bytes { IsTrue (F.state files.old).told → OnOk result
         (held.new ++ left (F.state files.new) ≡ held.old ++ left (F.state files.old)) }
-    ensures place { IsTrue (F.state files.old).told → IfOk result (λ n. (F.state files.new).place ≡ (F.state files.old).place + n) }
     ensures at_end { IsTrue (F.state files.old).told → IfOk result (λ n. n ≡ 0 → left (F.state files.new) ≡ []) }
     ensures sound { IsTrue (F.state files.old).sound → (F.state files.new).faults ≡ (F.state files.old).faults }
-    ensures budget { IsTrue (F.state files.old).told → (F.state files.new).faults ≡ (F.state files.old).faults
-        → (F.state files.new).place ≤ (F.state files.old).place + room }
+    ensures counted { IfOk result (λ n. taken_of (F.state files.new).visits ≤ taken_of (F.state files.old).visits + n) }
+    ensures taken { taken_of (F.state files.new).visits ≤ taken_of (F.state files.old).visits + room }
 {
     let mut piece = [0u8; PIECE];
     let most = room.min(PIECE);

@@ -1,7 +1,10 @@
 // The rows of a schedule file, taken one by one.
-ghost use Rattle.std.specs.Prelude.{◌≡◌, ◌<◌, ◌≤◌, ◌-◌, ◌^◌, [], ℕ, List, IsTrue, IsSome, OnOk, IfOk, IfErr, MatchResult};
-ghost use Rattle.lt_io.specs.FilesState.{KeepsFiles};
+ghost use Rattle.std.specs.Prelude.{◌≡◌, ◌<◌, ◌≤◌, ◌-◌, ◌^◌, [], ℕ, List, IsTrue, IsSome, OnOk, IfOk, IfErr, MatchResult, is_ok};
+ghost use Rattle.lt_io.specs.FilesState.{KeepsNames, KeepsFiles};
+ghost use Rattle.lt_io.specs.Visits.{Visited, taken_of};
+ghost use Rattle.lt_rows.specs.Limits.{most_read};
 ghost use Rattle.lt_rows.specs.Lines.{fresh, CanGoOn, rows_ahead, end_ahead};
+ghost use Rattle.lt_judge.specs.Errand.{schedule_errand};
 ghost use Rattle.lt_judge.specs.Halted.{UnlessFailed, ReadCounted, LinkCounted, IsMemoryHalt, IsLink, IsRead, halted_by, long_fault, finished};
 ghost use Rattle.lt_judge.specs.Replayed.{TakesEvent, RefusesLine, GoesOn, RefusesRow, TakesAll, RefusesSome, HasHeader, LacksHeader, TakesRows, RefusesRows, TakesFile, RefusesFile};
 ghost use Rattle.lt_judge.specs.declared.halt.Halt.TheVariants as halts;
@@ -35,7 +38,8 @@ pub fn replay_schedule<F: Files, W, R: Replica<W>>(
     ensures link_cause { LinkCounted (R.faults outside.old) (R.faults outside.new) result }
     ensures sound { IsTrue (F.state files.old).sound → IsSome ((F.state files.old).named name.now) → (F.state files.new).faults ≡ (F.state files.old).faults }
     ensures prompt { R.prompt outside.old → ¬ IsMemoryHalt result }
-    ensures keeps_files { KeepsFiles (F.state files.old) (F.state files.new) }
+    ensures keeps_files { KeepsNames (F.state files.old) (F.state files.new) }
+    ensures visits { Visited (schedule_errand name.now) (F.state files.old).visits (F.state files.new).visits (is_ok result) }
     ensures keeps { R.keeps replica.old outside.old replica.new outside.new }
 
     // The verdict on the file; a refused one is read to at most a piece past the row that is refused.
@@ -69,6 +73,7 @@ fn replay_open<F: Files, W, R: Replica<W>, L: Ledger>(
     ensures sound { IsTrue (F.state files.old).sound → (F.state files.new).faults ≡ (F.state files.old).faults }
     ensures prompt { R.prompt outside.old → ¬ IsMemoryHalt result }
     ensures keeps_files { KeepsFiles (F.state files.old) (F.state files.new) }
+    ensures taken { taken_of (F.state files.new).visits ≤ most_read }
     ensures keeps { R.keeps replica.old outside.old replica.new outside.new }
     ensures judged { MatchResult result
         (λ _. (steps : ℕ) × TakesRows (R.rules replica.old) (R.stands replica.new outside.new steps) (end_ahead lines.old (F.state files.old)) (F.state files.old).told (rows_ahead lines.old (F.state files.old)))
@@ -95,6 +100,7 @@ pub fn replay_lines<F: Files, W, R: Replica<W>, L: Ledger>(
     ensures sound { IsTrue (F.state files.old).sound → (F.state files.new).faults ≡ (F.state files.old).faults }
     ensures prompt { R.prompt outside.old → ¬ IsMemoryHalt result }
     ensures keeps_files { KeepsFiles (F.state files.old) (F.state files.new) }
+    ensures taken { taken_of (F.state files.new).visits ≤ most_read }
     ensures keeps { R.keeps replica.old outside.old replica.new outside.new }
     ensures judged { MatchResult result
         (λ _. TakesRows (R.rules replica.old) (R.stands replica.new outside.new steps.new) (end_ahead lines.old (F.state files.old)) (F.state files.old).told (rows_ahead lines.old (F.state files.old)))
@@ -113,6 +119,7 @@ fn take_header<F: Files, O>(lines: &mut Lines, files: &mut F) -> Result<(), Halt
     ensures prompt { ¬ IsMemoryHalt result }
     ensures sound { IsTrue (F.state files.old).sound → (F.state files.new).faults ≡ (F.state files.old).faults }
     ensures keeps_files { KeepsFiles (F.state files.old) (F.state files.new) }
+    ensures taken { taken_of (F.state files.new).visits ≤ most_read }
     ensures ready { OnOk result (CanGoOn lines.new (F.state files.new)) }
     ensures end { IsTrue (F.state files.old).told → OnOk result (end_ahead lines.new (F.state files.new) ≡ end_ahead lines.old (F.state files.old)) }
     ensures header { IsTrue (F.state files.old).told → MatchResult result
@@ -154,6 +161,7 @@ fn take_rows<F: Files, W, R: Replica<W>, L: Ledger>(
     ensures sound { IsTrue (F.state files.old).sound → (F.state files.new).faults ≡ (F.state files.old).faults }
     ensures prompt { R.prompt outside.old → ¬ IsMemoryHalt result }
     ensures keeps_files { KeepsFiles (F.state files.old) (F.state files.new) }
+    ensures taken { taken_of (F.state files.new).visits ≤ most_read }
     ensures keeps { R.keeps replica.old outside.old replica.new outside.new }
     ensures judged { MatchResult result
         (λ _. TakesAll (R.rules replica.old) (R.stands replica.new outside.new steps.new) (end_ahead lines.old (F.state files.old)) (F.state files.old).told (rows_ahead lines.old (F.state files.old)))
@@ -198,6 +206,7 @@ fn take_row<F: Files, W, R: Replica<W>, L: Ledger>(
     ensures sound { IsTrue (F.state files.old).sound → (F.state files.new).faults ≡ (F.state files.old).faults }
     ensures prompt { R.prompt outside.old → ¬ IsMemoryHalt result }
     ensures keeps_files { KeepsFiles (F.state files.old) (F.state files.new) }
+    ensures taken { taken_of (F.state files.new).visits ≤ most_read }
     ensures keeps { R.keeps replica.old outside.old replica.new outside.new }
     ensures ready { OnOk result (CanGoOn lines.new (F.state files.new)) }
     ensures few { IfOk result (λ more. IsTrue more → number ≤ 5000000) }

@@ -10,7 +10,7 @@ use crate::node::Node;
 use crate::{Replica, Stop};
 use lt_arch::{Event, Offence, Shape, Timing};
 use lt_base::{Memory, Steps};
-use lt_rows::read_event;
+use lt_rows::PlaceTable;
 use std::alloc::Global;
 use std::sync::ledger::Ledger;
 
@@ -19,6 +19,7 @@ use std::sync::ledger::Ledger;
 pub struct Seat {
     node: Node,
     shape: Shape,
+    places: PlaceTable,
     rows: u32,
 }
 
@@ -33,7 +34,13 @@ impl Seat {
     {
         let node = Node::start(alloc, shape, timing)?;
         let shape = shape.copy()?;
-        Ok(Seat { node, shape, rows })
+        let places = PlaceTable::new(alloc, &shape)?;
+        Ok(Seat {
+            node,
+            shape,
+            places,
+            rows,
+        })
     }
 
     /// How many instants were executed.
@@ -65,7 +72,7 @@ impl Replica<()> for Seat {
         _outside: &mut (),
         steps: &mut Steps<L>,
     ) -> Result<(), Stop<Offence>> {
-        match read_event(line, &self.shape) {
+        match self.places.read_event(line, &self.shape) {
             Err(fault) => Err(Stop::Row(fault)),
             Ok(e) => match self.node.take(e, self.rows, steps) {
                 Some(offence) => Err(Stop::Offence(offence)),

@@ -11,7 +11,7 @@ use Rattle.lt_load.proofs.Flattens.{width_is, wide_rows, rows_fit, code_room}
 pub is_loaded : (checked : CheckedText) → IsChecked checked → GoodProgram checked.program → (s : Site) → IsSited checked.flat s → (table : InputTable) → InputsFitMain checked.program table → IsLoaded (loaded_of checked s table)
 is_loaded checked kept good s sited table fit = record {
   placed = sited.placed;
-  shaped = sited.shaped;
+  paced = sited.paced;
   accepted = sited.accepted;
   timed = sited.timed;
   few = sited.few;

@@ -14,3 +14,4 @@ pub mod Equals
 pub mod Planned
 pub mod Onward
 pub mod Sited
+pub mod OnePlain

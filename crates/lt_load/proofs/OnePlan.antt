@@ -36,7 +36,7 @@ module _ {K : Type 0} (kind : CommandFault → K) where
   inputs_plan_decided named inputs checked setup = and_then_one kind (inputs_verdict checked.program (named inputs)) _ (inputs_decided checked.program (named inputs)) (λ table. exactly kind (Ok _))
 
   module _ (along : TellsLimits kind) (places : MergesPlaces kind) (timings : MergesTimings kind) (named : List ℕ → Option (List ℕ)) where
-    fitting_plan_decided : (inputs : List ℕ) (checked : ExaminedText) (setup : Config) → HasOneOutcome kind (fitting_plan_verdict named inputs checked setup)
+    pub fitting_plan_decided : (inputs : List ℕ) (checked : ExaminedText) (setup : Config) → HasOneOutcome kind (fitting_plan_verdict named inputs checked setup)
     unfolding fitting_plan_verdict
     fitting_plan_decided inputs checked setup =
         and_then_one kind (fitting_verdict checked setup) _ (fitting_decided kind along places timings checked setup) (λ fitting. inputs_plan_decided named inputs checked fitting)

@@ -1,5 +1,5 @@
 -- The layouts of a function under one placement have equal shapes.
-use Rattle.std.proofs.Common.{◌≡◌, ◌≢◌, ◌∙◌, ℕ, ◌<◌, ◌≤◌, ◌==◌, Bool, true, false, List, length, Some, refl, sym, ap, subst, All, AllPairs, eq-eqb, eqb-true}
+use Rattle.std.proofs.Common.{◌≡◌, ◌≢◌, ◌∙◌, ℕ, ◌<◌, ◌≤◌, ◌==◌, ◌&&◌, ◌||◌, not, Bool, true, false, List, length, Some, refl, sym, ap, subst, All, AllPairs, eq-eqb, eqb-true}
 use Rattle.std.specs.List.{AllPass, list_any}
 use Rattle.std.proofs.lemmas.Bool.{and_parts, and_from}
 use Rattle.std.proofs.lemmas.List.{get_or_default}
@@ -23,6 +23,11 @@ use Rattle.lt_place.specs.Layout.{IsLayoutOf, HasCrossings, crossing_of, no_cros
 use Rattle.lt_place.specs.Nodes.{node_of}
 use Rattle.lt_net.specs.Layout.{joins}
 use Rattle.lt_net.specs.Channels.{has_channel, all_chans, channels_of, IsShapeOf}
+use Rattle.lt_config.specs.declared.pace.Pace.{Pace}
+use Rattle.lt_config.specs.declared.pace.Pace.TheVariants.{Plain, Leader}
+use Rattle.lt_lead.specs.Channels.{leads_to, lead_channels}
+use Rattle.lt_lead.specs.Paced.{IsShapeBy}
+use Rattle.lt_arch.specs.declared.timing.Timing.{Timing}
 use denote.Struct.Props.{props}
 
 -- two shapes with the same nodes and channels are equal
@@ -107,6 +112,14 @@ module _ (f : Originated) (p : Placement) where
     pub channels_same : (pr : Protocol) → channels_of l pr ≡ channels_of m pr
     channels_same pr = λ t. all_chans (λ kind i j. has_same pr kind i j t) (length (names_same t))
 
+    leads_same : (leader : ℕ) (kind : ChanKind) (i j : ℕ) → leads_to l.cross leader kind i j ≡ leads_to m.cross leader kind i j
+    leads_same leader Data i j = ap (λ b. not (i == j) && ((i == leader) || b)) (joins_same i j)
+    leads_same leader Ack i j = refl
+
+    pub lead_channels_same : (leader : ℕ) → lead_channels l leader ≡ lead_channels m leader
+    lead_channels_same leader = λ t. all_chans (λ kind i j. leads_same leader kind i j t) (length (names_same t))
+
     -- so the shapes are equal
-    pub one_shape : (pr : Protocol) (s t : Shape) → IsShapeOf l pr s → IsShapeOf m pr t → s ≡ t
-    one_shape pr s t is it = one_drawn s t (is.nodes ∙ names_same ∙ sym it.nodes) (is.channels ∙ channels_same pr ∙ sym it.channels)
+    pub one_shape : (pace : Pace) (t : Timing) (s z : Shape) → IsShapeBy l pace t s → IsShapeBy m pace t z → s ≡ z
+    one_shape Plain t s z is it = one_drawn s z (is.nodes ∙ names_same ∙ sym it.nodes) (is.channels ∙ channels_same t.protocol ∙ sym it.channels)
+    one_shape (Leader leader) t s z is it = one_drawn s z (is.nodes ∙ names_same ∙ sym it.nodes) (is.channels ∙ lead_channels_same leader ∙ sym it.channels)

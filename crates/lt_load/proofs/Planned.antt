@@ -1,9 +1,10 @@
 -- What a plan is loaded as, step after step.
-use Rattle.std.proofs.Common.{◌≡◌, ℕ, List, Result, Ok, Err, inl, inr, refl, sym, subst}
+use Rattle.std.proofs.Common.{◌≡◌, ℕ, List, ◌++◌, Result, Ok, Err, inl, inr, refl, sym, subst}
 use Rattle.std.specs.Prelude.{IsErrAnd}
 use Rattle.lt_base.specs.declared.memory.Or.{Or}
 use Rattle.lt_base.specs.declared.memory.Or.TheVariants.{Fault, Memory}
 use Rattle.lt_base.specs.Inputs.{InputTable}
+use Rattle.lt_io.specs.Visits.{Errand}
 use Rattle.lt_io.specs.FilesState.{FilesState}
 use Rattle.lt_answer.specs.World.{Blames, Content, alone}
 use Rattle.lt_verdict.specs.Rules.{Exactly}
@@ -32,30 +33,30 @@ loads_then V next (Err e) (inl p) = inl p
 loads_then V next (Err e) (inr p) = inr (p.0, p.1, p.2)
 
 module _ {T : Type 0} (V : Verdict T CommandFault) (next : Names → T → Verdict Plan CommandFault) (a b : FilesState) where
-  widen : (c : FilesState) (r : Result LoadedPlan (Or CommandFault)) → Answered command_blame (AndThen V (λ x. Loads (next a.named x))) (alone a) (alone c) r
-      → Answered command_blame (Loads (AndThen V (next a.named))) (alone a) (alone c) r
+  widen : {es : List Errand} (c : FilesState) (r : Result LoadedPlan (Or CommandFault)) → Answered command_blame es (AndThen V (λ x. Loads (next a.named x))) (alone a) (alone c) r
+      → Answered command_blame es (Loads (AndThen V (next a.named))) (alone a) (alone c) r
   widen c r answered = widened (AndThen V (λ x. Loads (next a.named x))) (Loads (AndThen V (next a.named))) (alone a) (alone c) r (loads_then V (next a.named)) answered
 
   -- the first is refused
-  pub refused_load : (e : Or CommandFault) (r : Result LoadedPlan (Or CommandFault)) → IsErrAnd r (λ f. f ≡ e) → Answered {T = T} command_blame V (alone a) (alone b) (Err e)
-      → Answered command_blame (Loads (AndThen V (next a.named))) (alone a) (alone b) r
-  refused_load e r is first = widen b r (refused_step command_blame V (λ names x. Loads (next names x)) a b e r is first)
+  pub refused_load : {es : List Errand} (fs : List Errand) (e : Or CommandFault) (r : Result LoadedPlan (Or CommandFault)) → IsErrAnd r (λ f. f ≡ e) → Answered {T = T} command_blame es V (alone a) (alone b) (Err e)
+      → Answered command_blame (es ++ fs) (Loads (AndThen V (next a.named))) (alone a) (alone b) r
+  refused_load fs e r is first = widen b r (refused_step command_blame V (λ names x. Loads (next names x)) a b fs e r is first)
 
   -- the second is left
-  pub next_load : (x : T) (r : Result LoadedPlan (Or CommandFault)) → Answered command_blame V (alone a) (alone b) (Ok x) → (c : FilesState)
-      → Answered command_blame (Loads (next b.named x)) (alone b) (alone c) r → Answered command_blame (Loads (AndThen V (next a.named))) (alone a) (alone c) r
+  pub next_load : {es fs : List Errand} (x : T) (r : Result LoadedPlan (Or CommandFault)) → Answered command_blame es V (alone a) (alone b) (Ok x) → (c : FilesState)
+      → Answered command_blame fs (Loads (next b.named x)) (alone b) (alone c) r → Answered command_blame (es ++ fs) (Loads (AndThen V (next a.named))) (alone a) (alone c) r
   next_load x r first c second = widen c r (next_step command_blame V (λ names y. Loads (next names y)) a b x r first c second)
 
 -- a step that touches nothing, and its refusal as that of the whole
 
 module _ {S : Type 0} (W : Verdict S CommandFault) (V : Verdict Plan CommandFault) (there : (e : CommandFault) → W (Err e) → V (Err e)) (content : (e : CommandFault) → W (Err e) → command_blame e ≡ Content) where
-  refused_at : (a : FilesState) (e : Or CommandFault) → Refuses W e → Answered {T = LoadedPlan} command_blame (Loads V) (alone a) (alone a) (Err e)
+  refused_at : {es : List Errand} (a : FilesState) (e : Or CommandFault) → Refuses W e → Answered {T = LoadedPlan} command_blame es (Loads V) (alone a) (alone a) (Err e)
   refused_at a (Fault e) refused = refuses (alone a) e (subst (Blames (alone a) (alone a)) (sym (content e refused)) (calm_itself (alone a))) (there e refused)
   refused_at a Memory refused = runs_short (alone a)
 
-  refused_here : (a : FilesState) (e : Or CommandFault) (r : Result LoadedPlan (Or CommandFault)) → IsErrAnd r (λ f. f ≡ e) → Refuses W e → Answered command_blame (Loads V) (alone a) (alone a) r
+  refused_here : {es : List Errand} (a : FilesState) (e : Or CommandFault) (r : Result LoadedPlan (Or CommandFault)) → IsErrAnd r (λ f. f ≡ e) → Refuses W e → Answered command_blame es (Loads V) (alone a) (alone a) r
   refused_here a e (Ok k) is refused = absurd is
-  refused_here a e (Err f) is refused = subst (λ (g : Or CommandFault). Answered {T = LoadedPlan} command_blame (Loads V) (alone a) (alone a) (Err g)) (sym is) (refused_at a e refused)
+  refused_here {es} a e (Err f) is refused = subst (λ (g : Or CommandFault). Answered {T = LoadedPlan} command_blame es (Loads V) (alone a) (alone a) (Err g)) (sym is) (refused_at a e refused)
 
 -- the last step
 
@@ -81,6 +82,7 @@ module _ (named : Names) (inputs : List ℕ) (checked : CheckedText) (setup : Co
     checked = refl;
     layout = subst (IsLayoutOf (flat_of checked.program) setup.placement) (sym is.layout) layout;
     timing = is.timing;
+    pace = is.pace;
     shape = is.shape;
     inputs = refl;
   }
@@ -96,11 +98,11 @@ module _ (named : Names) (inputs : List ℕ) (checked : CheckedText) (setup : Co
   not_fitting e refused = inl refused
 
   -- the setup does not fit
-  pub no_site : (a : FilesState) (e : Or CommandFault) (r : Result LoadedPlan (Or CommandFault)) → IsErrAnd r (λ f. f ≡ e) → Refuses (site_verdict (examined_part checked) setup) e
-      → Answered command_blame (Loads (fitting_plan_verdict named inputs (examined_part checked) setup)) (alone a) (alone a) r
+  pub no_site : {es : List Errand} (a : FilesState) (e : Or CommandFault) (r : Result LoadedPlan (Or CommandFault)) → IsErrAnd r (λ f. f ≡ e) → Refuses (site_verdict (examined_part checked) setup) e
+      → Answered command_blame es (Loads (fitting_plan_verdict named inputs (examined_part checked) setup)) (alone a) (alone a) r
   no_site = refused_here (site_verdict (examined_part checked) setup) (fitting_plan_verdict named inputs (examined_part checked) setup) not_fitting (fitting_content (examined_part checked) setup)
 
   -- it fits, and the inputs are left
-  pub at_site : (a b : FilesState) (s : Site) (r : Result LoadedPlan (Or CommandFault)) → site_verdict (examined_part checked) setup (Ok s) → Answered command_blame (sited_verdict named inputs checked s) (alone a) (alone b) r
-      → Answered command_blame (Loads (fitting_plan_verdict named inputs (examined_part checked) setup)) (alone a) (alone b) r
+  pub at_site : {es : List Errand} (a b : FilesState) (s : Site) (r : Result LoadedPlan (Or CommandFault)) → site_verdict (examined_part checked) setup (Ok s) → Answered command_blame es (sited_verdict named inputs checked s) (alone a) (alone b) r
+      → Answered command_blame es (Loads (fitting_plan_verdict named inputs (examined_part checked) setup)) (alone a) (alone b) r
   at_site a b s r right answered = widened (sited_verdict named inputs checked s) (Loads (fitting_plan_verdict named inputs (examined_part checked) setup)) (alone a) (alone b) r (site_loads s right) answered

@@ -13,6 +13,8 @@ use Rattle.lt_place.specs.Placement.{node_names}
 use Rattle.lt_front.specs.Examined.{ExaminedText}
 use Rattle.lt_front.specs.Flattened.{flat_of}
 use Rattle.lt_config.specs.declared.config.Config.{Config}
+use Rattle.lt_config.specs.declared.pace.Pace.{Pace}
+use Rattle.lt_config.specs.Paced.{FitsPace}
 use Rattle.lt_load.specs.declared.fault.CommandFault.{CommandFault}
 use Rattle.lt_load.specs.declared.sites.Site.{Site}
 use Rattle.lt_load.specs.Setups.{placed_verdict, accepted_verdict, fitting_verdict}
@@ -78,7 +80,10 @@ module _ (checked : ExaminedText) (setup : Config) where
             let few = setup.few in
             record {
               placed = subst (IsPlaced f) (sym site_here.layout) placed;
-              shaped = site_here.shape;
+              paced = record {
+                shaped = site_here.shape;
+                fits = subst (λ (p : Pace). FitsPace p s.timing) (sym site_here.pace) (subst (λ (t : Timing). FitsPace setup.pace t) (sym site_here.timing) setup.paced);
+              };
               accepted = subst Accepts (sym site_here.timing) accepted_here;
               timed = nodes ∙ same ∙ sym names;
               few = omega (arith, names, same, few);

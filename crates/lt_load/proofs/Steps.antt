@@ -1,13 +1,14 @@
 -- One step after another.
-use Rattle.std.proofs.Common.{◌≡◌, ◌<◌, ℕ, List, Option, Result, Ok, Err, sym, ap, ◌∙◌, subst, inl, inr}
+use Rattle.std.proofs.Common.{◌≡◌, ◌<◌, ℕ, List, [], ◌++◌, Option, Result, Ok, Err, sym, ap, ◌∙◌, subst, inl, inr}
 use Rattle.std.specs.Prelude.{◌-◌, ◌^◌, IsErrAnd}
 use Rattle.lt_base.specs.Or.{MapsFault}
 use Rattle.lt_base.specs.declared.memory.Or.{Or}
 use Rattle.lt_base.specs.declared.memory.Or.TheVariants.{Fault, Memory}
+use Rattle.lt_io.specs.Visits.{Errand}
 use Rattle.lt_io.specs.FilesState.{FilesState}
 use Rattle.lt_answer.specs.World.{World, Blame, Content, Blames, alone}
 use Rattle.lt_answer.specs.Answered.{Answered, Verdict, AndThen, Refuses, Settles}
-use Rattle.lt_answer.proofs.Stages.{settles, refuses, runs_short, calm_itself, goes_on, stops, settles_too, renamed}
+use Rattle.lt_answer.proofs.Stages.{settles, refuses, runs_short, calm_itself, goes_on, stops, settles_too, renamed, errands_all}
 use Rattle.lt_verdict.specs.Rules.{Raised}
 
 -- a count that stayed
@@ -51,7 +52,7 @@ pub content_raised : {T E G : Type 0} (blame : G → Blame) (raise : E → G) (V
 content_raised blame raise V all g raised = ap blame raised.2 ∙ all raised.0
 
 -- a step that touches nothing, by its verdict
-pub untouched : {T E : Type 0} (blame : E → Blame) (V : Verdict T E) (w : World) (r : Result T (Or E)) → IsContent blame V → Settles V r → Answered blame V w w r
+pub untouched : {T E : Type 0} (blame : E → Blame) (V : Verdict T E) (w : World) (r : Result T (Or E)) → IsContent blame V → Settles V r → Answered blame [] V w w r
 untouched blame V w (Ok x) content right = settles w x right
 untouched blame V w (Err (Fault e)) content right = refuses w e (subst (Blames w w) (sym (content e right)) (calm_itself w)) right
 untouched blame V w (Err Memory) content right = runs_short w
@@ -70,14 +71,14 @@ Names = List ℕ → Option (List ℕ)
 
 module _ {T U E : Type 0} (blame : E → Blame) (V : Verdict T E) (next : Names → T → Verdict U E) (a b : FilesState) where
   -- the first is refused
-  pub refused_step : (e : Or E) (r : Result U (Or E)) → IsErrAnd r (λ f. f ≡ e) → Answered blame V (alone a) (alone b) (Err e) → Answered blame (AndThen V (next a.named)) (alone a) (alone b) r
-  refused_step e (Ok x) is first = absurd is
-  refused_step e (Err f) is first = subst (λ (g : Or E). Answered blame (AndThen V (next a.named)) (alone a) (alone b) (Err g)) (sym is) (stops (alone a) (alone b) e first)
+  pub refused_step : {es : List Errand} (fs : List Errand) (e : Or E) (r : Result U (Or E)) → IsErrAnd r (λ f. f ≡ e) → Answered blame es V (alone a) (alone b) (Err e) → Answered blame (es ++ fs) (AndThen V (next a.named)) (alone a) (alone b) r
+  refused_step fs e (Ok x) is first = absurd is
+  refused_step {es} fs e (Err f) is first = subst (λ (g : Or E). Answered blame (es ++ fs) (AndThen V (next a.named)) (alone a) (alone b) (Err g)) (sym is) (stops fs (alone a) (alone b) e first)
 
-  module _ (x : T) (r : Result U (Or E)) (first : Answered blame V (alone a) (alone b) (Ok x)) where
-    pub next_step : (c : FilesState) → Answered blame (next b.named x) (alone b) (alone c) r → Answered blame (AndThen V (next a.named)) (alone a) (alone c) r
+  module _ {es : List Errand} (x : T) (r : Result U (Or E)) (first : Answered blame es V (alone a) (alone b) (Ok x)) where
+    pub next_step : {fs : List Errand} (c : FilesState) → Answered blame fs (next b.named x) (alone b) (alone c) r → Answered blame (es ++ fs) (AndThen V (next a.named)) (alone a) (alone c) r
     next_step c second = goes_on (alone a) (alone b) (alone c) x r first (renamed (λ names. next names x) b.named a.named (alone b) (alone c) r first.keeps.files.named second)
 
     -- the second needs no files
-    pub last_step : IsContent blame (next b.named x) → Settles (next b.named x) r → Answered blame (AndThen V (next a.named)) (alone a) (alone b) r
-    last_step content second = next_step b (untouched blame (next b.named x) (alone b) r content second)
+    pub last_step : IsContent blame (next b.named x) → Settles (next b.named x) r → Answered blame es (AndThen V (next a.named)) (alone a) (alone b) r
+    last_step content second = errands_all (alone a) (alone b) r (next_step b (untouched blame (next b.named x) (alone b) r content second))

@@ -1,13 +1,15 @@
 -- A whole file as a step.
-use Rattle.std.proofs.Common.{◌≡◌, ◌<◌, ℕ, List, [], inl, inr, length, Option, Some, None, Result, Ok, Err, IsTrue, refl, ap, subst, arith}
-use Rattle.std.specs.Prelude.{IfOk, IsSomeAnd, IsNone, IsSome}
+use Rattle.std.proofs.Common.{◌≡◌, ◌<◌, ◌+◌, ℕ, List, [], ◌∷◌, false, inl, inr, length, Option, Some, None, Result, Ok, Err, IsTrue, refl, ap, subst, arith}
+use Rattle.std.specs.Prelude.{is_ok, IfOk, IsSomeAnd, IsNone, IsSome}
 use Rattle.std.proofs.lemmas.Bool.Decides.{leb_tells}
 use Rattle.lt_base.specs.declared.memory.Or.{Or}
 use Rattle.lt_base.specs.declared.memory.Or.TheVariants.{Fault, Memory}
 use Rattle.lt_io.specs.declared.fault.Failed.{Failed}
 use Rattle.lt_io.specs.declared.transfer.Whole.{Whole}
 use Rattle.lt_io.specs.declared.transfer.Whole.TheVariants.{Bytes, TooLong}
-use Rattle.lt_io.specs.FilesState.{FilesState, KeepsFiles}
+use Rattle.lt_io.specs.FilesState.{FilesState, KeepsNames}
+use Rattle.lt_io.specs.Visits.{Visited}
+use Rattle.lt_io.proofs.Visiting.{visited_any}
 use Rattle.lt_io.specs.Counts.{OrCounted}
 use Rattle.lt_io.specs.Transfer.{whole_of}
 use Rattle.lt_load.specs.declared.fault.What.{What}
@@ -15,13 +17,15 @@ use Rattle.lt_load.specs.declared.fault.CommandFault.TheVariants.{Limit, Read}
 use Rattle.lt_answer.specs.World.{KeepsWorld, alone}
 use Rattle.lt_answer.specs.Answered.{Answered, RefusesReading}
 use Rattle.lt_load.specs.Blamed.{command_blame}
+use Rattle.lt_load.specs.Errands.{whole_errand}
 use Rattle.lt_load.specs.Loaded.{limit_of, whole_verdict}
 use Rattle.lt_answer.proofs.Stages.{keeps_itself}
 
 -- what reading a whole file says
 pub record IsReadBy (limit : ℕ) (old new : FilesState) (name : List ℕ) (result : Result Whole (Or Failed)) : Type 0 where
   pub cause : OrCounted old.faults new.faults result
-  pub keeps : KeepsFiles old new
+  pub keeps : KeepsNames old new
+  pub visits : Visited (record { name = name; most = limit + 1 } ∷ []) old.visits new.visits (is_ok result)
   pub whole : IsTrue old.told → IfOk result (λ whole. IsSomeAnd (old.named name) (λ bytes. whole ≡ whole_of limit bytes))
   pub missing : IsTrue old.told → IsNone (old.named name) → old.faults < new.faults
   pub sound : IsTrue old.sound → IsSome (old.named name) → new.faults ≡ old.faults
@@ -32,7 +36,7 @@ IsRead what old new name result = IsReadBy (limit_of what) old new name result
 pub at_limit : (what : What) (limit : ℕ) (old new : FilesState) (name : List ℕ) (result : Result Whole (Or Failed)) → limit ≡ limit_of what → IsReadBy limit old new name result → IsRead what old new name result
 at_limit what limit old new name result is read = subst (λ (n : ℕ). IsReadBy n old new name result) is read
 
-keeps_alone : (a b : FilesState) → KeepsFiles a b → KeepsWorld (alone a) (alone b)
+keeps_alone : (a b : FilesState) → KeepsNames a b → KeepsWorld (alone a) (alone b)
 keeps_alone a b keeps = record { files = keeps; fabric = (keeps_itself (alone a)).fabric; steady = λ sound. refl }
 
 -- over sound files the count rises at a missing file alone
@@ -72,51 +76,56 @@ past what None bytes is long = absurd is
 past what (Some whole) bytes is long = let read = held what (Some whole) bytes is in absurd (omega (arith, read.short, ap length read.same, long))
 
 -- the file's bytes
-pub fetched : (what : What) (old new : FilesState) (name bytes : List ℕ) → IsRead what old new name (Ok (Bytes bytes)) → Answered command_blame (whole_verdict what (old.named name)) (alone old) (alone new) (Ok bytes)
+pub fetched : (what : What) (old new : FilesState) (name bytes : List ℕ) → IsRead what old new name (Ok (Bytes bytes)) → Answered command_blame (whole_errand what name) (whole_verdict what (old.named name)) (alone old) (alone new) (Ok bytes)
 fetched what old new name bytes read =
     record {
       keeps = keeps_alone old new read.keeps;
+      visits = read.visits;
       cause = record { files = read.cause; fabric = refl };
       exact = λ told calm. held what (old.named name) bytes (read.whole told);
       sound = λ told sound rose. missing_alone what old new (old.named name) (read.sound sound) rose;
     }
 
 -- it has too many
-pub fetched_too_long : (what : What) (old new : FilesState) (name : List ℕ) → IsRead what old new name (Ok TooLong) → Answered command_blame (whole_verdict what (old.named name)) (alone old) (alone new) (Err (Fault (Limit what)))
+pub fetched_too_long : (what : What) (old new : FilesState) (name : List ℕ) → IsRead what old new name (Ok TooLong) → Answered command_blame (whole_errand what name) (whole_verdict what (old.named name)) (alone old) (alone new) (Err (Fault (Limit what)))
 fetched_too_long what old new name read =
     record {
       keeps = keeps_alone old new read.keeps;
+      visits = visited_any (whole_errand what name) old.visits new.visits false read.visits;
       cause = record { files = read.cause; fabric = refl };
       exact = λ told calm. too_long what (old.named name) (read.whole told);
       sound = λ told sound rose. missing_alone what old new (old.named name) (read.sound sound) rose;
     }
 
 -- a call on the files failed
-pub fetch_failed : (what : What) (old new : FilesState) (name : List ℕ) (failed : Failed) → IsRead what old new name (Err (Fault failed)) → Answered command_blame (whole_verdict what (old.named name)) (alone old) (alone new) (Err (Fault Read))
+pub fetch_failed : (what : What) (old new : FilesState) (name : List ℕ) (failed : Failed) → IsRead what old new name (Err (Fault failed)) → Answered command_blame (whole_errand what name) (whole_verdict what (old.named name)) (alone old) (alone new) (Err (Fault Read))
 fetch_failed what old new name failed read =
     let rose : old.faults < new.faults = read.cause in
     record {
       keeps = keeps_alone old new read.keeps;
+      visits = read.visits;
       cause = (rose, refl);
       exact = λ told calm. absurd (omega (arith, rose, calm.files));
       sound = λ told sound rose. missing_alone what old new (old.named name) (read.sound sound) rose;
     }
 
 -- no memory was found
-pub fetch_short : (what : What) (old new : FilesState) (name : List ℕ) → IsRead what old new name (Err Memory) → Answered command_blame (whole_verdict what (old.named name)) (alone old) (alone new) (Err Memory)
+pub fetch_short : (what : What) (old new : FilesState) (name : List ℕ) → IsRead what old new name (Err Memory) → Answered command_blame (whole_errand what name) (whole_verdict what (old.named name)) (alone old) (alone new) (Err Memory)
 fetch_short what old new name read =
     record {
       keeps = keeps_alone old new read.keeps;
+      visits = read.visits;
       cause = record { files = read.cause; fabric = refl };
       exact = λ told calm. tt;
       sound = λ told sound rose. missing_alone what old new (old.named name) (read.sound sound) rose;
     }
 
 -- files that do not tell their bytes gave too many
-pub fetched_past : (what : What) (old new : FilesState) (name bytes : List ℕ) → IsRead what old new name (Ok (Bytes bytes)) → limit_of what < length bytes → Answered command_blame (whole_verdict what (old.named name)) (alone old) (alone new) (Err (Fault (Limit what)))
+pub fetched_past : (what : What) (old new : FilesState) (name bytes : List ℕ) → IsRead what old new name (Ok (Bytes bytes)) → limit_of what < length bytes → Answered command_blame (whole_errand what name) (whole_verdict what (old.named name)) (alone old) (alone new) (Err (Fault (Limit what)))
 fetched_past what old new name bytes read long =
     record {
       keeps = keeps_alone old new read.keeps;
+      visits = visited_any (whole_errand what name) old.visits new.visits false read.visits;
       cause = record { files = read.cause; fabric = refl };
       exact = λ told calm. past what (old.named name) bytes (read.whole told) long;
       sound = λ told sound rose. missing_alone what old new (old.named name) (read.sound sound) rose;

@@ -1,6 +1,8 @@
 pub mod Main
 pub mod Blamed
 pub mod Loaded
+pub mod Errands
 pub mod Setups
 pub mod Plan
 pub mod Sites
+pub mod Pacing

@@ -16,12 +16,14 @@ use Rattle.lt_place.specs.declared.layout.Layout.{Layout}
 use Rattle.lt_place.specs.contracts.layout.Layout.{the_row as layout_row}
 use Rattle.lt_place.specs.Layout.{IsLayoutOf, IsPlaced}
 use Rattle.lt_place.specs.Sizes.{HasCodeRoom}
-use Rattle.lt_net.specs.Channels.{IsShapeOf}
+use Rattle.lt_lead.specs.Paced.{IsShapeBy, KeepsPace}
 use Rattle.lt_meaning.specs.Streams.{InputsFitMain}
 use Rattle.lt_front.specs.Checked.{CheckedText, coded_checked, examined_part}
 use Rattle.lt_front.specs.Examined.{ExaminedText}
 use Rattle.lt_front.specs.Flattened.{flat_of}
 use Rattle.lt_config.specs.declared.config.Config.{Config}
+use Rattle.lt_config.specs.declared.pace.Pace.{Pace}
+use Rattle.lt_config.specs.contracts.pace.Pace.{the_row as pace_row}
 use Rattle.lt_config.specs.Reading.{plain_setup, setup_in}
 use Rattle.lt_answer.specs.Answered.{Verdict, AndThen}
 use Rattle.lt_verdict.specs.Rules.{Exactly}
@@ -35,13 +37,15 @@ pub record Plan : Type 0 where
   pub setup : Config
   pub inputs : InputTable
 
--- the program with its flat form, that form on the nodes, the channels between them, the bounds of time and the rows of inputs
+-- the program with its flat form, that form on the nodes, the channels between them, the bounds of time, the rows of inputs and who paces the
+-- rounds
 pub record LoadedPlan : Type 0 where
   pub checked : CheckedText
   pub layout : Layout
   pub shape : Shape
   pub timing : Timing
   pub inputs : InputTable
+  pub pace : Pace
 
 abbrev coded_inputs : Coded InputTable
 coded_inputs =
@@ -49,14 +53,14 @@ coded_inputs =
 
 abbrev pub coded_loaded : Coded LoadedPlan
 coded_loaded =
-    code_by (CheckedText × (Layout × (Shape × (Timing × InputTable)))) (coded× coded_checked (coded× layout_row.coded (coded× shape_row.coded (coded× timing_row.coded coded_inputs))))
-    (λ k. (k.checked, (k.layout, (k.shape, (k.timing, k.inputs)))))
-    (λ p. record { checked = p.0; layout = p.1.0; shape = p.1.1.0; timing = p.1.1.1.0; inputs = p.1.1.1.1 }) (λ _. refl)
+    code_by (CheckedText × (Layout × (Shape × (Timing × (InputTable × Pace))))) (coded× coded_checked (coded× layout_row.coded (coded× shape_row.coded (coded× timing_row.coded (coded× coded_inputs pace_row.coded)))))
+    (λ k. (k.checked, (k.layout, (k.shape, (k.timing, (k.inputs, k.pace))))))
+    (λ p. record { checked = p.0; layout = p.1.0; shape = p.1.1.0; timing = p.1.1.1.0; inputs = p.1.1.1.1.0; pace = p.1.1.1.1.1 }) (λ _. refl)
 
 -- what it keeps
 pub record IsLoaded (k : LoadedPlan) : Type 0 where
   pub placed : IsPlaced k.checked.flat k.layout
-  pub shaped : IsShapeOf k.layout k.timing.protocol k.shape
+  pub paced : KeepsPace k.layout k.shape k.timing k.pace
   pub accepted : Accepts k.timing
   pub timed : length k.timing.nodes ≡ length k.layout.names
   pub few : length k.layout.names ≤ 32
@@ -73,7 +77,8 @@ pub record IsLoadedFrom (p : Plan) (k : LoadedPlan) : Type 0 where
   pub checked : examined_part k.checked ≡ p.checked
   pub layout : IsLayoutOf (flat_of p.checked.program) p.setup.placement k.layout
   pub timing : k.timing ≡ p.setup.timing
-  pub shape : IsShapeOf k.layout k.timing.protocol k.shape
+  pub pace : k.pace ≡ p.setup.pace
+  pub shape : IsShapeBy k.layout k.pace k.timing k.shape
   pub inputs : k.inputs ≡ p.inputs
 
 -- some right plan is loaded, or the refusal is right

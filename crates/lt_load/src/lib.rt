@@ -5,12 +5,15 @@
 mod fault;
 mod loaded;
 mod loading;
+mod pacing;
 mod planning;
 mod setups;
 mod sites;
 
 pub use fault::{CommandFault, What};
 pub use loaded::Loaded;
-pub use loading::{fetch_within, load_config, load_inputs, load_program, main_of};
+pub use loading::{fetch_within, load_config, load_flat, load_inputs, load_program, main_of};
+pub use pacing::{load_plain, load_plain_config};
 pub use planning::load;
 pub use setups::check;
+pub use sites::layout_of;

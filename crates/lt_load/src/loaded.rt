@@ -3,12 +3,13 @@ ghost use Rattle.lt_load.specs.Plan.{IsLoaded};
 
 use lt_arch::{Shape, Timing};
 use lt_base::Inputs;
+use lt_config::Pace;
 use lt_front::Checked;
 use lt_place::Layout;
 use std::marker::Model;
 
-/// A program that passed all checks, on its nodes: the shape has the layout's nodes and the channels between them, the timing is
-/// accepted, and the inputs are those of the program's `main`.
+/// A program that passed all checks, on its nodes: the shape has the layout's nodes and the channels between them by who paces the
+/// rounds, the timing is accepted, and the inputs are those of the program's `main`.
 #[derive(Drop)]
 pub struct Loaded {
     pub checked: Checked,
@@ -16,6 +17,7 @@ pub struct Loaded {
     pub shape: Shape,
     pub timing: Timing,
     pub inputs: Inputs,
+    pub pace: Pace,
 }
 
 impl Model for Loaded {
@@ -25,9 +27,9 @@ impl Model for Loaded {
 
     ghost coded = { coded_loaded };
 
-    ghost view = { λ k. record { checked = k.checked; layout = k.layout; shape = k.shape; timing = k.timing; inputs = k.inputs } };
+    ghost view = { λ k. record { checked = k.checked; layout = k.layout; shape = k.shape; timing = k.timing; inputs = k.inputs; pace = k.pace } };
 
-    ghost invariant = { λ k. IsLoaded (record { checked = k.checked; layout = k.layout; shape = k.shape; timing = k.timing; inputs = k.inputs }) };
+    ghost invariant = { λ k. IsLoaded (record { checked = k.checked; layout = k.layout; shape = k.shape; timing = k.timing; inputs = k.inputs; pace = k.pace }) };
 }
 
 impl Loaded {

@@ -4,6 +4,7 @@ ghost use Rattle.lt_answer.specs.World.{alone};
 ghost use Rattle.lt_answer.specs.Answered.{Answered};
 ghost use Rattle.lt_meaning.specs.Streams.{InputsFitMain};
 ghost use Rattle.lt_load.specs.Blamed.{command_blame};
+ghost use Rattle.lt_load.specs.Errands.{whole_errand, program_errand, config_errand, inputs_errand};
 ghost use Rattle.lt_load.specs.Loaded.{Flattened, limit_of, whole_verdict, program_verdict, config_verdict, inputs_verdict};
 ghost use Rattle.lt_load.specs.Main.{main_in};
 
@@ -37,7 +38,7 @@ pub fn fetch_within<F: Files>(
     what: What,
 ) -> Result<List<u8>, Or<CommandFault>>
     requires { (F.state files.old).faults < 2 ^ 64 - 1 }
-    ensures answered { Answered command_blame (whole_verdict what ((F.state files.old).named name.now)) (alone (F.state files.old)) (alone (F.state files.new)) result }
+    ensures answered { Answered command_blame (whole_errand what name.now) (whole_verdict what ((F.state files.old).named name.now)) (alone (F.state files.old)) (alone (F.state files.new)) result }
     ensures short { IfOk result (λ bytes. length bytes ≤ limit_of what) }
 {
     let limit = what.limit();
@@ -62,7 +63,7 @@ pub fn load_program<F: Files>(
     name: &str,
 ) -> Result<Examined, Or<CommandFault>>
     requires { (F.state files.old).faults < 2 ^ 64 - 1 }
-    ensures { Answered command_blame (program_verdict ((F.state files.old).named name.now)) (alone (F.state files.old)) (alone (F.state files.new)) result }
+    ensures { Answered command_blame (program_errand name.now) (program_verdict ((F.state files.old).named name.now)) (alone (F.state files.old)) (alone (F.state files.new)) result }
 {
     let bytes = fetch_within(alloc, files, name, What::ProgramBytes)?;
     match examine(alloc, bytes.as_slice()) {
@@ -72,13 +73,13 @@ pub fn load_program<F: Files>(
 }
 
 /// Reads a program's file as `load_program` does, and puts the program into its flat form.
-pub(crate) fn load_flat<F: Files>(
+pub fn load_flat<F: Files>(
     alloc: Global,
     files: &mut F,
     name: &str,
 ) -> Result<Checked, Or<CommandFault>>
     requires { (F.state files.old).faults < 2 ^ 64 - 1 }
-    ensures { Answered command_blame (Flattened (program_verdict ((F.state files.old).named name.now))) (alone (F.state files.old)) (alone (F.state files.new)) result }
+    ensures { Answered command_blame (program_errand name.now) (Flattened (program_verdict ((F.state files.old).named name.now))) (alone (F.state files.old)) (alone (F.state files.new)) result }
 {
     let examined = load_program(alloc, files, name)?;
     Ok(examined.flatten(alloc)?)
@@ -91,7 +92,7 @@ pub fn load_config<F: Files>(
     name: &str,
 ) -> Result<Config, Or<CommandFault>>
     requires { (F.state files.old).faults < 2 ^ 64 - 1 }
-    ensures { Answered command_blame (config_verdict ((F.state files.old).named name.now)) (alone (F.state files.old)) (alone (F.state files.new)) result }
+    ensures { Answered command_blame (config_errand name.now) (config_verdict ((F.state files.old).named name.now)) (alone (F.state files.old)) (alone (F.state files.new)) result }
 {
     let bytes = fetch_within(alloc, files, name, What::ConfigBytes)?;
     match read_config(alloc, bytes.as_slice()) {
@@ -108,7 +109,7 @@ pub fn load_inputs<F: Files>(
     program: &Program,
 ) -> Result<Inputs, Or<CommandFault>>
     requires { (F.state files.old).faults < 2 ^ 64 - 1 }
-    ensures answered { Answered command_blame (inputs_verdict program.now ((F.state files.old).named name.now)) (alone (F.state files.old)) (alone (F.state files.new)) result }
+    ensures answered { Answered command_blame (inputs_errand name.now) (inputs_verdict program.now ((F.state files.old).named name.now)) (alone (F.state files.old)) (alone (F.state files.new)) result }
     ensures fit { IfOk result (InputsFitMain program.now) }
 {
     program.kept();

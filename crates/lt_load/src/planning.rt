@@ -1,10 +1,11 @@
 // The program, the setup and the inputs of a run.
-ghost use Rattle.std.specs.Prelude.{◌≡◌, ◌<◌, ◌-◌, ◌^◌, option_map};
+ghost use Rattle.std.specs.Prelude.{◌≡◌, ◌++◌, ◌<◌, ◌-◌, ◌^◌, option_map};
 ghost use Rattle.lt_answer.specs.World.{alone};
 ghost use Rattle.lt_answer.specs.Answered.{Answered};
 ghost use Rattle.lt_front.specs.Checked.{examined_part};
 ghost use Rattle.lt_meaning.specs.Streams.{InputsFitMain};
 ghost use Rattle.lt_load.specs.Blamed.{command_blame};
+ghost use Rattle.lt_load.specs.Errands.{inputs_errand, setup_errand, load_errands};
 ghost use Rattle.lt_load.specs.Plan.{Loads, chosen_setup_verdict, fitting_plan_verdict, load_verdict, setup_plan_verdict};
 ghost use Rattle.lt_load.specs.Sites.{IsSited, loaded_of, sited_verdict};
 
@@ -28,7 +29,7 @@ pub fn load<F: Files>(
     config: Option<&str>,
 ) -> Result<Loaded, Or<CommandFault>>
     requires { (F.state files.old).faults < 2 ^ 64 - 1 }
-    ensures { Answered command_blame (Loads (load_verdict (F.state files.old).named program.now inputs.now (option_map (λ s. s.now) config.entry)))
+    ensures { Answered command_blame (load_errands program.now inputs.now (option_map (λ s. s.now) config.entry)) (Loads (load_verdict (F.state files.old).named program.now inputs.now (option_map (λ s. s.now) config.entry)))
         (alone (F.state files.old)) (alone (F.state files.new)) result }
 {
     let checked = load_flat(alloc, files, program)?;
@@ -44,7 +45,7 @@ fn load_setup<F: Files>(
     config: Option<&str>,
 ) -> Result<Loaded, Or<CommandFault>>
     requires { (F.state files.old).faults < 2 ^ 64 - 1 }
-    ensures { Answered command_blame (Loads (setup_plan_verdict (F.state files.old).named inputs.now (option_map (λ s. s.now) config.entry) (examined_part checked)))
+    ensures { Answered command_blame (setup_errand (option_map (λ s. s.now) config.entry) ++ inputs_errand inputs.now) (Loads (setup_plan_verdict (F.state files.old).named inputs.now (option_map (λ s. s.now) config.entry) (examined_part checked)))
         (alone (F.state files.old)) (alone (F.state files.new)) result }
 {
     let setup = read_setup(alloc, files, config)?;
@@ -58,7 +59,7 @@ fn read_setup<F: Files>(
     config: Option<&str>,
 ) -> Result<Config, Or<CommandFault>>
     requires { (F.state files.old).faults < 2 ^ 64 - 1 }
-    ensures { Answered command_blame (chosen_setup_verdict (F.state files.old).named (option_map (λ s. s.now) config.entry))
+    ensures { Answered command_blame (setup_errand (option_map (λ s. s.now) config.entry)) (chosen_setup_verdict (F.state files.old).named (option_map (λ s. s.now) config.entry))
         (alone (F.state files.old)) (alone (F.state files.new)) result }
 {
     match config {
@@ -67,8 +68,8 @@ fn read_setup<F: Files>(
     }
 }
 
-// Loads a program's inputs, if the setup fits it.
-fn load_fitting<F: Files>(
+/// Loads a program's inputs, if the setup fits it.
+pub(crate) fn load_fitting<F: Files>(
     alloc: Global,
     files: &mut F,
     checked: Checked,
@@ -76,7 +77,7 @@ fn load_fitting<F: Files>(
     inputs: &str,
 ) -> Result<Loaded, Or<CommandFault>>
     requires { (F.state files.old).faults < 2 ^ 64 - 1 }
-    ensures { Answered command_blame (Loads (fitting_plan_verdict (F.state files.old).named inputs.now (examined_part checked) setup))
+    ensures { Answered command_blame (inputs_errand inputs.now) (Loads (fitting_plan_verdict (F.state files.old).named inputs.now (examined_part checked) setup))
         (alone (F.state files.old)) (alone (F.state files.new)) result }
 {
     let site = find_site(alloc, &checked, setup)?;
@@ -93,7 +94,7 @@ fn load_rows<F: Files>(
 ) -> Result<Loaded, Or<CommandFault>>
     requires count { (F.state files.old).faults < 2 ^ 64 - 1 }
     requires sited { IsSited checked.flat site }
-    ensures { Answered command_blame (sited_verdict (F.state files.old).named inputs.now checked site)
+    ensures { Answered command_blame (inputs_errand inputs.now) (sited_verdict (F.state files.old).named inputs.now checked site)
         (alone (F.state files.old)) (alone (F.state files.new)) result }
 {
     let table = load_inputs(alloc, files, inputs, &checked.program)?;
@@ -114,5 +115,6 @@ fn with_inputs(checked: Checked, site: Site, inputs: Inputs) -> Loaded
         shape: site.shape,
         timing: site.timing,
         inputs,
+        pace: site.pace,
     }
 }

@@ -1,9 +1,10 @@
 // A program with its setup.
-ghost use Rattle.std.specs.Prelude.{◌<◌, ◌-◌, ◌^◌, option_map};
+ghost use Rattle.std.specs.Prelude.{◌++◌, ◌<◌, ◌-◌, ◌^◌, option_map};
 ghost use Rattle.lt_front.specs.Checked.{examined_part};
 ghost use Rattle.lt_answer.specs.World.{alone};
 ghost use Rattle.lt_answer.specs.Answered.{Answered, Settles};
 ghost use Rattle.lt_load.specs.Blamed.{command_blame};
+ghost use Rattle.lt_load.specs.Errands.{program_errand, config_errand, check_errands};
 ghost use Rattle.lt_load.specs.Setups.{accepted_verdict, check_verdict, fitted_verdict, fitting_verdict, placed_verdict, with_setup_verdict};
 
 use crate::loading::{load_flat, main_of};
@@ -25,7 +26,7 @@ pub fn check<F: Files>(
     config: Option<&str>,
 ) -> Result<Examined, Or<CommandFault>>
     requires { (F.state files.old).faults < 2 ^ 64 - 1 }
-    ensures { Answered command_blame (check_verdict (F.state files.old).named program.now (option_map (λ s. s.now) config.entry))
+    ensures { Answered command_blame (check_errands program.now (option_map (λ s. s.now) config.entry)) (check_verdict (F.state files.old).named program.now (option_map (λ s. s.now) config.entry))
         (alone (F.state files.old)) (alone (F.state files.new)) result }
 {
     match config {
@@ -41,7 +42,7 @@ fn check_with<F: Files>(
     config: &str,
 ) -> Result<Examined, Or<CommandFault>>
     requires { (F.state files.old).faults < 2 ^ 64 - 1 }
-    ensures { Answered command_blame (with_setup_verdict (F.state files.old).named program.now config.now)
+    ensures { Answered command_blame (program_errand program.now ++ config_errand config.now) (with_setup_verdict (F.state files.old).named program.now config.now)
         (alone (F.state files.old)) (alone (F.state files.new)) result }
 {
     let checked = load_flat(alloc, files, program)?;
@@ -57,7 +58,7 @@ fn check_setup<F: Files>(
     config: &str,
 ) -> Result<Config, Or<CommandFault>>
     requires { (F.state files.old).faults < 2 ^ 64 - 1 }
-    ensures { Answered command_blame (fitted_verdict (F.state files.old).named config.now (examined_part checked.now))
+    ensures { Answered command_blame (config_errand config.now) (fitted_verdict (F.state files.old).named config.now (examined_part checked.now))
         (alone (F.state files.old)) (alone (F.state files.new)) result }
 {
     let setup = load_config(alloc, files, config)?;

@@ -12,18 +12,19 @@ use crate::loading::main_of;
 use crate::setups::accepted;
 use lt_arch::{Shape, Timing};
 use lt_base::{Memory, Or};
-use lt_config::Config;
+use lt_config::{Config, Pace};
 use lt_front::Checked;
-use lt_net::shape_of;
+use lt_lead::shape_by;
 use lt_place::{Layout, place};
 use std::alloc::Global;
 
-/// A program on its nodes, the channels between them, and the bounds of time.
+/// A program on its nodes, the channels between them, the bounds of time, and who paces the rounds.
 #[derive(Drop)]
 pub(crate) struct Site {
     pub layout: Layout,
     pub shape: Shape,
     pub timing: Timing,
+    pub pace: Pace,
 }
 
 /// The site of a program by a setup: the placement is legal and the timing is accepted, in this order.
@@ -40,9 +41,13 @@ pub(crate) fn find_site(
     Ok(site_of(alloc, layout, timed)?)
 }
 
-// The layout of a program, if its placement is legal.
+/// The layout of a program, if its placement is legal.
 #[tactic(auto, unfolding(crate::specs::Sites::layout_verdict))]
-fn layout_of(alloc: Global, checked: &Checked, setup: &Config) -> Result<Layout, Or<CommandFault>>
+pub fn layout_of(
+    alloc: Global,
+    checked: &Checked,
+    setup: &Config,
+) -> Result<Layout, Or<CommandFault>>
     ensures answered { Settles (layout_verdict (examined_part checked.now) setup.now) result }
     ensures placed { IfOk result (IsPlaced checked.now.flat) }
 {
@@ -63,10 +68,11 @@ fn site_of(alloc: Global, layout: Layout, setup: Config) -> Result<Site, Memory>
     requires names { layout.names ≡ node_names setup.placement }
     ensures { IfOk result (IsSiteOf layout setup) }
 {
-    let shape = shape_of(alloc, &layout, &setup.timing)?;
+    let shape = shape_by(alloc, &layout, &setup.timing, setup.pace)?;
     Ok(Site {
         layout,
         shape,
         timing: setup.timing,
+        pace: setup.pace,
     })
 }

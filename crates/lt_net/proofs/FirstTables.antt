@@ -32,7 +32,7 @@ use Rattle.lt_net.proofs.Firsts.{length-firsts, get-firsts}
 use Rattle.lt_net.proofs.FedRows.{map_entry}
 use Rattle.lt_net.proofs.LaidOut.{laid_out}
 use Rattle.lt_net.proofs.Named.{node_below}
-use Rattle.lt_net.proofs.LayoutShape.{found}
+use Rattle.lt_net.proofs.DrawnShape.{found}
 
 -- The first place that passes a test.
 

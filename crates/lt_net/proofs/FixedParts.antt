@@ -24,5 +24,5 @@ fixed f l s t rows placed fits one few = record {
   laid = laid_out f l placed;
   channels = fits.channels;
   few = few;
-  no_acks = λ h. (fits.time_based (is_time_based t.protocol h)).only_data;
+  no_acks = λ h. fits.only_data (is_time_based t.protocol h);
 }

@@ -30,25 +30,8 @@ use Rattle.lt_place.specs.declared.nodes.NamedNodes.{NamedNodes}
 use Rattle.lt_place.specs.Names.{names_of}
 use Rattle.lt_net.proofs.Named.{AreNames, are_names}
 use Rattle.lt_net.proofs.ChannelOrder.{IsWanted, all_length, all_ordered, all_wanted, all_there, before-differ, before-apart}
-
--- The first place that passes a test.
-
-first_below : {X : Type 0} (p : X → Bool) (xs : List X) (k : ℕ) (d : X) → k < length xs → p (get_or xs k d) ≡ true → position_or_len p xs ≤ k
-first_below p [] k d lt h = absurd (omega (arith, lt))
-first_below p (x ∷ xs) zero d lt h = rw h (omega arith)
-first_below p (x ∷ xs) (suc k) d lt h =
-    let rest = first_below p xs k d (omega (arith, lt)) h in
-    elim (cases_Bool (p x)) [
-      | inl e ↦ rw e (omega arith)
-      | inr e ↦ rw e (omega (arith, rest))
-    ]
-
-pub found : {X : Type 0} (p : X → Bool) (xs : List X) (k : ℕ) (d : X) → k < length xs → p (get_or xs k d) ≡ true → position p xs ≡ Some (position_or_len p xs)
-found p xs k d lt h = let first = first_below p xs k d lt h in rw (lt-ltb (position_or_len p xs) (length xs) (omega (arith, first, lt))) refl
-
-none_pass : {X : Type 0} (p : X → Bool) (xs : List X) → ((k : ℕ) (d : X) → k < length xs → p (get_or xs k d) ≡ false) → filter p xs ≡ []
-none_pass p [] h = refl
-none_pass p (x ∷ xs) h = rw (h 0 x (omega arith)) (none_pass p xs (λ k d lt. h (suc k) d (omega (arith, lt))))
+use Rattle.lt_net.proofs.DrawnShape.{Makes, data_kind, crossed_at, drawn_makes}
+use Rattle.lt_net.proofs.DrawnShape as drawn
 
 -- The two kinds.
 
@@ -59,10 +42,6 @@ other Ack = Data
 other_differs : (k : ChanKind) → is_data (other k) ≢ is_data k
 other_differs Data h = cc
 other_differs Ack h = cc
-
-data_kind : (k : ChanKind) → is_data k ≡ true → k ≡ Data
-data_kind Data h = refl
-data_kind Ack h = absurd (cc)
 
 answered : (cross : List Crossing) (k : ChanKind) (i j : ℕ) → has_channel cross BackPressure k i j ≡ true → has_channel cross BackPressure (other k) j i ≡ true
 answered cross Data i j h = h
@@ -80,162 +59,69 @@ module _ (f : Originated) (l : Layout) (placed : IsPlaced f l) where
   cs : HasCrossings f placed.placement l
   cs = placed.layout.crossings
 
-  -- Where something crosses.
-
-  crossed_at : (i j : ℕ) → list_any (joins i j) l.cross ≡ true → (k : ℕ) × (k < length l.cross) × ((crossing_of l k).from ≡ i) × ((crossing_of l k).to ≡ j)
-  unfolding crossing_of
-  crossed_at i j h =
-      let at = Any-from_list_any (joins i j) l.cross h in
-      let both = and_parts _ _ at.4 in
-      let e : crossing_of l at.0 ≡ at.1 = get_or_default l.cross at.0 no_crossing at.1 at.2 ∙ at.3 in
-      (at.0, at.2, ap (λ (cr : Crossing). cr.from) e ∙ eqb-true _ _ both.0, ap (λ (cr : Crossing). cr.to) e ∙ eqb-true _ _ both.1)
-
-  joined : (k : ℕ) → k < length l.cross → list_any (joins (crossing_of l k).from (crossing_of l k).to) l.cross ≡ true
-  unfolding crossing_of
-  joined k lt = list_any_at (joins (crossing_of l k).from (crossing_of l k).to) l.cross k no_crossing lt (and_from ((crossing_of l k).from == (crossing_of l k).from) ((crossing_of l k).to == (crossing_of l k).to) (eq-eqb (crossing_of l k).from (crossing_of l k).from refl) (eq-eqb (crossing_of l k).to (crossing_of l k).to refl))
-
   apart_by : (p : Protocol) (kind : ChanKind) (i j : ℕ) → has_channel l.cross p kind i j ≡ true → i ≢ j
-  apart_by BackPressure Data i j h e = let k = crossed_at i j h in cs.apart k.0 k.1 (k.2 ∙ e ∙ sym k.3)
-  apart_by BackPressure Ack i j h e = let k = crossed_at j i h in cs.apart k.0 k.1 (k.2 ∙ sym e ∙ sym k.3)
+  apart_by BackPressure Data i j h e = let k = crossed_at f l placed i j h in cs.apart k.0 k.1 (k.2 ∙ e ∙ sym k.3)
+  apart_by BackPressure Ack i j h e = let k = crossed_at f l placed j i h in cs.apart k.0 k.1 (k.2 ∙ sym e ∙ sym k.3)
   apart_by TimeBased Data i j h e = let same = eq-eqb i j e in absurd (cc)
   apart_by TimeBased Ack i j h e = absurd (cc)
 
-  module _ (p : Protocol) where
-    -- What a shape asks of its channels.
+  module _ (p : Protocol) (s : Shape) (is : IsShapeOf l p s) where
+    same_nodes : node_count s ≡ length l.names
+    same_nodes = ap length is.nodes
 
-    pub ends : All (HasEnds (length l.names)) (channels_of l p)
-    ends = All-weaker (IsWanted (has_channel l.cross p) (length l.names)) (HasEnds (length l.names)) (λ ch w. record { from_in = w.from_in; to_in = w.to_in; differ = apart_by p ch.kind ch.from ch.to w.is }) (channels_of l p) (all_wanted (has_channel l.cross p) (length l.names))
+    wanted : (c : ℕ) → c < chan_count s → IsWanted (has_channel l.cross p) (length l.names) (chan_of s c)
+    wanted c lt = drawn.wanted f l placed (has_channel l.cross p) (apart_by p) (data_by l.cross p) s is.nodes is.channels c lt
 
-    pub channels_differ : AllPairs (λ a b. a ≢ b) (channels_of l p)
-    channels_differ i j d lt within = before-differ _ _ (all_ordered (has_channel l.cross p) (length l.names) i j d lt within)
+    there_at : (kind : ChanKind) (i j : ℕ) → i < length l.names → j < length l.names → has_channel l.cross p kind i j ≡ true → (c : ℕ) × (c < chan_count s) × (chan_of s c ≡ channel kind i j)
+    there_at kind i j li lj h = drawn.there_at f l placed (has_channel l.cross p) (apart_by p) (data_by l.cross p) s is.nodes is.channels kind i j li lj h
 
-    module _ (s : Shape) (is : IsShapeOf l p s) where
-      same_nodes : node_count s ≡ length l.names
-      same_nodes = ap length is.nodes
+    has_answers : p ≡ BackPressure → IsBackPressureShape s
+    has_answers e c lt =
+        let w = wanted c lt in
+        let back = answered l.cross (chan_of s c).kind (from_of s c) (to_of s c) (subst (λ q. has_channel l.cross q (chan_of s c).kind (from_of s c) (to_of s c) ≡ true) e w.is) in
+        let d = there_at (other (chan_of s c).kind) (to_of s c) (from_of s c) w.to_in w.from_in (subst (λ q. has_channel l.cross q (other (chan_of s c).kind) (to_of s c) (from_of s c) ≡ true) (sym e) back) in (
+          d.0,
+          d.1,
+          record {
+            from_is = ap (λ (ch : Chan). ch.from) d.2;
+            to_is = ap (λ (ch : Chan). ch.to) d.2;
+            other_kind = λ same. other_differs (chan_of s c).kind (sym (ap (λ (ch : Chan). is_data ch.kind) d.2) ∙ same);
+          },
+        )
 
-      named_nodes : length l.nodes ≡ length l.names
-      named_nodes = placed.layout.nodes ∙ sym (ap length placed.layout.names)
+    only_data : p ≡ TimeBased → (c : ℕ) → c < chan_count s → carries_data s c ≡ true
+    only_data e c lt = only_data_by l.cross (chan_of s c).kind (from_of s c) (to_of s c) (subst (λ q. has_channel l.cross q (chan_of s c).kind (from_of s c) (to_of s c) ≡ true) e (wanted c lt).is)
 
-      wanted : (c : ℕ) → c < chan_count s → IsWanted (has_channel l.cross p) (length l.names) (chan_of s c)
-      unfolding chan_of
-      wanted c lt = subst (λ chans. All (IsWanted (has_channel l.cross p) (length l.names)) chans) (sym is.channels) (all_wanted (has_channel l.cross p) (length l.names)) c no_chan lt
+    pub has_all : p ≡ TimeBased → IsTimeBasedShape s
+    has_all e = record {
+      only_data = only_data e;
+      linked = λ i j li lj ne.
+          let c = there_at Data i j (subst (λ k. i < k) same_nodes li) (subst (λ k. j < k) same_nodes lj) (subst (λ q. has_channel l.cross q Data i j ≡ true) (sym e) (not_from_false (i == j) (ne_eqb i j ne))) in
+          (c.0, c.1, ap (λ (ch : Chan). ch.from) c.2, ap (λ (ch : Chan). ch.to) c.2);
+    }
 
-      there_at : (kind : ChanKind) (i j : ℕ) → i < length l.names → j < length l.names → has_channel l.cross p kind i j ≡ true → (c : ℕ) × (c < chan_count s) × (chan_of s c ≡ channel kind i j)
-      unfolding chan_of
-      there_at kind i j li lj h =
-          let at : Contains s.channels (channel kind i j) = subst (λ chans. Contains chans (channel kind i j)) (sym is.channels) (all_there (has_channel l.cross p) (length l.names) kind i j li lj h) in
-          (at.0, at.1, get_or_default s.channels at.0 no_chan (channel kind i j) at.1 ∙ at.2)
+    crossed : p ≡ BackPressure → (c : ℕ) → c < chan_count s → carries_data s c ≡ true → IsCrossed l s c
+    crossed e c lt carries =
+        let h : has_channel l.cross BackPressure (chan_of s c).kind (from_of s c) (to_of s c) ≡ true = subst (λ q. has_channel l.cross q (chan_of s c).kind (from_of s c) (to_of s c) ≡ true) e (wanted c lt).is in
+        crossed_at f l placed (from_of s c) (to_of s c) (subst (λ k. has_channel l.cross BackPressure k (from_of s c) (to_of s c) ≡ true) (data_kind (chan_of s c).kind carries) h)
 
-      ordered : AllPairs IsBefore s.channels
-      ordered = subst (λ chans. AllPairs IsBefore chans) (sym is.channels) (all_ordered (has_channel l.cross p) (length l.names))
-
-      in_order : (c d : ℕ) → c < d → d < chan_count s → IsBefore (chan_of s c) (chan_of s d)
-      unfolding chan_of
-      in_order c d lt within = ordered c d no_chan lt within
-
-      -- the data channel between two nodes, if there is one
-      between : (i j c : ℕ) → c < chan_count s → chan_of s c ≡ channel Data i j →
-          (channel_between s i j < chan_count s) × (carries_data s (channel_between s i j) ≡ true) × (from_of s (channel_between s i j) ≡ i) × (to_of s (channel_between s i j) ≡ j)
-      unfolding chan_of channel_between
-      between i j c lt e =
-          let test : is_between i j (slice_index_or s.channels c no_chan) ≡ true = ap (is_between i j) e ∙ and_from _ _ refl (and_from _ _ (eq-eqb i i refl) (eq-eqb j j refl)) in
-          let at : position (is_between i j) s.channels ≡ Some (position_or_len (is_between i j) s.channels) = found (is_between i j) s.channels c no_chan lt test in
-          let here = position-Some (is_between i j) s.channels (position_or_len (is_between i j) s.channels) no_chan at in
-          let both = and_parts _ _ here.1 in
-          let two = and_parts _ _ both.1 in
-          let place : channel_between s i j ≡ position_or_len (is_between i j) s.channels = ap (λ o. unwrap_or o (length s.channels)) at in
-          (subst (λ k. k < chan_count s) (sym place) here.0, ap (carries_data s) place ∙ both.0, ap (from_of s) place ∙ eqb-true _ _ two.0, ap (to_of s) place ∙ eqb-true _ _ two.1)
-
-      of_crossing : (k : ℕ) → k < length l.cross → (c : ℕ) × (c < chan_count s) × (chan_of s c ≡ channel Data (crossing_of l k).from (crossing_of l k).to)
-      of_crossing k lt =
-          let from = cs.senders k lt in
-          let to = cs.receivers k lt in
-          there_at Data (crossing_of l k).from (crossing_of l k).to (omega (arith, from, named_nodes)) (omega (arith, to, named_nodes)) (data_by l.cross p (crossing_of l k).from (crossing_of l k).to (joined k lt) (cs.apart k lt))
-
-      crossing_channel : (k : ℕ) → k < length l.cross →
-          (channel_between s (crossing_of l k).from (crossing_of l k).to < chan_count s) × (carries_data s (channel_between s (crossing_of l k).from (crossing_of l k).to) ≡ true)
-          × (from_of s (channel_between s (crossing_of l k).from (crossing_of l k).to) ≡ (crossing_of l k).from) × (to_of s (channel_between s (crossing_of l k).from (crossing_of l k).to) ≡ (crossing_of l k).to)
-      crossing_channel k lt = let c = of_crossing k lt in between (crossing_of l k).from (crossing_of l k).to c.0 c.1 c.2
-
-      once_at : (c d : ℕ) → c < d → d < chan_count s → carries_data s c ≡ true → carries_data s d ≡ true → from_of s c ≡ from_of s d → to_of s c ≡ to_of s d → ⊥
-      once_at c d lt within hc hd from to =
-          before-apart (chan_of s c) (chan_of s d) (in_order c d lt within) (data_kind (chan_of s c).kind hc ∙ sym (data_kind (chan_of s d).kind hd)) from to
-
-      has_channels : HasChannels l s
-      has_channels = record {
-        nodes = same_nodes ∙ sym named_nodes;
-        ends = λ c lt. let w = (wanted c lt).from_in in omega (arith, w, named_nodes);
-        there = λ k lt. (crossing_channel k lt).0;
-        carries = λ k lt. (crossing_channel k lt).1;
-        once = λ c d hc hd dc dd from to. elim (cases_order c d) [
-          | inl e ↦ e
-          | inr h ↦ elim h [
-            | inl less ↦ absurd (once_at c d less hd dc dd from to)
-            | inr less ↦ absurd (once_at d c less hc dd dc (sym from) (sym to))
-          ]
-        ];
-        from = λ k lt. (crossing_channel k lt).2;
-        to = λ k lt. (crossing_channel k lt).3;
-      }
-
-      has_answers : p ≡ BackPressure → IsBackPressureShape s
-      has_answers e c lt =
-          let w = wanted c lt in
-          let back = answered l.cross (chan_of s c).kind (from_of s c) (to_of s c) (subst (λ q. has_channel l.cross q (chan_of s c).kind (from_of s c) (to_of s c) ≡ true) e w.is) in
-          let d = there_at (other (chan_of s c).kind) (to_of s c) (from_of s c) w.to_in w.from_in (subst (λ q. has_channel l.cross q (other (chan_of s c).kind) (to_of s c) (from_of s c) ≡ true) (sym e) back) in (
-            d.0,
-            d.1,
-            record {
-              from_is = ap (λ (ch : Chan). ch.from) d.2;
-              to_is = ap (λ (ch : Chan). ch.to) d.2;
-              other_kind = λ same. other_differs (chan_of s c).kind (sym (ap (λ (ch : Chan). is_data ch.kind) d.2) ∙ same);
-            },
-          )
-
-      has_all : p ≡ TimeBased → IsTimeBasedShape s
-      has_all e = record {
-        only_data = λ c lt. only_data_by l.cross (chan_of s c).kind (from_of s c) (to_of s c) (subst (λ q. has_channel l.cross q (chan_of s c).kind (from_of s c) (to_of s c) ≡ true) e (wanted c lt).is);
-        linked = λ i j li lj ne.
-            let c = there_at Data i j (omega (arith, li, same_nodes)) (omega (arith, lj, same_nodes)) (subst (λ q. has_channel l.cross q Data i j ≡ true) (sym e) (not_from_false (i == j) (ne_eqb i j ne))) in
-            (c.0, c.1, ap (λ (ch : Chan). ch.from) c.2, ap (λ (ch : Chan). ch.to) c.2);
-      }
-
-      crossed : p ≡ BackPressure → (c : ℕ) → c < chan_count s → carries_data s c ≡ true → IsCrossed l s c
-      crossed e c lt carries =
-          let h : has_channel l.cross BackPressure (chan_of s c).kind (from_of s c) (to_of s c) ≡ true = subst (λ q. has_channel l.cross q (chan_of s c).kind (from_of s c) (to_of s c) ≡ true) e (wanted c lt).is in
-          crossed_at (from_of s c) (to_of s c) (subst (λ k. has_channel l.cross BackPressure k (from_of s c) (to_of s c) ≡ true) (data_kind (chan_of s c).kind carries) h)
-
-      none_joins : (c : ℕ) → (IsCrossed l s c → ⊥) → filter (joins (from_of s c) (to_of s c)) l.cross ≡ []
-      none_joins c none = none_pass (joins (from_of s c) (to_of s c)) l.cross (λ k d lt. false_from_ne_true _ (λ h. none (crossed_at (from_of s c) (to_of s c) (list_any_at (joins (from_of s c) (to_of s c)) l.cross k d lt h))))
-
-      empty : (c : ℕ) → (IsCrossed l s c → ⊥) → types_for l s c ≡ []
-      empty c none = elim (cases_Bool (carries_data s c)) [
-        | inl e ↦ rw e (ap (map (λ (cr : Crossing). ty_of cr.first)) (none_joins c none))
-        | inr e ↦ rw e refl
-      ]
-
-      few : chan_count s ≤ 2 * (length l.names * length l.names)
-      few = subst (λ chans. length chans ≤ 2 * (length l.names * length l.names)) (sym is.channels) (all_length (has_channel l.cross p) (length l.names))
-
-      pub fits : FitsLayout l p s
-      fits = record { channels = has_channels; timed = λ t same. same ∙ sym same_nodes; back_pressure = has_answers; time_based = has_all; crossed = crossed; ordered = ordered; few = few; empty = empty }
-
--- what is made of a layout's names and crossings keeps what a shape keeps
-pub record Makes (names : List (List ℕ)) (chans : List Chan) : Type 0 where
-  pub names_are : AreNames names
-  pub ends : All (HasEnds (length names)) chans
-  pub differ : AllPairs (λ a b. a ≢ b) chans
+    pub fits : FitsLayout l p s
+    fits = record {
+      channels = drawn.has_channels f l placed (has_channel l.cross p) (apart_by p) (data_by l.cross p) s is.nodes is.channels;
+      timed = λ t same. same ∙ sym same_nodes;
+      back_pressure = has_answers;
+      only_data = only_data;
+      crossed = crossed;
+      ordered = drawn.ordered f l placed (has_channel l.cross p) (apart_by p) (data_by l.cross p) s is.nodes is.channels;
+      few = drawn.few f l placed (has_channel l.cross p) (apart_by p) (data_by l.cross p) s is.nodes is.channels;
+      empty = drawn.empty f l placed (has_channel l.cross p) (apart_by p) (data_by l.cross p) s is.nodes is.channels;
+    }
 
 pub makes : (f : Originated) (l : Layout) (placed : IsPlaced f l) (p : Protocol) (names : List (List ℕ)) (cross : List Crossing) (n : ℕ) (chans : List Chan) →
     ((named : NamedNodes) → AllPairs (λ a b. a ≢ b) (names_of named.nodes)) → names ≡ l.names → cross ≡ l.cross → n ≡ length names → chans ≡ all_chans (has_channel cross p) n → Makes names chans
-makes f l placed p names cross n chans apart same_names same_cross number is =
+makes f l placed p names cross n chans differ same_names same_cross number is =
     let count : n ≡ length l.names = number ∙ ap length same_names in
-    let all : chans ≡ channels_of l p = is ∙ (λ i. all_chans (has_channel (same_cross i) p) (count i)) in
-    record {
-      names_are = subst AreNames (sym (same_names ∙ placed.layout.names)) (are_names apart placed.placement);
-      ends = subst (λ m. All (HasEnds m) chans) (sym (ap length same_names)) (subst (λ cs. All (HasEnds (length l.names)) cs) (sym all) (ends f l placed p));
-      differ = subst (λ cs. AllPairs (λ a b. a ≢ b) cs) (sym all) (channels_differ f l placed p);
-    }
+    drawn_makes f l placed (has_channel l.cross p) (apart_by f l placed p) (data_by l.cross p) names chans differ same_names (is ∙ (λ i. all_chans (has_channel (same_cross i) p) (count i)))
 
 pub shapes_fit : ShapesFit
-shapes_fit f l p s placed is = fits f l placed p s is
+shapes_fit f l p s placed is = (fits f l placed p s is, has_all f l placed p s is)

@@ -7,7 +7,7 @@ use Rattle.lt_base.specs.Program.{Function}
 use Rattle.lt_arch.specs.State.{Phase}
 use Rattle.lt_arch.specs.Times.{in_transit}
 use Rattle.lt_io.specs.declared.message.Message.{Message}
-use Rattle.lt_io.specs.FabricState.{FabricState, KeepsFabric, OpensFabric}
+use Rattle.lt_io.specs.FabricState.{FabricState, KeepsPromises, OpensFabric}
 use Rattle.lt_link.specs.Inbox.{no_inbox}
 use Rattle.lt_net.specs.Net.{NetState}
 use Rattle.lt_net.specs.Event.{HeldBy, Holds, HasKinds}
@@ -28,7 +28,7 @@ no_entry : {A : Type 0} (xs : List A) (k : ℕ) → xs ≡ [] → k < length xs 
 no_entry xs k is lt = absurd (let e = ap length is in omega (arith, e, lt))
 
 module _ {C M : Type 0} (phase : C → Phase) (stands : M → Function → List (List Value) → Type 0) (made left : M → ℕ) (net : NetState C M) (s : Stands phase stands made left net no_lists)
-    (old new : FabricState) (keeps : KeepsFabric old new) (opens : OpensFabric old new (kinds_for net.layout net.shape)) where
+    (old new : FabricState) (keeps : KeepsPromises old new) (opens : OpensFabric old new (kinds_for net.layout net.shape)) where
   holds : Holds net new
   holds = record {
     transit = λ c lt. subst (λ ms. HeldBy (slice_index_or net.watch.sends c None) (slice_index_or net.inboxes c no_inbox).bit ms) (sym (opens.transit c))
@@ -64,6 +64,6 @@ module _ {C M : Type 0} (phase : C → Phase) (stands : M → Function → List 
 
 -- the same of a net that was started
 pub opened_by : {C M : Type 0} (phase : C → Phase) (stands : M → Function → List (List Value) → Type 0) (made left : M → ℕ) (l : Layout) (s : Shape) (t : Timing) (rows : ℕ) (ms : List M) (cs : List C) (net : NetState C M) →
-    IsMadeOf l s t rows ms cs net → IsFresh phase stands made left net → (inputs : List (List Value)) (old new : FabricState) → KeepsFabric old new → OpensFabric old new (kinds_for l s) → Keeps phase stands made left inputs [] net new no_lists
+    IsMadeOf l s t rows ms cs net → IsFresh phase stands made left net → (inputs : List (List Value)) (old new : FabricState) → KeepsPromises old new → OpensFabric old new (kinds_for l s) → Keeps phase stands made left inputs [] net new no_lists
 opened_by phase stands made left l s t rows ms cs net is fresh inputs old new keeps opens =
     opened phase stands made left net fresh.stands_for old new keeps (subst (λ ks. OpensFabric old new ks) (λ i. kinds_for (sym is.layout i) (sym is.shape i)) opens) inputs

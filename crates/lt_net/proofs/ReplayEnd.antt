@@ -20,6 +20,6 @@ closes C M phase stands made left inputs events net fabric ls bound f placed cha
   tells = k.tells;
   fronts = λ faithful y n x yb nb gives. cells_are_fronts C M phase stands made left net ls f placed channels one_place k.stands_for (k.owns faithful) inputs fit k.same_inputs y n x yb nb gives;
   enough = λ h n horizon b.
-      let here = least ls.events h n (subst (λ es. IsAdmissible net.shape net.timing net.rows es) (sym k.events) admissible) horizon b in
+      let here = least ls.events h n k.stands_for.timely (subst (λ es. IsAdmissible net.shape net.timing net.rows es) (sym k.events) admissible) horizon b in
       subst (λ m. min (bound net.timing n h) m ≤ executed_of (state_of net ls) n) rows here;
 }

@@ -24,10 +24,10 @@ lt_other c i ne = elim (leb_tells (suc c) i) [
 ]
 
 pub keeps_refl : (s : FabricState) → KeepsFabric s s
-keeps_refl s = record { faithful = refl; sound = refl; told = refl; prompt = λ t. t }
+keeps_refl s = record { faithful = refl; sound = refl; told = refl; prompt = λ t. t; kinds = refl }
 
 pub keeps_trans : (a b c : FabricState) → KeepsFabric a b → KeepsFabric b c → KeepsFabric a c
-keeps_trans a b c x y = record { faithful = y.faithful ∙ x.faithful; sound = y.sound ∙ x.sound; told = y.told ∙ x.told; prompt = λ t. y.prompt (x.prompt t) }
+keeps_trans a b c x y = record { faithful = y.faithful ∙ x.faithful; sound = y.sound ∙ x.sound; told = y.told ∙ x.told; prompt = λ t. y.prompt (x.prompt t); kinds = y.kinds ∙ x.kinds }
 
 pub lt_yes : (c i : ℕ) → c < i → nat_lt c i ≡ true
 lt_yes c i h = elim (leb_tells (suc c) i) [ inl e ↦ e.0 | inr e ↦ absurd (omega (arith, e.1, h)) ]

@@ -1,14 +1,16 @@
 -- What a play answers.
-use Rattle.std.proofs.Common.{◌≡◌, ◌<◌, ℕ, Bool, List, Option, Some, None, Result, Ok, Err, IsTrue, refl, sym, ap, subst, arith}
-use Rattle.std.specs.Prelude.{IsSome, MatchResult}
+use Rattle.std.proofs.Common.{◌≡◌, ◌<◌, ℕ, Bool, true, false, List, Option, Some, None, Result, Ok, Err, IsTrue, refl, sym, ap, subst, arith}
+use Rattle.std.specs.Prelude.{IsSome, MatchResult, is_ok}
 use Rattle.lt_base.specs.declared.value.Value.{Value}
 use Rattle.lt_base.specs.declared.memory.Or.{Or}
 use Rattle.lt_base.specs.Program.{Function}
 use Rattle.lt_arch.specs.declared.event.Event.{Event}
 use Rattle.lt_arch.specs.declared.event.Offence as arch
 use Rattle.lt_arch.specs.State.{Phase}
-use Rattle.lt_io.specs.FilesState.{FilesState, KeepsFiles}
+use Rattle.lt_io.specs.FilesState.{FilesState, KeepsNames}
+use Rattle.lt_io.specs.Visits.{Visited}
 use Rattle.lt_io.specs.FabricState.{FabricState}
+use Rattle.lt_io.proofs.Keeps.{promises_kept}
 use Rattle.lt_answer.specs.World.{KeepsWorld, Blames, Content}
 use Rattle.lt_answer.specs.Answered.{OfFile, RefusesReading}
 use Rattle.lt_judge.specs.declared.halt.Refusal.{Refusal}
@@ -19,6 +21,7 @@ use Rattle.lt_judge.specs.declared.fault.ScheduleFault.TheVariants.{Read}
 use Rattle.lt_judge.specs.Halted.{UnlessFailed, ReadCounted, LinkCounted, IsMemoryHalt}
 use Rattle.lt_judge.specs.Rules.{Rules}
 use Rattle.lt_judge.specs.Replayed.{TakesFile, RefusesFile}
+use Rattle.lt_judge.specs.Errand.{schedule_errand}
 use Rattle.lt_judge.specs.Blamed.{schedule_blame}
 use Rattle.lt_judge.specs.Verdict.{rules_of, fault_of, or_fault, verdict}
 use Rattle.lt_judge.proofs.Outcomes.{near_file}
@@ -45,7 +48,7 @@ content (refusal.Offence event offence) = refl
 content refusal.Bytes = refl
 
 module _ {C M : Type 0} (phase : C → Phase) (stands : M → Function → List (List Value) → Type 0) (made left size : M → ℕ) (old new : StoppableNet C M) (inputs later : List (List Value)) (name : List ℕ) (files files' : FilesState) (fabric fabric' : FabricState)
-    (keeps_files : KeepsFiles files files') (keeps : KeepsPlay size old new inputs later fabric fabric') where
+    (keeps_files : KeepsNames files files') (keeps : KeepsPlay size old new inputs later fabric fabric') where
   abbrev ends_at : List Event → Type 0
   ends_at = IsAtEnd phase stands made left old new inputs fabric'
 
@@ -59,7 +62,7 @@ module _ {C M : Type 0} (phase : C → Phase) (stands : M → Function → List 
   RefusedBy refused = RefusesFile (rules_of old.plant.shape old.plant.timing old.plant.rows) (files.named name) files'.place refused
 
   keeps_world : KeepsWorld (world files fabric) (world files' fabric')
-  keeps_world = record { files = keeps_files; fabric = keeps.fabric_kept; steady = keeps.steady }
+  keeps_world = record { files = keeps_files; fabric = promises_kept fabric fabric' keeps.fabric_kept; steady = keeps.steady }
 
   ended : (steps : ℕ) (takes : Taken steps) → ends_at takes.events
   ended steps takes = at_end phase stands made left size old new inputs later fabric fabric' keeps takes.events steps takes.stands_for takes.stops
@@ -82,11 +85,12 @@ module _ {C M : Type 0} (phase : C → Phase) (stands : M → Function → List 
   missing None found rose = (Schedule Read, refl, refl)
   missing (Some bytes) found rose = absurd (omega (arith, found refl, rose))
 
-  refused_play : (refused : Refusal arch.Offence) → files'.faults ≡ files.faults → fabric'.faults ≡ fabric.faults → (IsTrue files.told → RefusedBy refused)
+  refused_play : (refused : Refusal arch.Offence) → Visited (schedule_errand name) files.visits files'.visits false → files'.faults ≡ files.faults → fabric'.faults ≡ fabric.faults → (IsTrue files.told → RefusedBy refused)
       → HasPlayed phase stands made left size old new inputs later name files files' fabric fabric' (Err (play_fault (halt.Refused refused)))
-  refused_play refused calm link_calm refuses = record {
+  refused_play refused visits calm link_calm refuses = record {
     answered = record {
       keeps = keeps_world;
+      visits = visits;
       cause = subst (Blames (world files fabric) (world files' fabric')) (sym (content refused)) (record { files = calm; fabric = link_calm });
       exact = λ told _. wrong refused (refuses told);
       sound = λ told sound rose. absurd (omega (arith, rose, calm));
@@ -97,13 +101,14 @@ module _ {C M : Type 0} (phase : C → Phase) (stands : M → Function → List 
     keeps = keeps;
   }
 
-  pub played : (r : Result (Unit {0}) (Halt arch.Offence)) → ReadCounted files.faults files'.faults r → LinkCounted fabric.faults fabric'.faults r
+  pub played : (r : Result (Unit {0}) (Halt arch.Offence)) → Visited (schedule_errand name) files.visits files'.visits (is_ok r) → ReadCounted files.faults files'.faults r → LinkCounted fabric.faults fabric'.faults r
       → (IsTrue files.sound → IsSome (files.named name) → files'.faults ≡ files.faults) → (IsTrue fabric.prompt → IsMemoryHalt r → ⊥)
       → MatchResult r (λ _. (steps : ℕ) × Taken steps) (UnlessFailed (λ refused. IsTrue files.told → RefusedBy refused))
       → HasPlayed phase stands made left size old new inputs later name files files' fabric fabric' (answer_of r)
-  played (Ok x) calm link_calm found prompt takes = record {
+  played (Ok x) visits calm link_calm found prompt takes = record {
     answered = record {
       keeps = keeps_world;
+      visits = visits;
       cause = record { files = calm; fabric = link_calm };
       exact = λ told _. right takes.0 takes.1 told;
       sound = λ told sound rose. absurd (omega (arith, rose, calm));
@@ -113,10 +118,11 @@ module _ {C M : Type 0} (phase : C → Phase) (stands : M → Function → List 
     prompt = λ prompt. tt;
     keeps = keeps;
   }
-  played (Err (halt.Refused refused)) calm link_calm found prompt refuses = refused_play refused calm link_calm refuses
-  played (Err halt.Read) counted link_calm found prompt none = record {
+  played (Err (halt.Refused refused)) visits calm link_calm found prompt refuses = refused_play refused visits calm link_calm refuses
+  played (Err halt.Read) visits counted link_calm found prompt none = record {
     answered = record {
       keeps = keeps_world;
+      visits = visits;
       cause = (counted, link_calm);
       exact = λ told calm. absurd (omega (arith, counted, calm.files));
       sound = λ told sound rose. missing (files.named name) (found sound) rose;
@@ -130,9 +136,10 @@ module _ {C M : Type 0} (phase : C → Phase) (stands : M → Function → List 
       unread : (file : Option (List ℕ)) → Rattle.lt_judge.specs.Near.IsNearFile file files'.place (Rattle.lt_base.specs.declared.memory.Or.TheVariants.Fault Read)
       unread None = tt
       unread (Some bytes) = tt
-  played (Err halt.Link) calm counted found prompt none = record {
+  played (Err halt.Link) visits calm counted found prompt none = record {
     answered = record {
       keeps = keeps_world;
+      visits = visits;
       cause = (calm, counted);
       exact = λ told still. absurd (omega (arith, counted, still.fabric));
       sound = λ told sound rose. absurd (omega (arith, rose, calm));
@@ -142,9 +149,10 @@ module _ {C M : Type 0} (phase : C → Phase) (stands : M → Function → List 
     prompt = λ prompt is. is;
     keeps = keeps;
   }
-  played (Err halt.Memory) calm link_calm found prompt none = record {
+  played (Err halt.Memory) visits calm link_calm found prompt none = record {
     answered = record {
       keeps = keeps_world;
+      visits = visits;
       cause = record { files = calm; fabric = link_calm };
       exact = λ told _. tt;
       sound = λ told sound rose. absurd (omega (arith, rose, calm));

@@ -9,7 +9,8 @@ use Rattle.lt_arch.specs.declared.shape.Shape.{Shape}
 use Rattle.lt_arch.specs.declared.timing.Timing.{Timing}
 use Rattle.lt_arch.specs.State.{Phase, start, executed_of}
 use Rattle.lt_arch.specs.Readers.{node_count}
-use Rattle.lt_arch.specs.Schedule.{IsAdmissible, after_all}
+use Rattle.lt_arch.specs.declared.limits.TheConstants.{GREATEST_TIME}
+use Rattle.lt_arch.specs.Schedule.{AreUpTo, IsAdmissible, after_all}
 use Rattle.lt_io.specs.Counts.{IsMemory}
 use Rattle.lt_io.specs.FilesState.{FilesState}
 use Rattle.lt_io.specs.FabricState.{FabricState}
@@ -17,6 +18,7 @@ use Rattle.lt_answer.specs.World.{World}
 use Rattle.lt_answer.specs.Answered.{Answered, OfFile}
 use Rattle.lt_judge.specs.declared.fault.ScheduleFault.{ScheduleFault}
 use Rattle.lt_judge.specs.declared.fault.ScheduleFault.TheVariants.{Read}
+use Rattle.lt_judge.specs.Errand.{schedule_errand}
 use Rattle.lt_judge.specs.Near.{IsNearFile}
 use Rattle.lt_judge.specs.Verdict.{verdict}
 use Rattle.lt_net.specs.NetModel.{StoppableNet}
@@ -35,10 +37,10 @@ use Rattle.lt_play.specs.Blamed.{play_blame}
 abbrev pub world : FilesState → FabricState → World
 world files fabric = record { files = files; fabric = fabric }
 
--- each node executes at least as many instants as this bound for its horizon, or all rows: the law of a protocol
+-- along events in the range of times each node executes at least as many instants as this bound for its horizon, or all rows: the law of a protocol
 abbrev pub IsLeast : (bound : Timing → ℕ → ℕ → ℕ) → Shape → Timing → (rows : ℕ) → Type 0
 IsLeast bound s t rows =
-    (es : List Event) (h n : ℕ) → IsAdmissible s t rows es → (after_all s t rows (start t.protocol) es).horizon ≡ Some h → n < node_count s →
+    (es : List Event) (h n : ℕ) → AreUpTo GREATEST_TIME es → IsAdmissible s t rows es → (after_all s t rows (start t.protocol) es).horizon ≡ Some h → n < node_count s →
     min (bound t n h) rows ≤ executed_of (after_all s t rows (start t.protocol) es) n
 
 -- a net, as it was at its start and as it is now, stands for an admissible list of events
@@ -74,7 +76,7 @@ IsNearPlay file place Memory = Unit {0}
 pub record HasPlayed {C M : Type 0} (phase : C → Phase) (stands : M → Function → List (List Value) → Type 0) (made left size : M → ℕ) (old new : StoppableNet C M) (inputs later : List (List Value))
     (name : List ℕ) (files files' : FilesState) (fabric fabric' : FabricState) (result : Result (Unit {0}) (Or PlayFault)) : Type 0 where
   -- by the verdict of the file
-  pub answered : Answered play_blame (play_verdict (IsAtEnd phase stands made left old new inputs fabric') old.plant.shape old.plant.timing old.plant.rows (files.named name)) (world files fabric) (world files' fabric') result
+  pub answered : Answered play_blame (schedule_errand name) (play_verdict (IsAtEnd phase stands made left old new inputs fabric') old.plant.shape old.plant.timing old.plant.rows (files.named name)) (world files fabric) (world files' fabric') result
   -- whether or not the files tell their bytes
   pub ended : OnOk result ((events : List Event) × IsAtEnd phase stands made left old new inputs fabric' events)
   pub near : IsTrue files.told → IfErr result (IsNearPlay (files.named name) files'.place)

@@ -5,7 +5,7 @@ ghost use Rattle.lt_arch.specs.Readers.{node_count, chan_count};
 ghost use Rattle.lt_arch.specs.Schedule.{OnePlace};
 ghost use Rattle.lt_arch.specs.Shapes.{HaveSameNodes};
 ghost use Rattle.lt_io.specs.Counts.{LinkCounted};
-ghost use Rattle.lt_io.specs.FabricState.{KeepsFabric};
+ghost use Rattle.lt_io.specs.FabricState.{KeepsPromises};
 ghost use Rattle.lt_judge.specs.Verdict.{rules_of};
 ghost use Rattle.lt_judge.specs.Long.{long_line};
 ghost use Rattle.lt_norm.specs.Flat.{Originated};
@@ -25,7 +25,7 @@ use lt_judge::{Replica, Stop};
 use lt_machine::Machine;
 use lt_net::{Net, NetFault, kinds_of};
 use lt_place::Layout;
-use lt_rows::read_event;
+use lt_rows::PlaceTable;
 use std::alloc::Global;
 use std::sync::ledger::Ledger;
 
@@ -34,6 +34,7 @@ use std::sync::ledger::Ledger;
 pub struct Playback<'a, C: Controller, M: Machine> {
     pub net: Net<C, M>,
     pub inputs: &'a Inputs,
+    places: PlaceTable,
     width: u32,
     row: Vec<Value>,
 }
@@ -68,17 +69,19 @@ impl<'a, C: Controller, M: Machine> Playback<'a, C, M> {
         ensures made { IfOk result (λ playback. IsMadeOf layout shape timing (length inputs.now.rows) machines.items controllers.items playback.net.plant) }
         ensures ready { IfOk result (λ playback. IsPlaying C.phase M.stands M.made M.left M.size playback.inputs.now playback.width playback.row.items [] 0 playback.net (W.state fabric.new)) }
         ensures cause { LinkCounted (W.state fabric.old).faults (W.state fabric.new).faults result }
-        ensures keeps { KeepsFabric (W.state fabric.old) (W.state fabric.new) }
+        ensures keeps { KeepsPromises (W.state fabric.old) (W.state fabric.new) }
         ensures sound { IsTrue (W.state fabric.old).sound → (W.state fabric.new).faults ≡ (W.state fabric.old).faults }
     {
         let kinds = kinds_of(alloc, &layout, &shape)?;
         let row = room_for(alloc, width)?;
+        let places = PlaceTable::new(alloc, &shape)?;
         let count = inputs.rows();
         let net = Net::start(alloc, layout, shape, timing, count, machines, controllers)?;
         fabric.open(kinds.as_slice())?;
         Ok(Playback {
             net,
             inputs,
+            places,
             width,
             row,
         })
@@ -106,7 +109,7 @@ impl<C: Controller, M: Machine, W: Fabric> Replica<W> for Playback<'_, C, M> {
         outside: &mut W,
         steps: &mut Steps<L>,
     ) -> Result<(), Stop<Offence>> {
-        match read_event(line, self.net.shape()) {
+        match self.places.read_event(line, self.net.shape()) {
             Err(fault) => Err(Stop::Row(fault)),
             Ok(e) => {
                 let has = read_next(&self.net, self.inputs, self.width, e, &mut self.row);

@@ -10,4 +10,6 @@ mod fixtures;
 #[cfg(test)]
 mod inboxes;
 #[cfg(test)]
+mod lossy;
+#[cfg(test)]
 mod timings;

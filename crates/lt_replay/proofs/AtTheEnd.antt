@@ -15,7 +15,6 @@ use Rattle.lt_arch.specs.State.{Phase, State, sent_of, executed_of}
 use Rattle.lt_arch.specs.Times.{in_transit, sent_in}
 use Rattle.lt_arch.specs.Readers.{node_count, chan_count, from_of}
 use Rattle.lt_arch.specs.Schedule.{IsAdmissible, reached}
-use Rattle.lt_timing.specs.Bounds.{bound_of}
 use Rattle.lt_io.specs.declared.message.Message.{Message}
 use Rattle.lt_io.specs.FabricState.{FabricState}
 use Rattle.lt_link.specs.Bits.{bit_of}
@@ -37,6 +36,9 @@ use Rattle.lt_net.specs.Layout.{IsLaidOut}
 use Rattle.lt_net.specs.Whole.{RowsFit as HasInputs}
 use Rattle.lt_play.specs.Played.{IsLeast}
 use Rattle.lt_replay.specs.declared.replayed.Replayed.{Replayed}
+use Rattle.lt_config.specs.declared.pace.Pace.{Pace}
+use Rattle.lt_lead.specs.Paced.{KeepsPace, bound_by}
+use Rattle.lt_replay.specs.Sound.{IsSound}
 use Rattle.lt_replay.specs.Run.{WereGiven, message_at, IsLeft, IsTold, AreOwn, HasSteps}
 use Rattle.lt_replay.specs.Replays.{IsTaken, IsReplay}
 
@@ -118,9 +120,9 @@ module _ {C M : Type 0} (phase : C → Phase) (stands : M → Function → List 
 
   pub is_replay : IsSized net → length net.tracks ≡ length net.layout.outs → node_count net.shape ≡ length net.layout.nodes → IsAdmissible net.shape net.timing net.rows events →
       ((f : Function) (bound : Timing → ℕ → ℕ → ℕ) → IsLaidOut f net.layout → HasInputs f inputs → IsLeast bound net.shape net.timing net.rows → Ends bound f inputs net fabric ls) →
-      (f : Originated) → IsPlaced f net.layout → RowsFit f.func inputs → IsLeast bound_of net.shape net.timing (length inputs) →
+      (f : Originated) → IsPlaced f net.layout → RowsFit f.func inputs → IsSound net.layout net.shape net.timing (length inputs) →
       (taken : Replayed M) → IsTaken net taken → IsReplay stands made net.layout net.shape net.timing inputs fabric events taken
-  is_replay sized tracks nodes admissible ends f placed fit least taken is = record {
+  is_replay sized tracks nodes admissible ends f placed fit sound taken is = record {
     run = record {
       admissible = subst (λ m. IsAdmissible net.shape net.timing m events) rows admissible;
       ends = horizon_is;
@@ -135,21 +137,21 @@ module _ {C M : Type 0} (phase : C → Phase) (stands : M → Function → List 
       told = is_told;
       own = are_own;
       fronts = λ g g_placed g_fit faithful y n x yb nb gives.
-          cells_at net.tracks taken.cells y is.cells (omega (arith, yb, tracks)) ∙ (ends_of g g_placed g_fit).fronts faithful y n x yb nb gives
+          cells_at net.tracks taken.cells y is.cells (omega (arith, yb, tracks)) ∙ (ends_of sound.paced.0 sound.paced.1 g g_placed g_fit).fronts faithful y n x yb nb gives
           ∙ ap (λ (st : State). take (executed_of st n) (stream_of [] g.func inputs (slice_index_or net.layout.outs y 0))) state_is;
-      enough = λ n b. subst (λ (st : State). min (bound_of net.timing n taken.horizon) (length inputs) ≤ executed_of st n) state_is
-          (mine.enough taken.horizon n (ap (λ (st : State). st.horizon) state_is ∙ horizon_is) b);
+      enough = λ pace kept n b. subst (λ (st : State). min (bound_by pace net.timing n taken.horizon) (length inputs) ≤ executed_of st n) state_is
+          ((ends_of pace kept f placed fit).enough taken.horizon n (ap (λ (st : State). st.horizon) state_is ∙ horizon_is) b);
     };
     steps = subst (λ ms. HasSteps stands made net.layout net.shape net.timing inputs events ls.got ms) (sym is.machines) (has_steps sized.machines nodes);
   }
     where
-      ends_of : (g : Originated) → IsPlaced g net.layout → RowsFit g.func inputs → Ends bound_of g.func inputs net fabric ls
-      ends_of g g_placed g_fit =
-          ends g.func bound_of (laid_out g net.layout g_placed) (has_inputs g.func g_placed.good inputs g_fit)
-          (subst (λ m. IsLeast bound_of net.shape net.timing m) (sym rows) least)
+      ends_of : (pace : Pace) → KeepsPace net.layout net.shape net.timing pace → (g : Originated) → IsPlaced g net.layout → RowsFit g.func inputs → Ends (bound_by pace) g.func inputs net fabric ls
+      ends_of pace kept g g_placed g_fit =
+          ends g.func (bound_by pace) (laid_out g net.layout g_placed) (has_inputs g.func g_placed.good inputs g_fit)
+          (subst (λ m. IsLeast (bound_by pace) net.shape net.timing m) (sym rows) (sound.least pace kept))
 
-      mine : Ends bound_of f.func inputs net fabric ls
-      mine = ends_of f placed fit
+      mine : Ends (bound_by sound.paced.0) f.func inputs net fabric ls
+      mine = ends_of sound.paced.0 sound.paced.1 f placed fit
 
       horizon_is : last.horizon ≡ Some taken.horizon
       horizon_is = sym (ap (λ (st : State). st.horizon) state_is) ∙ sym k.stands_for.times.horizon ∙ is.horizon

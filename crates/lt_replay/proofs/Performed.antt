@@ -1,5 +1,5 @@
 -- What a network along a schedule answers, from what its net did.
-use Rattle.std.proofs.Common.{◌≡◌, ◌<◌, inl, inr, ℕ, List, length, Option, Some, None, Result, Ok, Err, IsTrue, refl, sym, ap, ◌∙◌, subst, arith}
+use Rattle.std.proofs.Common.{◌≡◌, ◌<◌, inl, inr, ℕ, List, [], length, Option, Some, None, Result, Ok, Err, IsTrue, false, refl, sym, ap, ◌∙◌, subst, arith}
 use Rattle.std.specs.Prelude.{IsErrAnd}
 use Rattle.lt_base.specs.declared.value.Value.{Value}
 use Rattle.lt_base.specs.declared.memory.Or.{Or}
@@ -12,17 +12,19 @@ use Rattle.lt_arch.specs.declared.timing.Timing.{Timing}
 use Rattle.lt_arch.specs.State.{Phase}
 use Rattle.lt_arch.specs.Readers.{node_count}
 use Rattle.lt_arch.specs.Schedule.{first_offence}
-use Rattle.lt_timing.specs.Bounds.{bound_of}
 use Rattle.lt_io.specs.declared.fault.LinkErr.{LinkErr}
 use Rattle.lt_io.specs.declared.fault.LinkErr.TheVariants as link
 use Rattle.lt_io.specs.Counts.{LinkCountedBy}
+use Rattle.lt_io.specs.Visits.{Errand}
+use Rattle.lt_io.proofs.Visiting.{visited_none, unvisited, visited_any}
 use Rattle.lt_io.specs.FilesState.{FilesState}
-use Rattle.lt_io.specs.FabricState.{FabricState, KeepsFabric}
+use Rattle.lt_io.specs.FabricState.{FabricState, KeepsPromises}
 use Rattle.lt_answer.specs.World.{World, KeepsWorld, Blame}
 use Rattle.lt_answer.specs.Answered.{Answered, Verdict, RefusesReading, AndThen}
-use Rattle.lt_answer.proofs.Stages.{goes_on, widened}
+use Rattle.lt_answer.proofs.Stages.{goes_on, runs_short, widened}
 use Rattle.lt_judge.specs.declared.fault.ScheduleFault.{ScheduleFault}
 use Rattle.lt_judge.specs.declared.fault.ScheduleFault.TheVariants.{Read}
+use Rattle.lt_judge.specs.Errand.{schedule_errand}
 use Rattle.lt_judge.specs.Verdict.{verdict}
 use Rattle.lt_norm.specs.Flat.{Originated}
 use Rattle.lt_place.specs.declared.layout.Layout.{Layout}
@@ -30,15 +32,15 @@ use Rattle.lt_place.specs.Layout.{IsPlaced}
 use Rattle.lt_net.specs.NetModel.{StoppableNet}
 use Rattle.lt_net.specs.Kept.{IsSized}
 use Rattle.lt_net.specs.Starts.{IsMadeOf}
-use Rattle.lt_net.proofs.SendLoop.{keeps_refl}
 use Rattle.lt_play.specs.declared.fault.PlayFault.{PlayFault}
 use Rattle.lt_play.specs.declared.fault.PlayFault.TheVariants.{Schedule}
-use Rattle.lt_play.specs.Played.{world, IsLeast, IsAtEnd, EndsBy, play_verdict, HasPlayed}
+use Rattle.lt_play.specs.Played.{world, IsAtEnd, EndsBy, play_verdict, HasPlayed}
 use Rattle.lt_play.specs.Blamed.{play_blame}
 use Rattle.lt_replay.specs.declared.replayed.Replayed.{Replayed}
 use Rattle.lt_replay.specs.Sound.{IsSound}
 use Rattle.lt_replay.specs.Replays.{IsTaken, IsReplay, EndsWith, replay_verdict, HasReplayed, link_fault}
 use Rattle.lt_replay.proofs.AtTheEnd.{is_replay}
+use Rattle.lt_replay.proofs.SoundNetworks.{sound_of_equals}
 
 -- an error that is handed on
 at_error : {T E : Type 0} (P : Result T E → Type 0) (r : Result T E) (e : E) → IsErrAnd r (λ f. f ≡ e) → P (Err e) → P r
@@ -48,7 +50,7 @@ at_error P (Err f) e is refused = subst (λ g. P (Err g)) (sym is) refused
 module _ {C M : Type 0} (phase : C → Phase) (stands : M → Function → List (List Value) → Type 0) (made left size : M → ℕ)
     (l : Layout) (s : Shape) (t : Timing) (inputs : List (List Value)) (name : List ℕ) (files files' : FilesState) (fabric : FabricState) where
   -- nothing was played yet
-  module _ (fabric' : FabricState) (keeps : KeepsFabric fabric fabric') (steady : IsTrue fabric.sound → fabric'.faults ≡ fabric.faults) where
+  module _ (fabric' : FabricState) (keeps : KeepsPromises fabric fabric') (steady : IsTrue fabric.sound → fabric'.faults ≡ fabric.faults) where
     abbrev ends_at : List Event → Replayed M → Type 0
     ends_at = IsReplay stands made l s t inputs fabric'
 
@@ -63,6 +65,7 @@ module _ {C M : Type 0} (phase : C → Phase) (stands : M → Function → List 
     not_opened link.Failed rose = record {
       answered = record {
         keeps = unplayed_keeps;
+        visits = unvisited (schedule_errand name) files.visits;
         cause = (refl, rose);
         exact = λ told calm. absurd (let same = calm.fabric in omega (arith, rose, same));
         sound = λ told sound rose. absurd (omega (arith, rose));
@@ -73,6 +76,7 @@ module _ {C M : Type 0} (phase : C → Phase) (stands : M → Function → List 
     not_opened link.Memory same = record {
       answered = record {
         keeps = unplayed_keeps;
+        visits = unvisited (schedule_errand name) files.visits;
         cause = record { files = refl; fabric = same };
         exact = λ told calm. tt;
         sound = λ told sound rose. absurd (omega (arith, rose));
@@ -81,40 +85,46 @@ module _ {C M : Type 0} (phase : C → Phase) (stands : M → Function → List 
       near = λ told. tt;
     }
 
-  -- there is no memory to begin with
-  pub no_memory : (r : Result (Replayed M) (Or PlayFault)) → IsErrAnd r (λ f. f ≡ Memory) → HasReplayed stands made l s t inputs name files files fabric fabric r
-  no_memory r is = at_error (λ answer. HasReplayed stands made l s t inputs name files files fabric fabric answer) r Memory is (not_opened fabric (keeps_refl fabric) (λ sound. refl) link.Memory refl)
+-- there is no memory to begin with
+pub no_memory : {M : Type 0} (stands : M → Function → List (List Value) → Type 0) (made : M → ℕ) (l : Layout) (s : Shape) (t : Timing) (inputs : List (List Value)) (name : List ℕ) (files : FilesState) (fabric : FabricState)
+    (r : Result (Replayed M) (Or PlayFault)) → IsErrAnd r (λ f. f ≡ Memory) → HasReplayed stands made l s t inputs name files files fabric fabric r
+no_memory stands made l s t inputs name files fabric r is =
+    at_error (λ answer. HasReplayed stands made l s t inputs name files files fabric fabric answer) r Memory is (record { answered = runs_short (world files fabric); ended = tt; near = λ told. tt })
 
 -- a step's answer as that of another, where what is right of the one is right of the other
-module _ {T U E : Type 0} (blame : E → Blame) (V : Verdict T E) (W : Verdict U E) (a b : World) (wider : (e : E) → V (Err e) → W (Err e)) where
+module _ {T U E : Type 0} (blame : E → Blame) (es : List Errand) (V : Verdict T E) (W : Verdict U E) (a b : World) (wider : (e : E) → V (Err e) → W (Err e)) where
   reads_too : RefusesReading blame V → RefusesReading blame W
   reads_too reading = (reading.0, reading.1, wider reading.0 reading.2)
 
-  error_too : (e : Or E) → Answered blame V a b (Err e) → Answered blame W a b (Err e)
+  error_too : (e : Or E) → Answered blame es V a b (Err e) → Answered blame es W a b (Err e)
   error_too (Fault e) answered = record {
     keeps = answered.keeps;
+    visits = answered.visits;
     cause = answered.cause;
     exact = λ told calm. wider e (answered.exact told calm);
     sound = λ told sound rose. reads_too (answered.sound told sound rose);
   }
   error_too Memory answered = record {
     keeps = answered.keeps;
+    visits = answered.visits;
     cause = answered.cause;
     exact = λ told calm. tt;
     sound = λ told sound rose. reads_too (answered.sound told sound rose);
   }
 
-  value_too : (x : T) (y : U) → (V (Ok x) → W (Ok y)) → Answered blame V a b (Ok x) → Answered blame W a b (Ok y)
+  value_too : (x : T) (y : U) → (V (Ok x) → W (Ok y)) → Answered blame es V a b (Ok x) → Answered blame es W a b (Ok y)
   value_too x y right answered = record {
     keeps = answered.keeps;
+    visits = answered.visits;
     cause = answered.cause;
     exact = λ told calm. right (answered.exact told calm);
     sound = λ told sound rose. reads_too (answered.sound told sound rose);
   }
 
-  short_too : (x : T) → Answered blame V a b (Ok x) → Answered blame W a b (Err Memory)
+  short_too : (x : T) → Answered blame es V a b (Ok x) → Answered blame es W a b (Err Memory)
   short_too x answered = record {
     keeps = answered.keeps;
+    visits = visited_any es a.files.visits b.files.visits false answered.visits;
     cause = answered.cause;
     exact = λ told calm. tt;
     sound = λ told sound rose. reads_too (answered.sound told sound rose);
@@ -132,7 +142,7 @@ after_leave W o (inr h) = h.2
 
 module _ {C M : Type 0} (phase : C → Phase) (stands : M → Function → List (List Value) → Type 0) (made left size : M → ℕ)
     (l : Layout) (s : Shape) (t : Timing) (inputs later : List (List Value)) (name : List ℕ) (files files' : FilesState) (fabric mid fabric' : FabricState)
-    (opened : KeepsFabric fabric mid) (calm : mid.faults ≡ fabric.faults) (old new : StoppableNet C M) (ms : List M) (cs : List C) (is : IsMadeOf l s t (length inputs) ms cs old.plant) where
+    (opened : KeepsPromises fabric mid) (calm : mid.faults ≡ fabric.faults) (old new : StoppableNet C M) (ms : List M) (cs : List C) (is : IsMadeOf l s t (length inputs) ms cs old.plant) where
   abbrev ends_at_last : List Event → Type 0
   ends_at_last = IsAtEnd phase stands made left old new inputs fabric'
 
@@ -166,15 +176,16 @@ module _ {C M : Type 0} (phase : C → Phase) (stands : M → Function → List 
   value_wider None x taken goes h = absurd (cc h)
   value_wider (Some bytes) x taken goes h = subst (λ v. EndsWith comes_to v (Ok taken)) (same_verdict bytes) (value_ends (verdict old.plant.shape old.plant.timing old.plant.rows bytes) x taken goes h)
 
-  leave : Answered play_blame (Allowed {E = PlayFault}) (world files fabric) (world files mid) (Ok tt)
+  leave : Answered play_blame [] (Allowed {E = PlayFault}) (world files fabric) (world files mid) (Ok tt)
   leave = record {
     keeps = record { files = record { sound = refl; told = refl; named = refl }; fabric = opened; steady = λ sound. calm };
+    visits = visited_none files.visits _;
     cause = record { files = refl; fabric = calm };
     exact = λ told calm. tt;
     sound = λ told sound rose. absurd (omega (arith, rose));
   }
 
-  from_start : (r : Result (Replayed M) (Or PlayFault)) → Answered play_blame (replayed_right (files.named name)) (world files mid) (world files' fabric') r → Answered play_blame (replayed_right (files.named name)) (world files fabric) (world files' fabric') r
+  from_start : (r : Result (Replayed M) (Or PlayFault)) → Answered play_blame (schedule_errand name) (replayed_right (files.named name)) (world files mid) (world files' fabric') r → Answered play_blame (schedule_errand name) (replayed_right (files.named name)) (world files fabric) (world files' fabric') r
   from_start r answered =
       widened (AndThen (Allowed {E = PlayFault}) (λ _. replayed_right (files.named name))) (replayed_right (files.named name)) (world files fabric) (world files' fabric') r (after_leave (replayed_right (files.named name)))
       (goes_on {next = λ _. replayed_right (files.named name)} (world files fabric) (world files mid) (world files' fabric') tt r leave answered)
@@ -182,7 +193,7 @@ module _ {C M : Type 0} (phase : C → Phase) (stands : M → Function → List 
   -- the play was refused
   refused_play : (e : Or PlayFault) → HasPlayed phase stands made left size old new inputs later name files files' mid fabric' (Err e) → HasReplayed stands made l s t inputs name files files' fabric fabric' (Err e)
   refused_play e played = record {
-    answered = from_start (Err e) (error_too play_blame (played_right (files.named name)) (replayed_right (files.named name)) (world files mid) (world files' fabric') (error_wider (files.named name)) e played.answered);
+    answered = from_start (Err e) (error_too play_blame (schedule_errand name) (played_right (files.named name)) (replayed_right (files.named name)) (world files mid) (world files' fabric') (error_wider (files.named name)) e played.answered);
     ended = tt;
     near = played.near;
   }
@@ -201,7 +212,7 @@ module _ {C M : Type 0} (phase : C → Phase) (stands : M → Function → List 
     -- there is no memory for what is taken
     untaken : HasReplayed stands made l s t inputs name files files' fabric fabric' (Err Memory)
     untaken = record {
-      answered = from_start (Err Memory) (short_too play_blame (played_right (files.named name)) (replayed_right (files.named name)) (world files mid) (world files' fabric') (error_wider (files.named name)) x played.answered);
+      answered = from_start (Err Memory) (short_too play_blame (schedule_errand name) (played_right (files.named name)) (replayed_right (files.named name)) (world files mid) (world files' fabric') (error_wider (files.named name)) x played.answered);
       ended = tt;
       near = λ told. tt;
     }
@@ -225,12 +236,12 @@ module _ {C M : Type 0} (phase : C → Phase) (stands : M → Function → List 
           (ap node_count shape_is ∙ networks.fits.channels.nodes ∙ sym (ap (λ (z : Layout). length z.nodes) layout_is))
           ((λ i. first_offence (last.fixed.shape i) (last.fixed.timing i) (last.fixed.rows i) events) ∙ last.admissible)
           last.ends f (subst (IsPlaced f) (sym layout_is) placed) fit
-          (subst (λ z. IsLeast bound_of z new.plant.timing (length inputs)) (sym shape_is) (subst (λ z. IsLeast bound_of s z (length inputs)) (sym timing_is) networks.least))
+          (sound_of_equals l new.plant.layout s new.plant.shape t new.plant.timing (length inputs) layout_is shape_is timing_is networks)
           taken taken_is)))
 
       pub taken_so : HasReplayed stands made l s t inputs name files files' fabric fabric' (Ok taken)
       taken_so = record {
-        answered = from_start (Ok taken) (value_too play_blame (played_right (files.named name)) (replayed_right (files.named name)) (world files mid) (world files' fabric') (error_wider (files.named name)) x taken (value_wider (files.named name) x taken at_last) played.answered);
+        answered = from_start (Ok taken) (value_too play_blame (schedule_errand name) (played_right (files.named name)) (replayed_right (files.named name)) (world files mid) (world files' fabric') (error_wider (files.named name)) x taken (value_wider (files.named name) x taken at_last) played.answered);
         ended = (played.ended.0, at_last played.ended.0 played.ended.1);
         near = λ told. tt;
       }

@@ -9,11 +9,25 @@ use Rattle.lt_arch.specs.declared.shape.Shape.{Shape}
 use Rattle.lt_arch.specs.Readers.{node_count, chan_count, is_back_pressure}
 use Rattle.lt_arch.specs.State.{executed_of}
 use Rattle.lt_arch.specs.Schedule.{reached}
-use Rattle.lt_timing.specs.Bounds.{bound_of, time_based_bound, back_pressure_bound}
+use Rattle.lt_arch.specs.Schedule.{OnePlace}
+use Rattle.lt_arch.specs.Shapes.{HaveSameNodes}
+use Rattle.lt_timing.specs.Accepts.{Accepts}
+use Rattle.lt_timing.specs.Bounds.{time_based_bound, back_pressure_bound}
 use Rattle.lt_bp.specs.Laws as pressure
 use Rattle.lt_tb.specs.Laws as counting
 use Rattle.lt_place.specs.declared.layout.Layout.{Layout}
-use Rattle.lt_net.specs.Channels.{ShapesFit}
+use Rattle.lt_place.specs.Layout.{IsPlaced}
+use Rattle.lt_net.specs.Channels.{FitsLayout, ShapesFit}
+use Rattle.lt_norm.specs.Flat.{Originated}
+use Rattle.lt_config.specs.declared.pace.Pace.{Pace}
+use Rattle.lt_config.specs.declared.pace.Pace.TheVariants.{Plain, Leader}
+use Rattle.lt_config.specs.Paced.{IsLed}
+use Rattle.lt_lead.specs.Shapes.{IsLeaderShape}
+use Rattle.lt_lead.specs.Channels.{LeadShapesFit}
+use Rattle.lt_lead.specs.Paced.{KeepsPace, bound_by}
+use Rattle.lt_lead.specs.Laws as leading
+use Rattle.lt_lead.proofs.ByPace.{nodes_are}
+use Rattle.lt_play.specs.Played.{IsLeast}
 use Rattle.lt_replay.specs.Sound.{IsSound, AreSound}
 
 either : (p : Protocol) → (p ≡ BackPressure) ⊎ (p ≡ TimeBased)
@@ -25,25 +39,59 @@ few_channels n c names same few low =
     let square : names * names ≤ 32 * 32 = mul-le names names 32 32 low low in
     omega (arith, same, few, low, square)
 
-pub are_sound : ShapesFit → pressure.KeepsOnePlace → pressure.ReachesBound → counting.KeepsOnePlace → counting.ReachesBound → AreSound
-are_sound shapes_fit one_by_pressure least_by_pressure one_by_counting least_by_counting f l s t rows placed is same accepted =
-    let fits = shapes_fit f l t.protocol s placed is in
+module _ (shapes_fit : ShapesFit) (lead_shapes_fit : LeadShapesFit) (f : Originated) (l : Layout) (s : Shape) (t : Timing) (rows : ℕ) (placed : IsPlaced f l) (same : length t.nodes ≡ length l.names) (accepted : Accepts t) where
+  -- where a node leads
+
+  module _ (leader : ℕ) (k : KeepsPace l s t (Leader leader)) where
+    led : IsLed t leader
+    led = k.fits leader refl
+
+    fits_led : FitsLayout l TimeBased s × IsLeaderShape s leader
+    fits_led = lead_shapes_fit f l leader s placed (subst (λ n. leader < n) same led.leader_in) k.shaped
+
+    same_led : HaveSameNodes s t
+    same_led = fits_led.0.timed t same
+
+  -- by each pace
+
+  fits_by : (pace : Pace) → KeepsPace l s t pace → FitsLayout l t.protocol s
+  fits_by Plain k = (shapes_fit f l t.protocol s placed k.shaped).0
+  fits_by (Leader leader) k = subst (λ p. FitsLayout l p s) (sym (led leader k).counts) (fits_led leader k).0
+
+  one_by : pressure.KeepsOnePlace → counting.KeepsOnePlace → leading.KeepsOnePlace → (pace : Pace) → KeepsPace l s t pace → OnePlace s t rows
+  one_by by_pressure by_counting by_leading Plain k =
+      let fit = shapes_fit f l t.protocol s placed k.shaped in
+      elim (either t.protocol) [
+        | inl p ↦ by_pressure s t rows p (fit.0.back_pressure p)
+        | inr p ↦ by_counting s t rows p (fit.1 p) (fit.0.timed t same) accepted
+      ]
+  one_by by_pressure by_counting by_leading (Leader leader) k = by_leading s t rows leader (fits_led leader k).1 (same_led leader k) (led leader k) accepted
+
+  least_by : pressure.ReachesBound → counting.ReachesBound → leading.ReachesBound → (pace : Pace) → KeepsPace l s t pace → IsLeast (bound_by pace) s t rows
+  least_by by_pressure by_counting by_leading Plain k es h n timely admissible ends b =
+      let fit = shapes_fit f l t.protocol s placed k.shaped in
+      elim (either t.protocol) [
+        | inl p ↦
+            subst (λ m. min m rows ≤ executed_of (reached s t rows es) n) (sym (ap (λ q. if is_back_pressure q then back_pressure_bound t n h else time_based_bound t n h) p))
+            (by_pressure s t rows es h n p (fit.0.back_pressure p) (fit.0.timed t same) admissible ends b)
+        | inr p ↦
+            subst (λ m. min m rows ≤ executed_of (reached s t rows es) n) (sym (ap (λ q. if is_back_pressure q then back_pressure_bound t n h else time_based_bound t n h) p))
+            (by_counting s t rows es h n p admissible ends b)
+      ]
+  least_by by_pressure by_counting by_leading (Leader leader) k es h n timely admissible ends b =
+      by_leading s t rows leader (fits_led leader k).1 (same_led leader k) (led leader k) accepted es h n timely admissible ends b
+
+pub are_sound : ShapesFit → LeadShapesFit → pressure.KeepsOnePlace → pressure.ReachesBound → counting.KeepsOnePlace → counting.ReachesBound → leading.KeepsOnePlace → leading.ReachesBound → AreSound
+are_sound shapes_fit lead_shapes_fit one_by_pressure least_by_pressure one_by_counting least_by_counting one_by_leading least_by_leading f l s t rows placed paced same accepted =
+    let fits = fits_by shapes_fit lead_shapes_fit f l s t rows placed same accepted paced.0 paced.1 in
+    let nodes = nodes_are l paced.0 t s paced.1.shaped in
     record {
       fits = fits;
       same_nodes = fits.timed t same;
-      one_place = elim (either t.protocol) [
-        | inl p ↦ one_by_pressure s t rows p (fits.back_pressure p)
-        | inr p ↦ one_by_counting s t rows p (fits.time_based p) (fits.timed t same) accepted
-      ];
-      least = λ es h n admissible ends b. elim (either t.protocol) [
-        | inl p ↦
-            subst (λ k. min k rows ≤ executed_of (reached s t rows es) n) (sym (ap (λ q. if is_back_pressure q then back_pressure_bound t n h else time_based_bound t n h) p))
-            (least_by_pressure s t rows es h n p (fits.back_pressure p) (fits.timed t same) admissible ends b)
-        | inr p ↦
-            subst (λ k. min k rows ≤ executed_of (reached s t rows es) n) (sym (ap (λ q. if is_back_pressure q then back_pressure_bound t n h else time_based_bound t n h) p))
-            (least_by_counting s t rows es h n p admissible ends b)
-      ];
-      numbered = λ low. few_channels (node_count s) (chan_count s) (length l.names) (ap length is.nodes) fits.few low;
+      one_place = one_by shapes_fit lead_shapes_fit f l s t rows placed same accepted one_by_pressure one_by_counting one_by_leading paced.0 paced.1;
+      paced = paced;
+      least = least_by shapes_fit lead_shapes_fit f l s t rows placed same accepted least_by_pressure least_by_counting least_by_leading;
+      numbered = λ low. few_channels (node_count s) (chan_count s) (length l.names) (ap length nodes) fits.few low;
     }
 
 -- the same of an equal layout, shape and timing

@@ -14,6 +14,7 @@ use Rattle.lt_io.specs.FabricState.{FabricState}
 use Rattle.lt_answer.specs.Answered.{Answered, OfFile, Verdict}
 use Rattle.lt_judge.specs.declared.fault.ScheduleFault.{ScheduleFault}
 use Rattle.lt_judge.specs.declared.fault.ScheduleFault.TheVariants.{Read}
+use Rattle.lt_judge.specs.Errand.{schedule_errand}
 use Rattle.lt_judge.specs.Verdict.{verdict}
 use Rattle.lt_place.specs.declared.layout.Layout.{Layout}
 use Rattle.lt_net.specs.Net.{NetState}
@@ -54,7 +55,7 @@ replay_verdict end s t rows file = OfFile (Schedule Read) file (λ bytes outcome
 pub record HasReplayed {M : Type 0} (stands : M → Function → List (List Value) → Type 0) (made : M → ℕ) (l : Layout) (s : Shape) (t : Timing) (inputs : List (List Value))
     (name : List ℕ) (files files' : FilesState) (fabric fabric' : FabricState) (result : Result (Replayed M) (Or PlayFault)) : Type 0 where
   -- by the verdict of the file
-  pub answered : Answered play_blame (replay_verdict (IsReplay stands made l s t inputs fabric') s t (length inputs) (files.named name)) (world files fabric) (world files' fabric') result
+  pub answered : Answered play_blame (schedule_errand name) (replay_verdict (IsReplay stands made l s t inputs fabric') s t (length inputs) (files.named name)) (world files fabric) (world files' fabric') result
   -- whether or not the files tell their bytes
   pub ended : IfOk result (λ taken. (events : List Event) × IsReplay stands made l s t inputs fabric' events taken)
   -- a refused file was read to at most a piece past the row that is refused

@@ -11,7 +11,6 @@ use Rattle.lt_arch.specs.declared.timing.Timing.{Timing}
 use Rattle.lt_arch.specs.State.{State, sent_of, executed_of}
 use Rattle.lt_arch.specs.Readers.{node_count, chan_count, from_of, to_of, carries_data}
 use Rattle.lt_arch.specs.Schedule.{IsAdmissible, EndsAt, reached}
-use Rattle.lt_timing.specs.Bounds.{bound_of}
 use Rattle.lt_io.specs.declared.message.Message.{Message}
 use Rattle.lt_io.specs.FabricState.{FabricState}
 use Rattle.lt_link.specs.Bits.{bit_of}
@@ -21,6 +20,8 @@ use Rattle.lt_place.specs.Layout.{IsPlaced, Gives, part_of}
 use Rattle.lt_net.specs.Local.{fed_row, firsts, local_stream}
 use Rattle.lt_net.specs.Net.{Lists, between, row_at}
 use Rattle.lt_net.specs.Owns.{OwnPayload}
+use Rattle.lt_config.specs.declared.pace.Pace.{Pace}
+use Rattle.lt_lead.specs.Paced.{KeepsPace, bound_by}
 
 -- each node was given the first input rows, one for each instant that it has executed, and each channel has delivered so many payloads
 pub record WereGiven (s : Shape) (st : State) (inputs : List (List Value)) (ls : Lists) : Type 0 where
@@ -73,8 +74,8 @@ pub record IsRun (l : Layout) (s : Shape) (t : Timing) (inputs : List (List Valu
   pub fronts : (f : Originated) → IsPlaced f l → RowsFit f.func inputs → IsTrue fabric.faithful →
       (y n x : ℕ) → y < length l.outs → n < length l.nodes → Gives (part_of l n) (slice_index_or l.outs y 0) x →
       slice_index_or cells y [] ≡ take (executed_of (reached s t (length inputs) events) n) (stream_of [] f.func inputs (slice_index_or l.outs y 0))
-  -- and there are at least as many as the protocol's bound, or one for each row
-  pub enough : (n : ℕ) → n < node_count s → min (bound_of t n horizon) (length inputs) ≤ executed_of (reached s t (length inputs) events) n
+  -- and there are at least as many as the bound of the pace that the shape and the timing are for, or one for each row
+  pub enough : (pace : Pace) → KeepsPace l s t pace → (n : ℕ) → n < node_count s → min (bound_by pace t n horizon) (length inputs) ≤ executed_of (reached s t (length inputs) events) n
 
 -- there is a machine for each node, and it has run its part on the node's inputs and on what was delivered
 pub record HasSteps {M : Type 0} (stands : M → Function → List (List Value) → Type 0) (made : M → ℕ) (l : Layout) (s : Shape) (t : Timing) (inputs : List (List Value)) (events : List Event) (got : ℕ → List (List Value)) (ms : List M) : Type 0 where

@@ -6,22 +6,28 @@ use Rattle.lt_arch.specs.Readers.{node_count, chan_count}
 use Rattle.lt_arch.specs.Schedule.{OnePlace}
 use Rattle.lt_arch.specs.Shapes.{HaveSameNodes}
 use Rattle.lt_timing.specs.Accepts.{Accepts}
-use Rattle.lt_timing.specs.Bounds.{bound_of}
 use Rattle.lt_norm.specs.Flat.{Originated}
 use Rattle.lt_place.specs.declared.layout.Layout.{Layout}
 use Rattle.lt_place.specs.Layout.{IsPlaced}
-use Rattle.lt_net.specs.Channels.{FitsLayout, IsShapeOf}
+use Rattle.lt_net.specs.Channels.{FitsLayout}
 use Rattle.lt_play.specs.Played.{IsLeast}
+use Rattle.lt_config.specs.declared.pace.Pace.{Pace}
+use Rattle.lt_lead.specs.Paced.{KeepsPace, bound_by}
 
--- the shape fits the layout and the timing, one place in each channel is enough, and the protocol's bound is met
+-- the shape and the timing are for some pace
+abbrev pub IsPaced : Layout → Shape → Timing → Type 0
+IsPaced l s t = (pace : Pace) × KeepsPace l s t pace
+
+-- the shape fits the layout and the timing, one place in each channel is enough, and the bound of the pace is met
 pub record IsSound (l : Layout) (s : Shape) (t : Timing) (rows : ℕ) : Type 0 where
   pub fits : FitsLayout l t.protocol s
   pub same_nodes : HaveSameNodes s t
   pub one_place : OnePlace s t rows
-  pub least : IsLeast bound_of s t rows
+  pub paced : IsPaced l s t
+  pub least : (pace : Pace) → KeepsPace l s t pace → IsLeast (bound_by pace) s t rows
   -- with few nodes there are few channels
   pub numbered : length l.names ≤ 32 → 2 * (node_count s + chan_count s) < 2 ^ 32
 
--- so it is wherever a placed layout has its shape, and a timing of its nodes is accepted
+-- so it is wherever a placed layout has its shape by who paces the rounds, and a timing of its nodes is accepted
 abbrev pub AreSound : Type 0
-AreSound = (f : Originated) (l : Layout) (s : Shape) (t : Timing) (rows : ℕ) → IsPlaced f l → IsShapeOf l t.protocol s → length t.nodes ≡ length l.names → Accepts t → IsSound l s t rows
+AreSound = (f : Originated) (l : Layout) (s : Shape) (t : Timing) (rows : ℕ) → IsPlaced f l → IsPaced l s t → length t.nodes ≡ length l.names → Accepts t → IsSound l s t rows

@@ -8,10 +8,9 @@ ghost use Rattle.lt_rows.specs.Lines.{fresh};
 ghost use Rattle.lt_step.specs.Run.{HasRowValues};
 ghost use Rattle.lt_place.specs.Layout.{IsPlaced};
 ghost use Rattle.lt_place.specs.Sizes.{HasCodeRoom};
-ghost use Rattle.lt_net.specs.Channels.{IsShapeOf};
 ghost use Rattle.lt_net.specs.Starts.{AreReady};
 ghost use Rattle.lt_replay.specs.Ready.{AreControllers};
-ghost use Rattle.lt_replay.specs.Sound.{IsSound};
+ghost use Rattle.lt_replay.specs.Sound.{IsPaced, IsSound};
 ghost use Rattle.lt_replay.specs.Replays.{HasReplayed, link_fault};
 
 use crate::Replayed;
@@ -105,7 +104,7 @@ pub fn replay<F: Files, W: Fabric, M: Machine>(
     requires link_count { (W.state fabric.old).faults < 2 ^ 64 - 1 }
     requires empty { (W.state fabric.old).kinds ≡ [] }
     requires placed { (f : Originated) × IsPlaced f layout.now × HasCodeRoom f.func × RowsFit f.func inputs.now.rows }
-    requires shape { IsShapeOf layout.now timing.now.protocol shape.now }
+    requires paced { IsPaced layout.now shape.now timing.now }
     requires accepted { Accepts timing.now }
     requires timed { length timing.now.nodes ≡ length layout.now.names }
     requires few { length layout.now.names ≤ 32 }

@@ -5,6 +5,7 @@ use Rattle.lt_base.specs.declared.memory.Or.{Or}
 use Rattle.lt_base.specs.declared.memory.Or.TheVariants.{Fault, Memory}
 use Rattle.lt_base.specs.Program.{WholeProgram}
 use Rattle.lt_arch.specs.declared.shape.Shape.{Shape}
+use Rattle.lt_io.specs.Visits.{Errand}
 use Rattle.lt_io.specs.FilesState.{FilesState}
 use Rattle.lt_answer.specs.World.{World, Blame, Content, Reading, Linking, Blames, alone}
 use Rattle.lt_answer.specs.Answered.{Answered, Verdict, RefusesReading}
@@ -143,8 +144,8 @@ one_of fault.Read = inr refl
 one_of fault.Link = inr refl
 
 -- so where loading is refused nothing is said of a schedule
-pub not_loaded_near : (program inputs : List ℕ) (config : Option (List ℕ)) (a b : FilesState) (file : Option (List ℕ)) (place : ℕ) → IsTrue a.told → (e : Or CommandFault)
-    → Answered command_blame (Loads (load_verdict a.named program inputs config)) (alone a) (alone b) (Err e) → IsNearCommand file place e
+pub not_loaded_near : {es : List Errand} (program inputs : List ℕ) (config : Option (List ℕ)) (a b : FilesState) (file : Option (List ℕ)) (place : ℕ) → IsTrue a.told → (e : Or CommandFault)
+    → Answered command_blame es (Loads (load_verdict a.named program inputs config)) (alone a) (alone b) (Err e) → IsNearCommand file place e
 not_loaded_near program inputs config a b file place told (Fault e) first =
     elim (one_of e) [
       | inl content ↦ elsewhere file place e (load_content a.named inputs program config e (first.exact told (subst (Blames (alone a) (alone b)) content first.cause)))
@@ -195,12 +196,13 @@ module _ {T : Type 0} (file : Option (List ℕ)) (place : ℕ) (V : Verdict T Co
   reads_near : RefusesReading command_blame V → RefusesReading command_blame (ReadNear file place V)
   reads_near reading = (reading.0, reading.1, (reading.2, by_read file place reading.0 reading.1))
 
-  pub answered_near : (r : Result T (Or CommandFault)) → Answered command_blame V a b r → (IsTrue a.files.told → IfErr r (IsNearCommand file place)) → Answered command_blame (ReadNear file place V) a b r
-  answered_near (Ok x) answered near = record { keeps = answered.keeps; cause = answered.cause; exact = answered.exact; sound = λ told sound rose. reads_near (answered.sound told sound rose) }
+  pub answered_near : {es : List Errand} (r : Result T (Or CommandFault)) → Answered command_blame es V a b r → (IsTrue a.files.told → IfErr r (IsNearCommand file place)) → Answered command_blame es (ReadNear file place V) a b r
+  answered_near (Ok x) answered near = record { keeps = answered.keeps; visits = answered.visits; cause = answered.cause; exact = answered.exact; sound = λ told sound rose. reads_near (answered.sound told sound rose) }
   answered_near (Err (Fault e)) answered near = record {
     keeps = answered.keeps;
+    visits = answered.visits;
     cause = answered.cause;
     exact = λ told calm. (answered.exact told calm, near told);
     sound = λ told sound rose. reads_near (answered.sound told sound rose);
   }
-  answered_near (Err Memory) answered near = record { keeps = answered.keeps; cause = answered.cause; exact = λ told calm. tt; sound = λ told sound rose. reads_near (answered.sound told sound rose) }
+  answered_near (Err Memory) answered near = record { keeps = answered.keeps; visits = answered.visits; cause = answered.cause; exact = λ told calm. tt; sound = λ told sound rose. reads_near (answered.sound told sound rose) }

@@ -82,7 +82,7 @@ module _ {T U : Type 0} (end : List Event → T → Type 0) (end' : List Event �
 -- layouts of one program under one placement have one shape
 module _ (plan : Plan) (l m : Layout) (s z : Shape) (laid : IsLaidOutBy plan l s) (other : IsLaidOutBy plan m z) where
   same_shape : z ≡ s
-  same_shape = one_shape (flat_of plan.checked.program) plan.setup.placement m l other.layout laid.layout plan.setup.timing.protocol z s other.shape laid.shape
+  same_shape = one_shape (flat_of plan.checked.program) plan.setup.placement m l other.layout laid.layout plan.setup.pace plan.setup.timing z s other.shape laid.shape
 
 module _ {K : Type 0} (kind : CommandFault → K) (fabric : FabricState) (file : Option (List ℕ)) (plan : Plan) where
   abbrev runs : Layout → Shape → Result Outputs CommandFault → Type 0
@@ -101,7 +101,7 @@ module _ {K : Type 0} (kind : CommandFault → K) (fabric : FabricState) (file :
   along_both e x p q =
       no_value _ _ p.1 plan.setup.timing (length plan.inputs.rows) file p.3.0 x p.3.1 (subst (λ (z : Shape). runs q.0 z (Ok x)) (same_shape plan p.0 q.0 p.1 q.1 p.2 q.2) q.3)
 
-  along_decided : HasOneKind kind (along_verdict fabric file plan)
+  pub along_decided : HasOneKind kind (along_verdict fabric file plan)
   along_decided = record { one_kind = along_kind; not_both = along_both }
 
 ordered_decided : {K : Type 0} (kind : CommandFault → K) → TellsLimits kind → MergesPlaces kind → MergesTimings kind → (named : List ℕ → Option (List ℕ)) (program inputs schedule : List ℕ) (config : Option (List ℕ)) (fabric : FabricState)

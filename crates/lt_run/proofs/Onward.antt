@@ -14,11 +14,13 @@ use Rattle.lt_arch.specs.declared.timing.Timing.{Timing}
 use Rattle.lt_io.specs.FilesState.{FilesState}
 use Rattle.lt_io.specs.FabricState.{FabricState}
 use Rattle.lt_place.specs.declared.layout.Layout.{Layout}
-use Rattle.lt_net.specs.Channels.{IsShapeOf}
+use Rattle.lt_config.specs.declared.pace.Pace.{Pace}
+use Rattle.lt_lead.specs.Paced.{IsShapeBy}
 use Rattle.lt_answer.specs.World.{Blames, alone}
 use Rattle.lt_answer.specs.Answered.{Answered, AndThen}
 use Rattle.lt_answer.proofs.Stages.{beside, goes_on, renamed, runs_short, stops, widened}
 use Rattle.lt_front.specs.Examined.{ExaminedText}
+use Rattle.lt_judge.specs.Errand.{schedule_errand}
 use Rattle.lt_judge.specs.declared.fault.ScheduleFault.TheVariants as schedule
 use Rattle.lt_play.specs.declared.fault.PlayFault.{PlayFault}
 use Rattle.lt_play.specs.declared.fault.PlayFault.TheVariants.{Schedule, Link}
@@ -26,11 +28,13 @@ use Rattle.lt_play.specs.Blamed.{play_blame}
 use Rattle.lt_play.specs.Played.{world}
 use Rattle.lt_replay.specs.Replays.{replay_verdict}
 use Rattle.lt_load.specs.declared.fault.CommandFault.{CommandFault}
+use Rattle.lt_load.specs.Errands.{load_errands}
 use Rattle.lt_load.specs.Blamed.{command_blame}
 use Rattle.lt_load.specs.Plan.{Plan, LoadedPlan, IsLoadedFrom, Loads, load_verdict}
 use Rattle.lt_load.proofs.Raising.{raised_value, raised_fault}
 use Rattle.lt_run.specs.declared.outputs.Outputs.{Outputs}
 use Rattle.lt_run.specs.declared.printed.Printed.{Printed}
+use Rattle.lt_run.specs.Errands.{run_errands}
 use Rattle.lt_run.specs.Printed.{HasPrinted, ReplayShows, ShowsAt}
 use Rattle.lt_run.specs.Run.{AsCommand, HasOutputs, IsLaidOutBy, Shows, along_loaded, along_verdict, command_fault, placed_run_verdict, ordered_verdict}
 use Rattle.lt_run.proofs.Replays.{answered_value, answered_fault}
@@ -101,20 +105,21 @@ module _ (k : LoadedPlan) (name : List ℕ) (files files' : FilesState) (fabric 
   right = replay_verdict (Shows k.checked.program k.layout k.shape k.timing k.inputs.rows fabric') k.shape k.timing (length k.inputs.rows) (files.named name)
 
   abbrev Runs : Result Outputs (Or CommandFault) → Type 0
-  Runs r = Answered command_blame (along_loaded fabric' k (files.named name)) (world files fabric) (world files' fabric') r
+  Runs r = Answered command_blame (schedule_errand name) (along_loaded fabric' k (files.named name)) (world files fabric) (world files' fabric') r
 
   pub shown_by : (outputs : Outputs) → HasOutputs k name files files' fabric fabric' (Ok outputs) → Runs (Ok outputs)
   shown_by outputs has = raised_value (command_fault k.shape) play_blame command_blame (same_blame k.shape) right (world files fabric) (world files' fabric') outputs has.answered
 
-  raised : (e : Or PlayFault) (g : Or CommandFault) → MapsFault e g (λ f h. h ≡ command_fault k.shape f) → Answered play_blame right (world files fabric) (world files' fabric') (Err e) → Runs (Err g)
+  raised : (e : Or PlayFault) (g : Or CommandFault) → MapsFault e g (λ f h. h ≡ command_fault k.shape f) → Answered play_blame (schedule_errand name) right (world files fabric) (world files' fabric') (Err e) → Runs (Err g)
   raised e g is first = raised_fault (command_fault k.shape) play_blame command_blame (same_blame k.shape) right (world files fabric) (world files' fabric') e g is first
 
   pub fault_of : (e : Or PlayFault) (g : Or CommandFault) → AsCommand k.shape e g → HasOutputs k name files files' fabric fabric' (Err e) → Runs (Err g)
   fault_of (Fault f) (Fault g) is has = raised (Fault f) (Fault g) is has.answered
   fault_of (Fault f) Memory is has =
       let first = has.answered in
-      let short : Answered play_blame right (world files fabric) (world files' fabric') (Err Memory) = record {
+      let short : Answered play_blame (schedule_errand name) right (world files fabric) (world files' fabric') (Err Memory) = record {
         keeps = first.keeps;
+        visits = first.visits;
         cause = subst (Blames (world files fabric) (world files' fabric')) is first.cause;
         exact = λ told calm. tt;
         sound = first.sound;
@@ -134,7 +139,7 @@ module _ (program inputs schedule : List ℕ) (config : Option (List ℕ)) (a : 
       let k : LoadedPlan = q.0 in
       let plan : Plan = q.1.0 in
       let from : IsLoadedFrom plan k = q.1.2 in
-      let laid : IsLaidOutBy plan k.layout k.shape = record { layout = from.layout; shape = subst (λ (t : Timing). IsShapeOf k.layout t.protocol k.shape) from.timing from.shape } in
+      let laid : IsLaidOutBy plan k.layout k.shape = record { layout = from.layout; shape = subst (λ (p : Pace). IsShapeBy k.layout p plan.setup.timing k.shape) from.pace (subst (λ (t : Timing). IsShapeBy k.layout k.pace t k.shape) from.timing from.shape) } in
       let timed = subst (λ (t : Timing). placed_run_verdict k.checked.program k.layout k.shape t k.inputs.rows fabric (a.named schedule) o) from.timing q.2 in
       let fed = subst (λ (t : InputTable). placed_run_verdict k.checked.program k.layout k.shape plan.setup.timing t.rows fabric (a.named schedule) o) from.inputs timed in
       let told = subst (λ (x : ExaminedText). placed_run_verdict x.program k.layout k.shape plan.setup.timing plan.inputs.rows fabric (a.named schedule) o) from.checked fed in
@@ -142,20 +147,20 @@ module _ (program inputs schedule : List ℕ) (config : Option (List ℕ)) (a : 
 
   module _ (b : FilesState) (fabric : FabricState) where
     -- it was not loaded
-    pub not_loaded : (e : Or CommandFault) (r : Result Outputs (Or CommandFault)) → IsErrAnd r (λ f. f ≡ e) → Answered command_blame (Loads (load_verdict a.named program inputs config)) (alone a) (alone b) (Err e)
-        → Answered command_blame (ordered_verdict a.named program inputs schedule config fabric) (world a fabric) (world b fabric) r
+    pub not_loaded : (e : Or CommandFault) (r : Result Outputs (Or CommandFault)) → IsErrAnd r (λ f. f ≡ e) → Answered command_blame (load_errands program inputs config) (Loads (load_verdict a.named program inputs config)) (alone a) (alone b) (Err e)
+        → Answered command_blame (run_errands program inputs schedule config) (ordered_verdict a.named program inputs schedule config fabric) (world a fabric) (world b fabric) r
     not_loaded e (Ok x) is first = absurd is
     not_loaded e (Err f) is first =
-        let stopped : Answered command_blame (AndThen (Loads (load_verdict a.named program inputs config)) (λ k. along_loaded fabric k (a.named schedule))) (world a fabric) (world b fabric) (Err e) =
-        stops (world a fabric) (world b fabric) e (beside a b fabric (Err e) first) in
-        subst (λ (g : Or CommandFault). Answered command_blame (ordered_verdict a.named program inputs schedule config fabric) (world a fabric) (world b fabric) (Err g)) (sym is)
+        let stopped : Answered command_blame (run_errands program inputs schedule config) (AndThen (Loads (load_verdict a.named program inputs config)) (λ k. along_loaded fabric k (a.named schedule))) (world a fabric) (world b fabric) (Err e) =
+        stops (schedule_errand schedule) (world a fabric) (world b fabric) e (beside a b fabric (Err e) first) in
+        subst (λ (g : Or CommandFault). Answered command_blame (run_errands program inputs schedule config) (ordered_verdict a.named program inputs schedule config fabric) (world a fabric) (world b fabric) (Err g)) (sym is)
         (widened (AndThen (Loads (load_verdict a.named program inputs config)) (λ k. along_loaded fabric k (a.named schedule))) (ordered_verdict a.named program inputs schedule config fabric) (world a fabric) (world b fabric) (Err e) (wider fabric) stopped)
 
     -- it was, and then run
-    pub loaded_run : (k : LoadedPlan) (c : FilesState) (fabric' : FabricState) (r : Result Outputs (Or CommandFault)) → Answered command_blame (Loads (load_verdict a.named program inputs config)) (alone a) (alone b) (Ok k)
-        → Answered command_blame (along_loaded fabric' k (b.named schedule)) (world b fabric) (world c fabric') r → Answered command_blame (ordered_verdict a.named program inputs schedule config fabric') (world a fabric) (world c fabric') r
+    pub loaded_run : (k : LoadedPlan) (c : FilesState) (fabric' : FabricState) (r : Result Outputs (Or CommandFault)) → Answered command_blame (load_errands program inputs config) (Loads (load_verdict a.named program inputs config)) (alone a) (alone b) (Ok k)
+        → Answered command_blame (schedule_errand schedule) (along_loaded fabric' k (b.named schedule)) (world b fabric) (world c fabric') r → Answered command_blame (run_errands program inputs schedule config) (ordered_verdict a.named program inputs schedule config fabric') (world a fabric) (world c fabric') r
     loaded_run k c fabric' r first second =
-        let on : Answered command_blame (AndThen (Loads (load_verdict a.named program inputs config)) (λ k. along_loaded fabric' k (a.named schedule))) (world a fabric) (world c fabric') r =
+        let on : Answered command_blame (run_errands program inputs schedule config) (AndThen (Loads (load_verdict a.named program inputs config)) (λ k. along_loaded fabric' k (a.named schedule))) (world a fabric) (world c fabric') r =
         goes_on (world a fabric) (world b fabric) (world c fabric') k r (beside a b fabric (Ok k) first)
         (renamed (λ names. along_loaded fabric' k (names schedule)) b.named a.named (world b fabric) (world c fabric') r first.keeps.files.named second) in
         widened (AndThen (Loads (load_verdict a.named program inputs config)) (λ k. along_loaded fabric' k (a.named schedule))) (ordered_verdict a.named program inputs schedule config fabric') (world a fabric) (world c fabric') r (wider fabric') on

@@ -1,5 +1,5 @@
 -- What a replay answers, in the words of what its value shows.
-use Rattle.std.proofs.Common.{◌≡◌, ℕ, List, Option, Some, None, Result, Ok, Err, ap, subst, sym}
+use Rattle.std.proofs.Common.{◌≡◌, ℕ, List, Option, Some, None, Result, Ok, Err, false, ap, subst, sym}
 use Rattle.std.specs.Prelude.{IsErrAnd, length}
 use Rattle.lt_base.specs.declared.memory.Or.{Or}
 use Rattle.lt_base.specs.declared.memory.Or.TheVariants.{Fault, Memory}
@@ -9,6 +9,8 @@ use Rattle.lt_base.specs.Program.{Function, GoodProgram}
 use Rattle.lt_arch.specs.declared.event.Event.{Event}
 use Rattle.lt_arch.specs.declared.shape.Shape.{Shape}
 use Rattle.lt_arch.specs.declared.timing.Timing.{Timing}
+use Rattle.lt_io.specs.Visits.{Errand}
+use Rattle.lt_io.proofs.Visiting.{visited_any}
 use Rattle.lt_io.specs.FilesState.{FilesState}
 use Rattle.lt_io.specs.FabricState.{FabricState}
 use Rattle.lt_answer.specs.World.{World}
@@ -55,27 +57,29 @@ module _ {T U : Type 0} (end : List Event → T → Type 0) (end' : List Event �
     reading_too reading = (reading.0, reading.1, fault_too file reading.0 reading.2)
 
     -- another value of which the same events say what it shows
-    pub answered_value : (x : T) (y : U) → ((events : List Event) → end events x → end' events y) → Answered play_blame (replay_verdict end s t rows file) a b (Ok x) → Answered play_blame (replay_verdict end' s t rows file) a b (Ok y)
+    pub answered_value : {es : List Errand} (x : T) (y : U) → ((events : List Event) → end events x → end' events y) → Answered play_blame es (replay_verdict end s t rows file) a b (Ok x) → Answered play_blame es (replay_verdict end' s t rows file) a b (Ok y)
     answered_value x y too first = record {
       keeps = first.keeps;
+      visits = first.visits;
       cause = first.cause;
       exact = λ told calm. value_too file x y too (first.exact told calm);
       sound = λ told sound rose. reading_too (first.sound told sound rose);
     }
 
     -- no memory for it
-    pub answered_short : (x : T) → Answered play_blame (replay_verdict end s t rows file) a b (Ok x) → Answered play_blame (replay_verdict end' s t rows file) a b (Err Memory)
-    answered_short x first = record { keeps = first.keeps; cause = first.cause; exact = λ told calm. tt; sound = λ told sound rose. reading_too (first.sound told sound rose) }
+    pub answered_short : {es : List Errand} (x : T) → Answered play_blame es (replay_verdict end s t rows file) a b (Ok x) → Answered play_blame es (replay_verdict end' s t rows file) a b (Err Memory)
+    answered_short {es} x first = record { keeps = first.keeps; visits = visited_any es a.files.visits b.files.visits false first.visits; cause = first.cause; exact = λ told calm. tt; sound = λ told sound rose. reading_too (first.sound told sound rose) }
 
     -- a refusal
-    pub answered_fault : (e : Or PlayFault) → Answered play_blame (replay_verdict end s t rows file) a b (Err e) → Answered play_blame (replay_verdict end' s t rows file) a b (Err e)
+    pub answered_fault : {es : List Errand} (e : Or PlayFault) → Answered play_blame es (replay_verdict end s t rows file) a b (Err e) → Answered play_blame es (replay_verdict end' s t rows file) a b (Err e)
     answered_fault (Fault e) first = record {
       keeps = first.keeps;
+      visits = first.visits;
       cause = first.cause;
       exact = λ told calm. fault_too file e (first.exact told calm);
       sound = λ told sound rose. reading_too (first.sound told sound rose);
     }
-    answered_fault Memory first = record { keeps = first.keeps; cause = first.cause; exact = λ told calm. tt; sound = λ told sound rose. reading_too (first.sound told sound rose) }
+    answered_fault Memory first = record { keeps = first.keeps; visits = first.visits; cause = first.cause; exact = λ told calm. tt; sound = λ told sound rose. reading_too (first.sound told sound rose) }
 
 -- a replay of what was loaded
 

@@ -3,3 +3,4 @@ pub mod Meaning
 pub mod Printed
 pub mod Run
 pub mod Near
+pub mod Errands

@@ -14,6 +14,7 @@ use Rattle.lt_io.specs.FabricState.{FabricState}
 use Rattle.lt_place.specs.declared.layout.Layout.{Layout}
 use Rattle.lt_place.specs.Layout.{Gives, part_of}
 use Rattle.lt_answer.specs.Answered.{Answered, Verdict}
+use Rattle.lt_judge.specs.Errand.{schedule_errand}
 use Rattle.lt_play.specs.declared.fault.PlayFault.{PlayFault}
 use Rattle.lt_play.specs.Blamed.{play_blame}
 use Rattle.lt_play.specs.Played.{world, IsNearPlay}
@@ -49,7 +50,7 @@ loaded_verdict end k file = replay_verdict end k.shape k.timing (length k.inputs
 
 -- a replay of a loaded program along the file of this name
 pub record HasPrinted {M : Type 0} (stands : M → Function → List (List Value) → Type 0) (made : M → ℕ) (k : LoadedPlan) (name : List ℕ) (files files' : FilesState) (fabric fabric' : FabricState) (result : Result (Printed M) (Or PlayFault)) : Type 0 where
-  pub answered : Answered play_blame (loaded_verdict (ReplayShows stands made k.checked.program k.layout k.shape k.timing k.inputs.rows fabric') k (files.named name)) (world files fabric) (world files' fabric') result
+  pub answered : Answered play_blame (schedule_errand name) (loaded_verdict (ReplayShows stands made k.checked.program k.layout k.shape k.timing k.inputs.rows fabric') k (files.named name)) (world files fabric) (world files' fabric') result
   -- whether or not the files tell their bytes
   pub ended : IfOk result (λ printed. (events : List Event) × ReplayShows stands made k.checked.program k.layout k.shape k.timing k.inputs.rows fabric' events printed)
   -- a refused file was read to at most a piece past the row that is refused

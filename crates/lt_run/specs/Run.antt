@@ -9,7 +9,7 @@ use Rattle.lt_io.specs.FilesState.{FilesState}
 use Rattle.lt_io.specs.FabricState.{FabricState}
 use Rattle.lt_place.specs.declared.layout.Layout.{Layout}
 use Rattle.lt_place.specs.Layout.{IsLayoutOf}
-use Rattle.lt_net.specs.Channels.{IsShapeOf}
+use Rattle.lt_lead.specs.Paced.{IsShapeBy}
 use Rattle.lt_front.specs.Flattened.{flat_of}
 use Rattle.lt_judge.specs.declared.fault.ScheduleFault.TheVariants as schedule
 use Rattle.lt_base.specs.declared.memory.Or.{Or}
@@ -17,6 +17,7 @@ use Rattle.lt_base.specs.declared.memory.Or.TheVariants.{Fault, Memory}
 use Rattle.lt_answer.specs.World.{World, Content}
 use Rattle.lt_answer.specs.Answered.{Answered, Verdict, AndThen}
 use Rattle.lt_verdict.specs.Rules.{Raised}
+use Rattle.lt_judge.specs.Errand.{schedule_errand}
 use Rattle.lt_play.specs.declared.fault.PlayFault.{PlayFault}
 use Rattle.lt_play.specs.declared.fault.PlayFault.TheVariants.{Schedule, Link}
 use Rattle.lt_play.specs.Blamed.{play_blame}
@@ -52,7 +53,7 @@ pub record Shows (p : WholeProgram) (l : Layout) (s : Shape) (t : Timing) (input
 
 -- a replay of a loaded program along the file of this name, by what its outputs show
 pub record HasOutputs (k : LoadedPlan) (name : List ℕ) (files files' : FilesState) (fabric fabric' : FabricState) (result : Result Outputs (Or PlayFault)) : Type 0 where
-  pub answered : Answered play_blame (loaded_verdict (Shows k.checked.program k.layout k.shape k.timing k.inputs.rows fabric') k (files.named name)) (world files fabric) (world files' fabric') result
+  pub answered : Answered play_blame (schedule_errand name) (loaded_verdict (Shows k.checked.program k.layout k.shape k.timing k.inputs.rows fabric') k (files.named name)) (world files fabric) (world files' fabric') result
   -- a refused file was read to at most a piece past the row that is refused
   pub near : IsTrue files.told → IfErr result (IsNearPlay (files.named name) files'.place)
 
@@ -65,10 +66,10 @@ placed_run_verdict p l s t inputs fabric file = Raised (command_fault s) (replay
 abbrev pub along_loaded : FabricState → LoadedPlan → Option (List ℕ) → Verdict Outputs CommandFault
 along_loaded fabric k file = placed_run_verdict k.checked.program k.layout k.shape k.timing k.inputs.rows fabric file
 
--- a layout of the program's flat form under the setup's placement, with its channels
+-- a layout of the program's flat form under the setup's placement, with its channels by the setup's pace
 pub record IsLaidOutBy (plan : Plan) (l : Layout) (s : Shape) : Type 0 where
   pub layout : IsLayoutOf (flat_of plan.checked.program) plan.setup.placement l
-  pub shape : IsShapeOf l plan.setup.timing.protocol s
+  pub shape : IsShapeBy l plan.setup.pace plan.setup.timing s
 
 -- a plan along a schedule file, on its nodes
 unfoldable pub along_verdict : FabricState → Option (List ℕ) → Plan → Verdict Outputs CommandFault

@@ -4,6 +4,8 @@ ghost use Rattle.lt_answer.specs.World.{alone};
 ghost use Rattle.lt_answer.specs.Answered.{Answered, Settles};
 ghost use Rattle.lt_meaning.specs.Streams.{InputsFitMain};
 ghost use Rattle.lt_load.specs.Blamed.{command_blame};
+ghost use Rattle.lt_load.specs.Errands.{inputs_errand};
+ghost use Rattle.lt_run.specs.Errands.{meaning_errands};
 ghost use Rattle.lt_run.specs.Meaning.{inputs_streams_verdict, meaning_verdict, streams_verdict};
 
 use crate::Outputs;
@@ -23,7 +25,7 @@ pub fn meaning<F: Files>(
     inputs: &str,
 ) -> Result<Outputs, Or<CommandFault>>
     requires { (F.state files.old).faults < 2 ^ 64 - 1 }
-    ensures { Answered command_blame (meaning_verdict (F.state files.old).named program.now inputs.now)
+    ensures { Answered command_blame (meaning_errands program.now inputs.now) (meaning_verdict (F.state files.old).named program.now inputs.now)
         (alone (F.state files.old)) (alone (F.state files.new)) result }
 {
     let checked = load_program(alloc, files, program)?;
@@ -38,7 +40,7 @@ fn mean<F: Files>(
     inputs: &str,
 ) -> Result<Outputs, Or<CommandFault>>
     requires { (F.state files.old).faults < 2 ^ 64 - 1 }
-    ensures { Answered command_blame (inputs_streams_verdict (F.state files.old).named inputs.now checked.now)
+    ensures { Answered command_blame (inputs_errand inputs.now) (inputs_streams_verdict (F.state files.old).named inputs.now checked.now)
         (alone (F.state files.old)) (alone (F.state files.new)) result }
 {
     let table = load_inputs(alloc, files, inputs, &checked.program)?;

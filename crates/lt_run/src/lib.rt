@@ -12,4 +12,4 @@ pub use commands::meaning;
 pub use outputs::Outputs;
 pub use printed::Printed;
 pub use replaying::replay;
-pub use running::run;
+pub use running::{run, run_loaded};

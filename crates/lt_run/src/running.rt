@@ -3,6 +3,8 @@ ghost use Rattle.std.specs.Prelude.{◌≡◌, ◌<◌, ◌-◌, ◌^◌, [], If
 ghost use Rattle.lt_answer.specs.Answered.{Answered};
 ghost use Rattle.lt_play.specs.Played.{world};
 ghost use Rattle.lt_load.specs.Blamed.{command_blame};
+ghost use Rattle.lt_judge.specs.Errand.{schedule_errand};
+ghost use Rattle.lt_run.specs.Errands.{run_errands};
 ghost use Rattle.lt_run.specs.Near.{IsNearCommand};
 ghost use Rattle.lt_run.specs.Run.{AsCommand, along_loaded, run_verdict};
 
@@ -32,15 +34,15 @@ pub fn run<F: Files, W: Fabric>(
     requires count { (F.state files.old).faults < 2 ^ 64 - 1 }
     requires link_count { (W.state fabric.old).faults < 2 ^ 64 - 1 }
     requires empty { (W.state fabric.old).kinds ≡ [] }
-    ensures { Answered command_blame (run_verdict (F.state files.old).named program.now inputs.now schedule.now (option_map (λ s. s.now) config.entry) (world (F.state files.new) (W.state fabric.new)))
+    ensures { Answered command_blame (run_errands program.now inputs.now schedule.now (option_map (λ s. s.now) config.entry)) (run_verdict (F.state files.old).named program.now inputs.now schedule.now (option_map (λ s. s.now) config.entry) (world (F.state files.new) (W.state fabric.new)))
         (world (F.state files.old) (W.state fabric.old)) (world (F.state files.new) (W.state fabric.new)) result }
 {
     let loaded = load(alloc, files, program, inputs, config)?;
     run_loaded(alloc, files, fabric, &loaded, schedule)
 }
 
-// Runs what was loaded along the schedule of a file.
-fn run_loaded<F: Files, W: Fabric>(
+/// Runs what was loaded along the schedule of a file, as `run` does.
+pub fn run_loaded<F: Files, W: Fabric>(
     alloc: Global,
     files: &mut F,
     fabric: &mut W,
@@ -50,7 +52,7 @@ fn run_loaded<F: Files, W: Fabric>(
     requires count { (F.state files.old).faults < 2 ^ 64 - 1 }
     requires link_count { (W.state fabric.old).faults < 2 ^ 64 - 1 }
     requires empty { (W.state fabric.old).kinds ≡ [] }
-    ensures answered { Answered command_blame (along_loaded (W.state fabric.new) loaded.now ((F.state files.old).named schedule.now))
+    ensures answered { Answered command_blame (schedule_errand schedule.now) (along_loaded (W.state fabric.new) loaded.now ((F.state files.old).named schedule.now))
         (world (F.state files.old) (W.state fabric.old)) (world (F.state files.new) (W.state fabric.new)) result }
     ensures near { IsTrue (F.state files.old).told → IfErr result (IsNearCommand ((F.state files.old).named schedule.now) (F.state files.new).place) }
 {

@@ -1,6 +1,7 @@
 -- A number, read from the left.
 use Rattle.std.proofs.Common.{◌≡◌, ℕ, ◌+◌, ◌-◌, ◌*◌, ◌≤◌, ◌<◌, Bool, true, false, if◌then◌else◌, ◌&&◌, List, [], ◌∷◌, length, Option, Some, None, refl, arith, nat_le}
-use Rattle.lt_words.specs.Numbers.{is_digit, all_digits, read_on, number_of, up_to}
+use Rattle.std.specs.Prelude.{◌==◌, unwrap_or}
+use Rattle.lt_words.specs.Numbers.{is_digit, all_digits, read_on, number_of, up_to, number_text}
 
 -- the number, read on from n over the rest of the digits
 abbrev pub read_rest : ℕ → List ℕ → Option ℕ
@@ -48,3 +49,16 @@ too_large most n cs h = by (all_digits cs)
 
 pub at_end : (most n : ℕ) → n ≤ most → up_to most (read_rest n []) ≡ Some n
 at_end most n h = rw (le-true most n h) refl
+
+-- a number that is read up to a bound is within it
+up_to-bounded : (most : ℕ) (o : Option ℕ) → unwrap_or (up_to most o) 0 ≤ most
+up_to-bounded most None = omega arith
+up_to-bounded most (Some n) = by (nat_le n most) refl
+  where
+    by : (b : Bool) → nat_le n most ≡ b → unwrap_or (if b then Some n else None) 0 ≤ most
+    by true e = grind arith
+    by false e = omega arith
+
+pub number_text-bounded : (most : ℕ) (text : List ℕ) → number_text most text ≤ most
+number_text-bounded most [] = omega arith
+number_text-bounded most (c ∷ cs) = up_to-bounded most (number_of (if c == 43 then cs else c ∷ cs))

@@ -1,4 +1,4 @@
 pub mod Digits
-pub mod Four
+pub mod Steps
 pub mod Simple
 pub mod Telling

@@ -1,11 +1,15 @@
 -- The commands of the program, as `clap` sees them.
-use Rattle.std.specs.Prelude.{ℕ, true, [], Some, codes}
+use Rattle.std.specs.Prelude.{ℕ, ◌-◌, ◌^◌, true, [], Some, codes}
 use Rattle.clap.specs.Words.{App, Rule, Text, new_app, new_rule, with_rule, with_subcommand}
 use Rattle.clap.specs.declared.builder.value_parser.ValueParser.TheVariants as parser
 
--- the greatest horizon, in ticks
-abbrev pub greatest_horizon : ℕ
-greatest_horizon = 1000000000000000
+-- the greatest time, in ticks, and so the greatest horizon
+abbrev pub greatest_time : ℕ
+greatest_time = 1000000000000000
+
+-- the greatest seed of a drawn schedule
+abbrev pub greatest_seed : ℕ
+greatest_seed = 2 ^ 64 - 1
 
 -- a text that is needed
 abbrev pub text_rule : (id : Text) → Rule
@@ -19,6 +23,14 @@ optional_rule id = new_rule id
 abbrev pub number_rule : (id : Text) → (most : ℕ) → Rule
 number_rule id most = record (new_rule id) { long = Some id; parser = Some (parser.Unsigned 0 most) }
 
+-- one that is needed
+abbrev pub needed_number_rule : (id : Text) → (most : ℕ) → Rule
+needed_number_rule id most = record (number_rule id most) { required = true }
+
+-- an option whose value is a text
+abbrev pub name_rule : (id : Text) → Rule
+name_rule id = record (new_rule id) { long = Some id }
+
 abbrev pub check_app : App
 check_app = with_rule (with_rule (new_app (codes "check")) (text_rule (codes "program"))) (optional_rule (codes "config"))
 
@@ -29,7 +41,27 @@ abbrev pub run_app : App
 run_app = with_rule (with_rule (with_rule (with_rule (new_app (codes "run")) (text_rule (codes "program"))) (text_rule (codes "inputs"))) (text_rule (codes "schedule"))) (optional_rule (codes "config"))
 
 abbrev pub plan_app : App
-plan_app = with_rule (with_rule (new_app (codes "plan")) (text_rule (codes "config"))) (number_rule (codes "horizon") greatest_horizon)
+plan_app = with_rule (with_rule (new_app (codes "plan")) (text_rule (codes "config"))) (number_rule (codes "horizon") greatest_time)
+
+-- a command of this name on a program, its inputs and a setup
+abbrev pub placed_app : (name : Text) → App
+placed_app name = with_rule (with_rule (with_rule (new_app name) (text_rule (codes "program"))) (text_rule (codes "inputs"))) (text_rule (codes "config"))
+
+abbrev pub sim_app : App
+sim_app = with_rule (with_rule (placed_app (codes "sim")) (needed_number_rule (codes "seed") greatest_seed)) (needed_number_rule (codes "horizon") greatest_time)
+
+-- a command of this name on a program, its inputs, a schedule and one file more
+abbrev pub replayed_app : (name file : Text) → App
+replayed_app name file = with_rule (with_rule (with_rule (with_rule (new_app name) (text_rule (codes "program"))) (text_rule (codes "inputs"))) (text_rule (codes "schedule"))) (text_rule file)
+
+abbrev pub watch_app : App
+watch_app = with_rule (replayed_app (codes "watch") (codes "observer")) (optional_rule (codes "config"))
+
+abbrev pub audit_app : App
+audit_app = replayed_app (codes "audit") (codes "config")
+
+abbrev pub trace_app : App
+trace_app = with_rule (with_rule (with_rule (replayed_app (codes "trace") (codes "config")) (name_rule (codes "node"))) (number_rule (codes "from") greatest_time)) (number_rule (codes "to") greatest_time)
 
 -- a command is needed; help, version and the word `help` are none
 abbrev pub bare_app : App
@@ -38,5 +70,17 @@ bare_app = record {
   subs = [];
 }
 
+-- the commands on the files of a program
+abbrev pub with_programs : App → App
+with_programs app = with_subcommand (with_subcommand (with_subcommand (with_subcommand app check_app.top) meaning_app.top) run_app.top) plan_app.top
+
+-- the one that draws a schedule
+abbrev pub with_drawings : App → App
+with_drawings app = with_subcommand app sim_app.top
+
+-- those that look at a run
+abbrev pub with_views : App → App
+with_views app = with_subcommand (with_subcommand (with_subcommand app watch_app.top) audit_app.top) trace_app.top
+
 unfoldable pub program_app : App
-program_app = with_subcommand (with_subcommand (with_subcommand (with_subcommand bare_app check_app.top) meaning_app.top) run_app.top) plan_app.top
+program_app = with_views (with_drawings (with_programs bare_app))

@@ -2,4 +2,5 @@ pub mod Numbers
 pub mod Local
 pub mod Commands
 pub mod Reading
+pub mod Ranges
 pub mod Told

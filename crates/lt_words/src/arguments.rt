@@ -2,7 +2,7 @@
 ghost use Rattle.std.specs.Prelude.{◌≡◌, false, IfOk};
 ghost use Rattle.clap.specs.Words.{app_of, rule_of, with_rule, with_subcommand};
 ghost use Rattle.lt_words.specs.Local.{IsLocal};
-ghost use Rattle.lt_words.specs.Commands.{text_rule, optional_rule, number_rule};
+ghost use Rattle.lt_words.specs.Commands.{text_rule, optional_rule, number_rule, needed_number_rule, name_rule};
 
 use clap::builder::ValueParser;
 use clap::{Arg, Command};
@@ -33,6 +33,22 @@ pub fn number<'a>(alloc: Global, id: &'a str, most: u64) -> Arg<'a>
     Arg::new(alloc, id)
         .long(id)
         .value_parser(ValueParser::Unsigned(0, most))
+}
+
+/// An option `--ID` whose value is a whole number up to a bound, and that is needed.
+pub fn needed_number<'a>(alloc: Global, id: &'a str, most: u64) -> Arg<'a>
+    ensures rule { rule_of result ≡ needed_number_rule id.entry.now most }
+    ensures local { result.global ≡ false }
+{
+    number(alloc, id, most).required(true)
+}
+
+/// An option `--ID` whose value is a text.
+pub fn name<'a>(alloc: Global, id: &'a str) -> Arg<'a>
+    ensures rule { rule_of result ≡ name_rule id.entry.now }
+    ensures local { result.global ≡ false }
+{
+    Arg::new(alloc, id).long(id)
 }
 
 /// A command that takes one more argument.

@@ -25,4 +25,37 @@ pub enum Command<'a> {
         config: &'a str,
         horizon: Option<u64>,
     },
+    /// Print a schedule of a program on these inputs in a setup, drawn from a seed up to a horizon in ticks.
+    Sim {
+        program: &'a str,
+        inputs: &'a str,
+        config: &'a str,
+        seed: u64,
+        horizon: u64,
+    },
+    /// Run a program as `run` does, and print whether the observer holds of what it shows.
+    Watch {
+        program: &'a str,
+        inputs: &'a str,
+        schedule: &'a str,
+        observer: &'a str,
+        config: Option<&'a str>,
+    },
+    /// Print the first event of a schedule at which a node executes with a message too few or too many.
+    Audit {
+        program: &'a str,
+        inputs: &'a str,
+        schedule: &'a str,
+        config: &'a str,
+    },
+    /// Print the events of a schedule between two times, both included; with a node, those at it alone.
+    Trace {
+        program: &'a str,
+        inputs: &'a str,
+        schedule: &'a str,
+        config: &'a str,
+        node: Option<&'a str>,
+        from: u64,
+        to: u64,
+    },
 }

@@ -2,15 +2,18 @@
 ghost use Rattle.std.specs.Prelude.{◌≡◌, IfOk};
 ghost use Rattle.clap.specs.Words.{app_of};
 ghost use Rattle.lt_words.specs.Local.{IsLocal};
-ghost use Rattle.lt_words.specs.Commands.{check_app, meaning_app, run_app, plan_app, bare_app, program_app};
+ghost use Rattle.lt_words.specs.Commands.{check_app, meaning_app, run_app, plan_app, placed_app, sim_app, replayed_app, watch_app, audit_app, trace_app};
+ghost use Rattle.lt_words.specs.Commands.{with_programs, with_drawings, with_views, bare_app, program_app};
 
-use crate::arguments::{number, optional_text, text, with_argument, with_command};
+use crate::arguments::{
+    name, needed_number, number, optional_text, text, with_argument, with_command,
+};
 use clap::Command;
 use lt_base::Memory;
 use std::alloc::Global;
 
-// The greatest horizon, in ticks.
-const GREATEST_HORIZON: u64 = 1_000_000_000_000_000;
+/// The greatest time, in ticks, and so the greatest horizon.
+pub const GREATEST_TIME: u64 = 1_000_000_000_000_000;
 
 fn check<'a>(alloc: Global) -> Result<Command<'a>, Memory>
     ensures app { IfOk result (λ c. app_of c ≡ check_app) }
@@ -43,7 +46,63 @@ fn plan<'a>(alloc: Global) -> Result<Command<'a>, Memory>
     ensures local { IfOk result IsLocal }
 {
     let command = with_argument(Command::new(alloc, "plan"), text(alloc, "config"))?;
-    with_argument(command, number(alloc, "horizon", GREATEST_HORIZON))
+    with_argument(command, number(alloc, "horizon", GREATEST_TIME))
+}
+
+// A command of this name on a program, its inputs and a setup.
+fn placed<'a>(alloc: Global, name: &'a str) -> Result<Command<'a>, Memory>
+    ensures app { IfOk result (λ c. app_of c ≡ placed_app name.entry.now) }
+    ensures local { IfOk result IsLocal }
+{
+    let command = with_argument(Command::new(alloc, name), text(alloc, "program"))?;
+    let command = with_argument(command, text(alloc, "inputs"))?;
+    with_argument(command, text(alloc, "config"))
+}
+
+fn sim<'a>(alloc: Global) -> Result<Command<'a>, Memory>
+    ensures app { IfOk result (λ c. app_of c ≡ sim_app) }
+    ensures local { IfOk result IsLocal }
+{
+    let command = with_argument(
+        placed(alloc, "sim")?,
+        needed_number(alloc, "seed", u64::MAX),
+    )?;
+    with_argument(command, needed_number(alloc, "horizon", GREATEST_TIME))
+}
+
+// A command of this name on a program, its inputs, a schedule and one file more.
+fn replayed<'a>(alloc: Global, name: &'a str, file: &'a str) -> Result<Command<'a>, Memory>
+    ensures app { IfOk result (λ c. app_of c ≡ replayed_app name.entry.now file.entry.now) }
+    ensures local { IfOk result IsLocal }
+{
+    let command = with_argument(Command::new(alloc, name), text(alloc, "program"))?;
+    let command = with_argument(command, text(alloc, "inputs"))?;
+    let command = with_argument(command, text(alloc, "schedule"))?;
+    with_argument(command, text(alloc, file))
+}
+
+fn watch<'a>(alloc: Global) -> Result<Command<'a>, Memory>
+    ensures app { IfOk result (λ c. app_of c ≡ watch_app) }
+    ensures local { IfOk result IsLocal }
+{
+    let command = replayed(alloc, "watch", "observer")?;
+    with_argument(command, optional_text(alloc, "config"))
+}
+
+fn audit<'a>(alloc: Global) -> Result<Command<'a>, Memory>
+    ensures app { IfOk result (λ c. app_of c ≡ audit_app) }
+    ensures local { IfOk result IsLocal }
+{
+    replayed(alloc, "audit", "config")
+}
+
+fn trace<'a>(alloc: Global) -> Result<Command<'a>, Memory>
+    ensures app { IfOk result (λ c. app_of c ≡ trace_app) }
+    ensures local { IfOk result IsLocal }
+{
+    let command = with_argument(replayed(alloc, "trace", "config")?, name(alloc, "node"))?;
+    let command = with_argument(command, number(alloc, "from", GREATEST_TIME))?;
+    with_argument(command, number(alloc, "to", GREATEST_TIME))
 }
 
 fn bare<'a>(alloc: Global) -> Command<'a>
@@ -57,14 +116,45 @@ fn bare<'a>(alloc: Global) -> Command<'a>
         .subcommand_required(true)
 }
 
+// The command with those on the files of a program.
+fn with_programs<'a>(alloc: Global, command: Command<'a>) -> Result<Command<'a>, Memory>
+    ensures app { IfOk result (λ c. app_of c ≡ with_programs (app_of command.entry)) }
+    ensures local { IfOk result (λ c. IsLocal command.entry → IsLocal c) }
+{
+    let command = with_command(command, check(alloc)?)?;
+    let command = with_command(command, meaning(alloc)?)?;
+    let command = with_command(command, run(alloc)?)?;
+    let command = with_command(command, plan(alloc)?)?;
+    Ok(command)
+}
+
+// The command with the one that draws a schedule.
+fn with_drawings<'a>(alloc: Global, command: Command<'a>) -> Result<Command<'a>, Memory>
+    ensures app { IfOk result (λ c. app_of c ≡ with_drawings (app_of command.entry)) }
+    ensures local { IfOk result (λ c. IsLocal command.entry → IsLocal c) }
+{
+    let command = with_command(command, sim(alloc)?)?;
+    Ok(command)
+}
+
+// The command with those that look at a run.
+fn with_views<'a>(alloc: Global, command: Command<'a>) -> Result<Command<'a>, Memory>
+    ensures app { IfOk result (λ c. app_of c ≡ with_views (app_of command.entry)) }
+    ensures local { IfOk result (λ c. IsLocal command.entry → IsLocal c) }
+{
+    let command = with_command(command, watch(alloc)?)?;
+    let command = with_command(command, audit(alloc)?)?;
+    let command = with_command(command, trace(alloc)?)?;
+    Ok(command)
+}
+
 /// The program's command, with those below it.
 pub fn program<'a>(alloc: Global) -> Result<Command<'a>, Memory>
     ensures app { IfOk result (λ c. app_of c ≡ program_app) }
     ensures local { IfOk result IsLocal }
 {
-    let command = with_command(bare(alloc), check(alloc)?)?;
-    let command = with_command(command, meaning(alloc)?)?;
-    let command = with_command(command, run(alloc)?)?;
-    let command = with_command(command, plan(alloc)?)?;
+    let command = with_programs(alloc, bare(alloc))?;
+    let command = with_drawings(alloc, command)?;
+    let command = with_views(alloc, command)?;
     Ok(command)
 }

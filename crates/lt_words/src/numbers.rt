@@ -1,5 +1,5 @@
 // Numbers in the words.
-ghost use Rattle.std.specs.Prelude.{◌≡◌, ◌≤◌, ◌<◌, ◌^◌};
+ghost use Rattle.std.specs.Prelude.{◌≡◌, ◌≤◌};
 ghost use Rattle.lt_words.specs.Numbers.{number_of, up_to, number_text};
 
 // The number that some digits are, up to a bound.
@@ -24,12 +24,14 @@ fn number(bytes: &[u8], most: u64) -> Option<u64>
     Some(number)
 }
 
-/// The number that a text is to the parser of whole numbers, which takes a plus; 0 where it is none.
-pub fn number_text(text: &str) -> u64
-    ensures { result ≡ number_text text.now }
+/// The number that a text is to the parser of whole numbers, which takes a plus; 0 where it is none up to a bound.
+pub fn number_text(text: &str, most: u64) -> u64
+    requires digit { 9 ≤ most }
+    ensures value { result ≡ number_text most text.now }
+    ensures bounded { result ≤ most }
 {
     match text.as_bytes() {
-        [b'+', rest @ ..] => number(rest, u64::MAX).unwrap_or(0),
-        bytes => number(bytes, u64::MAX).unwrap_or(0),
+        [b'+', rest @ ..] => number(rest, most).unwrap_or(0),
+        bytes => number(bytes, most).unwrap_or(0),
     }
 }

@@ -1,13 +1,14 @@
 // What the words say.
-ghost use Rattle.std.specs.Prelude.{◌≡◌, ◌≢◌, None, true, Ok, [], map, option_map, unwrap_or, IfOk, string_bytes};
+ghost use Rattle.std.specs.Prelude.{◌≡◌, ◌≢◌, ◌≤◌, None, true, Ok, [], map, option_map, unwrap_or, IfOk, IfSome, string_bytes, codes};
 ghost use Rattle.clap.specs.Words.{rows_of, first_of, found_of, takes};
 ghost use Rattle.lt_words.specs.Commands.{program_app};
 ghost use Rattle.lt_words.specs.Numbers.{number_text};
-ghost use Rattle.lt_words.specs.Reading.{said_of, said_by, command_of};
+ghost use Rattle.lt_words.specs.Reading.{said_of, said_by, said_besides, command_of};
+ghost use Rattle.lt_words.specs.Ranges.{HasRanges};
 ghost use Rattle.lt_words.specs.Told.{Told};
 
 use crate::Command;
-use crate::commands::program;
+use crate::commands::{GREATEST_TIME, program};
 use crate::numbers::number_text;
 use clap::ArgMatches;
 use clap::error::ErrorKind;
@@ -29,18 +30,21 @@ fn text_or_empty<'a>(matches: &ArgMatches<'a>, id: &str) -> &'a str
     }
 }
 
-fn number_at(matches: &ArgMatches<'_>, id: &str) -> Option<u64>
-    ensures { result ≡ option_map number_text (first_of id.now (rows_of (found_of matches.now))) }
+fn number_at(matches: &ArgMatches<'_>, id: &str, most: u64) -> Option<u64>
+    requires digit { 9 ≤ most }
+    ensures value { result ≡ option_map (number_text most) (first_of id.now (rows_of (found_of matches.now))) }
+    ensures bounded { IfSome result (λ n. n ≤ most) }
 {
     match text_at(matches, id) {
-        Some(text) => Some(number_text(text)),
+        Some(text) => Some(number_text(text, most)),
         None => None,
     }
 }
 
 // The command of this name, with the values that were found.
 fn command_of<'a>(name: &str, matches: &ArgMatches<'a>) -> Command<'a>
-    ensures { said_of result ≡ said_by name.now (rows_of (found_of matches.now)) }
+    ensures said { said_of result ≡ said_by name.now (rows_of (found_of matches.now)) }
+    ensures ranges { HasRanges result }
 {
     if name == "check" {
         let program = text_or_empty(matches, "program");
@@ -63,9 +67,72 @@ fn command_of<'a>(name: &str, matches: &ArgMatches<'a>) -> Command<'a>
             config: text_at(matches, "config"),
         };
     }
+    if name == "plan" {
+        let config = text_or_empty(matches, "config");
+        let horizon = number_at(matches, "horizon", GREATEST_TIME);
+        return Command::Plan { config, horizon };
+    }
+    command_besides(name, matches)
+}
+
+// The command of this name that draws a schedule or looks at a run.
+fn command_besides<'a>(name: &str, matches: &ArgMatches<'a>) -> Command<'a>
+    ensures said { said_of result ≡ said_besides name.now (rows_of (found_of matches.now)) }
+    ensures ranges { HasRanges result }
+{
+    if name == "sim" {
+        return sim(matches);
+    }
+    if name == "watch" {
+        return watch(matches);
+    }
+    let program = text_or_empty(matches, "program");
+    let inputs = text_or_empty(matches, "inputs");
+    let schedule = text_or_empty(matches, "schedule");
     let config = text_or_empty(matches, "config");
-    let horizon = number_at(matches, "horizon");
-    Command::Plan { config, horizon }
+    if name == "audit" {
+        return Command::Audit {
+            program,
+            inputs,
+            schedule,
+            config,
+        };
+    }
+    Command::Trace {
+        program,
+        inputs,
+        schedule,
+        config,
+        node: text_at(matches, "node"),
+        from: number_at(matches, "from", GREATEST_TIME).unwrap_or(0),
+        to: number_at(matches, "to", GREATEST_TIME).unwrap_or(GREATEST_TIME),
+    }
+}
+
+fn sim<'a>(matches: &ArgMatches<'a>) -> Command<'a>
+    ensures said { said_of result ≡ said_besides (codes "sim") (rows_of (found_of matches.now)) }
+    ensures ranges { HasRanges result }
+{
+    Command::Sim {
+        program: text_or_empty(matches, "program"),
+        inputs: text_or_empty(matches, "inputs"),
+        config: text_or_empty(matches, "config"),
+        seed: number_at(matches, "seed", u64::MAX).unwrap_or(0),
+        horizon: number_at(matches, "horizon", GREATEST_TIME).unwrap_or(0),
+    }
+}
+
+fn watch<'a>(matches: &ArgMatches<'a>) -> Command<'a>
+    ensures said { said_of result ≡ said_besides (codes "watch") (rows_of (found_of matches.now)) }
+    ensures ranges { HasRanges result }
+{
+    Command::Watch {
+        program: text_or_empty(matches, "program"),
+        inputs: text_or_empty(matches, "inputs"),
+        schedule: text_or_empty(matches, "schedule"),
+        observer: text_or_empty(matches, "observer"),
+        config: text_at(matches, "config"),
+    }
 }
 
 // The command that the words say, if `clap` takes them.
@@ -93,6 +160,7 @@ fn read<'a>(alloc: Global, words: &'a [String]) -> Result<Option<Command<'a>>, M
 /// or for a version is refused too. A name that begins with `-` stands after `--`.
 pub fn read_words<'a>(alloc: Global, words: &'a [String]) -> Result<Option<Command<'a>>, Memory>
     ensures said { IfOk result (λ command. option_map said_of command ≡ command_of (map string_bytes words.entry.now)) }
+    ensures ranges { IfOk result (λ command. IfSome command HasRanges) }
     ensures refused { result ≡ Ok None → takes program_app (map string_bytes words.entry.now) ≢ true }
 {
     read(alloc, words)

@@ -1,13 +1,16 @@
 use Rattle.std.proofs.Common.{map}
 use Rattle.std.specs.Prelude.{string_bytes}
-use Rattle.lt_cli.proofs.Saying.{asked_whole, asked_refused, asked_short}
+use Rattle.lt_play.specs.Played.{world}
+use Rattle.lt_cli.proofs.Asking.{some_asked, none_asked, not_read}
 use Rattle.lt_cli.proofs.top.perform.Goals as goal
 
-pub returns-in-Ok : goal.returns-in-Ok
-returns-in-Ok g c = asked_whole (map string_bytes c.args.words.now) _ _ _ _ _ _ _ c.in-Ok.ensures c.print.ensures
+pub returns-in-Ok-Some : goal.returns-in-Ok-Some
+returns-in-Ok-Some g c =
+    some_asked (map string_bytes c.args.words.now) c.in-Ok-Some.field-0 c.in-Ok-Some.command c.in-Ok-Some.ensures.said c.in-Ok-Some.field-0-is _ _ _ c.obey.ensures
 
-pub returns-in-Err-Fault : goal.returns-in-Err-Fault
-returns-in-Err-Fault g c = asked_refused (map string_bytes c.args.words.now) _ _ _ _ _ _ _ (rw c.in-Err-Fault.field-0-is at c.in-Err-Fault.ensures) c.refuse.ensures
+pub returns-in-Ok-None : goal.returns-in-Ok-None
+returns-in-Ok-None g c =
+    none_asked (map string_bytes c.args.words.now) c.in-Ok-None.field-0 c.in-Ok-None.ensures.said c.in-Ok-None.field-0-is (world (g.F.Files.state c.args.files.now) (g.W.Fabric.state c.args.fabric.now)) _ _ _ _ c.refuse.ensures
 
-pub returns-in-Err-Memory : goal.returns-in-Err-Memory
-returns-in-Err-Memory g c = asked_short (map string_bytes c.args.words.now) _ _ _ _ (rw c.in-Err-Memory.field-0-is at c.in-Err-Memory.ensures)
+pub returns-in-Err : goal.returns-in-Err
+returns-in-Err g c = not_read (map string_bytes c.args.words.now) (world (g.F.Files.state c.args.files.now) (g.W.Fabric.state c.args.fabric.now)) _ _

@@ -32,7 +32,7 @@ pub loop-number-init : goal.loop-number-init
 loop-number-init g c = record {
   counted = refl;
   link_counted = refl;
-  keeps_files = record { sound = refl; told = refl; named = refl };
+  keeps_files = record { sound = refl; told = refl; named = refl; visits = refl };
   keeps = g.met.R.Replica.keeps_same _ _;
   ready = c.requires.ready;
   few = Rattle.std.proofs.Common.lit≤ tt;

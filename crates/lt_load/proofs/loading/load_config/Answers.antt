@@ -1,4 +1,4 @@
-use Rattle.std.proofs.Common.{◌≡◌, ℕ, List, Result, Ok, Err, refl, subst}
+use Rattle.std.proofs.Common.{◌≡◌, ℕ, List, [], Result, Ok, Err, refl, subst}
 use Rattle.lt_base.specs.declared.memory.Or.{Or}
 use Rattle.lt_base.specs.declared.memory.Or.TheVariants.{Fault, Memory}
 use Rattle.lt_answer.specs.Answered.{Verdict, Refuses, Settles}
@@ -32,7 +32,7 @@ found bytes Memory reads = tt
 pub returns-in_err-bytes : goal.returns-in_err-bytes
 unfolding config_verdict
 returns-in_err-bytes g c =
-    refused_step command_blame (whole_verdict ConfigBytes ((g.F.Files.state c.args.files.now).named c.args.name.now)) (λ names bytes. read_verdict bytes) _ _ _ _
+    refused_step command_blame (whole_verdict ConfigBytes ((g.F.Files.state c.args.files.now).named c.args.name.now)) (λ names bytes. read_verdict bytes) _ _ [] _ _
     c.from_residual.ensures.1 c.in_err-bytes.ensures.answered
 
 pub returns-in-Ok : goal.returns-in-Ok

@@ -1,4 +1,4 @@
-use Rattle.std.proofs.Common.{◌≡◌, ◌∙◌, ℕ, List, Result, Ok, Err, refl, ap, subst}
+use Rattle.std.proofs.Common.{◌≡◌, ◌∙◌, ℕ, List, [], Result, Ok, Err, refl, ap, subst}
 use Rattle.lt_base.specs.declared.memory.Or.{Or}
 use Rattle.lt_base.specs.declared.memory.Or.TheVariants.{Fault, Memory}
 use Rattle.lt_base.specs.Inputs.{InputTable}
@@ -38,7 +38,7 @@ found main bytes Memory told = tt
 pub returns-in_err-bytes-clause-answered : goal.returns-in_err-bytes-clause-answered
 unfolding inputs_verdict
 returns-in_err-bytes-clause-answered g c =
-    refused_step command_blame (whole_verdict InputsBytes ((g.F.Files.state c.args.files.now).named c.args.name.now)) (λ names bytes. read_verdict (main_in c.args.program.now) bytes) _ _ _ _
+    refused_step command_blame (whole_verdict InputsBytes ((g.F.Files.state c.args.files.now).named c.args.name.now)) (λ names bytes. read_verdict (main_in c.args.program.now) bytes) _ _ [] _ _
     c.from_residual.ensures.1 c.in_err-bytes.ensures.answered
 
 pub returns-in-Ok-clause-answered : goal.returns-in-Ok-clause-answered

@@ -1,4 +1,4 @@
-use Rattle.std.proofs.Common.{Ok, sym, ap}
+use Rattle.std.proofs.Common.{[], Ok, sym, ap}
 use Rattle.lt_verdict.specs.Rules.{Exactly}
 use Rattle.lt_front.specs.Checked.{CheckedText}
 use Rattle.lt_load.specs.Blamed.{command_blame}
@@ -13,7 +13,7 @@ pub returns-in_err-table : goal.returns-in_err-table
 unfolding sited_verdict
 returns-in_err-table g c =
     let k = c.args.checked in
-    refused_step command_blame (inputs_verdict k.program ((g.F.Files.state c.args.files.now).named c.args.inputs.now)) (λ names table. Exactly (Ok (loaded_of k c.args.site table))) _ _ _ _ c.from_residual.ensures.1
+    refused_step command_blame (inputs_verdict k.program ((g.F.Files.state c.args.files.now).named c.args.inputs.now)) (λ names table. Exactly (Ok (loaded_of k c.args.site table))) _ _ [] _ _ c.from_residual.ensures.1
     (inputs_at _ _ (ap (λ (t : CheckedText). t.program) c.checked.view_is) _ _ _ _ c.in_err-table.ensures.answered)
 
 pub with_inputs-requires-clause-fit : goal.with_inputs-requires-clause-fit

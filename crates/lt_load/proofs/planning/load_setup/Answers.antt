@@ -1,5 +1,6 @@
 use Rattle.std.specs.Prelude.{option_map}
 use Rattle.lt_front.specs.Checked.{examined_part}
+use Rattle.lt_load.specs.Errands.{inputs_errand}
 use Rattle.lt_load.specs.Plan.{chosen_setup_verdict, fitting_plan_verdict, setup_plan_verdict}
 use Rattle.lt_load.proofs.Planned.{refused_load, next_load}
 use Rattle.lt_load.proofs.Steps.{counts_on}
@@ -9,7 +10,7 @@ pub returns-in_err-setup : goal.returns-in_err-setup
 unfolding setup_plan_verdict
 returns-in_err-setup g c =
     refused_load (chosen_setup_verdict (g.F.Files.state c.args.files.now).named (option_map (λ s. s.now) c.args.config))
-    (λ names setup. fitting_plan_verdict names c.args.inputs.now (examined_part c.args.checked) setup) _ _ _ _ c.from_residual.ensures.1 c.in_err-setup.ensures
+    (λ names setup. fitting_plan_verdict names c.args.inputs.now (examined_part c.args.checked) setup) _ _ (inputs_errand c.args.inputs.now) _ _ c.from_residual.ensures.1 c.in_err-setup.ensures
 
 pub load_fitting-requires : goal.load_fitting-requires
 load_fitting-requires g c = counts_on _ _ c.in_ok-setup.ensures.cause.files c.requires

@@ -1,10 +1,11 @@
-use Rattle.std.proofs.Common.{◌≡◌, List, ℕ, Ok, sym, ap}
+use Rattle.std.proofs.Common.{◌≡◌, List, [], ℕ, Ok, sym, ap}
 use Rattle.lt_answer.specs.Answered.{Verdict, AndThen, Settles}
 use Rattle.lt_verdict.specs.Rules.{Exactly}
 use Rattle.lt_front.specs.Checked.{examined_part}
 use Rattle.lt_front.specs.Examined.{ExaminedText}
 use Rattle.lt_load.specs.declared.fault.CommandFault.{CommandFault}
 use Rattle.lt_load.specs.Blamed.{command_blame}
+use Rattle.lt_load.specs.Errands.{config_errand}
 use Rattle.lt_load.specs.Loaded.{program_verdict}
 use Rattle.lt_load.specs.Setups.{fitted_verdict, with_setup_verdict}
 use Rattle.lt_load.proofs.Flats.{flat_value, flat_fault}
@@ -21,7 +22,7 @@ same_value x y is = ap (λ (t : ExaminedText). Ok t) (sym is)
 pub returns-in_err-checked : goal.returns-in_err-checked
 unfolding with_setup_verdict
 returns-in_err-checked g c =
-    refused_step command_blame (program_verdict ((g.F.Files.state c.args.files.now).named c.args.program.now)) (rest c.args.config.now) _ _ _ _ c.from_residual.ensures.1
+    refused_step command_blame (program_verdict ((g.F.Files.state c.args.files.now).named c.args.program.now)) (rest c.args.config.now) _ _ (config_errand c.args.config.now) _ _ c.from_residual.ensures.1
     (flat_fault _ _ _ _ c.in_err-checked.ensures)
 
 pub check_setup-requires : goal.check_setup-requires
@@ -32,7 +33,7 @@ unfolding with_setup_verdict
 returns-in_err-check_setup g c =
     let k = examined_part c.in_ok-checked.checked in
     next_step command_blame (program_verdict ((g.F.Files.state c.args.files.now).named c.args.program.now)) (rest c.args.config.now) _ _ k _ (flat_value _ _ _ _ c.in_ok-checked.ensures) _
-    (refused_step command_blame _ (λ names fitting. Exactly (Ok k)) _ _ _ _ c.from_residual-in_err-check_setup.ensures.1 c.in_err-check_setup.ensures)
+    (refused_step command_blame _ (λ names fitting. Exactly (Ok k)) _ _ [] _ _ c.from_residual-in_err-check_setup.ensures.1 c.in_err-check_setup.ensures)
 
 pub returns : goal.returns
 unfolding with_setup_verdict

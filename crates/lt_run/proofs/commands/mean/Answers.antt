@@ -1,4 +1,4 @@
-use Rattle.std.proofs.Common.{ap}
+use Rattle.std.proofs.Common.{[], ap}
 use Rattle.lt_front.specs.Examined.{ExaminedText}
 use Rattle.lt_load.specs.Blamed.{command_blame}
 use Rattle.lt_load.specs.Loaded.{inputs_verdict}
@@ -12,7 +12,7 @@ pub returns-in_err-table : goal.returns-in_err-table
 unfolding inputs_streams_verdict
 returns-in_err-table g c =
     let k = c.args.checked.now in
-    refused_step command_blame (inputs_verdict k.program ((g.F.Files.state c.args.files.now).named c.args.inputs.now)) (λ names table. streams_verdict k table) _ _ _ _ c.from_residual.ensures.1
+    refused_step command_blame (inputs_verdict k.program ((g.F.Files.state c.args.files.now).named c.args.inputs.now)) (λ names table. streams_verdict k table) _ _ [] _ _ c.from_residual.ensures.1
     (inputs_at _ _ (ap (λ (t : ExaminedText). t.program) c.checked.view_is) _ _ _ _ c.in_err-table.ensures.answered)
 
 pub streams-requires : goal.streams-requires

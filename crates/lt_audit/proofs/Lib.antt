@@ -1,0 +1,13 @@
+pub mod Lines
+pub mod NextChannel
+pub mod Waking
+pub mod Oldest
+pub mod Longer
+pub mod DeedSeen
+pub mod NextState
+pub mod FirstFound
+pub mod StandsOn
+pub mod KeptOn
+pub mod Started
+pub mod Delivering
+pub mod Delivered

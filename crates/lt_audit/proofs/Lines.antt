@@ -1,0 +1,55 @@
+-- Channels in a table, and what counts of them.
+use Rattle.std.proofs.Common.{◌≡◌, ◌∙◌, ℕ, ◌+◌, ◌<◌, ◌≤◌, List, length, map, set, refl, sym, ap, subst, arith, inl, inr, length-set, slice_index_or}
+use Rattle.std.proofs.lemmas.Bool.Decides.{eqb_tells}
+use Rattle.std.proofs.lemmas.List.{get_or-map, get_or_default, get_or-set_same, get_or-set_other}
+use Rattle.std.proofs.Math.Seq.{map-set_same}
+use Rattle.lt_arch.specs.declared.chan.Chan.{Chan}
+use Rattle.lt_audit.specs.Audit.{LineState, kept_of, line_at, chan_at, no_line, no_chan_state}
+use Rattle.lt_audit.specs.Acts.{SameLines, HasRoom, chan_in}
+
+-- what counts of the channel at a place
+pub kept_at : (ls : List LineState) (c : ℕ) → c < length ls → chan_at (map kept_of ls) c ≡ kept_of (line_at ls c)
+kept_at ls c lt = get_or-map kept_of ls c no_line no_chan_state lt
+
+-- a channel that was read, by any default
+pub read_at : (ls : List LineState) (c : ℕ) (x : LineState) → c < length ls → x ≡ slice_index_or ls c x → chan_at (map kept_of ls) c ≡ kept_of x
+read_at ls c x lt is = kept_at ls c lt ∙ ap kept_of (sym (is ∙ get_or_default ls c x no_line lt))
+
+pub line_is : (ls : List LineState) (c : ℕ) (x : LineState) → c < length ls → x ≡ slice_index_or ls c x → x ≡ line_at ls c
+line_is ls c x lt is = is ∙ get_or_default ls c x no_line lt
+
+pub same_lines : (ls : List LineState) → SameLines ls ls
+same_lines ls = record { same_length = refl; kept = refl; grows = λ c. omega arith }
+
+module _ (old mid : List LineState) (same : SameLines old mid) (c : ℕ) (x y : LineState) (lt : c < length old) (is : x ≡ slice_index_or mid c x) (kept : kept_of y ≡ kept_of x) (grows : x.room ≤ y.room) where
+  within : c < length mid
+  within = let e = same.same_length in omega (arith, e, lt)
+
+  -- after room was made on channel c
+  pub room_made : SameLines old (set mid c y)
+  room_made = record {
+    same_length = length-set mid c y ∙ same.same_length;
+    kept = map-set_same kept_of mid c y no_line (kept ∙ ap kept_of (line_is mid c x within is)) ∙ same.kept;
+    grows = λ d. let before = same.grows d in elim (eqb_tells d c) [
+      | inl e ↦
+          let here : line_at (set mid c y) d ≡ y = ap (λ i. slice_index_or (set mid c y) i no_line) e.1 ∙ get_or-set_same mid c y no_line within in
+          let there : x ≡ line_at mid d = line_is mid c x within is ∙ ap (λ i. line_at mid i) (sym e.1) in
+          let less : (line_at mid d).room ≤ y.room = subst (λ (l : LineState). l.room ≤ y.room) there grows in
+          subst (λ (l : LineState). (line_at old d).room ≤ l.room) (sym here) (omega (arith, before, less))
+      | inr e ↦ subst (λ (l : LineState). (line_at old d).room ≤ l.room) (sym (get_or-set_other mid c d y no_line e.1)) before
+    ];
+  }
+
+  -- so there is room on one channel more
+  pub one_more : (cs : List Chan) (n : ℕ) → HasRoom cs mid n c → 0 < y.room → HasRoom cs (set mid c y) n (c + 1)
+  one_more cs n has some d ld from = elim (eqb_tells d c) [
+    | inl e ↦ subst (λ (l : LineState). 0 < l.room) (sym (ap (λ i. slice_index_or (set mid c y) i no_line) e.1 ∙ get_or-set_same mid c y no_line within)) some
+    | inr e ↦ let ne = e.1 in subst (λ (l : LineState). 0 < l.room) (sym (get_or-set_other mid c d y no_line e.1)) (has d (omega (arith, ld, ne)) from)
+  ]
+
+-- a channel that is none of the node's needs none
+pub room_passed : (cs : List Chan) (ls : List LineState) (n c : ℕ) → HasRoom cs ls n c → ((chan_in cs c).from ≡ n → ⊥) → HasRoom cs ls n (c + 1)
+room_passed cs ls n c has other d ld from = elim (eqb_tells d c) [
+  | inl e ↦ absurd (other (ap (λ i. (chan_in cs i).from) (sym e.1) ∙ from))
+  | inr e ↦ let ne = e.1 in has d (omega (arith, ld, ne)) from
+]

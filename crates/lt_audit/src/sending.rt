@@ -1,0 +1,117 @@
+// The messages that a deed sends.
+ghost use Rattle.std.specs.Prelude.{◌≡◌, ◌<◌, ◌≤◌, ◌+◌, ◌^◌, ℕ, true, Some, All, length, OnOk, slice_set};
+ghost use Rattle.lt_arch.specs.declared.limits.TheConstants.{GREATEST_TIME};
+ghost use Rattle.lt_arch.specs.Readers.{is_back_pressure};
+ghost use Rattle.lt_arch.specs.Step.{with_delivered, with_sent};
+ghost use Rattle.lt_arch.specs.Times.{sent_in};
+ghost use Rattle.lt_audit.specs.Audit.{kept_of, line_at, oldest};
+ghost use Rattle.lt_audit.specs.Acts.{SameLines, HasRoom, SentBelow, chan_in, is_sent_on, is_data_from, is_ack_from};
+
+use crate::hearing::carries_data;
+use crate::line::Line;
+use lt_arch::{Chan, Deed, Protocol, Watch};
+use lt_base::{Memory, Steps};
+use std::sync::ledger::Ledger;
+
+/// Takes room for one more message on each channel from a node.
+pub fn make_room(channels: &[Chan], lines: &mut Vec<Line>, node: u32) -> Result<(), Memory>
+    requires { length lines.old.items ≡ length channels.now }
+    ensures same { SameLines lines.old.items lines.new.items }
+    ensures room { OnOk result (HasRoom channels.now lines.new.items node (length channels.now)) }
+{
+    for c in 0..channels.len() {
+        if channels[c].from == node {
+            lines[c].make_room()?;
+        }
+    }
+    Ok(())
+}
+
+fn is_back_pressure(protocol: Protocol) -> bool
+    ensures { result ≡ is_back_pressure protocol }
+{
+    match protocol {
+        Protocol::BackPressure => true,
+        Protocol::TimeBased => false,
+    }
+}
+
+fn takes_data(channel: &Chan, node: u32) -> bool
+    ensures { result ≡ is_data_from channel.now node }
+{
+    channel.from == node && carries_data(channel)
+}
+
+fn takes_acks(channel: &Chan, node: u32) -> bool
+    ensures { result ≡ is_ack_from channel.now node }
+{
+    channel.from == node && !carries_data(channel)
+}
+
+fn is_sent_on(protocol: Protocol, node: u32, deed: Deed, channel: &Chan) -> bool
+    ensures { result ≡ is_sent_on protocol node deed channel.now }
+{
+    match deed {
+        Deed::Nothing => false,
+        Deed::Execute => is_back_pressure(protocol) && takes_acks(channel, node),
+        Deed::Send => takes_data(channel, node),
+    }
+}
+
+/// Sends on each channel on which a deed of a node sends, and tells the watch where no older message is in transit.
+pub fn send_all<L: Ledger>(
+    channels: &[Chan],
+    lines: &mut Vec<Line>,
+    watch: &mut Watch,
+    protocol: Protocol,
+    node: u32,
+    deed: Deed,
+    at: u64,
+    steps: &mut Steps<L>,
+)
+    requires size { length channels.now < 2 ^ 32 }
+    requires lines { length lines.old.items ≡ length channels.now }
+    requires sends { length watch.old.sends ≡ length channels.now }
+    requires room { HasRoom channels.now lines.old.items node (length channels.now) }
+    requires oldest { (c : ℕ) → c < length channels.now → sent_in watch.old c ≡ oldest (line_at lines.old.items c).transit }
+    requires time { at ≤ GREATEST_TIME }
+    ensures { SentBelow (λ c. is_sent_on protocol node deed (chan_in channels.now c)) at (length channels.now) lines.old.items lines.new.items watch.old watch.new }
+{
+    for c in 0..channels.len() {
+        if is_sent_on(protocol, node, deed, &channels[c]) {
+            send(&mut lines[c], watch, c as u32, at, steps);
+        }
+    }
+}
+
+// Sends on one channel.
+fn send<L: Ledger>(line: &mut Line, watch: &mut Watch, c: u32, at: u64, steps: &mut Steps<L>)
+    requires channel { c < length watch.old.sends }
+    requires room { 0 < line.old.room }
+    requires oldest { sent_in watch.old c ≡ oldest line.old.transit }
+    requires time { at ≤ GREATEST_TIME }
+    ensures line { kept_of line.new ≡ with_sent true at (kept_of line.old) }
+    ensures watch { watch.new ≡ record watch.old { sends = slice_set watch.old.sends c (oldest line.new.transit) } }
+{
+    let idle = line.oldest().is_none();
+    line.send(at);
+    if idle {
+        watch.sent(c, at, steps);
+    }
+}
+
+/// A channel delivers its oldest message, and the watch is told of the next one.
+pub fn deliver<L: Ledger>(line: &mut Line, watch: &mut Watch, c: u32, at: u64, steps: &mut Steps<L>)
+    requires channel { c < length watch.old.sends }
+    requires counted { line.old.delivered + length line.old.transit < 2 ^ 32 }
+    requires timely { All (λ sent. sent ≤ GREATEST_TIME) line.old.transit }
+    requires time { at ≤ GREATEST_TIME }
+    ensures line { kept_of line.new ≡ with_delivered (kept_of line.old) line.old.transit }
+    ensures watch { watch.new ≡ record watch.old { sends = slice_set watch.old.sends c (oldest line.new.transit); latest = Some at } }
+{
+    line.deliver();
+    watch.delivered(c, at, steps);
+    if let Some(sent) = line.oldest() {
+        watch.sent(c, sent, steps);
+    }
+}

@@ -1,0 +1,233 @@
+-- A drawn schedule, from what was loaded and what was written.
+use Rattle.std.proofs.Common.{◌≡◌, ℕ, ◌<◌, ◌≤◌, nat_lt, Bool, true, false, List, [], ◌∷◌, ◌++◌, length, Option, Some, Result, Ok, Err, refl, sym, ◌∙◌, ap, subst, arith, inl, inr}
+use Rattle.std.specs.Prelude.{if◌then◌else◌}
+use Rattle.lt_base.specs.declared.memory.Or.{Or}
+use Rattle.lt_base.specs.declared.memory.Or.TheVariants.{Fault, Memory}
+use Rattle.lt_arch.specs.declared.event.Event.{Event}
+use Rattle.lt_arch.specs.declared.shape.Shape.{Shape}
+use Rattle.lt_arch.specs.declared.timing.Timing.{Timing}
+use Rattle.lt_io.specs.Visits.{Errand, Visited}
+use Rattle.lt_io.proofs.Visiting.{visited_any}
+use Rattle.lt_io.specs.FilesState.{FilesState}
+use Rattle.lt_io.specs.FabricState.{FabricState}
+use Rattle.lt_io.specs.SinkState.{SinkState, KeepsSink}
+use Rattle.lt_answer.specs.World.{World, IsCalm, alone}
+use Rattle.lt_answer.specs.Answered.{Answered, RefusesReading}
+use Rattle.lt_answer.proofs.Stages.{beside}
+use Rattle.lt_config.specs.declared.pace.Pace.{Pace}
+use Rattle.lt_lead.specs.Paced.{IsShapeBy}
+use Rattle.lt_play.specs.Played.{world}
+use Rattle.lt_replay.specs.Sound.{IsSound, AreSound}
+use Rattle.lt_load.specs.Blamed.{command_blame}
+use Rattle.lt_load.specs.declared.fault.CommandFault.{CommandFault}
+use Rattle.lt_load.specs.Errands.{load_errands}
+use Rattle.lt_load.specs.Plan.{LoadedPlan, IsLoaded, IsLoadedFrom, Plan, Loads}
+use Rattle.lt_load.specs.Pacing.{plain_load_verdict}
+use Rattle.lt_run.specs.Run.{IsLaidOutBy}
+use Rattle.lt_sim.specs.Drawn.{drawn}
+use Rattle.lt_sim.specs.File.{file_text, text_of}
+use Rattle.lt_sim.specs.Recorded.{IsRecorded, IsBroken, IsTooMany, TakesFront}
+use Rattle.lt_cli.specs.declared.refusal.Refusal.{Refusal}
+use Rattle.lt_cli.specs.declared.refusal.Refusal.TheVariants.{Command}
+use Rattle.lt_cli.specs.declared.status.Status.{Status}
+use Rattle.lt_cli.specs.declared.status.Status.TheVariants as status
+use Rattle.lt_cli.specs.Blamed.{blame_of}
+use Rattle.lt_cli.specs.Texts.{status_of, refusal_status, line_of, drawing_text}
+use Rattle.lt_cli.specs.Written.{Written}
+use Rattle.lt_cli.specs.Objects.{Objects, world_of}
+use Rattle.lt_cli.specs.Draws.{Drawing, limited, too_many, drawing, plan_drawn_verdict, sim_verdict}
+use Rattle.lt_cli.specs.Commands.{text_verdict}
+use Rattle.lt_cli.specs.Ran.{Reported, OutcomeBlames}
+use Rattle.lt_cli.specs.Ran.{printed, both_whole, out_broke, err_broke, both_short}
+use Rattle.lt_cli.specs.Asked.{FinishesDrawn, IsReported, Obeys, drawn_outcome, shown_drawing}
+use Rattle.lt_cli.proofs.Refusals.{fault_not_words}
+use Rattle.lt_cli.proofs.Ends.{took_nothing, front_of_none, keeps_sink, line_reported}
+use Rattle.lt_cli.proofs.Obeyed.{objects, visits_all, line_written, not_found}
+
+-- what is right of the verdict is right of its text
+shown_right : (named : List ℕ → Option (List ℕ)) (program inputs config : List ℕ) (seed horizon : ℕ) (r : Result Drawing CommandFault) → sim_verdict named program inputs config seed horizon r
+    → text_verdict drawing_text (sim_verdict named program inputs config seed horizon) (shown_drawing r)
+shown_right named program inputs config seed horizon (Ok d) right = (d, right, refl)
+shown_right named program inputs config seed horizon (Err f) right = (f, right, refl)
+
+-- the outcome of a limited list blames nobody outside, and not the words
+limited_calm : (b : Bool) (d : Drawing) (old new : Objects) → IsCalm (world_of old) (world_of new) → OutcomeBlames old new (shown_drawing (if b then Err too_many else Ok d))
+limited_calm true d old new calm = calm
+limited_calm false d old new calm = calm
+
+limited_not_words : (b : Bool) (d : Drawing) → status_of (shown_drawing (if b then Err too_many else Ok d)) ≡ status.Words → ⊥
+limited_not_words true d is = cc
+limited_not_words false d is = cc
+
+reported_not_words : (outcome : Result (List ℕ) Refusal) (old new : Objects) (ends : Status) → (status_of outcome ≡ status.Words → ⊥) → Reported outcome old new ends → ends ≡ status.Words → ⊥
+reported_not_words outcome old new ends not (both_whole is out err) at = not (sym is ∙ at)
+reported_not_words outcome old new ends not (out_broke is out err) at = cc
+reported_not_words outcome old new ends not (err_broke is out err) at = cc
+reported_not_words outcome old new ends not (both_short is out err) at = cc
+
+module _ (named : List ℕ → Option (List ℕ)) (program inputs config : List ℕ) (seed horizon : ℕ) where
+  abbrev loads : Result LoadedPlan CommandFault → Type 0
+  loads = Loads (plain_load_verdict named program inputs config)
+
+  abbrev errands : List Errand
+  errands = load_errands program inputs (Some config)
+
+  abbrev texts : Result (List ℕ) Refusal → Type 0
+  texts = text_verdict drawing_text (sim_verdict named program inputs config seed horizon)
+
+  -- what is drawn of a loaded plan is drawn of the plan
+  loaded_drawn : (k : LoadedPlan) (p : Plan) → IsLoadedFrom p k → plan_drawn_verdict seed horizon p (drawing k.shape k.timing (length k.inputs.rows) seed horizon)
+  unfolding plan_drawn_verdict
+  loaded_drawn k p from = (
+    k.layout,
+    k.shape,
+    record { layout = from.layout; shape = subst (λ (p : Pace × Timing). IsShapeBy k.layout p.0 p.1 k.shape) (λ i. (from.pace i, from.timing i)) from.shape },
+    λ i. drawing k.shape (sym from.timing i) (length (sym from.inputs i).rows) seed horizon,
+  )
+
+  drawn_right : (k : LoadedPlan) → loads (Ok k) → texts (drawn_outcome k seed horizon)
+  unfolding sim_verdict
+  drawn_right k (p, right, from) = shown_right named program inputs config seed horizon (drawing k.shape k.timing (length k.inputs.rows) seed horizon) (inr (p, right, loaded_drawn k p from))
+
+  refused_right : (f : CommandFault) → loads (Err f) → texts (Err (Command f))
+  unfolding sim_verdict
+  refused_right f right = (f, inl right, refl)
+
+  blamed : RefusesReading command_blame loads → RefusesReading blame_of texts
+  blamed (f, is, right) = (Command f, is, refused_right f right)
+
+  module _ (a b : FilesState) (w : FabricState) (o o' e e' : SinkState) (ends : Status) where
+    loaded_obeyed : (k : LoadedPlan) → Answered command_blame errands loads (world a w) (world b w) (Ok k) → IsReported (drawn_outcome k seed horizon) o o' e e' ends → Obeys errands texts (objects (world a w) o e) (objects (world b w) o' e') ends
+    loaded_obeyed k answered finish =
+        let old = objects (world a w) o e in
+        let new = objects (world b w) o' e' in
+        let events : List Event = drawn k.shape k.timing (length k.inputs.rows) seed horizon in
+        let d : Drawing = record { shape = k.shape; events = events } in
+        record {
+          ran = record {
+            keeps = record { world = answered.keeps; out = finish.out_keeps; err = finish.err_keeps };
+            outcome = printed (record {
+              outcome = drawn_outcome k seed horizon;
+              cause = limited_calm (nat_lt 5000000 (length events)) d old new answered.cause;
+              right = λ told calm. drawn_right k (answered.exact told calm);
+              reported = finish.reported a b w w;
+            });
+            sound = λ told sound rose. blamed (answered.sound told sound rose);
+          };
+          visits = visits_all errands old new ends answered.visits;
+          not_words = reported_not_words (drawn_outcome k seed horizon) old new ends (limited_not_words (nat_lt 5000000 (length events)) d) (finish.reported a b w w);
+        }
+
+    refused_answered : (f : CommandFault) → Answered command_blame errands loads (world a w) (world b w) (Err (Fault f)) → Answered blame_of errands texts (world a w) (world b w) (Err (Fault (Command f)))
+    refused_answered f answered = record {
+      keeps = answered.keeps;
+      visits = answered.visits;
+      cause = answered.cause;
+      exact = λ told calm. refused_right f (answered.exact told calm);
+      sound = λ told sound rose. blamed (answered.sound told sound rose);
+    }
+
+    short_answered : Answered command_blame errands loads (world a w) (world b w) (Err Memory) → Answered blame_of errands texts (world a w) (world b w) (Err Memory)
+    short_answered answered = record { keeps = answered.keeps; visits = answered.visits; cause = answered.cause; exact = λ told calm. tt; sound = λ told sound rose. blamed (answered.sound told sound rose) }
+
+    obeyed : (r : Result LoadedPlan (Or CommandFault)) → Answered command_blame errands loads (world a w) (world b w) r → FinishesDrawn r seed horizon o o' e e' ends → Obeys errands texts (objects (world a w) o e) (objects (world b w) o' e') ends
+    obeyed (Ok k) answered finish = loaded_obeyed k answered finish
+    obeyed (Err (Fault f)) answered (written, same) = line_written errands texts (world a w) (world b w) o o' e e' (Command f) ends (fault_not_words f) (refused_answered f answered) written same
+    obeyed (Err Memory) answered (is, same_out, same_err) = not_found errands texts (world a w) (world b w) o o' e e' ends (short_answered answered) is same_out same_err
+
+    pub drawn_obeyed : (r : Result LoadedPlan (Or CommandFault)) → Answered command_blame errands loads (alone a) (alone b) r → FinishesDrawn r seed horizon o o' e e' ends → Obeys errands texts (objects (world a w) o e) (objects (world b w) o' e') ends
+    drawn_obeyed r answered finish = obeyed r (beside a b w r answered) finish
+
+-- what was written
+
+few_limited : (n : ℕ) → n ≤ 5000000 → nat_lt 5000000 n ≡ false
+few_limited n few = grind arith
+
+many_limited : (n : ℕ) → 5000000 < n → nat_lt 5000000 n ≡ true
+many_limited n many = grind arith
+
+module _ (k : LoadedPlan) (seed horizon : ℕ) (o o' e : SinkState) where
+  abbrev events : List Event
+  events = drawn k.shape k.timing (length k.inputs.rows) seed horizon
+
+  -- the outcome by whether the list has too many events
+  abbrev outcome_by : Bool → Result (List ℕ) Refusal
+  outcome_by b = shown_drawing (if b then Err too_many else Ok (record { shape = k.shape; events = events }))
+
+  abbrev Reports : Bool → SinkState → Status → Type 0
+  Reports b e' ends = IsReported (outcome_by b) o o' e e' ends
+
+  pub recorded : (count : ℕ) → IsRecorded k.shape events o o' count → KeepsSink o o' → IsReported (drawn_outcome k seed horizon) o o' e e status.Ok
+  recorded count is keeps =
+      let whole : Reports false e status.Ok = record {
+        out_keeps = keeps;
+        err_keeps = keeps_sink e;
+        reported = λ f f' w w'. both_whole refl (record { counted = is.written.counted; taken = is.written.taken }) (took_nothing e);
+      } in
+      subst (λ (b : Bool). Reports b e status.Ok) (sym (few_limited (length events) is.few)) whole
+
+  pub broken : IsBroken k.shape events o o' → KeepsSink o o' → IsReported (drawn_outcome k seed horizon) o o' e e status.Write
+  broken is keeps =
+      let broke : Reports false e status.Write = record {
+        out_keeps = keeps;
+        err_keeps = keeps_sink e;
+        reported = λ f f' w w'. out_broke refl (record { counted = is.written.counted; taken = is.written.taken }) (took_nothing e);
+      } in
+      subst (λ (b : Bool). Reports b e status.Write) (sym (few_limited (length events) is.few)) broke
+
+  short_by : (b : Bool) → TakesFront (if b then [] else file_text k.shape events) o o' → KeepsSink o o' → Reports b e status.Memory
+  short_by true front keeps = record {
+    out_keeps = keeps;
+    err_keeps = keeps_sink e;
+    reported = λ f f' w w'. both_short refl (record { counted = front.counted; taken = front.taken }) (front_of_none _ e);
+  }
+  short_by false front keeps = record {
+    out_keeps = keeps;
+    err_keeps = keeps_sink e;
+    reported = λ f f' w w'. both_short refl (record { counted = front.counted; taken = front.taken }) (front_of_none [] e);
+  }
+
+  pub short : TakesFront (text_of k.shape events) o o' → KeepsSink o o' → IsReported (drawn_outcome k seed horizon) o o' e e status.Memory
+  short front keeps = short_by (nat_lt 5000000 (length events)) front keeps
+
+  pub refused : (e' : SinkState) (refusal : Refusal) (ends : Status) → refusal ≡ Command too_many → IsTooMany events o o' → Written (refusal_status refusal) (line_of refusal ++ 10 ∷ []) e e' ends
+      → IsReported (drawn_outcome k seed horizon) o o' e e' ends
+  refused e' refusal ends same is written =
+      let line : Written status.Limit (line_of (Command too_many) ++ 10 ∷ []) e e' ends = subst (λ (r : Refusal). Written (refusal_status r) (line_of r ++ 10 ∷ []) e e' ends) same written in
+      let untaken : IsReported (outcome_by true) o o e e' ends = record {
+        out_keeps = keeps_sink o;
+        err_keeps = line.keeps;
+        reported = λ f f' w w'. line_reported (world f w) (world f' w') (Command too_many) o e e' ends line.reaches;
+      } in
+      subst (λ (b : Bool). Reports b e' ends) (sym (many_limited (length events) is.many)) (subst (λ (s : SinkState). IsReported (outcome_by true) o s e e' ends) (sym is.unchanged) untaken)
+
+-- a loaded program's nodes can be drawn for
+pub loaded_sound : (k : LoadedPlan) → IsLoaded k → AreSound → IsSound k.layout k.shape k.timing (length k.inputs.rows)
+loaded_sound k kept sound = sound k.checked.flat k.layout k.shape k.timing (length k.inputs.rows) kept.placed (k.pace, kept.paced) kept.timed kept.accepted
+
+-- what was recorded of a loaded plan, seen as its type shows it
+
+module _ (k j : LoadedPlan) (view : k ≡ j) (rows : ℕ) (counted : rows ≡ length k.inputs.rows) (seed horizon : ℕ) (o o' e : SinkState) where
+  abbrev list : ℕ → List Event
+  list n = drawn k.shape k.timing n seed horizon
+
+  pub recorded_of : (count : ℕ) → IsRecorded k.shape (list rows) o o' count → KeepsSink o o' → IsReported (drawn_outcome j seed horizon) o o' e e status.Ok
+  recorded_of count is keeps =
+      subst (λ (p : LoadedPlan). IsReported (drawn_outcome p seed horizon) o o' e e status.Ok) view
+      (recorded k seed horizon o o' e count (subst (λ (n : ℕ). IsRecorded k.shape (list n) o o' count) counted is) keeps)
+
+  pub broken_of : IsBroken k.shape (list rows) o o' → KeepsSink o o' → IsReported (drawn_outcome j seed horizon) o o' e e status.Write
+  broken_of is keeps =
+      subst (λ (p : LoadedPlan). IsReported (drawn_outcome p seed horizon) o o' e e status.Write) view
+      (broken k seed horizon o o' e (subst (λ (n : ℕ). IsBroken k.shape (list n) o o') counted is) keeps)
+
+  pub short_of : TakesFront (text_of k.shape (list rows)) o o' → KeepsSink o o' → IsReported (drawn_outcome j seed horizon) o o' e e status.Memory
+  short_of front keeps =
+      subst (λ (p : LoadedPlan). IsReported (drawn_outcome p seed horizon) o o' e e status.Memory) view
+      (short k seed horizon o o' e (subst (λ (n : ℕ). TakesFront (text_of k.shape (list n)) o o') counted front) keeps)
+
+  pub refused_of : (e' : SinkState) (refusal : Refusal) (ends : Status) → refusal ≡ Command too_many → IsTooMany (list rows) o o' → Written (refusal_status refusal) (line_of refusal ++ 10 ∷ []) e e' ends
+      → IsReported (drawn_outcome j seed horizon) o o' e e' ends
+  refused_of e' refusal ends same is written =
+      subst (λ (p : LoadedPlan). IsReported (drawn_outcome p seed horizon) o o' e e' ends) view
+      (refused k seed horizon o o' e e' refusal ends same (subst (λ (n : ℕ). IsTooMany (list n) o o') counted is) written)

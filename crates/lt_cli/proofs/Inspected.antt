@@ -1,0 +1,119 @@
+-- A schedule that is judged alone leaves one refusal, up to its kind.
+use Rattle.std.proofs.Common.{◌≡◌, ◌∙◌, ℕ, List, Option, Some, None, Result, Ok, Err, sym, ap, subst}
+use Rattle.lt_arch.specs.declared.event.Event.{Event}
+use Rattle.lt_arch.specs.declared.shape.Shape.{Shape}
+use Rattle.lt_arch.specs.declared.timing.Timing.{Timing}
+use Rattle.lt_config.specs.declared.config.Config.{Config}
+use Rattle.lt_front.specs.Examined.{ExaminedText}
+use Rattle.lt_front.specs.Flattened.{flat_of}
+use Rattle.lt_judge.specs.declared.fault.ScheduleFault.{ScheduleFault}
+use Rattle.lt_judge.specs.declared.fault.ScheduleFault.TheVariants.{Read}
+use Rattle.lt_judge.specs.Verdict.{verdict}
+use Rattle.lt_verdict.proofs.Decided.{HasOneKind, HasOneOutcome, exactly, and_then, and_then_one}
+use Rattle.lt_load.specs.declared.fault.CommandFault.{CommandFault}
+use Rattle.lt_load.specs.Loaded.{program_verdict, config_verdict, inputs_verdict}
+use Rattle.lt_load.specs.Setups.{placed_verdict}
+use Rattle.lt_load.specs.Plan.{Plan, inputs_plan_verdict}
+use Rattle.lt_load.proofs.OneLoad.{TellsLimits, program_decided}
+use Rattle.lt_load.proofs.OneCheck.{MergesPlaces, config_once, placed_decided}
+use Rattle.lt_load.proofs.OnePlan.{inputs_decided}
+use Rattle.lt_load.proofs.OneShape.{one_shape}
+use Rattle.lt_load.proofs.OnePlain.{plain_config_decided}
+use Rattle.lt_load.specs.Pacing.{plain_config_verdict}
+use Rattle.lt_config.specs.declared.pace.Pace.TheVariants.{Plain}
+use Rattle.lt_inspect.specs.declared.scene.Scene.{Scene}
+use Rattle.lt_inspect.specs.Scenes.{IsSceneOf, named_verdict, named_place_verdict, placed_plan_verdict, setup_scene_verdict, scene_verdict}
+use Rattle.lt_inspect.specs.Inspected.{EndsWith, IsAudited, IsTraced, file_verdict, command_fault, along_scene, along_verdict, audit_verdict, trace_verdict}
+
+-- a schedule file, whatever is told of it
+
+module _ {T : Type 0} (end end' : List Event → T → Type 0) where
+  one_end : (v : Result (List Event) ScheduleFault) (d e : ScheduleFault) → EndsWith end v (Err d) → EndsWith end' v (Err e) → d ≡ e
+  one_end (Ok events) d e p q = absurd p
+  one_end (Err f) d e p q = let here : d ≡ f = cc p in let there : e ≡ f = cc q in here ∙ sym there
+
+  no_end : (v : Result (List Event) ScheduleFault) (d : ScheduleFault) (x : T) → EndsWith end v (Err d) → EndsWith end' v (Ok x) → ⊥
+  no_end (Ok events) d x p q = p
+  no_end (Err f) d x p q = cc
+
+  module _ (s : Shape) (t : Timing) (rows : ℕ) where
+    one_refusal : (file : Option (List ℕ)) (d e : ScheduleFault) → file_verdict end s t rows file (Err d) → file_verdict end' s t rows file (Err e) → d ≡ e
+    unfolding file_verdict
+    one_refusal None d e p q = let here : d ≡ Read = cc p in let there : e ≡ Read = cc q in here ∙ sym there
+    one_refusal (Some bytes) d e p q = one_end (verdict s t rows bytes) d e p q
+
+    no_value : (file : Option (List ℕ)) (d : ScheduleFault) (x : T) → file_verdict end s t rows file (Err d) → file_verdict end' s t rows file (Ok x) → ⊥
+    unfolding file_verdict
+    no_value None d x p q = cc
+    no_value (Some bytes) d x p q = no_end (verdict s t rows bytes) d x p q
+
+-- two scenes of one plan have one shape, one timing and as many rows
+
+record AreAlike (k j : Scene) : Type 0 where
+  shape : j.shape ≡ k.shape
+  timing : j.timing ≡ k.timing
+  rows : j.rows ≡ k.rows
+
+alike : (plan : Plan) (place : Option (List ℕ)) (k j : Scene) → IsSceneOf plan place k → IsSceneOf plan place j → AreAlike k j
+alike plan place k j is it = record {
+  shape = one_shape (flat_of plan.checked.program) plan.setup.placement it.layout is.layout it.laid is.laid Plain plan.setup.timing j.shape k.shape it.shape is.shape;
+  timing = it.timing ∙ sym is.timing;
+  rows = it.rows ∙ sym is.rows;
+}
+
+module _ {T K : Type 0} (kind : CommandFault → K) (end : Scene → List Event → T → Type 0) (node file : Option (List ℕ)) (plan : Plan) where
+  -- what is right of one scene's file is right of the other's
+  told_too : (k j : Scene) → AreAlike k j → (r : Result T ScheduleFault) → file_verdict (end j) j.shape j.timing j.rows file r → file_verdict (end j) k.shape k.timing k.rows file r
+  told_too k j same r h =
+      subst (λ (n : ℕ). file_verdict (end j) k.shape k.timing n file r) same.rows
+      (subst (λ (t : Timing). file_verdict (end j) k.shape t j.rows file r) same.timing (subst (λ (s : Shape). file_verdict (end j) s j.timing j.rows file r) same.shape h))
+
+  one_fault : (k j : Scene) → AreAlike k j → (e f : CommandFault) → along_scene (end k) k file (Err e) → along_scene (end j) j file (Err f) → e ≡ f
+  one_fault k j same e f p q =
+      p.2 ∙ ap (command_fault k.shape) (one_refusal (end k) (end j) k.shape k.timing k.rows file p.0 q.0 p.1 (told_too k j same (Err q.0) q.1)) ∙ ap (λ (s : Shape). command_fault s q.0) (sym same.shape) ∙ sym q.2
+
+  along_decided : HasOneKind kind (along_verdict end node file plan)
+  along_decided = record {
+    one_kind = λ e f p q. ap kind (one_fault p.0 q.0 (alike plan node p.0 q.0 p.1 q.1) e f p.2 q.2);
+    not_both = λ e x p q. no_value (end p.0) (end q.0) p.0.shape p.0.timing p.0.rows file p.2.0 x p.2.1 (told_too p.0 q.0 (alike plan node p.0 q.0 p.1 q.1) (Ok x) q.2);
+  }
+
+module _ {K : Type 0} (kind : CommandFault → K) where
+  named_once : (checked : ExaminedText) (setup : Config) (node : Option (List ℕ)) → HasOneOutcome kind (named_verdict checked setup node)
+  named_once checked setup None = exactly kind (Ok setup)
+  named_once checked setup (Some name) = record {
+    faults = record { one_kind = λ e f p q. ap kind (p.1 ∙ sym q.1); not_both = λ e x p q. (let same = sym p.0 ∙ q.1.1 in cc) };
+    one_value = λ x y p q. p.0 ∙ sym q.0;
+  }
+
+  module _ (along : TellsLimits kind) (places : MergesPlaces kind) (named : List ℕ → Option (List ℕ)) (inputs : List ℕ) (node : Option (List ℕ)) where
+    inputs_once : (checked : ExaminedText) (setup : Config) → HasOneOutcome kind (inputs_plan_verdict named inputs checked setup)
+    unfolding inputs_plan_verdict
+    inputs_once checked setup = and_then_one kind (inputs_verdict checked.program (named inputs)) _ (inputs_decided kind checked.program (named inputs)) (λ table. exactly kind (Ok _))
+
+    place_once : (checked : ExaminedText) (setup : Config) → HasOneOutcome kind (named_place_verdict checked setup node)
+    unfolding named_place_verdict
+    place_once checked setup = and_then_one kind (placed_verdict checked setup) _ (placed_decided kind places checked setup) (λ legal. named_once checked legal node)
+
+    placed_once : (checked : ExaminedText) (setup : Config) → HasOneOutcome kind (placed_plan_verdict named inputs node checked setup)
+    unfolding placed_plan_verdict
+    placed_once checked setup = and_then_one kind (named_place_verdict checked setup node) _ (place_once checked setup) (λ known. inputs_once checked known)
+
+    setup_once : (config : List ℕ) (checked : ExaminedText) → HasOneOutcome kind (setup_scene_verdict named inputs config node checked)
+    unfolding setup_scene_verdict
+    setup_once config checked = and_then_one kind (plain_config_verdict (named config)) _ (plain_config_decided kind (named config)) (λ setup. placed_once checked setup)
+
+    scene_once : (program config : List ℕ) → HasOneOutcome kind (scene_verdict named program inputs config node)
+    unfolding scene_verdict
+    scene_once program config = and_then_one kind (program_verdict (named program)) _ (program_decided kind along (named program)) (λ checked. setup_once config checked)
+
+  pub audit_once : TellsLimits kind → MergesPlaces kind → (named : List ℕ → Option (List ℕ)) (program inputs schedule config : List ℕ) → HasOneKind kind (audit_verdict named program inputs schedule config)
+  unfolding audit_verdict
+  audit_once along places named program inputs schedule config =
+      and_then kind (scene_verdict named program inputs config None) _ (scene_once along places named inputs None program config) (λ plan. along_decided kind IsAudited None (named schedule) plan)
+
+  pub trace_once : TellsLimits kind → MergesPlaces kind → (named : List ℕ → Option (List ℕ)) (program inputs schedule config : List ℕ) (node : Option (List ℕ)) (from to : ℕ)
+      → HasOneKind kind (trace_verdict named program inputs schedule config node from to)
+  unfolding trace_verdict
+  trace_once along places named program inputs schedule config node from to =
+      and_then kind (scene_verdict named program inputs config node) _ (scene_once along places named inputs node program config) (λ plan. along_decided kind (IsTraced from to) node (named schedule) plan)

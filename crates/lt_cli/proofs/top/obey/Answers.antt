@@ -1,0 +1,31 @@
+use Rattle.std.proofs.Common.{refl}
+use Rattle.lt_cli.specs.declared.refusal.Refusal.TheVariants.{Command}
+use Rattle.lt_cli.specs.Commands.{watch_refusal}
+use Rattle.lt_cli.proofs.Drawn.{drawn_obeyed}
+use Rattle.lt_cli.proofs.Obeyed.{text_obeyed, beside_obeyed}
+use Rattle.lt_cli.proofs.top.obey.Goals as goal
+
+pub returns-in-Check : goal.returns-in-Check
+returns-in-Check g c = rw c.in-Check.is (record { obeys = beside_obeyed (λ fault. Command fault) _ _ _ _ _ _ _ _ _ _ _ _ c.check_answer-answer.ensures c.finish.ensures; leaves = refl })
+
+pub returns-in-Meaning : goal.returns-in-Meaning
+returns-in-Meaning g c = rw c.in-Meaning.is (record { obeys = beside_obeyed (λ fault. Command fault) _ _ _ _ _ _ _ _ _ _ _ _ c.meaning_answer-answer.ensures c.finish-in-Meaning.ensures; leaves = refl })
+
+pub returns-in-Run : goal.returns-in-Run
+returns-in-Run g c = rw c.in-Run.is (record { obeys = text_obeyed (λ fault. Command fault) _ _ _ _ _ _ _ _ _ _ _ c.run_answer-answer.ensures c.finish-in-Run.ensures; leaves = tt })
+
+pub returns-in-Plan : goal.returns-in-Plan
+returns-in-Plan g c = rw c.in-Plan.is (record { obeys = beside_obeyed (λ fault. Command fault) _ _ _ _ _ _ _ _ _ _ _ _ c.plan_answer-answer.ensures c.finish-in-Plan.ensures; leaves = refl })
+
+pub returns-in-Sim : goal.returns-in-Sim
+returns-in-Sim g c =
+    rw c.in-Sim.is (record { obeys = drawn_obeyed (g.F.Files.state c.args.files.now).named _ _ _ _ _ _ _ _ _ _ _ _ _ _ c.load_plain-loaded.ensures c.draw.ensures; leaves = refl })
+
+pub returns-in-Watch : goal.returns-in-Watch
+returns-in-Watch g c = rw c.in-Watch.is (record { obeys = text_obeyed watch_refusal _ _ _ _ _ _ _ _ _ _ _ c.watch_answer-answer.ensures c.finish-in-Watch.ensures; leaves = tt })
+
+pub returns-in-Audit : goal.returns-in-Audit
+returns-in-Audit g c = rw c.in-Audit.is (record { obeys = beside_obeyed (λ fault. Command fault) _ _ _ _ _ _ _ _ _ _ _ _ c.audit_answer-answer.ensures c.finish-in-Audit.ensures; leaves = refl })
+
+pub returns-in-Trace : goal.returns-in-Trace
+returns-in-Trace g c = rw c.in-Trace.is (record { obeys = beside_obeyed (λ fault. Command fault) _ _ _ _ _ _ _ _ _ _ _ _ c.trace_answer-answer.ensures c.finish-in-Trace.ensures; leaves = refl })

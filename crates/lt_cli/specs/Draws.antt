@@ -1,0 +1,44 @@
+-- A schedule that is drawn for a program, its inputs and a setup.
+use Rattle.std.specs.Prelude.{◌≡◌, ℕ, nat_lt, List, length, Option, Some, Result, Ok, Err, if◌then◌else◌}
+use Rattle.lt_arch.specs.declared.event.Event.{Event}
+use Rattle.lt_arch.specs.declared.shape.Shape.{Shape}
+use Rattle.lt_arch.specs.declared.timing.Timing.{Timing}
+use Rattle.lt_place.specs.declared.layout.Layout.{Layout}
+use Rattle.lt_rows.specs.declared.fault.RowFault.TheVariants as row
+use Rattle.lt_answer.specs.Answered.{Verdict, AndThen}
+use Rattle.lt_load.specs.declared.fault.CommandFault.{CommandFault}
+use Rattle.lt_load.specs.declared.fault.CommandFault.TheVariants as fault
+use Rattle.lt_load.specs.Plan.{Plan}
+use Rattle.lt_load.specs.Pacing.{plain_load_verdict}
+use Rattle.lt_run.specs.Run.{IsLaidOutBy}
+use Rattle.lt_sim.specs.Drawn.{drawn}
+
+-- events over a shape
+pub record Drawing : Type 0 where
+  pub shape : Shape
+  pub events : List Event
+
+-- the most events of a schedule, the end included
+abbrev pub most_drawn : ℕ
+most_drawn = 5000000
+
+-- the refusal of the first row past the limit
+abbrev pub too_many : CommandFault
+too_many = fault.Row 5000001 row.TooMany
+
+-- these events, unless a schedule of them would have too many
+abbrev pub limited : Shape → List Event → Result Drawing CommandFault
+limited s events = if nat_lt most_drawn (length events) then Err too_many else Ok (record { shape = s; events = events })
+
+-- what the seed draws up to the horizon
+abbrev pub drawing : Shape → Timing → (rows seed horizon : ℕ) → Result Drawing CommandFault
+drawing s t rows seed horizon = limited s (drawn s t rows seed horizon)
+
+-- a plan: the schedule over the channels of its nodes
+unfoldable pub plan_drawn_verdict : (seed horizon : ℕ) → Plan → Verdict Drawing CommandFault
+plan_drawn_verdict seed horizon plan outcome =
+    (l : Layout) × (s : Shape) × IsLaidOutBy plan l s × (drawing s plan.setup.timing (length plan.inputs.rows) seed horizon ≡ outcome)
+
+-- the program, the setup, in which no node leads, the placement, the timing and the inputs, in this order, and then the schedule
+unfoldable pub sim_verdict : (named : List ℕ → Option (List ℕ)) (program inputs config : List ℕ) (seed horizon : ℕ) → Verdict Drawing CommandFault
+sim_verdict named program inputs config seed horizon = AndThen (plain_load_verdict named program inputs config) (λ plan. plan_drawn_verdict seed horizon plan)

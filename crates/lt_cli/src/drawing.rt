@@ -1,0 +1,76 @@
+// A drawn schedule, written to `out` as it is drawn.
+ghost use Rattle.std.specs.Prelude.{◌≡◌, ◌<◌, ◌≤◌, ◌-◌, ◌^◌};
+ghost use Rattle.lt_arch.specs.declared.limits.TheConstants.{GREATEST_TIME};
+ghost use Rattle.lt_cli.specs.Asked.{FinishesDrawn, IsReported, drawn_outcome};
+
+use crate::top::refuse;
+use crate::{Refusal, Status};
+use lt_base::Or;
+use lt_io::Sink;
+use lt_load::{CommandFault, Loaded};
+use lt_replay::laws::networks_are_sound;
+use lt_rows::RowFault;
+use lt_sim::{SimFault, record};
+use std::alloc::Global;
+
+/// Writes the schedule of what was loaded to `out`, or the line of a refusal to `err`. The schedule is not held in memory.
+pub(crate) fn draw<O: Sink, E: Sink>(
+    alloc: Global,
+    out: &mut O,
+    err: &mut E,
+    loaded: Result<Loaded, Or<CommandFault>>,
+    seed: u64,
+    horizon: u64,
+) -> Status
+    requires horizon { horizon ≤ GREATEST_TIME }
+    requires out { (O.state out.old).faults < 2 ^ 64 - 1 }
+    requires err { (E.state err.old).faults < 2 ^ 64 - 1 }
+    ensures { FinishesDrawn loaded seed horizon (O.state out.old) (O.state out.new) (E.state err.old) (E.state err.new) result }
+{
+    match loaded {
+        Ok(loaded) => draw_loaded(alloc, out, err, &loaded, seed, horizon),
+        Err(Or::Fault(fault)) => refuse(alloc, err, &Refusal::Command(fault)),
+        Err(Or::Memory) => Status::Memory,
+    }
+}
+
+fn draw_loaded<O: Sink, E: Sink>(
+    alloc: Global,
+    out: &mut O,
+    err: &mut E,
+    loaded: &Loaded,
+    seed: u64,
+    horizon: u64,
+) -> Status
+    requires horizon { horizon ≤ GREATEST_TIME }
+    requires out { (O.state out.old).faults < 2 ^ 64 - 1 }
+    requires err { (E.state err.old).faults < 2 ^ 64 - 1 }
+    ensures { IsReported (drawn_outcome loaded.now seed horizon) (O.state out.old) (O.state out.new) (E.state err.old) (E.state err.new) result }
+{
+    loaded.kept();
+    networks_are_sound();
+    match record(
+        alloc,
+        &loaded.shape,
+        &loaded.timing,
+        loaded.inputs.rows(),
+        seed,
+        horizon,
+        out,
+    ) {
+        Ok(_) => Status::Ok,
+        Err(Or::Fault(SimFault::Write)) => Status::Write,
+        Err(Or::Fault(SimFault::TooMany)) => refuse(alloc, err, &too_many()),
+        Err(Or::Memory) => Status::Memory,
+    }
+}
+
+// The refusal of a schedule that has more events than a run takes, as at the first row past the limit.
+fn too_many() -> Refusal
+    ensures { result ≡ Refusal.Command (CommandFault.Row 5000001 RowFault.TooMany) }
+{
+    Refusal::Command(CommandFault::Row {
+        row: 5_000_001,
+        fault: RowFault::TooMany,
+    })
+}

@@ -1,0 +1,67 @@
+// The texts of what is told of a run and of a schedule.
+ghost use Rattle.std.specs.Prelude.{◌≡◌, ◌++◌, ◌∷◌, [], IfOk, OnOk};
+ghost use Rattle.std.specs.Fmt.{decimal};
+ghost use Rattle.lt_cli.specs.Texts.{audited_text, executes_text, miss_text, watched_text};
+
+use crate::numbers::{append_number, append_size};
+use crate::schedule_line::{append_channel, append_name};
+use lt_arch::Shape;
+use lt_audit::Miss;
+use lt_base::{List, Memory};
+use lt_inspect::Audited;
+use lt_watch::Watched;
+use std::alloc::Global;
+
+/// What an observer makes of a run.
+pub(crate) fn watched_text(alloc: Global, watched: Watched) -> Result<List<u8>, Memory>
+    ensures { IfOk result (λ text. text ≡ watched_text watched) }
+{
+    match watched {
+        Watched::Holds(instants) => numbered(alloc, b"holds ", instants),
+        Watched::Fails(instant) => numbered(alloc, b"fails at ", instant),
+    }
+}
+
+// Some text, a number and a line feed.
+fn numbered(alloc: Global, text: &[u8], number: usize) -> Result<List<u8>, Memory>
+    ensures { IfOk result (λ line. line ≡ text.now ++ decimal number ++ 10 ∷ []) }
+{
+    let mut line = List::from_slice(alloc, text)?;
+    append_size(&mut line, number)?;
+    line.extend(b"\n")?;
+    Ok(line)
+}
+
+/// The first event of a schedule at which a node executes with a message too few or too many, or that there is none.
+pub(crate) fn audited_text(alloc: Global, audited: &Audited) -> Result<List<u8>, Memory>
+    ensures { IfOk result (λ text. text ≡ audited_text audited.now) }
+{
+    match audited.miss {
+        Some(miss) => miss_text(alloc, &audited.shape, miss),
+        None => numbered(alloc, b"clean ", audited.events as usize),
+    }
+}
+
+fn miss_text(alloc: Global, shape: &Shape, miss: Miss) -> Result<List<u8>, Memory>
+    ensures { IfOk result (λ text. text ≡ miss_text shape.now miss) }
+{
+    let mut text = List::from_slice(alloc, b"event ")?;
+    append_number(&mut text, miss.event)?;
+    text.extend(b": ")?;
+    append_name(&mut text, shape, miss.node)?;
+    append_miss(&mut text, shape, miss)?;
+    Ok(text)
+}
+
+// Appends what is executed, and with how many messages of which channel.
+fn append_miss(text: &mut List<u8>, shape: &Shape, miss: Miss) -> Result<(), Memory>
+    ensures { OnOk result (text.new ≡ text.old ++ executes_text shape.now miss) }
+{
+    text.extend(b" executes ")?;
+    append_number(text, miss.instant)?;
+    text.extend(b" with ")?;
+    append_number(text, miss.delivered)?;
+    text.extend(b" of")?;
+    append_channel(text, shape, miss.channel)?;
+    text.extend(b"\n")
+}

@@ -1,0 +1,39 @@
+-- Events that are taken one after another: by an auditor, and by a tap that picks some.
+use Rattle.std.specs.Prelude.{◌≡◌, ℕ, List, [], ◌∷◌, ◌++◌, if◌then◌else◌}
+use Rattle.lt_arch.specs.declared.event.Event.{Event}
+use Rattle.lt_arch.specs.declared.event.Offence as arch
+use Rattle.lt_arch.specs.declared.shape.Shape.{Shape}
+use Rattle.lt_rows.specs.Texts.{event_text}
+use Rattle.lt_judge.specs.declared.halt.Halt.{Halt}
+use Rattle.lt_judge.specs.declared.halt.Halt.TheVariants as halt
+use Rattle.lt_judge.specs.Verdict.{fault_of}
+use Rattle.lt_base.specs.declared.memory.Or.{Or}
+use Rattle.lt_base.specs.declared.memory.Or.TheVariants.{Fault, Memory}
+use Rattle.lt_load.specs.declared.fault.CommandFault.{CommandFault}
+use Rattle.lt_load.specs.declared.fault.CommandFault.TheVariants as fault
+use Rattle.lt_audit.specs.declared.selection.Selection.{Selection}
+use Rattle.lt_audit.specs.Audit.{AuditState}
+use Rattle.lt_audit.specs.Selected.{selected}
+use Rattle.lt_audit.specs.Standing.{Stands}
+use Rattle.lt_inspect.specs.Traces.{trace_text}
+use Rattle.lt_inspect.specs.Inspected.{command_fault}
+
+-- what an event adds to the text
+abbrev pub added : Selection → Shape → Event → List ℕ
+added sel s e = if selected sel s e then event_text s e ++ 10 ∷ [] else []
+
+-- the auditor stands for these events, by its own shape, timing and rows, and the text is that of those that are selected
+pub record IsInspected (a : AuditState) (sel : Selection) (s : Shape) (text : List ℕ) (events : List Event) : Type 0 where
+  pub stands : Stands a a.shape a.watch.timing a.rows events
+  pub text_is : text ≡ trace_text sel s events
+  pub tapped : s ≡ a.shape
+
+-- why rows are not all taken, as a command's fault; memory may be wanting for the names that it needs
+abbrev pub AsFault : Shape → Halt arch.Offence → Or CommandFault → Type 0
+AsFault s (halt.Refused refusal) (Fault e) = e ≡ command_fault s (fault_of refusal)
+AsFault s (halt.Refused refusal) Memory = Unit {0}
+AsFault s halt.Read (Fault e) = e ≡ fault.Read
+AsFault s halt.Read Memory = ⊥
+AsFault s halt.Link e = Unit {0}
+AsFault s halt.Memory (Fault e) = ⊥
+AsFault s halt.Memory Memory = Unit {0}

@@ -1,0 +1,5 @@
+pub mod Shapes
+pub mod Bounds
+pub mod Laws
+pub mod Channels
+pub mod Paced

@@ -1,0 +1,33 @@
+// The shape of a network by who paces its rounds.
+ghost use Rattle.std.specs.Prelude.{◌≡◌, ◌<◌, ◌^◌, length, IfOk};
+ghost use Rattle.lt_norm.specs.Flat.{Originated};
+ghost use Rattle.lt_place.specs.Layout.{IsPlaced};
+ghost use Rattle.lt_config.specs.Paced.{FitsPace};
+ghost use Rattle.lt_lead.specs.Paced.{IsShapeBy};
+
+use crate::lead_shape;
+use lt_arch::{Shape, Timing};
+use lt_base::Memory;
+use lt_config::Pace;
+use lt_net::shape_of;
+use lt_place::Layout;
+use std::alloc::Global;
+
+/// The nodes of a placed layout and the channels between them, by who paces the rounds.
+pub fn shape_by(
+    alloc: Global,
+    layout: &Layout,
+    timing: &Timing,
+    pace: Pace,
+) -> Result<Shape, Memory>
+    requires placed { (f : Originated) × IsPlaced f layout.now }
+    requires numbered { length layout.now.names < 2 ^ 32 }
+    requires timed { length timing.now.nodes ≡ length layout.now.names }
+    requires paced { FitsPace pace timing.now }
+    ensures { IfOk result (IsShapeBy layout.now pace timing.now) }
+{
+    match pace {
+        Pace::Plain => shape_of(alloc, layout, timing),
+        Pace::Leader(leader) => lead_shape(alloc, layout, leader),
+    }
+}

@@ -1,0 +1,80 @@
+// What a command reads where no node may lead.
+ghost use Rattle.std.specs.Prelude.{◌≡◌, ◌++◌, ◌<◌, ◌-◌, ◌^◌, Some};
+ghost use Rattle.lt_answer.specs.World.{alone};
+ghost use Rattle.lt_answer.specs.Answered.{Answered, Settles};
+ghost use Rattle.lt_front.specs.Checked.{examined_part};
+ghost use Rattle.lt_load.specs.Blamed.{command_blame};
+ghost use Rattle.lt_load.specs.Errands.{config_errand, inputs_errand, load_errands};
+ghost use Rattle.lt_load.specs.Pacing.{plain_config_verdict, plain_load_verdict, plain_setup_plan_verdict, unpaced_verdict};
+ghost use Rattle.lt_load.specs.Plan.{Loads};
+
+use crate::loading::load_flat;
+use crate::planning::load_fitting;
+use crate::{CommandFault, Loaded, load_config};
+use lt_base::{Name, Or};
+use lt_config::{Config, ConfigFault, ConfigKind, Pace};
+use lt_front::Checked;
+use lt_io::Files;
+use std::alloc::Global;
+
+/// Loads what `load` does, with a setup in which no node leads. The files are read in the same order.
+pub fn load_plain<F: Files>(
+    alloc: Global,
+    files: &mut F,
+    program: &str,
+    inputs: &str,
+    config: &str,
+) -> Result<Loaded, Or<CommandFault>>
+    requires { (F.state files.old).faults < 2 ^ 64 - 1 }
+    ensures { Answered command_blame (load_errands program.now inputs.now (Some config.now)) (Loads (plain_load_verdict (F.state files.old).named program.now inputs.now config.now))
+        (alone (F.state files.old)) (alone (F.state files.new)) result }
+{
+    let checked = load_flat(alloc, files, program)?;
+    load_plain_setup(alloc, files, checked, inputs, config)
+}
+
+// Loads a program's setup, and then its inputs.
+fn load_plain_setup<F: Files>(
+    alloc: Global,
+    files: &mut F,
+    checked: Checked,
+    inputs: &str,
+    config: &str,
+) -> Result<Loaded, Or<CommandFault>>
+    requires { (F.state files.old).faults < 2 ^ 64 - 1 }
+    ensures { Answered command_blame (config_errand config.now ++ inputs_errand inputs.now) (Loads (plain_setup_plan_verdict (F.state files.old).named inputs.now config.now (examined_part checked)))
+        (alone (F.state files.old)) (alone (F.state files.new)) result }
+{
+    let setup = load_plain_config(alloc, files, config)?;
+    load_fitting(alloc, files, checked, setup, inputs)
+}
+
+/// The setup of a file in which no node leads. One in which a node leads is refused as one whose protocol is outside the range.
+pub fn load_plain_config<F: Files>(
+    alloc: Global,
+    files: &mut F,
+    name: &str,
+) -> Result<Config, Or<CommandFault>>
+    requires { (F.state files.old).faults < 2 ^ 64 - 1 }
+    ensures { Answered command_blame (config_errand name.now) (plain_config_verdict ((F.state files.old).named name.now)) (alone (F.state files.old)) (alone (F.state files.new)) result }
+{
+    let setup = load_config(alloc, files, name)?;
+    unpaced(alloc, setup)
+}
+
+// The setup, if no node leads in it.
+#[tactic(auto, unfolding(crate::specs::Pacing::unpaced_verdict))]
+fn unpaced(alloc: Global, setup: Config) -> Result<Config, Or<CommandFault>>
+    ensures { Settles (unpaced_verdict setup) result }
+{
+    match setup.pace {
+        Pace::Plain => Ok(setup),
+        Pace::Leader(_) => {
+            let key = Name::from_str(alloc, "protocol")?;
+            Err(Or::Fault(CommandFault::Config(ConfigFault {
+                kind: ConfigKind::OutOfRange,
+                key,
+            })))
+        }
+    }
+}

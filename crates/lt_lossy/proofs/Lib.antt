@@ -1,0 +1,13 @@
+pub mod Changes
+pub mod Numbers
+pub mod Balance
+pub mod Spacing
+pub mod Schedules
+pub mod Resending
+pub mod Pace
+pub mod Oldest
+pub mod Losses
+pub mod Noted
+pub mod Rows
+pub mod Examples
+pub mod Ends

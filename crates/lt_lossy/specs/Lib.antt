@@ -1,0 +1,9 @@
+pub mod State
+pub mod Step
+pub mod Schedule
+pub mod Window
+pub mod Laws
+pub mod Times
+pub mod Queued
+pub mod Watched
+pub mod Events

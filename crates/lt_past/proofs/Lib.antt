@@ -1,0 +1,17 @@
+pub mod Shapes
+pub mod Rows
+pub mod Turns
+pub mod Past
+pub mod Agreeing
+pub mod Stepping
+pub mod Fitting
+pub mod Zipper
+pub mod Sound
+pub mod Runs
+pub mod Viable
+pub mod Whole
+pub mod Loop
+pub mod Naming
+pub mod Places
+pub mod Outs
+pub mod Observed

@@ -1,0 +1,56 @@
+-- How the bytes of an observer are cut into tokens, the longest first. Blanks and comments are those of programs.
+use Rattle.std.specs.Prelude.{ℕ, ◌≡◌, true, false, ◌&&◌, List, [], ◌∷◌, length, drop, take_while, bytes_eq, codes, ◌==◌, Option, Some, None, if◌then◌else◌}
+use Rattle.lt_tokens.specs.Text.{is_letter, is_word, skip, starts_with}
+use Rattle.lt_past.specs.declared.words.Sign.{Sign}
+use Rattle.lt_past.specs.declared.words.Sign.TheVariants.{Truth, Before, Between, Open, Close}
+use Rattle.lt_past.specs.declared.words.Prefix.TheVariants.{Not, Previous, Once, Historically}
+use Rattle.lt_past.specs.declared.words.Infix.TheVariants.{And, Or, Since, Implies}
+
+-- a name, or a keyword or symbol
+pub data Token : Type 0 where
+  name : List ℕ → Token
+  sign : Sign → Token
+
+-- the keywords
+abbrev pub keyword : List ℕ → Option Sign
+keyword s =
+    if bytes_eq s (codes "true") then Some (Truth true) else
+    (if bytes_eq s (codes "false") then Some (Truth false) else
+    (if bytes_eq s (codes "not") then Some (Before Not) else
+    (if bytes_eq s (codes "previous") then Some (Before Previous) else
+    (if bytes_eq s (codes "once") then Some (Before Once) else
+    (if bytes_eq s (codes "historically") then Some (Before Historically) else
+    (if bytes_eq s (codes "and") then Some (Between And) else
+    (if bytes_eq s (codes "or") then Some (Between Or) else
+    (if bytes_eq s (codes "since") then Some (Between Since) else None))))))))
+
+abbrev pub keyword_or : Option Sign → List ℕ → Token
+keyword_or (Some s) w = sign s
+keyword_or None w = name w
+
+-- what stands at the front of a text that does not begin with a blank or a comment:
+-- its end, a token with the text behind it, or none
+pub data Front : Type 0 where
+  Over : Front
+  Begins : Token → List ℕ → Front
+  BadByte : Front
+
+-- the symbols ( ) =>
+abbrev pub symbol : ℕ → List ℕ → Front
+symbol b bs =
+    if b == 40 then Begins (sign Open) bs else
+    (if b == 41 then Begins (sign Close) bs else
+    (if b == 61 && starts_with 62 bs then Begins (sign (Between Implies)) (drop 1 bs) else BadByte))
+
+-- the longest front of letters, digits and _
+abbrev pub word : List ℕ → Front
+word bytes = let w = take_while is_word bytes in Begins (keyword_or (keyword w) w) (drop (length w) bytes)
+
+abbrev pub front : List ℕ → Front
+front [] = Over
+front (b ∷ bs) = if is_letter b then word (b ∷ bs) else symbol b bs
+
+-- these tokens are cut off the bytes one after the other, and this is the rest
+abbrev pub Cuts : List ℕ → List Token → List ℕ → Type 0
+Cuts bytes [] rest = rest ≡ bytes
+Cuts bytes (t ∷ ts) rest = (after : List ℕ) × (front (skip bytes) ≡ Begins t after) × Cuts after ts rest

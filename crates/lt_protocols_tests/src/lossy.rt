@@ -1,0 +1,61 @@
+// A watch over two nodes whose links lose at most one message in a row.
+ghost use Rattle.std.specs.Prelude.{◌≡◌, ◌<◌, length, IfOk};
+ghost use Rattle.lt_arch.specs.Shapes.{HaveSameNodes};
+
+use crate::architecture::linked;
+use lt_arch::{Event, Offence};
+use lt_base::{Memory, Steps};
+use lt_lossy::{LossyEvent, LossyOffence, LossyWatch, read_lossy, window};
+use std::alloc::Global;
+use std::marker::Brand;
+use std::sync::ledger::{Blank, Ledger};
+use std::test::Fail;
+
+// What the watch says of losses from a to b: before anything happened; of the message that a sent at 10; of the one that it sent at
+// 19, once the first is lost; and of its delivery.
+fn judged<L: Ledger>(alloc: Global, blank: Blank) -> Result<[Option<LossyOffence>; 4], Memory>
+    requires name { blank.name ≡ L.name }
+    requires parts { blank.parts ≡ L.parts }
+    requires some { 0 < blank.parts }
+{
+    let mut steps = Steps::<L>::new(blank);
+    let (shape, timing) = linked(alloc)?;
+    let mut watch = LossyWatch::start(alloc, &shape, &timing, 1)?;
+    let nothing_sent = watch.judge(&LossyEvent::Lose(0, 0), &mut steps);
+    watch.acted(0, 10, &mut steps);
+    watch.acted(1, 10, &mut steps);
+    watch.sent(0, 10, &mut steps);
+    let in_time = watch.judge(&LossyEvent::Lose(0, 10), &mut steps);
+    watch.lost(0, 10, &mut steps);
+    watch.acted(0, 19, &mut steps);
+    watch.sent(0, 19, &mut steps);
+    let too_many = watch.judge(&LossyEvent::Lose(0, 20), &mut steps);
+    let delivery = watch.judge(&LossyEvent::Plain(Event::Del(0, 20)), &mut steps);
+    watch.delivered(0, 20, &mut steps);
+    watch.ended(20, &mut steps);
+    Ok([nothing_sent, in_time, too_many, delivery])
+}
+
+#[test]
+fn a_watch_over_losses(rt: HostRuntime) -> Result<(), Fail> {
+    let found = judged::<Brand>(rt.alloc(), Blank::new(1))?;
+    let wanted = [
+        Some(LossyOffence::Common(Offence::NothingSent(0))),
+        None,
+        Some(LossyOffence::TooManyLost(0)),
+        None,
+    ];
+    assert_eq!(rt; found, wanted);
+    Ok(())
+}
+
+#[test]
+fn a_window_and_a_row(rt: HostRuntime) -> Result<(), Fail> {
+    let (shape, timing) = linked(rt.alloc())?;
+    assert_eq!(rt; window(&timing), Ok(()));
+    assert_eq!(rt;
+        read_lossy(b"3,losedata,b>a", &shape),
+        Ok(LossyEvent::Lose(1, 3))
+    );
+    Ok(())
+}

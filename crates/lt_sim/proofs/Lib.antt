@@ -1,0 +1,16 @@
+pub mod Counting
+pub mod Dues
+pub mod Measure
+pub mod Keeping
+pub mod Ending
+pub mod Controls
+pub mod Tallying
+pub mod Arriving
+pub mod Delays
+pub mod Activating
+pub mod Nexts
+pub mod Waking
+pub mod Following
+pub mod Pages
+pub mod FileRows
+pub mod Walking

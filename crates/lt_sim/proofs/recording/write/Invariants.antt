@@ -1,0 +1,15 @@
+use Rattle.std.proofs.Common.{ℕ, ◌≡◌}
+use Rattle.lt_io.specs.SinkState.{KeepsSink}
+use Rattle.lt_sim.specs.Standing.{Starts}
+use Rattle.lt_sim.proofs.Pages.{HasPassed}
+use Rattle.lt_sim.proofs.recording.write.Given as goal
+
+abbrev pub invariant-loop-number : goal.invariant-loop-number
+invariant-loop-number g l =
+    let old = g.O.Sink.state l.fn.sink in
+    let now = g.O.Sink.state l.sink in
+    record {
+      counted : now.faults ≡ old.faults;
+      keeps : KeepsSink old now;
+      passed : (seed : ℕ) → Starts l.fn.drawing l.shape l.timing seed → HasPassed l.drawing l.shape l.timing l.rows seed l.horizon l._number l.page old now;
+    }

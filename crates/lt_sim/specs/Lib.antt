@@ -1,0 +1,11 @@
+pub mod Words
+pub mod Drawn
+pub mod File
+pub mod Recorded
+pub mod Tallies
+pub mod Progress
+pub mod Controlled
+pub mod Spans
+pub mod Standing
+pub mod Numbers
+pub mod Laws

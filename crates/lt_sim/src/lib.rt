@@ -1,0 +1,18 @@
+//! Schedules that a seed draws: activations and deliveries at random within the bounds of a setup, written as a schedule
+//! file.
+#![tactic(auto)]
+
+mod controllers;
+mod drawing;
+mod fault;
+pub mod laws;
+mod page;
+mod pending;
+mod progress;
+mod recording;
+mod sending;
+mod tally;
+mod words;
+
+pub use fault::SimFault;
+pub use recording::record;

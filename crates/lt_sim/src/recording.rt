@@ -1,0 +1,177 @@
+// A drawn list of events, written as a schedule file.
+ghost use Rattle.std.specs.Prelude.{ℕ, ◌≡◌, ◌<◌, ◌≤◌, ◌+◌, ◌*◌, ◌-◌, ◌^◌, ◌++◌, ◌∷◌, [], IsTrue, IfOk, length};
+ghost use Rattle.lt_arch.specs.declared.limits.TheConstants.{GREATEST_TIME};
+ghost use Rattle.lt_arch.specs.Readers.{node_count, chan_count};
+ghost use Rattle.lt_arch.specs.Schedule.{OnePlace};
+ghost use Rattle.lt_arch.specs.Shapes.{HaveSameNodes};
+ghost use Rattle.lt_io.specs.SinkState.{KeepsSink};
+ghost use Rattle.lt_sim.specs.Drawn.{drawn};
+ghost use Rattle.lt_rows.specs.Texts.{event_text};
+ghost use Rattle.lt_arch.specs.declared.event.Event.TheVariants.{End};
+ghost use Rattle.lt_sim.specs.File.{header_text, file_text};
+ghost use Rattle.lt_sim.specs.Standing.{Starts, IsShort};
+ghost use Rattle.lt_sim.specs.Recorded.{Records, WritesText, IsCountOf};
+
+use crate::SimFault;
+use crate::drawing::{Drawing, event_at};
+use crate::page::{first_page, put_row, write_out};
+use lt_arch::{Event, Shape, Timing};
+use lt_base::{List, Memory, Or};
+use lt_io::Sink;
+use lt_rows::MOST_EVENTS;
+use std::alloc::Global;
+
+/// Draws the list of events of a seed up to a horizon in ticks, for so many rows of inputs, writes it as a schedule
+/// file, and answers its number of events, the end included.
+///
+/// The list is drawn twice, once to count it and once to write it, so that nothing is written of one that has too many
+/// events. No more memory is taken than for the shape, whatever the horizon is.
+pub fn record<O: Sink>(
+    alloc: Global,
+    shape: &Shape,
+    timing: &Timing,
+    rows: u32,
+    seed: u64,
+    horizon: u64,
+    sink: &mut O,
+) -> Result<u64, Or<SimFault>>
+    requires same { HaveSameNodes shape.now timing.now }
+    requires one_place { OnePlace shape.now timing.now rows }
+    requires numbered { 2 * (node_count shape.now + chan_count shape.now) < 2 ^ 32 }
+    requires horizon { horizon ≤ GREATEST_TIME }
+    requires count { (O.state sink.old).faults < 2 ^ 64 - 1 }
+    ensures records { Records shape.now (drawn shape.now timing.now rows seed horizon) (O.state sink.old) (O.state sink.new) result }
+    ensures keeps { KeepsSink (O.state sink.old) (O.state sink.new) }
+    ensures sound { IsTrue (O.state sink.old).sound → (O.state sink.new).faults ≡ (O.state sink.old).faults }
+{
+    match counted(alloc, shape, timing, rows, seed, horizon)? {
+        Some(count) => {
+            written(alloc, shape, timing, rows, seed, horizon, sink)?;
+            Ok(count as u64)
+        }
+        None => Err(Or::Fault(SimFault::TooMany)),
+    }
+}
+
+// The number of events of the list, where it is within the limit.
+fn counted(
+    alloc: Global,
+    shape: &Shape,
+    timing: &Timing,
+    rows: u32,
+    seed: u64,
+    horizon: u64,
+) -> Result<Option<u32>, Memory>
+    requires same { HaveSameNodes shape.now timing.now }
+    requires one_place { OnePlace shape.now timing.now rows }
+    requires numbered { 2 * (node_count shape.now + chan_count shape.now) < 2 ^ 32 }
+    requires horizon { horizon ≤ GREATEST_TIME }
+    ensures { IfOk result (IsCountOf (drawn shape.now timing.now rows seed horizon)) }
+{
+    let mut drawing = Drawing::start(alloc, shape, timing, seed)?;
+    Ok(count(&mut drawing, shape, timing, rows, horizon))
+}
+
+fn count(
+    drawing: &mut Drawing,
+    shape: &Shape,
+    timing: &Timing,
+    rows: u32,
+    horizon: u64,
+) -> Option<u32>
+    requires one_place { OnePlace shape.now timing.now rows }
+    requires horizon { horizon ≤ GREATEST_TIME }
+    requires starts { (seed : ℕ) × Starts drawing.old shape.now timing.now seed }
+    ensures { (seed : ℕ) → Starts drawing.old shape.now timing.now seed → IsCountOf (drawn shape.now timing.now rows seed horizon) result }
+{
+    for number in 0..MOST_EVENTS {
+        match drawing.next(horizon) {
+            Some((at, place)) => drawing.take(shape, timing, rows, at, place),
+            None => return Some(number + 1),
+        }
+    }
+    None
+}
+
+// Writes the list, which is within the limit.
+fn written<O: Sink>(
+    alloc: Global,
+    shape: &Shape,
+    timing: &Timing,
+    rows: u32,
+    seed: u64,
+    horizon: u64,
+    sink: &mut O,
+) -> Result<(), Or<SimFault>>
+    requires same { HaveSameNodes shape.now timing.now }
+    requires one_place { OnePlace shape.now timing.now rows }
+    requires numbered { 2 * (node_count shape.now + chan_count shape.now) < 2 ^ 32 }
+    requires horizon { horizon ≤ GREATEST_TIME }
+    requires few { length (drawn shape.now timing.now rows seed horizon) ≤ 5000000 }
+    requires count { (O.state sink.old).faults < 2 ^ 64 - 1 }
+    ensures written { WritesText (file_text shape.now (drawn shape.now timing.now rows seed horizon)) (O.state sink.old) (O.state sink.new) result }
+    ensures keeps { KeepsSink (O.state sink.old) (O.state sink.new) }
+    ensures sound { IsTrue (O.state sink.old).sound → (O.state sink.new).faults ≡ (O.state sink.old).faults }
+{
+    let mut page = first_page(alloc)?;
+    let mut drawing = Drawing::start(alloc, shape, timing, seed)?;
+    write(
+        alloc,
+        &mut drawing,
+        &mut page,
+        shape,
+        timing,
+        rows,
+        horizon,
+        sink,
+    )
+}
+
+fn write<O: Sink>(
+    alloc: Global,
+    drawing: &mut Drawing,
+    page: &mut List<u8>,
+    shape: &Shape,
+    timing: &Timing,
+    rows: u32,
+    horizon: u64,
+    sink: &mut O,
+) -> Result<(), Or<SimFault>>
+    requires one_place { OnePlace shape.now timing.now rows }
+    requires horizon { horizon ≤ GREATEST_TIME }
+    requires page { page.old ≡ header_text }
+    requires starts { IsShort drawing.old shape.now timing.now rows horizon }
+    requires count { (O.state sink.old).faults < 2 ^ 64 - 1 }
+    ensures written { (seed : ℕ) → Starts drawing.old shape.now timing.now seed → WritesText (file_text shape.now (drawn shape.now timing.now rows seed horizon)) (O.state sink.old) (O.state sink.new) result }
+    ensures keeps { KeepsSink (O.state sink.old) (O.state sink.new) }
+    ensures sound { IsTrue (O.state sink.old).sound → (O.state sink.new).faults ≡ (O.state sink.old).faults }
+{
+    for _number in 0..MOST_EVENTS {
+        match drawing.next(horizon) {
+            Some((at, place)) => {
+                put_row(alloc, page, &event_at(shape, at, place), shape, sink)?;
+                drawing.take(shape, timing, rows, at, place);
+            }
+            None => return write_end(alloc, page, shape, horizon, sink),
+        }
+    }
+    unreachable!()
+}
+
+// Puts the end on the page, and writes it.
+fn write_end<O: Sink>(
+    alloc: Global,
+    page: &mut List<u8>,
+    shape: &Shape,
+    horizon: u64,
+    sink: &mut O,
+) -> Result<(), Or<SimFault>>
+    requires horizon { horizon ≤ GREATEST_TIME }
+    requires count { (O.state sink.old).faults < 2 ^ 64 - 1 }
+    ensures written { WritesText (page.old ++ (event_text shape.now (End horizon) ++ 10 ∷ [])) (O.state sink.old) (O.state sink.new) result }
+    ensures keeps { KeepsSink (O.state sink.old) (O.state sink.new) }
+    ensures sound { IsTrue (O.state sink.old).sound → (O.state sink.new).faults ≡ (O.state sink.old).faults }
+{
+    put_row(alloc, page, &Event::End(horizon), shape, sink)?;
+    write_out(alloc, page, sink)
+}

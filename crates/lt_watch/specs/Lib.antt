@@ -1,0 +1,4 @@
+pub mod Judged
+pub mod Blamed
+pub mod Watch
+pub mod Errands

@@ -1,0 +1,16 @@
+-- The ranges of a command's numbers.
+use Rattle.std.specs.Prelude.{◌≤◌}
+use Rattle.lt_words.specs.declared.command.Command.{Command}
+use Rattle.lt_words.specs.declared.command.Command.TheVariants.{Check, Meaning, Run, Plan, Sim, Watch, Audit, Trace}
+use Rattle.lt_words.specs.Commands.{greatest_time}
+
+-- times are up to the greatest one
+abbrev pub HasRanges : Command → Type 0
+HasRanges (Check program config) = Unit {0}
+HasRanges (Meaning program inputs) = Unit {0}
+HasRanges (Run program inputs schedule config) = Unit {0}
+HasRanges (Plan config horizon) = Unit {0}
+HasRanges (Sim program inputs config seed horizon) = horizon ≤ greatest_time
+HasRanges (Watch program inputs schedule observer config) = Unit {0}
+HasRanges (Audit program inputs schedule config) = Unit {0}
+HasRanges (Trace program inputs schedule config place from to) = (from ≤ greatest_time) × (to ≤ greatest_time)
