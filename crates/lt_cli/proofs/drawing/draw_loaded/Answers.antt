@@ -33,6 +33,6 @@ pub returns-in-Err-Fault-TooMany : goal.returns-in-Err-Fault-TooMany
 returns-in-Err-Fault-TooMany g c =
     let k : LoadedPlan = record { checked = c.loaded.inside.checked; layout = c.loaded.inside.layout; shape = c.loaded.inside.shape; timing = c.loaded.inside.timing; inputs = c.loaded.inside.inputs; pace = c.loaded.inside.pace } in
     let many =
-        subst (λ (e : Or SimFault). Records k.shape (drawn k.shape k.timing c.rows.result c.args.seed c.args.horizon) (g.O.Sink.state c.args.out.now) (g.O.Sink.state c.record.new.sink) (Err e))
-        (c.in-Err-Fault-TooMany.field-0-is ∙ ap Fault c.in-Err-Fault-TooMany.field-0-0-is) c.in-Err-Fault-TooMany.ensures.records in
+    subst (λ (e : Or SimFault). Records k.shape (drawn k.shape k.timing c.rows.result c.args.seed c.args.horizon) (g.O.Sink.state c.args.out.now) (g.O.Sink.state c.record.new.sink) (Err e))
+    (c.in-Err-Fault-TooMany.field-0-is ∙ ap Fault c.in-Err-Fault-TooMany.field-0-0-is) c.in-Err-Fault-TooMany.ensures.records in
     refused_of k c.args.loaded.now c.loaded.view_is c.rows.result c.rows.ensures c.args.seed c.args.horizon _ _ _ _ c.too_many.result c.refuse.result c.too_many.ensures many c.refuse.ensures
