@@ -1,0 +1,4 @@
+pub mod Contents
+pub mod Alone
+pub mod Along
+pub mod Drawing
