@@ -1,5 +1,5 @@
 -- What was loaded, along the list of events that is drawn for it.
-use Rattle.std.proofs.Common.{◌≡◌, ◌≤◌, ℕ, List, [], length, Some, Result, Ok, Err, refl, sym, ap, subst}
+use Rattle.std.proofs.Common.{◌≡◌, ◌≤◌, ℕ, List, [], length, Some, Result, Ok, Err, refl, sym, ◌∙◌, ap, subst}
 use Rattle.std.specs.Prelude.{IsErrAnd}
 use Rattle.lt_base.specs.declared.memory.Or.{Or}
 use Rattle.lt_base.specs.declared.memory.Or.TheVariants.{Fault, Memory}
@@ -25,9 +25,13 @@ use Rattle.lt_load.proofs.Onward.{not_loaded, then_loaded}
 use Rattle.lt_load.proofs.Steps.{untouched}
 use Rattle.lt_run.specs.declared.outputs.Outputs.{Outputs}
 use Rattle.lt_run.specs.Run.{IsLaidOutBy, Shows}
+use Rattle.lt_big.specs.Texts.{horizon_of}
 use Rattle.lt_big.specs.Big.{events_of, too_many, played_verdict, loaded_verdict, along_verdict, big_verdict}
-use Rattle.lt_big.specs.Stage.{AnsweredAlone, file_verdict, along_list, along_bytes}
+use Rattle.lt_big.specs.Stage.{AnsweredAlone, ReadsAsList, file_verdict, along_list, along_bytes}
 use Rattle.lt_big.proofs.Contents.{loaded_content}
+
+one_horizon : (h g : ℕ) → Some h ≡ Some g → h ≡ g
+one_horizon h g is = cc is
 
 module _ (instants : ℕ) (k : LoadedPlan) where
   abbrev events : List Event
@@ -36,18 +40,16 @@ module _ (instants : ℕ) (k : LoadedPlan) where
   abbrev shows : FabricState → List Event → Outputs → Type 0
   shows fabric es outputs = Shows k.checked.program k.layout k.shape k.timing k.inputs.rows fabric es outputs
 
-  abbrev Ends : FabricState → Result (List Event) ScheduleFault → Result Outputs CommandFault → Type 0
-  Ends fabric v (Ok x) = EndsWith (shows fabric) v (Ok x)
-  Ends fabric v (Err e) = ⊥
-
   -- the bytes read as the list
-  wider : (fabric : FabricState) (bytes : List ℕ) → length events ≤ most_events → verdict k.shape k.timing (length k.inputs.rows) bytes ≡ Ok events → (o : Result Outputs CommandFault) → along_bytes bytes fabric k o → along_list instants fabric k o
+  wider : (fabric : FabricState) (bytes : List ℕ) → ReadsAsList instants k bytes → (o : Result Outputs CommandFault) → along_bytes bytes fabric k o → along_list instants fabric k o
   unfolding replay_verdict
-  wider fabric bytes few reads (Ok x) right = (few, subst (λ (v : Result (List Event) ScheduleFault). EndsWith (shows fabric) v (Ok x)) reads right)
-  wider fabric bytes few reads (Err e) (f, right, is) = absurd (subst (λ (v : Result (List Event) ScheduleFault). EndsWith (shows fabric) v (Err f)) reads right)
+  wider fabric bytes is (Ok x) right =
+      let shown : shows fabric events x = subst (λ (v : Result (List Event) ScheduleFault). EndsWith (shows fabric) v (Ok x)) is.reads right in
+      record { few = is.few; shows = shown; at_horizon = one_horizon shown.horizon (horizon_of instants) (sym shown.told.run.ends ∙ is.ends) }
+  wider fabric bytes is (Err e) (f, right, raised) = absurd (subst (λ (v : Result (List Event) ScheduleFault). EndsWith (shows fabric) v (Err f)) is.reads right)
 
   pub drawn_along : (bytes : List ℕ) (w w' : FabricState) (r : Result Outputs (Or CommandFault)) → file_verdict instants k (Ok bytes) → AnsweredAlone (along_bytes bytes w' k) w w' r → AnsweredAlone (along_list instants w' k) w w' r
-  drawn_along bytes w w' r (few, reads) answered files = widened (along_bytes bytes w' k) (along_list instants w' k) (world files w) (world files w') r (wider w' bytes few reads) (answered files)
+  drawn_along bytes w w' r is answered files = widened (along_bytes bytes w' k) (along_list instants w' k) (world files w) (world files w') r (wider w' bytes is) (answered files)
 
   -- the list is refused, or no memory was found for it
   refused_along : (w : FabricState) (e : Or CommandFault) → Refuses (file_verdict instants k) e → AnsweredAlone (along_list instants w k) w w (Err e)

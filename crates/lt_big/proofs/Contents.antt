@@ -38,12 +38,12 @@ use Rattle.lt_big.specs.Stage.{along_bytes}
 
 -- one file
 
+there_content : (what : What) (bytes : List ℕ) → IsContent command_blame (whole_verdict what (Some bytes))
+unfolding whole_verdict
+there_content what bytes e right = ap command_blame right.0
+
 whole_content : (what : What) (file : Option (List ℕ)) (bytes : List ℕ) → file ≡ Some bytes → IsContent command_blame (whole_verdict what file)
-whole_content what file bytes is = subst (λ (f : Option (List ℕ)). IsContent command_blame (whole_verdict what f)) (sym is) (there what bytes)
-  where
-    there : (what : What) (bytes : List ℕ) → IsContent command_blame (whole_verdict what (Some bytes))
-    unfolding whole_verdict
-    there what bytes e right = ap command_blame right.0
+whole_content what file bytes is = subst (λ (f : Option (List ℕ)). IsContent command_blame (whole_verdict what f)) (sym is) (there_content what bytes)
 
 program_content : (file : Option (List ℕ)) (bytes : List ℕ) → file ≡ Some bytes → IsContent command_blame (program_verdict file)
 unfolding program_verdict

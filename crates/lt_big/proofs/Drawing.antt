@@ -10,7 +10,7 @@ use Rattle.lt_load.specs.declared.fault.CommandFault.{CommandFault}
 use Rattle.lt_load.specs.Plan.{LoadedPlan, IsLoaded}
 use Rattle.lt_sim.specs.Drawn.{drawn}
 use Rattle.lt_sim.specs.File.{file_text}
-use Rattle.lt_sim.specs.Laws.{ReadsBack}
+use Rattle.lt_sim.specs.Laws.{DrawsSound, ReadsBack}
 use Rattle.lt_sim.specs.Recorded.{IsRecorded, IsBroken, IsTooMany}
 use Rattle.lt_big.specs.Texts.{horizon_of}
 use Rattle.lt_big.specs.Big.{events_of, too_many}
@@ -29,16 +29,21 @@ module _ (k j : LoadedPlan) (view : k ≡ j) (instants rows horizon : ℕ) (coun
   same P here = subst (λ (h : ℕ). P (list (length k.inputs.rows) h)) until (subst (λ (n : ℕ). P (list n horizon)) counted here)
 
   -- it was written, and reads back
-  pub drawn_file : IsLoaded k → AreSound → ReadsBack → horizon ≤ GREATEST_TIME → (old new : SinkState) → IsTrue old.told → old.taken ≡ [] → (count : ℕ) → IsRecorded k.shape (list rows horizon) old new count → (bytes : List ℕ) → bytes ≡ new.taken
+  pub drawn_file : IsLoaded k → AreSound → DrawsSound → ReadsBack → horizon ≤ GREATEST_TIME → (old new : SinkState) → IsTrue old.told → old.taken ≡ [] → (count : ℕ) → IsRecorded k.shape (list rows horizon) old new count → (bytes : List ℕ) → bytes ≡ new.taken
       → file_verdict instants j (Ok bytes)
-  drawn_file kept sound back within old new told empty count is bytes taken =
+  drawn_file kept sound draws back within old new told empty count is bytes taken =
       let text : bytes ≡ file_text k.shape (list rows horizon) = taken ∙ is.written.taken told ∙ ap (λ (t : List ℕ). t ++ file_text k.shape (list rows horizon)) empty in
       let one_place = (loaded_sound k kept sound).one_place in
       let whole : bytes ≡ file_text k.shape (events_of instants k.shape k.timing (length k.inputs.rows)) = same (λ es. bytes ≡ file_text k.shape es) text in
       let few : length (events_of instants k.shape k.timing (length k.inputs.rows)) ≤ most_events = same (λ es. length es ≤ most_events) is.few in
-      let reads = back k.shape k.timing (length k.inputs.rows) instants (horizon_of instants) one_place (subst (λ (h : ℕ). h ≤ GREATEST_TIME) until within) few in
+      let low : horizon_of instants ≤ GREATEST_TIME = subst (λ (h : ℕ). h ≤ GREATEST_TIME) until within in
+      let reads = back k.shape k.timing (length k.inputs.rows) instants (horizon_of instants) one_place low few in
       subst (λ (p : LoadedPlan). file_verdict instants p (Ok bytes)) view
-      (few, ap (λ (t : List ℕ). verdict k.shape k.timing (length k.inputs.rows) t) whole ∙ reads)
+      (record {
+        few = few;
+        ends = (draws k.shape k.timing (length k.inputs.rows) instants (horizon_of instants) one_place low).ends;
+        reads = ap (λ (t : List ℕ). verdict k.shape k.timing (length k.inputs.rows) t) whole ∙ reads;
+      })
 
   -- it has too many events
   pub drawn_too_many : (old new : SinkState) → IsTooMany (list rows horizon) old new → (fault : CommandFault) → fault ≡ too_many → file_verdict instants j (Err fault)

@@ -45,10 +45,15 @@ events_of instants s t rows = drawn s t rows instants (horizon_of instants)
 abbrev pub too_many : CommandFault
 too_many = fault.Row 5000001 row.TooMany
 
+-- what the outputs of a program on these nodes show of the list, which is no longer than a schedule may be and ends at the horizon
+pub record ShowsList (instants : ℕ) (fabric : FabricState) (p : WholeProgram) (l : Layout) (s : Shape) (t : Timing) (inputs : List (List Value)) (outputs : Outputs) : Type 0 where
+  pub few : length (events_of instants s t (length inputs)) ≤ most_events
+  pub shows : Shows p l s t inputs fabric (events_of instants s t (length inputs)) outputs
+  pub at_horizon : shows.horizon ≡ horizon_of instants
+
 -- a program on these nodes along the list: what its outputs show of it, unless it has more events than a schedule may have
 abbrev pub played_verdict : (instants : ℕ) → FabricState → WholeProgram → Layout → Shape → Timing → (inputs : List (List Value)) → Verdict Outputs CommandFault
-played_verdict instants fabric p l s t inputs (Ok outputs) =
-    (length (events_of instants s t (length inputs)) ≤ most_events) × Shows p l s t inputs fabric (events_of instants s t (length inputs)) outputs
+played_verdict instants fabric p l s t inputs (Ok outputs) = ShowsList instants fabric p l s t inputs outputs
 played_verdict instants fabric p l s t inputs (Err e) = (most_events < length (events_of instants s t (length inputs))) × (e ≡ too_many)
 
 -- the same of a plan, on its nodes

@@ -1,6 +1,7 @@
 -- The stages of a run of the large input.
-use Rattle.std.specs.Prelude.{◌≡◌, ◌<◌, ◌≤◌, ℕ, IsTrue, List, [], ◌∷◌, length, Ok, Err, Result, Some, codes}
+use Rattle.std.specs.Prelude.{◌≡◌, ◌<◌, ◌≤◌, ℕ, IsTrue, List, [], length, Ok, Err, Result, Some}
 use Rattle.lt_base.specs.declared.memory.Or.{Or}
+use Rattle.lt_arch.specs.Schedule.{EndsAt}
 use Rattle.lt_io.specs.FilesState.{FilesState}
 use Rattle.lt_io.specs.FabricState.{FabricState}
 use Rattle.lt_io.specs.MemFiles.{lookup}
@@ -14,6 +15,7 @@ use Rattle.lt_load.specs.declared.fault.CommandFault.{CommandFault}
 use Rattle.lt_load.specs.Plan.{LoadedPlan}
 use Rattle.lt_run.specs.declared.outputs.Outputs.{Outputs}
 use Rattle.lt_run.specs.Run.{along_loaded}
+use Rattle.lt_big.specs.Texts.{horizon_of}
 use Rattle.lt_big.specs.Big.{events_of, too_many, played_verdict}
 
 -- files that tell these bytes, and of which only a missing one fails
@@ -27,11 +29,15 @@ pub record Holds (files : List MemFile) (s : FilesState) : Type 0 where
 abbrev pub AnsweredAlone : {T : Type 0} → Verdict T CommandFault → (old new : FabricState) → Result T (Or CommandFault) → Type 0
 AnsweredAlone V old new result = (files : FilesState) → Answered command_blame [] V (world files old) (world files new) result
 
--- a schedule file of the list that is drawn for what was loaded, unless it has too many events
+-- these bytes are a schedule file of the list that is drawn for what was loaded
+pub record ReadsAsList (instants : ℕ) (k : LoadedPlan) (bytes : List ℕ) : Type 0 where
+  pub few : length (events_of instants k.shape k.timing (length k.inputs.rows)) ≤ most_events
+  pub ends : EndsAt k.shape k.timing (length k.inputs.rows) (events_of instants k.shape k.timing (length k.inputs.rows)) (horizon_of instants)
+  pub reads : verdict k.shape k.timing (length k.inputs.rows) bytes ≡ Ok (events_of instants k.shape k.timing (length k.inputs.rows))
+
+-- a schedule file of that list, unless it has too many events
 abbrev pub file_verdict : (instants : ℕ) → LoadedPlan → Verdict (List ℕ) CommandFault
-file_verdict instants k (Ok bytes) =
-    (length (events_of instants k.shape k.timing (length k.inputs.rows)) ≤ most_events)
-    × (verdict k.shape k.timing (length k.inputs.rows) bytes ≡ Ok (events_of instants k.shape k.timing (length k.inputs.rows)))
+file_verdict instants k (Ok bytes) = ReadsAsList instants k bytes
 file_verdict instants k (Err e) = (most_events < length (events_of instants k.shape k.timing (length k.inputs.rows))) × (e ≡ too_many)
 
 -- what was loaded, along the list

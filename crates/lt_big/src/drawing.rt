@@ -11,7 +11,7 @@ use lt_io::MemSink;
 use lt_load::{CommandFault, Loaded};
 use lt_replay::laws::networks_are_sound;
 use lt_rows::RowFault;
-use lt_sim::laws::reads_back;
+use lt_sim::laws::{admissible, reads_back};
 use lt_sim::{SimFault, record};
 use std::alloc::Global;
 
@@ -26,6 +26,7 @@ pub(crate) fn draw(
 {
     loaded.kept();
     networks_are_sound();
+    admissible();
     reads_back();
     let mut sink = MemSink::new(alloc, List::new(alloc));
     match record(

@@ -89,7 +89,7 @@ along_decided instants fabric plan = record {
   not_both = λ e x p q.
       let rows = length plan.inputs.rows in
       let t = plan.setup.timing in
-      let few : length (events_of instants p.1 t rows) ≤ most_events = subst (λ (z : Shape). length (events_of instants z t rows) ≤ most_events) (same_shape plan p.0 q.0 p.1 q.1 p.2 q.2) q.3.0 in
+      let few : length (events_of instants p.1 t rows) ≤ most_events = subst (λ (z : Shape). length (events_of instants z t rows) ≤ most_events) (same_shape plan p.0 q.0 p.1 q.1 p.2 q.2) q.3.few in
       omega (arith, few, p.3.0);
 }
 

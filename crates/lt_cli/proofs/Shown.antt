@@ -114,18 +114,19 @@ module _ (named : List ℕ → Option (List ℕ)) (program inputs schedule : Lis
 module _ (instants : ℕ) (old new : Objects) (printed : Outputs) (text : TookText (summarized_text instants printed) old new) where
   big_along : (p : Plan) → loaded_verdict instants (Ok p) → big.along_verdict instants new.fabric p (Ok printed) → IsBigShown instants old new
   unfolding big.along_verdict
-  big_along p loaded (l, s, site, few, shows) = record {
+  big_along p loaded (l, s, site, list) = record {
     plan = p;
     loaded = loaded;
     layout = l;
     laid = site.layout;
     shape = s;
     shaped = site.shape;
-    few = few;
+    few = list.few;
     printed = printed;
     text = text;
-    shows = shows;
-    outputs = output_shown p l s new.fabric (events_of instants s p.setup.timing (length p.inputs.rows)) printed site.shape site.layout shows;
+    shows = list.shows;
+    at_horizon = list.at_horizon;
+    outputs = output_shown p l s new.fabric (events_of instants s p.setup.timing (length p.inputs.rows)) printed site.shape site.layout list.shows;
   }
 
   big_steps : AndThen (loaded_verdict instants) (λ plan. big.along_verdict instants new.fabric plan) (Ok printed) → IsBigShown instants old new

@@ -21,6 +21,7 @@ use Rattle.lt_run.specs.Main.{output_streams}
 use Rattle.lt_load.specs.Plan.{Plan, load_verdict}
 use Rattle.lt_run.specs.declared.outputs.Outputs.{Outputs}
 use Rattle.lt_run.specs.Run.{Shows}
+use Rattle.lt_big.specs.Texts.{horizon_of}
 use Rattle.lt_big.specs.Big.{loaded_verdict, events_of}
 use Rattle.lt_cli.specs.Commands.{printed_text, summarized_text}
 use Rattle.lt_cli.specs.Objects.{Objects}
@@ -78,6 +79,8 @@ pub record IsBigShown (instants : ℕ) (old new : Objects) : Type 0 where
   pub text : TookText (summarized_text instants printed) old new
   -- what the fabric holds and tells after the list, and what the nodes were given
   pub shows : Shows plan.checked.program layout shape plan.setup.timing plan.inputs.rows new.fabric (events_of instants shape plan.setup.timing (length plan.inputs.rows)) printed
+  -- which ends at the horizon of so many instants
+  pub at_horizon : shows.horizon ≡ horizon_of instants
   -- of each output, on its node
   pub outputs : (y n x : ℕ) → y < length layout.outs → n < length layout.nodes → Gives (part_of layout n) (slice_index_or layout.outs y 0) x →
       IsOutputShown plan.checked.program layout shape plan.setup.timing plan.setup.pace plan.inputs.rows new.fabric (events_of instants shape plan.setup.timing (length plan.inputs.rows)) shows.told.run.lists.got shows.horizon y n x (slice_index_or printed.cells y [])
