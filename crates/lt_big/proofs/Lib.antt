@@ -2,4 +2,4 @@ pub mod Contents
 pub mod Alone
 pub mod Along
 pub mod Held
-pub mod Drawing
+pub mod Drawn
