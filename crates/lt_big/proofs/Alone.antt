@@ -1,12 +1,12 @@
 -- A step on files of which none fails, as one that needs no files.
-use Rattle.std.proofs.Common.{◌≡◌, ◌<◌, ℕ, List, [], Result, Ok, Err, MatchResult, IsTrue, refl, sym, ◌∙◌, arith}
+use Rattle.std.proofs.Common.{◌≡◌, ◌<◌, List, Result, Ok, Err, MatchResult, IsTrue, refl, sym, ◌∙◌, arith}
 use Rattle.lt_base.specs.declared.memory.Or.{Or}
 use Rattle.lt_base.specs.declared.memory.Or.TheVariants.{Fault, Memory}
 use Rattle.lt_io.specs.Visits.{Errand}
 use Rattle.lt_io.specs.FilesState.{FilesState}
 use Rattle.lt_io.specs.FabricState.{FabricState}
 use Rattle.lt_io.proofs.Visiting.{visited_none}
-use Rattle.lt_answer.specs.World.{World, IsCalm, Blame, Content, Reading, Linking, Blames, alone}
+use Rattle.lt_answer.specs.World.{IsCalm, Blame, Content, Reading, Linking, Blames, alone}
 use Rattle.lt_answer.specs.Answered.{Answered, Verdict, Settles, OrBlames, RefusesReading}
 use Rattle.lt_play.specs.Played.{world}
 use Rattle.lt_load.specs.declared.fault.CommandFault.{CommandFault}

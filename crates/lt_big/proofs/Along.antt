@@ -1,5 +1,5 @@
 -- What was loaded, along the list of events that is drawn for it.
-use Rattle.std.proofs.Common.{◌≡◌, ◌≤◌, ℕ, List, [], length, Some, Result, Ok, Err, refl, sym, ◌∙◌, ap, subst}
+use Rattle.std.proofs.Common.{◌≡◌, ℕ, List, [], length, Some, Result, Ok, Err, sym, ◌∙◌, ap, subst}
 use Rattle.std.specs.Prelude.{IsErrAnd}
 use Rattle.lt_base.specs.declared.memory.Or.{Or}
 use Rattle.lt_base.specs.declared.memory.Or.TheVariants.{Fault, Memory}
@@ -7,14 +7,12 @@ use Rattle.lt_base.specs.Inputs.{InputTable}
 use Rattle.lt_arch.specs.declared.event.Event.{Event}
 use Rattle.lt_arch.specs.declared.timing.Timing.{Timing}
 use Rattle.lt_io.specs.FabricState.{FabricState}
-use Rattle.lt_rows.specs.Limits.{most_events}
 use Rattle.lt_answer.specs.World.{Blames}
 use Rattle.lt_answer.specs.Answered.{Refuses, Settles}
 use Rattle.lt_answer.proofs.Stages.{calm_itself, refuses, runs_short, settles, widened}
 use Rattle.lt_config.specs.declared.pace.Pace.{Pace}
 use Rattle.lt_lead.specs.Paced.{IsShapeBy}
 use Rattle.lt_front.specs.Examined.{ExaminedText}
-use Rattle.lt_judge.specs.Verdict.{verdict}
 use Rattle.lt_judge.specs.declared.fault.ScheduleFault.{ScheduleFault}
 use Rattle.lt_play.specs.Played.{world}
 use Rattle.lt_replay.specs.Replays.{EndsWith, replay_verdict}
@@ -26,7 +24,7 @@ use Rattle.lt_load.proofs.Steps.{untouched}
 use Rattle.lt_run.specs.declared.outputs.Outputs.{Outputs}
 use Rattle.lt_run.specs.Run.{IsLaidOutBy, Shows}
 use Rattle.lt_big.specs.Texts.{horizon_of}
-use Rattle.lt_big.specs.Big.{events_of, too_many, played_verdict, loaded_verdict, along_verdict, big_verdict}
+use Rattle.lt_big.specs.Big.{events_of, played_verdict, loaded_verdict, along_verdict, big_verdict}
 use Rattle.lt_big.specs.Stage.{AnsweredAlone, ReadsAsList, file_verdict, along_list, along_bytes}
 use Rattle.lt_big.proofs.Contents.{loaded_content}
 

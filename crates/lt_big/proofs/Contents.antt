@@ -21,7 +21,6 @@ use Rattle.lt_play.specs.declared.fault.PlayFault.TheVariants.{Schedule}
 use Rattle.lt_replay.specs.Replays.{EndsWith, replay_verdict}
 use Rattle.lt_load.specs.declared.fault.What.{What}
 use Rattle.lt_load.specs.declared.fault.What.TheVariants.{ProgramBytes, ConfigBytes, InputsBytes}
-use Rattle.lt_load.specs.declared.fault.CommandFault.{CommandFault}
 use Rattle.lt_load.specs.declared.fault.CommandFault.TheVariants as fault
 use Rattle.lt_load.specs.Blamed.{command_blame}
 use Rattle.lt_load.specs.Main.{main_in}

@@ -1,5 +1,5 @@
 -- Steps on files in memory.
-use Rattle.std.proofs.Common.{◌≡◌, ℕ, List, [], ◌∷◌, Option, Some, Result, refl, ◌∙◌, ap, subst}
+use Rattle.std.proofs.Common.{◌≡◌, ℕ, List, [], ◌∷◌, Option, Some, Result, ◌∙◌, ap, subst}
 use Rattle.std.specs.Prelude.{codes}
 use Rattle.lt_base.specs.declared.memory.Or.{Or}
 use Rattle.lt_io.specs.Visits.{Errand}
