@@ -9,7 +9,7 @@ use Rattle.lt_cli.proofs.answer.big_answer.Goals as goal
 pub returns-in_ok-summary_text-in-Ok : goal.returns-in_ok-summary_text-in-Ok
 returns-in_ok-summary_text-in-Ok g c = λ files.
     text_shown (summarized_text c.args.instants) (big_verdict c.args.instants (g.W.Fabric.state c.big.new.fabric)) (world files (g.W.Fabric.state c.args.fabric.now)) (world files (g.W.Fabric.state c.big.new.fabric)) c.in-Ok.printed _ (c.in-Ok.ensures files)
-    (c.in_ok-summary_text-in-Ok.ensures ∙ (λ i. summary_text c.args.instants (c.names.ensures i) (c.as_slice-in-Ok.ensures i)))
+    (c.in_ok-summary_text-in-Ok.ensures ∙ (λ i. summary_text c.args.instants (c.as_slice-names.ensures i) (c.as_slice.ensures i)))
 
 pub returns-in_err-summary_text-in-Ok : goal.returns-in_err-summary_text-in-Ok
 returns-in_err-summary_text-in-Ok g c = λ files.

@@ -1,4 +1,4 @@
-use Rattle.std.proofs.Common.{◌≡◌, ◌++◌, ℕ, [], List, take, get_or, ap, sym, ◌∙◌, append-nil, append-assoc, arith}
+use Rattle.std.proofs.Common.{◌≡◌, ◌++◌, ℕ, [], List, take, get_or, ap, sym, ◌∙◌, append-nil, append_assoc, arith}
 use Rattle.std.proofs.lemmas.List.{take_all}
 use Rattle.lt_base.specs.declared.value.Cell.{Cell}
 use Rattle.lt_cli.specs.Texts.{summary_line, summary_lines}
@@ -13,7 +13,7 @@ loop-output-preserved c =
     let before = summary_lines (take c.loop-output.output c.args.names.now) c.args.cells.now in
     c.in_ok-append_line.ensures
     ∙ ap (λ (l : List ℕ). l ++ summary_line name cells) c.loop-output.invariant
-    ∙ append-assoc c.args.text.now before (summary_line name cells)
+    ∙ append_assoc c.args.text.now before (summary_line name cells)
     ∙ ap (λ (l : List ℕ). c.args.text.now ++ l)
     (ap (λ (n : List ℕ). before ++ summary_line n cells) c.index-names-output.is
     ∙ ap (λ (cs : List Cell). before ++ summary_line (get_or c.args.names.now c.loop-output.output name) cs) c.index-cells-output.is
