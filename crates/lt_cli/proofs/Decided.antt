@@ -1,5 +1,5 @@
 -- All right outcomes of a command have one status.
-use Rattle.std.proofs.Common.{◌≡◌, ◌∙◌, ◌<◌, ◌≤◌, ℕ, arith, subst, List, length, Bool, Option, Some, Result, Ok, Err, refl, sym, ap}
+use Rattle.std.proofs.Common.{◌≡◌, ◌∙◌, ◌≤◌, ℕ, arith, subst, List, length, Bool, Option, Result, Ok, Err, refl, sym, ap}
 use Rattle.std.specs.Prelude.{if◌then◌else◌}
 use Rattle.lt_answer.specs.World.{World}
 use Rattle.lt_front.specs.declared.fault.ProgramFault.{ProgramFault}

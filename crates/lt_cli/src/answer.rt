@@ -124,12 +124,7 @@ pub(crate) fn big_answer<W: Fabric>(
     match big(alloc, fabric, instants) {
         Ok(printed) => {
             let names = printed.names.as_slice();
-            Ok(summary_text(
-                alloc,
-                instants,
-                names,
-                printed.cells.as_slice(),
-            )?)
+            Ok(summary_text(alloc, instants, names, printed.cells.as_slice())?)
         }
         Err(e) => Err(e.map(Refusal::Command)),
     }

@@ -9,7 +9,8 @@ ghost use Rattle.lt_cli.specs.Texts.{refusal_status, line_of};
 ghost use Rattle.lt_cli.specs.Written.{Written};
 
 use crate::answer::{
-    audit_answer, big_answer, check_answer, meaning_answer, plan_answer, run_answer, trace_answer, watch_answer,
+    audit_answer, big_answer, check_answer, meaning_answer, plan_answer, run_answer, trace_answer,
+    watch_answer,
 };
 use crate::drawing::draw;
 use crate::{Refusal, Status};

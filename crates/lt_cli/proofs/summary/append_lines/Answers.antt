@@ -1,4 +1,4 @@
-use Rattle.std.proofs.Common.{◌≡◌, ◌++◌, ℕ, [], List, take, get_or, ap, sym, ◌∙◌, append-nil, append_assoc, arith}
+use Rattle.std.proofs.Common.{◌++◌, ℕ, List, take, get_or, ap, sym, ◌∙◌, append_assoc, arith}
 use Rattle.std.proofs.lemmas.List.{take_all}
 use Rattle.lt_base.specs.declared.value.Cell.{Cell}
 use Rattle.lt_cli.specs.Texts.{summary_line, summary_lines}
