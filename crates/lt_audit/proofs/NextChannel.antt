@@ -3,7 +3,6 @@ use Rattle.std.proofs.Common.{◌≡◌, ◌∙◌, ℕ, suc, ◌+◌, ◌==◌,
 use Rattle.lt_arch.specs.declared.chan.Chan.{Chan}
 use Rattle.lt_arch.specs.State.{ChanState}
 use Rattle.lt_arch.specs.Readers.{is_data}
-use Rattle.lt_arch.specs.Deeds.{all_below, some_below}
 use Rattle.lt_audit.specs.declared.hearing.Heard.{Heard}
 use Rattle.lt_audit.specs.Acts.{heard_below, chan_in, is_data_to, is_ack_to, has_delivered}
 

@@ -1,5 +1,5 @@
 -- A loop over the channels of a node keeps what a loop over all channels keeps.
-use Rattle.std.proofs.Common.{◌≡◌, ◌∙◌, ℕ, ◌+◌, ◌<◌, ◌≤◌, ◌==◌, ◌&&◌, not, Bool, true, false, List, length, ap, sym, subst, arith, inl, inr, eq-eqb, slice_index_or}
+use Rattle.std.proofs.Common.{◌≡◌, ◌∙◌, ℕ, ◌+◌, ◌<◌, ◌==◌, ◌&&◌, not, Bool, false, List, length, ap, sym, subst, arith, inl, inr, eq-eqb, slice_index_or}
 use Rattle.std.proofs.lemmas.Bool.{false≢true}
 use Rattle.std.proofs.lemmas.Bool.Decides.{eqb_tells, Decides-eqb}
 use Rattle.lt_arch.specs.declared.chan.Chan.{Chan}
@@ -9,11 +9,11 @@ use Rattle.lt_arch.specs.State.{ChanState}
 use Rattle.lt_arch.specs.Readers.{is_data}
 use Rattle.lt_arch.specs.Times.{Times}
 use Rattle.lt_wiring.specs.Ports.{numbers, leads_to, leads_from}
-use Rattle.lt_wiring.proofs.Listed.{from_start, onward, here, at_end, passes_zero}
+use Rattle.lt_wiring.proofs.Listed.{from_start, onward, here, passes_zero}
 use Rattle.lt_audit.specs.declared.hearing.Heard.{Heard}
 use Rattle.lt_audit.specs.Audit.{LineState, chan_at}
 use Rattle.lt_audit.specs.Acts.{SameLines, HasRoom, SentBelow, heard_below, chan_in, is_off, is_sent_on}
-use Rattle.lt_audit.proofs.Lines.{same_lines, room_passed}
+use Rattle.lt_audit.proofs.Lines.{room_passed}
 use Rattle.lt_audit.proofs.NextChannel.{heard_passed}
 use Rattle.lt_audit.proofs.SentOn.{sent_off, sent_passed}
 

@@ -36,13 +36,7 @@ fn lowest_off(wiring: &Wiring, lines: &[Line], node: u32, executed: u32) -> Opti
 }
 
 // The miss of an execution, if it makes one, of a node that has executed so many instants, where the event has this number.
-fn miss_of(
-    wiring: &Wiring,
-    lines: &[Line],
-    node: u32,
-    executed: u32,
-    number: u32,
-) -> Option<Miss>
+fn miss_of(wiring: &Wiring, lines: &[Line], node: u32, executed: u32, number: u32) -> Option<Miss>
     requires lines { length lines.now ≡ chan_count wiring.now }
     requires node { node < node_count wiring.now }
     ensures { Notes wiring.now.channels (map kept_of lines.now) node executed number Execute result }
