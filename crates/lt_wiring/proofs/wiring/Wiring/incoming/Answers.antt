@@ -1,7 +1,7 @@
-use Rattle.std.proofs.Common.{◌≡◌, ◌∙◌, ◌<◌, List, length, ap, subst}
+use Rattle.std.proofs.Common.{◌∙◌, length, ap}
 use Rattle.lt_arch.specs.declared.shape.Shape.{Shape}
 use Rattle.lt_arch.specs.Readers.{node_count}
-use Rattle.lt_wiring.specs.Ports.{numbers, leads_to, all_ports}
+use Rattle.lt_wiring.specs.Ports.{leads_to, all_ports}
 use Rattle.lt_wiring.proofs.Listed.{within_zero}
 use Rattle.lt_wiring.proofs.Nodes.{is_there, incoming_is}
 use Rattle.lt_wiring.proofs.wiring.Wiring.incoming.Goals as goal
