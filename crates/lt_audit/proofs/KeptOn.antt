@@ -15,6 +15,7 @@ use Rattle.lt_arch.specs.Times.{Times, sent_in}
 use Rattle.lt_audit.specs.Audit.{AuditState, MemberState, IsKept, member_at, chan_at, no_member, no_chan_state, oldest, messages_of}
 use Rattle.lt_audit.specs.Acts.{Acts, Delivers, Takes, chan_in, is_sent_on}
 use Rattle.lt_audit.proofs.Waking.{one_if, wake_counts}
+use Rattle.lt_audit.proofs.SentOn.{sent_off}
 
 abbrev IsTime : ℕ → Type 0
 IsTime at = at ≤ GREATEST_TIME
@@ -55,14 +56,6 @@ bound true false bp true false = omega arith
 bound true false bp false false = omega arith
 bound false false bp from false = omega arith
 
-none_from : (send exec bp k : Bool) → ((send && (false && k)) || (exec && (bp && (false && not k)))) ≡ false
-none_from true true true k = refl
-none_from true true false k = refl
-none_from true false bp k = refl
-none_from false true true k = refl
-none_from false true false k = refl
-none_from false false bp k = refl
-
 grown : (x : Bool) (e : ℕ) → (if x then e + 1 else e) ≡ e + one_if x
 grown true e = refl
 grown false e = omega arith
@@ -99,9 +92,7 @@ module _ (a b : AuditState) (kept : IsKept a) (fits : b.taken < 2 ^ 32) where
           omega (arith, most, more, old, new_is)
       | inr e ↦
           let other : (ch.from == n) ≡ false = ne_eqb ch.from n (λ same. e.1 (from ∙ same)) in
-          let off : is_sent_on a.protocol n acts.deed ch ≡ false =
-          ap (λ (x : Bool). (is_send acts.deed && (x && is_data ch.kind)) || (is_execute acts.deed && (is_back_pressure a.protocol && (x && not (is_data ch.kind))))) other ∙
-          none_from (is_send acts.deed) (is_execute acts.deed) (is_back_pressure a.protocol) (is_data ch.kind) in
+          let off : is_sent_on a.protocol n acts.deed ch ≡ false = sent_off a.protocol n acts.deed ch other in
           let none : one_if (is_sent_on a.protocol n acts.deed ch) ≡ 0 = ap one_if off in
           let same : messages_of (member_at b.members i) (is_data ch.kind) ≡ messages_of (member_at a.members i) (is_data ch.kind) = ap (λ (m : MemberState). messages_of m (is_data ch.kind)) (member_there i e.1) in
           omega (arith, none, same)

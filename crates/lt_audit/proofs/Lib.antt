@@ -1,5 +1,7 @@
 pub mod Lines
 pub mod NextChannel
+pub mod SentOn
+pub mod NodeLoops
 pub mod Waking
 pub mod Oldest
 pub mod Longer

@@ -22,6 +22,7 @@ use crate::missing::first_missed;
 use crate::sending::{deliver, make_room, send_all};
 use lt_arch::{Event, Offence, Protocol, Shape, Timing, Watch};
 use lt_base::{Memory, Steps};
+use lt_wiring::Wiring;
 use std::alloc::Global;
 use std::marker::Model;
 use std::sync::ledger::Ledger;
@@ -29,7 +30,7 @@ use std::sync::ledger::Ledger;
 /// The nodes and the channels after some events, and the first miss among them.
 #[derive(Drop)]
 pub struct Audit {
-    pub shape: Shape,
+    wiring: Wiring,
     watch: Watch,
     pub first: Option<Miss>,
     protocol: Protocol,
@@ -45,7 +46,7 @@ impl Model for Audit {
 
     ghost Value = { AuditState };
 
-    ghost view = { λ a. record { shape = a.shape; protocol = a.protocol; rows = a.rows; watch = a.watch; members = a.members.items; chans = map kept_of a.lines.items; taken = a.taken; first = a.first } };
+    ghost view = { λ a. record { shape = a.wiring; protocol = a.protocol; rows = a.rows; watch = a.watch; members = a.members.items; chans = map kept_of a.lines.items; taken = a.taken; first = a.first } };
 }
 
 impl Audit {
@@ -59,8 +60,9 @@ impl Audit {
         let watch = Watch::start(alloc, &shape, &timing)?;
         let members = members_of(alloc, &timing)?;
         let lines = lines_of(alloc, shape.channels.len())?;
+        let wiring = Wiring::of(alloc, shape)?;
         Ok(Audit {
-            shape,
+            wiring,
             watch,
             first: None,
             protocol: timing.protocol,
@@ -69,6 +71,13 @@ impl Audit {
             lines,
             taken: 0,
         })
+    }
+
+    /// Its nodes and channels.
+    pub fn shape(&self) -> &Shape
+        ensures { result.now ≡ self.now.shape }
+    {
+        self.wiring.shape()
     }
 
     /// The horizon, once the end was taken.
@@ -132,16 +141,14 @@ impl Audit {
         ensures acts { OnOk result (Acts self.old self.new node at) }
         ensures taken { self.new.taken ≡ self.old.taken }
     {
-        let shape = &self.shape;
-        let channels = shape.channels.as_slice();
-        make_room(channels, &mut self.lines, node)?;
+        make_room(&self.wiring, &mut self.lines, node)?;
         let executed = self.members[node as usize].executed();
-        let heard = hear(channels, &self.lines, node, executed);
+        let heard = hear(&self.wiring, &self.lines, node, executed);
         let deed = self.members[node as usize].wake(heard, self.rows);
         let number = self.taken.saturating_add(1);
         self.first = first_missed(
             self.first,
-            channels,
+            &self.wiring,
             &self.lines,
             node,
             executed,
@@ -149,7 +156,7 @@ impl Audit {
             deed,
         );
         send_all(
-            channels,
+            &self.wiring,
             &mut self.lines,
             &mut self.watch,
             self.protocol,

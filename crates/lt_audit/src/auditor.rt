@@ -59,7 +59,7 @@ impl Auditor {
     pub fn shape(&self) -> &Shape
         ensures { result.now ≡ self.now.shape }
     {
-        &self.audit.shape
+        self.audit.shape()
     }
 
     /// How many events it has taken, as far as a number of 32 bits goes.

@@ -1,11 +1,12 @@
 // What a node hears when it is activated.
-ghost use Rattle.std.specs.Prelude.{◌≡◌, ◌&&◌, ◌||◌, not, length, map, nat_le, slice_index_or};
-ghost use Rattle.lt_arch.specs.Readers.{is_data};
+ghost use Rattle.std.specs.Prelude.{◌≡◌, ◌<◌, ◌&&◌, ◌||◌, not, length, map, nat_le};
+ghost use Rattle.lt_arch.specs.Readers.{node_count, chan_count, is_data};
 ghost use Rattle.lt_audit.specs.Audit.{kept_of};
 ghost use Rattle.lt_audit.specs.Acts.{heard_below, is_data_to, is_ack_to};
 
 use crate::line::Line;
 use lt_arch::{Chan, ChanKind};
+use lt_wiring::Wiring;
 
 /// Whether every, or some, data channel to a node has delivered enough for its next instant, and whether every acknowledgement
 /// channel to it has.
@@ -59,14 +60,18 @@ fn has_delivered(line: &Line, executed: u32) -> bool
 }
 
 /// What a node hears that has executed so many instants.
-pub fn hear(channels: &[Chan], lines: &[Line], node: u32, executed: u32) -> Heard
-    requires { length lines.now ≡ length channels.now }
-    ensures { result ≡ heard_below channels.now (map kept_of lines.now) node executed (length channels.now) }
+pub fn hear(wiring: &Wiring, lines: &[Line], node: u32, executed: u32) -> Heard
+    requires lines { length lines.now ≡ chan_count wiring.now }
+    requires node { node < node_count wiring.now }
+    ensures { result ≡ heard_below wiring.now.channels (map kept_of lines.now) node executed (length wiring.now.channels) }
 {
+    let channels = wiring.channels();
+    let numbers = wiring.incoming(node);
     let mut all_in = true;
     let mut any_in = false;
     let mut all_ack = true;
-    for c in 0..channels.len() {
+    for i in 0..numbers.len() {
+        let c = numbers[i] as usize;
         let enough = has_delivered(&lines[c], executed);
         let brings = brings_data(&channels[c], node);
         let answers = brings_acks(&channels[c], node);

@@ -1,5 +1,7 @@
 // The miss of an execution.
-ghost use Rattle.std.specs.Prelude.{◌≡◌, ◌&&◌, ◌==◌, ◌^◌, ◌<◌, not, length, map};
+ghost use Rattle.std.specs.Prelude.{◌≡◌, ◌&&◌, ◌==◌, ◌<◌, not, length, map};
+ghost use Rattle.lt_arch.specs.declared.event.Deed.TheVariants.{Execute};
+ghost use Rattle.lt_arch.specs.Readers.{node_count, chan_count};
 ghost use Rattle.lt_audit.specs.Audit.{kept_of};
 ghost use Rattle.lt_audit.specs.Acts.{IsLowestOff, Notes, NotesFirst, is_data_to};
 
@@ -7,6 +9,7 @@ use crate::Miss;
 use crate::hearing::brings_data;
 use crate::line::Line;
 use lt_arch::{Chan, Deed};
+use lt_wiring::Wiring;
 
 fn is_off(channel: &Chan, line: &Line, node: u32, executed: u32) -> bool
     ensures { result ≡ (is_data_to channel.now node && not (line.now.delivered == executed)) }
@@ -15,44 +18,57 @@ fn is_off(channel: &Chan, line: &Line, node: u32, executed: u32) -> bool
 }
 
 // The lowest data channel to a node that has delivered another number of messages than this.
-fn lowest_off(channels: &[Chan], lines: &[Line], node: u32, executed: u32) -> Option<u32>
-    requires lines { length lines.now ≡ length channels.now }
-    requires size { length channels.now < 2 ^ 32 }
-    ensures { IsLowestOff channels.now (map kept_of lines.now) node executed result }
+fn lowest_off(wiring: &Wiring, lines: &[Line], node: u32, executed: u32) -> Option<u32>
+    requires lines { length lines.now ≡ chan_count wiring.now }
+    requires node { node < node_count wiring.now }
+    ensures { IsLowestOff wiring.now.channels (map kept_of lines.now) node executed result }
 {
-    for c in 0..channels.len() {
+    let channels = wiring.channels();
+    let numbers = wiring.incoming(node);
+    for i in 0..numbers.len() {
+        let ch = numbers[i];
+        let c = ch as usize;
         if is_off(&channels[c], &lines[c], node, executed) {
-            return Some(c as u32);
+            return Some(ch);
         }
     }
     None
 }
 
-// The miss of a node's deed, if it makes one, where the node has executed so many instants and the event has this number.
+// The miss of an execution, if it makes one, of a node that has executed so many instants, where the event has this number.
+fn miss_of(wiring: &Wiring, lines: &[Line], node: u32, executed: u32, number: u32) -> Option<Miss>
+    requires lines { length lines.now ≡ chan_count wiring.now }
+    requires node { node < node_count wiring.now }
+    ensures { Notes wiring.now.channels (map kept_of lines.now) node executed number Execute result }
+{
+    match lowest_off(wiring, lines, node, executed) {
+        None => None,
+        Some(channel) => Some(Miss {
+            event: number,
+            node,
+            instant: executed,
+            channel,
+            delivered: lines[channel as usize].delivered(),
+        }),
+    }
+}
+
+// The miss of a deed, if it makes one.
 fn missed(
-    channels: &[Chan],
+    wiring: &Wiring,
     lines: &[Line],
     node: u32,
     executed: u32,
     number: u32,
     deed: Deed,
 ) -> Option<Miss>
-    requires lines { length lines.now ≡ length channels.now }
-    requires size { length channels.now < 2 ^ 32 }
-    ensures { Notes channels.now (map kept_of lines.now) node executed number deed result }
+    requires lines { length lines.now ≡ chan_count wiring.now }
+    requires node { node < node_count wiring.now }
+    ensures { Notes wiring.now.channels (map kept_of lines.now) node executed number deed result }
 {
     match deed {
         Deed::Nothing => None,
-        Deed::Execute => match lowest_off(channels, lines, node, executed) {
-            None => None,
-            Some(channel) => Some(Miss {
-                event: number,
-                node,
-                instant: executed,
-                channel,
-                delivered: lines[channel as usize].delivered(),
-            }),
-        },
+        Deed::Execute => miss_of(wiring, lines, node, executed, number),
         Deed::Send => None,
     }
 }
@@ -60,19 +76,19 @@ fn missed(
 /// The first miss, if there was one before, or that of this deed.
 pub fn first_missed(
     first: Option<Miss>,
-    channels: &[Chan],
+    wiring: &Wiring,
     lines: &[Line],
     node: u32,
     executed: u32,
     number: u32,
     deed: Deed,
 ) -> Option<Miss>
-    requires lines { length lines.now ≡ length channels.now }
-    requires size { length channels.now < 2 ^ 32 }
-    ensures { NotesFirst channels.now (map kept_of lines.now) node executed number deed first result }
+    requires lines { length lines.now ≡ chan_count wiring.now }
+    requires node { node < node_count wiring.now }
+    ensures { NotesFirst wiring.now.channels (map kept_of lines.now) node executed number deed first result }
 {
     match first {
         Some(miss) => Some(miss),
-        None => missed(channels, lines, node, executed, number, deed),
+        None => missed(wiring, lines, node, executed, number, deed),
     }
 }

@@ -1,7 +1,7 @@
 // The messages that a deed sends.
 ghost use Rattle.std.specs.Prelude.{◌≡◌, ◌<◌, ◌≤◌, ◌+◌, ◌^◌, ℕ, true, Some, All, length, OnOk, slice_set};
 ghost use Rattle.lt_arch.specs.declared.limits.TheConstants.{GREATEST_TIME};
-ghost use Rattle.lt_arch.specs.Readers.{is_back_pressure};
+ghost use Rattle.lt_arch.specs.Readers.{node_count, chan_count, is_back_pressure};
 ghost use Rattle.lt_arch.specs.Step.{with_delivered, with_sent};
 ghost use Rattle.lt_arch.specs.Times.{sent_in};
 ghost use Rattle.lt_audit.specs.Audit.{kept_of, line_at, oldest};
@@ -11,18 +11,20 @@ use crate::hearing::carries_data;
 use crate::line::Line;
 use lt_arch::{Chan, Deed, Protocol, Watch};
 use lt_base::{Memory, Steps};
+use lt_wiring::Wiring;
 use std::sync::ledger::Ledger;
 
 /// Takes room for one more message on each channel from a node.
-pub fn make_room(channels: &[Chan], lines: &mut Vec<Line>, node: u32) -> Result<(), Memory>
-    requires { length lines.old.items ≡ length channels.now }
+pub fn make_room(wiring: &Wiring, lines: &mut Vec<Line>, node: u32) -> Result<(), Memory>
+    requires lines { length lines.old.items ≡ chan_count wiring.now }
+    requires node { node < node_count wiring.now }
     ensures same { SameLines lines.old.items lines.new.items }
-    ensures room { OnOk result (HasRoom channels.now lines.new.items node (length channels.now)) }
+    ensures room { OnOk result (HasRoom wiring.now.channels lines.new.items node (length wiring.now.channels)) }
 {
-    for c in 0..channels.len() {
-        if channels[c].from == node {
-            lines[c].make_room()?;
-        }
+    let numbers = wiring.outgoing(node);
+    for i in 0..numbers.len() {
+        let c = numbers[i] as usize;
+        lines[c].make_room()?;
     }
     Ok(())
 }
@@ -60,7 +62,7 @@ fn is_sent_on(protocol: Protocol, node: u32, deed: Deed, channel: &Chan) -> bool
 
 /// Sends on each channel on which a deed of a node sends, and tells the watch where no older message is in transit.
 pub fn send_all<L: Ledger>(
-    channels: &[Chan],
+    wiring: &Wiring,
     lines: &mut Vec<Line>,
     watch: &mut Watch,
     protocol: Protocol,
@@ -69,17 +71,21 @@ pub fn send_all<L: Ledger>(
     at: u64,
     steps: &mut Steps<L>,
 )
-    requires size { length channels.now < 2 ^ 32 }
-    requires lines { length lines.old.items ≡ length channels.now }
-    requires sends { length watch.old.sends ≡ length channels.now }
-    requires room { HasRoom channels.now lines.old.items node (length channels.now) }
-    requires oldest { (c : ℕ) → c < length channels.now → sent_in watch.old c ≡ oldest (line_at lines.old.items c).transit }
+    requires node { node < node_count wiring.now }
+    requires lines { length lines.old.items ≡ chan_count wiring.now }
+    requires sends { length watch.old.sends ≡ chan_count wiring.now }
+    requires room { HasRoom wiring.now.channels lines.old.items node (length wiring.now.channels) }
+    requires oldest { (c : ℕ) → c < chan_count wiring.now → sent_in watch.old c ≡ oldest (line_at lines.old.items c).transit }
     requires time { at ≤ GREATEST_TIME }
-    ensures { SentBelow (λ c. is_sent_on protocol node deed (chan_in channels.now c)) at (length channels.now) lines.old.items lines.new.items watch.old watch.new }
+    ensures { SentBelow (λ c. is_sent_on protocol node deed (chan_in wiring.now.channels c)) at (length wiring.now.channels) lines.old.items lines.new.items watch.old watch.new }
 {
-    for c in 0..channels.len() {
+    let channels = wiring.channels();
+    let numbers = wiring.outgoing(node);
+    for i in 0..numbers.len() {
+        let ch = numbers[i];
+        let c = ch as usize;
         if is_sent_on(protocol, node, deed, &channels[c]) {
-            send(&mut lines[c], watch, c as u32, at, steps);
+            send(&mut lines[c], watch, ch, at, steps);
         }
     }
 }

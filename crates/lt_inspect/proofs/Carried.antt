@@ -1,15 +1,15 @@
 -- What is right of a schedule's events, carried over to what is told of them.
-use Rattle.std.proofs.Common.{◌≡◌, ◌∙◌, ◌<◌, ◌≤◌, ℕ, List, length, map, min, Option, Some, None, Result, Ok, Err, IsTrue, refl, sym, ap, subst, arith, false}
+use Rattle.std.proofs.Common.{◌≡◌, ℕ, List, Option, Some, None, Result, Ok, Err, refl, sym, ap, subst, false}
 use Rattle.std.specs.Prelude.{IsErrAnd}
 use Rattle.lt_base.specs.declared.memory.Or.{Or}
 use Rattle.lt_base.specs.declared.memory.Or.TheVariants.{Fault, Memory}
 use Rattle.lt_arch.specs.declared.event.Event.{Event}
 use Rattle.lt_arch.specs.declared.shape.Shape.{Shape}
 use Rattle.lt_arch.specs.declared.timing.Timing.{Timing}
-use Rattle.lt_answer.specs.World.{World, IsCalm, Blames, Content}
+use Rattle.lt_answer.specs.World.{World, Blames, Content}
 use Rattle.lt_io.specs.Visits.{Errand}
 use Rattle.lt_io.proofs.Visiting.{visited_any}
-use Rattle.lt_answer.specs.Answered.{Answered, Verdict, Refuses, Settles, OrBlames}
+use Rattle.lt_answer.specs.Answered.{Answered, Verdict}
 use Rattle.lt_verdict.specs.Rules.{Raised}
 use Rattle.lt_judge.specs.declared.fault.ScheduleFault.{ScheduleFault}
 use Rattle.lt_judge.specs.declared.fault.ScheduleFault.TheVariants as schedule

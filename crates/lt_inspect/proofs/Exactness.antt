@@ -1,7 +1,6 @@
 -- Where a timing is accepted, a node that executes an instant has exactly its messages.
-use Rattle.std.proofs.Common.{◌≡◌, ◌∙◌, ℕ, ◌<◌, ◌≤◌, ◌==◌, ◌&&◌, Bool, true, false, if◌then◌else◌, List, [], ◌∷◌, ◌++◌, length, None, refl, sym, ap, subst, arith}
+use Rattle.std.proofs.Common.{◌≡◌, ◌∙◌, ℕ, ◌<◌, ◌≤◌, ◌==◌, ◌&&◌, Bool, true, false, if◌then◌else◌, List, [], ◌∷◌, ◌++◌, None, refl, sym, ap, subst, arith}
 use Rattle.std.proofs.lemmas.Bool.Decides.{Decides-eqb}
-use Rattle.lt_arch.specs.declared.event.Deed.{Deed}
 use Rattle.lt_arch.specs.declared.event.Deed.TheVariants.{Nothing, Execute, Send}
 use Rattle.lt_arch.specs.declared.event.Event.{Event}
 use Rattle.lt_arch.specs.declared.event.Event.TheVariants.{Act, Del, End}
@@ -12,7 +11,7 @@ use Rattle.lt_arch.specs.declared.timing.Protocol.{Protocol}
 use Rattle.lt_arch.specs.declared.timing.Protocol.TheVariants.{BackPressure, TimeBased}
 use Rattle.lt_arch.specs.State.{State, Phase, Wait, Ready, First, Sending, Executing, start, executed_of}
 use Rattle.lt_arch.specs.Readers.{chan_count, carries_data, to_of}
-use Rattle.lt_arch.specs.Deeds.{deed_of, deed_at, all_in, any_in, all_ack, more, data_to}
+use Rattle.lt_arch.specs.Deeds.{deed_of, deed_at, all_in, any_in, all_ack, more}
 use Rattle.lt_arch.specs.Schedule.{after_all, reached, HasNoOffence, IsOffenceFree, AreUpTo}
 use Rattle.lt_arch.specs.Shapes.{IsBackPressureShape, IsTimeBasedShape, HaveSameNodes}
 use Rattle.lt_arch.specs.Step.{after, offence_of}
@@ -22,7 +21,7 @@ use Rattle.lt_bp.specs.Laws as pressure
 use Rattle.lt_tb.specs.Laws as time
 use Rattle.lt_net.specs.Channels.{ShapesFit}
 use Rattle.lt_net.proofs.Uncounted.{IsUncounted, uncounted}
-use Rattle.lt_audit.specs.Misses.{Misses, HasNoMiss, IsExecution}
+use Rattle.lt_audit.specs.Misses.{Misses, HasNoMiss}
 use Rattle.lt_inspect.specs.Clean.{AcceptedIsClean}
 
 front_free : (s : Shape) (t : Timing) (rows : ℕ) (st : State) (front : List Event) (e : Event) (later : List Event) → HasNoOffence s t rows st (front ++ e ∷ later) →

@@ -1,6 +1,6 @@
 -- What taking a schedule file answers.
-use Rattle.std.proofs.Common.{◌≡◌, ◌∙◌, ◌<◌, ℕ, List, Bool, Option, Some, None, Result, Ok, Err, IsTrue, MatchResult, refl, sym, ap, subst, arith, true, false}
-use Rattle.std.specs.Prelude.{IsSome, OnOk}
+use Rattle.std.proofs.Common.{◌≡◌, ◌∙◌, ◌<◌, ℕ, List, Option, Some, None, Result, Ok, Err, IsTrue, refl, sym, ap, subst, arith, true, false}
+use Rattle.std.specs.Prelude.{IsSome}
 use Rattle.lt_base.specs.declared.memory.Or.{Or}
 use Rattle.lt_base.specs.declared.memory.Or.TheVariants.{Fault, Memory}
 use Rattle.lt_io.specs.FilesState.{FilesState, KeepsNames}

@@ -5,10 +5,8 @@ use Rattle.std.proofs.lemmas.Nat.{mul-le}
 use Rattle.lt_base.specs.declared.memory.Or.{Or}
 use Rattle.lt_base.specs.declared.memory.Or.TheVariants.{Fault, Memory}
 use Rattle.lt_arch.specs.declared.shape.Shape.{Shape}
-use Rattle.lt_arch.specs.declared.timing.Timing.{Timing}
 use Rattle.lt_answer.specs.Answered.{Refuses, Settles}
 use Rattle.lt_norm.specs.Flat.{Originated}
-use Rattle.lt_place.specs.declared.fault.PlaceFault.TheVariants.{UnknownName}
 use Rattle.lt_place.specs.declared.layout.Layout.{Layout}
 use Rattle.lt_place.specs.Layout.{IsLayoutOf, IsPlaced}
 use Rattle.lt_place.specs.Placement.{node_names}
@@ -17,16 +15,14 @@ use Rattle.lt_front.specs.Examined.{ExaminedText}
 use Rattle.lt_front.specs.Flattened.{flat_of}
 use Rattle.lt_config.specs.declared.config.Config.{Config}
 use Rattle.lt_load.specs.declared.fault.CommandFault.{CommandFault}
-use Rattle.lt_load.specs.declared.fault.CommandFault.TheVariants as fault
-use Rattle.lt_load.specs.Main.{main_in}
 use Rattle.lt_load.specs.Setups.{placed_verdict}
 use Rattle.lt_load.specs.Sites.{layout_verdict}
 use Rattle.lt_load.proofs.Steps.{err_settled}
 use Rattle.lt_inspect.specs.declared.region.Region.{Region}
 use Rattle.lt_inspect.specs.Clean.{AcceptedIsClean}
 use Rattle.lt_inspect.specs.Grounded.{IsGrounded}
-use Rattle.lt_inspect.specs.Regions.{name_verdict, node_verdict, IsRegionOf, region_verdict}
-use Rattle.lt_inspect.specs.Scenes.{IsNoNode, named_node, named_verdict, named_place_verdict}
+use Rattle.lt_inspect.specs.Regions.{node_verdict, region_verdict}
+use Rattle.lt_inspect.specs.Scenes.{named_node, named_verdict, named_place_verdict}
 
 module _ (checked : ExaminedText) (setup : Config) (node : Option (List ℕ)) where
   unplaced : (e : Or CommandFault) → Refuses (layout_verdict checked setup) e → Refuses (region_verdict checked setup node) e

@@ -4,11 +4,10 @@ use Rattle.std.specs.Prelude.{IsErrAnd}
 use Rattle.lt_base.specs.declared.memory.Or.{Or}
 use Rattle.lt_base.specs.declared.memory.Or.TheVariants.{Fault, Memory}
 use Rattle.lt_base.specs.Inputs.{InputTable}
-use Rattle.lt_base.specs.Program.{WholeProgram}
 use Rattle.lt_io.specs.FilesState.{FilesState}
-use Rattle.lt_answer.specs.World.{Content, alone}
+use Rattle.lt_answer.specs.World.{alone}
 use Rattle.lt_io.specs.Visits.{Errand}
-use Rattle.lt_answer.specs.Answered.{Answered, Verdict, AndThen, Refuses, Settles}
+use Rattle.lt_answer.specs.Answered.{Answered, Verdict, AndThen, Settles}
 use Rattle.lt_answer.proofs.Stages.{errands_all, widened, settles}
 use Rattle.lt_verdict.specs.Rules.{Exactly}
 use Rattle.lt_arch.specs.declared.shape.Shape.{Shape}
@@ -24,7 +23,7 @@ use Rattle.lt_load.proofs.OneCheck.{place_fault}
 use Rattle.lt_load.proofs.Steps.{Names, IsContent, content_then, refused_step, next_step, untouched}
 use Rattle.lt_inspect.specs.declared.region.Region.{Region}
 use Rattle.lt_inspect.specs.declared.scene.Scene.{Scene}
-use Rattle.lt_inspect.specs.Regions.{IsRegionOf, region_verdict}
+use Rattle.lt_inspect.specs.Regions.{region_verdict}
 use Rattle.lt_inspect.specs.Scenes.{IsSceneOf, Scened, named_verdict, named_place_verdict, placed_plan_verdict}
 
 scened_then : {T : Type 0} (node : Option (List ℕ)) (V : Verdict T CommandFault) (next : T → Verdict Plan CommandFault) (o : Result Scene CommandFault) → AndThen V (λ x. Scened node (next x)) o → Scened node (AndThen V next) o

@@ -1,10 +1,10 @@
 -- From what was loaded to what is told of a schedule.
-use Rattle.std.proofs.Common.{◌≡◌, ℕ, List, Option, Some, None, Result, Ok, Err, inl, inr, refl, sym, ap, subst, ◌++◌}
+use Rattle.std.proofs.Common.{◌≡◌, ℕ, List, Option, Result, Ok, Err, inl, inr, sym, subst, ◌++◌}
 use Rattle.std.specs.Prelude.{IsErrAnd}
 use Rattle.lt_base.specs.declared.memory.Or.{Or}
 use Rattle.lt_io.specs.FilesState.{FilesState}
 use Rattle.lt_arch.specs.declared.event.Event.{Event}
-use Rattle.lt_answer.specs.World.{World, alone}
+use Rattle.lt_answer.specs.World.{alone}
 use Rattle.lt_io.specs.Visits.{Errand}
 use Rattle.lt_judge.specs.Errand.{schedule_errand}
 use Rattle.lt_answer.specs.Answered.{Answered, Verdict, AndThen}
@@ -13,7 +13,7 @@ use Rattle.lt_load.specs.declared.fault.CommandFault.{CommandFault}
 use Rattle.lt_load.specs.Blamed.{command_blame}
 use Rattle.lt_load.specs.Plan.{Plan}
 use Rattle.lt_inspect.specs.declared.scene.Scene.{Scene}
-use Rattle.lt_inspect.specs.Scenes.{IsSceneOf, Scened}
+use Rattle.lt_inspect.specs.Scenes.{Scened}
 use Rattle.lt_inspect.specs.Inspected.{along_scene, along_verdict}
 
 module _ {T : Type 0} (end : Scene → List Event → T → Type 0) (node : Option (List ℕ)) (V : Verdict Plan CommandFault) (schedule : List ℕ) (a b : FilesState) where

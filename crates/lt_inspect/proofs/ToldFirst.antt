@@ -1,5 +1,5 @@
 -- What is told of an auditor is right of the events of its schedule.
-use Rattle.std.proofs.Common.{◌≡◌, ◌∙◌, ◌<◌, ◌≤◌, ◌-◌, ◌^◌, ℕ, List, length, map, min, Option, Some, None, Result, Ok, Err, refl, sym, ap, subst, arith}
+use Rattle.std.proofs.Common.{◌≡◌, ◌∙◌, ◌<◌, ◌≤◌, ◌-◌, ◌^◌, ℕ, List, length, map, Option, Some, None, Result, Ok, refl, sym, ap, subst, arith}
 use Rattle.std.proofs.Math.Nat.{min-eq_left, min-le_left}
 use Rattle.std.proofs.lemmas.List.{length-map}
 use Rattle.lt_arch.specs.declared.event.Event.{Event}
@@ -12,7 +12,6 @@ use Rattle.lt_arch.specs.Schedule.{first_offence, IsAdmissible, AreUpTo}
 use Rattle.lt_arch.proofs.Facts.{ends-of}
 use Rattle.lt_audit.proofs.DeedSeen.{is_to}
 use Rattle.lt_inspect.specs.Placed.{IsOfShape}
-use Rattle.lt_timing.specs.Accepts.{Accepts}
 use Rattle.lt_rows.specs.declared.fault.RowFault.{RowFault}
 use Rattle.lt_rows.specs.Rows.{rows_of}
 use Rattle.lt_judge.specs.Settled.{settled, event_in_row, read_event}

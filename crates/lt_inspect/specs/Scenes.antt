@@ -1,6 +1,5 @@
 -- What a schedule is judged over: all checks of a run but the acceptance of the timing.
 use Rattle.std.specs.Prelude.{◌≡◌, ℕ, List, length, Option, Some, None, Ok, Err, bytes_eq, position}
-use Rattle.lt_arch.specs.declared.timing.Timing.{Timing}
 use Rattle.lt_place.specs.declared.fault.PlaceFault.TheVariants.{UnknownName}
 use Rattle.lt_place.specs.declared.layout.Layout.{Layout}
 use Rattle.lt_place.specs.Layout.{IsLayoutOf}

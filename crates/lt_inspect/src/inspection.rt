@@ -15,14 +15,15 @@ use lt_arch::{Event, Offence, Shape, Timing};
 use lt_audit::{AuditFault, Auditor, Tap};
 use lt_base::{List, Memory, Steps};
 use lt_judge::{Replica, Stop};
-use lt_rows::{print_event, read_event};
+use lt_rows::{PlaceTable, print_event};
 use std::alloc::Global;
 use std::sync::ledger::Ledger;
 
-/// An auditor, and the rows of the events that a tap picks behind the header.
+/// An auditor with the names by which events are read, and the rows of the events that a tap picks behind the header.
 #[derive(Drop)]
 pub struct Inspection {
     pub auditor: Auditor,
+    places: PlaceTable,
     tap: Tap,
     text: List<u8>,
     alloc: Global,
@@ -46,9 +47,11 @@ impl Inspection {
         ensures selection { IfOk result (λ i. i.tap.selection ≡ tap.selection) }
     {
         let text = header(alloc)?;
+        let places = PlaceTable::new(alloc, &shape)?;
         let auditor = Auditor::start(alloc, shape, timing, rows)?;
         Ok(Inspection {
             auditor,
+            places,
             tap,
             text,
             alloc,
@@ -127,7 +130,7 @@ impl Replica<()> for Inspection {
         steps: &mut Steps<L>,
     ) -> Result<(), Stop<Offence>> {
         self.auditor.kept();
-        match read_event(line, self.auditor.shape()) {
+        match self.places.read_event(line, self.auditor.shape()) {
             Err(fault) => Err(Stop::Row(fault)),
             Ok(e) => match self.take(e, steps) {
                 Ok(()) => Ok(()),

@@ -5,7 +5,7 @@ ghost use Rattle.lt_answer.specs.Answered.{Answered};
 ghost use Rattle.lt_judge.specs.Errand.{schedule_errand};
 ghost use Rattle.lt_inspect.specs.Errands.{inspect_errands};
 ghost use Rattle.lt_load.specs.Blamed.{command_blame};
-ghost use Rattle.lt_inspect.specs.Inspected.{IsTraced, along_scene, trace_verdict};
+ghost use Rattle.lt_inspect.specs.Inspected.{IsTraced, along_scene, selection_of, trace_verdict};
 
 use crate::inspecting::inspect;
 use crate::inspection::Inspection;
@@ -54,13 +54,20 @@ fn trace_scene<F: Files>(
     ensures { Answered command_blame (schedule_errand schedule.now) (along_scene (IsTraced from to scene) scene ((F.state files.old).named schedule.now))
         (alone (F.state files.old)) (alone (F.state files.new)) result }
 {
-    let selection = Selection {
-        node: scene.node,
-        from,
-        to,
-    };
+    let selection = selection_of(&scene, from, to);
     let tap = Tap::new(selection, scene.shape.copy()?, selects);
     let mut inspection = Inspection::start(alloc, scene.shape, scene.timing, scene.rows, tap)?;
     inspect(alloc, files, schedule, &mut inspection)?;
     Ok(inspection.into_text())
+}
+
+// The events at the node that is named, or at all nodes, within these bounds of time.
+fn selection_of(scene: &Scene, from: u64, to: u64) -> Selection
+    ensures { result ≡ selection_of scene.now from to }
+{
+    Selection {
+        node: scene.node,
+        from,
+        to,
+    }
 }

@@ -23,7 +23,7 @@ returns g c =
     let j = c.inspect.new.inspection in
     let first = c.in_ok-inspection.ensures in
     traced k j.auditor j.tap.selection j.tap.shape j.text _ _ _ (c.inspect.ensures.shape ∙ first.shape) (c.inspect.ensures.timing ∙ first.timing) (c.inspect.ensures.rows ∙ first.rows) c.args.from c.args.to c.into_text.result c.into_text.ensures
-    (c.inspect.ensures.selection ∙ first.selection ∙ c.new-tap.ensures.selection)
+    (c.inspect.ensures.selection ∙ first.selection ∙ c.new-tap.ensures.selection ∙ c.selection_of-selection.ensures)
     (over_equals i.auditor.shape k.shape i.auditor.watch.timing k.timing i.auditor.rows k.rows first.shape first.timing first.rows (λ events done. IsInspected j.auditor j.tap.selection j.tap.shape j.text events) _ _ _ (Ok tt)
     c.in_ok-inspect.ensures.answered)
 
