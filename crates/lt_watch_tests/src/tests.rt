@@ -112,7 +112,7 @@ fn monitors_answer_as_defined(rt: HostRuntime) -> Result<(), Fail> {
     let alloc = rt.alloc();
     let main = three_outputs(alloc)?;
     let mut dice = SplitMix64::seed_from_u64(1);
-    for case in 0..400 {
+    for case in 0..1_000 {
         let found = difference(alloc, &main, &mut dice)?;
         assert!(rt; found.is_none(), "{found:?} in case {case}");
     }
