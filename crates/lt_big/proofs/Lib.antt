@@ -1,0 +1,5 @@
+pub mod Contents
+pub mod Alone
+pub mod Along
+pub mod Held
+pub mod Drawn

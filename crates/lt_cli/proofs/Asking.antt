@@ -1,5 +1,5 @@
 -- What a call does for its words.
-use Rattle.std.proofs.Common.{◌≡◌, ◌⊎◌, ℕ, List, [], ◌∷◌, ◌++◌, Option, Some, None, true, false, refl, sym, ◌∙◌, ap, subst, inl, inr}
+use Rattle.std.proofs.Common.{◌≡◌, ◌⊎◌, ℕ, List, [], ◌∷◌, ◌++◌, Option, Some, None, true, refl, sym, ◌∙◌, ap, subst, inl, inr}
 use Rattle.std.specs.Prelude.{option_map}
 use Rattle.lt_io.proofs.Visiting.{visited_none, unvisited}
 use Rattle.lt_io.specs.FabricState.{FabricState}
@@ -7,7 +7,7 @@ use Rattle.lt_io.specs.SinkState.{SinkState}
 use Rattle.lt_answer.specs.World.{World}
 use Rattle.lt_answer.proofs.Stages.{refuses, runs_short, calm_itself}
 use Rattle.lt_words.specs.declared.command.Command.{Command as Spoken}
-use Rattle.lt_words.specs.Reading.{Said, said_of, check, meaning, run, plan, sim, watch, audit, trace, command_of}
+use Rattle.lt_words.specs.Reading.{Said, said_of, check, meaning, run, plan, sim, big, watch, audit, trace, command_of}
 use Rattle.lt_cli.specs.declared.refusal.Refusal.TheVariants.{Words}
 use Rattle.lt_cli.specs.declared.status.Status.{Status}
 use Rattle.lt_cli.specs.declared.status.Status.TheVariants as status
@@ -27,6 +27,7 @@ leaves_itself (Some (meaning program inputs)) w = refl
 leaves_itself (Some (run program inputs schedule config)) w = tt
 leaves_itself (Some (plan config horizon)) w = refl
 leaves_itself (Some (sim program inputs config seed horizon)) w = refl
+leaves_itself (Some (big instants)) w = tt
 leaves_itself (Some (watch program inputs schedule observer config)) w = tt
 leaves_itself (Some (audit program inputs schedule config)) w = refl
 leaves_itself (Some (trace program inputs schedule config place from to)) w = refl

@@ -1,5 +1,5 @@
 -- All right outcomes of a command have one status.
-use Rattle.std.proofs.Common.{◌≡◌, ◌∙◌, ℕ, List, length, Bool, Option, Some, Result, Ok, Err, refl, sym, ap}
+use Rattle.std.proofs.Common.{◌≡◌, ◌∙◌, ◌≤◌, ℕ, arith, subst, List, length, Bool, Option, Result, Ok, Err, refl, sym, ap}
 use Rattle.std.specs.Prelude.{if◌then◌else◌}
 use Rattle.lt_answer.specs.World.{World}
 use Rattle.lt_front.specs.declared.fault.ProgramFault.{ProgramFault}
@@ -12,6 +12,11 @@ use Rattle.lt_run.specs.Run.{run_verdict}
 use Rattle.lt_run.proofs.OneRun.{meaning_decided as one_meaning, run_decided as one_run}
 use Rattle.lt_arch.specs.declared.shape.Shape.{Shape}
 use Rattle.lt_front.specs.Flattened.{flat_of}
+use Rattle.lt_io.specs.FabricState.{FabricState}
+use Rattle.lt_place.specs.declared.layout.Layout.{Layout}
+use Rattle.lt_rows.specs.Limits.{most_events}
+use Rattle.lt_run.specs.Run.{IsLaidOutBy}
+use Rattle.lt_big.specs.Big.{events_of, loaded_verdict, along_verdict, big_verdict}
 use Rattle.lt_inspect.specs.Inspected.{audit_verdict, trace_verdict}
 use Rattle.lt_load.specs.declared.fault.CommandFault.{CommandFault}
 use Rattle.lt_load.specs.Plan.{Plan}
@@ -70,6 +75,29 @@ unfolding sim_verdict
 sim_decided named program inputs config seed horizon =
     and_then fault_status (plain_load_verdict named program inputs config) _
     (plain_load_decided fault_status tells_limits (λ f g main main'. refl) (λ f g names names' mixed mixed'. refl) named program inputs config) (λ plan. drawn_decided seed horizon plan)
+
+-- the large input
+
+-- layouts of one plan have one shape
+same_shape : (plan : Plan) (l m : Layout) (s z : Shape) → IsLaidOutBy plan l s → IsLaidOutBy plan m z → z ≡ s
+same_shape plan l m s z laid other = one_shape (flat_of plan.checked.program) plan.setup.placement m l other.layout laid.layout plan.setup.pace plan.setup.timing z s other.shape laid.shape
+
+along_decided : (instants : ℕ) (fabric : FabricState) (plan : Plan) → HasOneKind fault_status (along_verdict instants fabric plan)
+unfolding along_verdict
+along_decided instants fabric plan = record {
+  one_kind = λ e f p q. ap fault_status (p.3.1 ∙ sym q.3.1);
+  not_both = λ e x p q.
+      let rows = length plan.inputs.rows in
+      let t = plan.setup.timing in
+      let few : length (events_of instants p.1 t rows) ≤ most_events = subst (λ (z : Shape). length (events_of instants z t rows) ≤ most_events) (same_shape plan p.0 q.0 p.1 q.1 p.2 q.2) q.3.few in
+      omega (arith, few, p.3.0);
+}
+
+pub big_decided : (instants : ℕ) (fabric : FabricState) → HasOneKind fault_status (big_verdict instants fabric)
+unfolding big_verdict loaded_verdict
+big_decided instants fabric =
+    and_then fault_status (loaded_verdict instants) (λ plan. along_verdict instants fabric plan)
+    (plain_load_decided fault_status tells_limits (λ f g main main'. refl) (λ f g names names' mixed mixed'. refl) _ _ _ _) (λ plan. along_decided instants fabric plan)
 
 pub audit_decided : (named : List ℕ → Option (List ℕ)) (program inputs schedule config : List ℕ) → HasOneKind fault_status (audit_verdict named program inputs schedule config)
 audit_decided named program inputs schedule config = audit_once fault_status tells_limits (λ f g main main'. refl) named program inputs schedule config

@@ -1,29 +1,25 @@
 -- A drawn schedule, from what was loaded and what was written.
-use Rattle.std.proofs.Common.{◌≡◌, ℕ, ◌<◌, ◌≤◌, nat_lt, Bool, true, false, List, [], ◌∷◌, ◌++◌, length, Option, Some, Result, Ok, Err, refl, sym, ◌∙◌, ap, subst, arith, inl, inr}
+use Rattle.std.proofs.Common.{◌≡◌, ℕ, ◌<◌, ◌≤◌, nat_lt, Bool, true, false, List, [], ◌∷◌, ◌++◌, length, Option, Some, Result, Ok, Err, refl, sym, ◌∙◌, subst, arith, inl, inr}
 use Rattle.std.specs.Prelude.{if◌then◌else◌}
 use Rattle.lt_base.specs.declared.memory.Or.{Or}
 use Rattle.lt_base.specs.declared.memory.Or.TheVariants.{Fault, Memory}
 use Rattle.lt_arch.specs.declared.event.Event.{Event}
-use Rattle.lt_arch.specs.declared.shape.Shape.{Shape}
 use Rattle.lt_arch.specs.declared.timing.Timing.{Timing}
-use Rattle.lt_io.specs.Visits.{Errand, Visited}
-use Rattle.lt_io.proofs.Visiting.{visited_any}
+use Rattle.lt_io.specs.Visits.{Errand}
 use Rattle.lt_io.specs.FilesState.{FilesState}
 use Rattle.lt_io.specs.FabricState.{FabricState}
 use Rattle.lt_io.specs.SinkState.{SinkState, KeepsSink}
-use Rattle.lt_answer.specs.World.{World, IsCalm, alone}
+use Rattle.lt_answer.specs.World.{IsCalm, alone}
 use Rattle.lt_answer.specs.Answered.{Answered, RefusesReading}
 use Rattle.lt_answer.proofs.Stages.{beside}
 use Rattle.lt_config.specs.declared.pace.Pace.{Pace}
 use Rattle.lt_lead.specs.Paced.{IsShapeBy}
 use Rattle.lt_play.specs.Played.{world}
-use Rattle.lt_replay.specs.Sound.{IsSound, AreSound}
 use Rattle.lt_load.specs.Blamed.{command_blame}
 use Rattle.lt_load.specs.declared.fault.CommandFault.{CommandFault}
 use Rattle.lt_load.specs.Errands.{load_errands}
-use Rattle.lt_load.specs.Plan.{LoadedPlan, IsLoaded, IsLoadedFrom, Plan, Loads}
+use Rattle.lt_load.specs.Plan.{LoadedPlan, IsLoadedFrom, Plan, Loads}
 use Rattle.lt_load.specs.Pacing.{plain_load_verdict}
-use Rattle.lt_run.specs.Run.{IsLaidOutBy}
 use Rattle.lt_sim.specs.Drawn.{drawn}
 use Rattle.lt_sim.specs.File.{file_text, text_of}
 use Rattle.lt_sim.specs.Recorded.{IsRecorded, IsBroken, IsTooMany, TakesFront}
@@ -35,7 +31,7 @@ use Rattle.lt_cli.specs.Blamed.{blame_of}
 use Rattle.lt_cli.specs.Texts.{status_of, refusal_status, line_of, drawing_text}
 use Rattle.lt_cli.specs.Written.{Written}
 use Rattle.lt_cli.specs.Objects.{Objects, world_of}
-use Rattle.lt_cli.specs.Draws.{Drawing, limited, too_many, drawing, plan_drawn_verdict, sim_verdict}
+use Rattle.lt_cli.specs.Draws.{Drawing, too_many, drawing, plan_drawn_verdict, sim_verdict}
 use Rattle.lt_cli.specs.Commands.{text_verdict}
 use Rattle.lt_cli.specs.Ran.{Reported, OutcomeBlames}
 use Rattle.lt_cli.specs.Ran.{printed, both_whole, out_broke, err_broke, both_short}
@@ -200,10 +196,6 @@ module _ (k : LoadedPlan) (seed horizon : ℕ) (o o' e : SinkState) where
         reported = λ f f' w w'. line_reported (world f w) (world f' w') (Command too_many) o e e' ends line.reaches;
       } in
       subst (λ (b : Bool). Reports b e' ends) (sym (many_limited (length events) is.many)) (subst (λ (s : SinkState). IsReported (outcome_by true) o s e e' ends) (sym is.unchanged) untaken)
-
--- a loaded program's nodes can be drawn for
-pub loaded_sound : (k : LoadedPlan) → IsLoaded k → AreSound → IsSound k.layout k.shape k.timing (length k.inputs.rows)
-loaded_sound k kept sound = sound k.checked.flat k.layout k.shape k.timing (length k.inputs.rows) kept.placed (k.pace, kept.paced) kept.timed kept.accepted
 
 -- what was recorded of a loaded plan, seen as its type shows it
 

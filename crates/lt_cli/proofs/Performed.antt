@@ -6,7 +6,8 @@ use Rattle.lt_load.specs.Loaded.{config_verdict}
 use Rattle.lt_load.specs.Setups.{check_verdict}
 use Rattle.lt_run.specs.Meaning.{meaning_verdict}
 use Rattle.lt_run.specs.Run.{run_verdict}
-use Rattle.lt_words.specs.Reading.{Said, check, meaning, run, plan, sim, watch, audit, trace, command_of}
+use Rattle.lt_words.specs.Reading.{Said, check, meaning, run, plan, sim, big, watch, audit, trace, command_of}
+use Rattle.lt_big.specs.Big.{big_verdict}
 use Rattle.lt_inspect.specs.Inspected.{audit_verdict, trace_verdict}
 use Rattle.lt_watch.specs.declared.fault.WatchFault.TheVariants as watched
 use Rattle.lt_watch.specs.Watch.{watch_verdict}
@@ -16,10 +17,10 @@ use Rattle.lt_cli.specs.Draws.{sim_verdict}
 use Rattle.lt_cli.specs.Texts.{drawing_text, watched_text, audited_text}
 use Rattle.lt_cli.specs.declared.status.Status.{Status}
 use Rattle.lt_cli.specs.declared.status.Status.TheVariants as status
-use Rattle.lt_cli.specs.Commands.{checked_text, printed_text, watch_refusal, command_verdict, words_verdict}
+use Rattle.lt_cli.specs.Commands.{checked_text, printed_text, summarized_text, watch_refusal, command_verdict, words_verdict}
 use Rattle.lt_cli.specs.Objects.{Objects, IsQuiet, Tells, world_of}
 use Rattle.lt_cli.specs.Asked.{Asked}
-use Rattle.lt_cli.specs.RunShown.{IsRunShown}
+use Rattle.lt_cli.specs.RunShown.{IsRunShown, IsBigShown}
 use Rattle.lt_cli.specs.Clauses.{Performs, IsExact, IsExactFor, IsMissingExact, IsMissingFor}
 use Rattle.lt_cli.proofs.Gave.{Gave, gave}
 use Rattle.lt_cli.proofs.Facts.{words_exact, asked_gave}
@@ -27,8 +28,8 @@ use Rattle.lt_cli.proofs.Exact.{exact_for}
 use Rattle.lt_cli.proofs.Causes.{outside_caused, write_caused, missing_exact, missing_for, asked_ran, left_fabric}
 use Rattle.lt_cli.proofs.Refusals.{watch_reads}
 use Rattle.lt_cli.proofs.Failed.{call_failed}
-use Rattle.lt_cli.proofs.Shown.{run_shown}
-use Rattle.lt_cli.proofs.Decided.{check_decided, meaning_decided, run_decided, plan_decided, sim_decided, watched_decided, audit_decided, trace_decided}
+use Rattle.lt_cli.proofs.Shown.{run_shown, big_shown}
+use Rattle.lt_cli.proofs.Decided.{check_decided, meaning_decided, run_decided, plan_decided, sim_decided, big_decided, watched_decided, audit_decided, trace_decided}
 
 module _ (asked : List (List ℕ)) (old new : Objects) (ends : Status) (did : Asked asked old new ends) where
   -- what was printed for the command that the words say
@@ -67,6 +68,16 @@ module _ (asked : List (List ℕ)) (old new : Objects) (ends : Status) (did : As
   sim_exact program inputs config seed horizon is tells quiet enough =
       exact_for (λ f. Command f) drawing_text (sim_verdict old.files.named program inputs config seed horizon) (sim_decided old.files.named program inputs config seed horizon) old new ends
       (given (sim program inputs config seed horizon) is tells quiet enough)
+
+  big_exact : (instants : ℕ) → command_of asked ≡ Some (big instants) → Tells old → IsQuiet old new → ends ≢ status.Memory
+      → IsExact (summarized_text instants) (big_verdict instants new.fabric) old new ends
+  big_exact instants is tells quiet enough =
+      exact_for (λ f. Command f) (summarized_text instants) (big_verdict instants new.fabric) (big_decided instants new.fabric) old new ends (given (big instants) is tells quiet enough)
+
+  shown_big : (instants : ℕ) → command_of asked ≡ Some (big instants) → Tells old → IsQuiet old new → ends ≡ status.Ok → IsBigShown instants old new
+  shown_big instants is tells quiet at =
+      let printed = (big_exact instants is tells quiet (λ none. let wrong : status.Ok ≡ status.Memory = sym at ∙ none in cc)).text at in
+      big_shown instants old new printed.0 printed.2 printed.1
 
   watch_exact : (program inputs schedule observer : List ℕ) (config : Option (List ℕ)) → command_of asked ≡ Some (watch program inputs schedule observer config) → Tells old → IsQuiet old new → ends ≢ status.Memory
       → IsExactFor watch_refusal watched_text (watch_verdict old.files.named program inputs schedule observer config (world_of new)) old new ends
@@ -154,10 +165,12 @@ module _ (asked : List (List ℕ)) (old new : Objects) (ends : Status) (did : As
       run = run_exact;
       plan = plan_exact;
       sim = sim_exact;
+      big = big_exact;
       watch = watch_exact;
       audit = audit_exact;
       trace = trace_exact;
       run_shown = shown;
+      big_shown = shown_big;
       outside = λ at. outside_caused (words_verdict old.files.named (world_of new) asked) old new ends did.ran at;
       failed = λ rose. call_failed old new (words_verdict old.files.named (world_of new) asked) ends did.ran rose;
       write = λ at. write_caused (words_verdict old.files.named (world_of new) asked) old new ends did.ran at;

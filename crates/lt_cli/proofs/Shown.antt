@@ -25,10 +25,12 @@ use Rattle.lt_run.specs.Main.{output_streams}
 use Rattle.lt_load.specs.Plan.{Plan, load_verdict}
 use Rattle.lt_run.specs.declared.outputs.Outputs.{Outputs}
 use Rattle.lt_run.specs.Run.{Shows, along_verdict, ordered_verdict, run_verdict}
-use Rattle.lt_cli.specs.Commands.{printed_text}
+use Rattle.lt_big.specs.Big as big
+use Rattle.lt_big.specs.Big.{big_verdict, loaded_verdict, events_of}
+use Rattle.lt_cli.specs.Commands.{printed_text, summarized_text}
 use Rattle.lt_cli.specs.Objects.{Objects, world_of}
 use Rattle.lt_cli.specs.Taken.{TookText}
-use Rattle.lt_cli.specs.RunShown.{IsOutputShown, IsRunShown}
+use Rattle.lt_cli.specs.RunShown.{IsOutputShown, IsRunShown, IsBigShown}
 
 -- a schedule file that is played to its end reads as events
 record HasRead {T : Type 0} (end : List Event → T → Type 0) (s : Shape) (t : Timing) (rows : ℕ) (file : Option (List ℕ)) (x : T) : Type 0 where
@@ -106,3 +108,31 @@ module _ (named : List ℕ → Option (List ℕ)) (program inputs schedule : Lis
   pub run_shown : run_verdict named program inputs schedule config (world_of new) (Ok printed) → IsRunShown named program inputs schedule config old new
   unfolding ordered_verdict
   run_shown right = steps_shown right
+
+-- the large input
+
+module _ (instants : ℕ) (old new : Objects) (printed : Outputs) (text : TookText (summarized_text instants printed) old new) where
+  big_along : (p : Plan) → loaded_verdict instants (Ok p) → big.along_verdict instants new.fabric p (Ok printed) → IsBigShown instants old new
+  unfolding big.along_verdict
+  big_along p loaded (l, s, site, list) = record {
+    plan = p;
+    loaded = loaded;
+    layout = l;
+    laid = site.layout;
+    shape = s;
+    shaped = site.shape;
+    few = list.few;
+    printed = printed;
+    text = text;
+    shows = list.shows;
+    at_horizon = list.at_horizon;
+    outputs = output_shown p l s new.fabric (events_of instants s p.setup.timing (length p.inputs.rows)) printed site.shape site.layout list.shows;
+  }
+
+  big_steps : AndThen (loaded_verdict instants) (λ plan. big.along_verdict instants new.fabric plan) (Ok printed) → IsBigShown instants old new
+  big_steps (inl refused) = absurd refused
+  big_steps (inr (p, loaded, played)) = big_along p loaded played
+
+  pub big_shown : big_verdict instants new.fabric (Ok printed) → IsBigShown instants old new
+  unfolding big_verdict
+  big_shown right = big_steps right

@@ -8,7 +8,7 @@ use Rattle.lt_io.specs.FilesState.{FilesState}
 use Rattle.lt_io.specs.SinkState.{SinkState, KeepsSink}
 use Rattle.lt_answer.specs.World.{World}
 use Rattle.lt_answer.specs.Answered.{Verdict, Answered}
-use Rattle.lt_words.specs.Reading.{Said, check, meaning, run, plan, sim, watch, audit, trace, command_of}
+use Rattle.lt_words.specs.Reading.{Said, check, meaning, run, plan, sim, big, watch, audit, trace, command_of}
 use Rattle.lt_load.specs.declared.fault.CommandFault.{CommandFault}
 use Rattle.lt_load.specs.Plan.{LoadedPlan}
 use Rattle.lt_cli.specs.declared.refusal.Refusal.{Refusal}
@@ -32,7 +32,7 @@ IsOfCommand (Err (Fault ObserverBytes)) = Unit {0}
 IsOfCommand (Err (Fault (Observer fault))) = Unit {0}
 IsOfCommand (Err Memory) = Unit {0}
 
--- only a run touches the fabric, watched or not
+-- only a run touches the fabric, watched or not, or that of the large input
 abbrev pub LeavesFabric : Option Said → (old new : FabricState) → Type 0
 LeavesFabric None old new = new ≡ old
 LeavesFabric (Some (check program config)) old new = new ≡ old
@@ -40,6 +40,7 @@ LeavesFabric (Some (meaning program inputs)) old new = new ≡ old
 LeavesFabric (Some (run program inputs schedule config)) old new = Unit {0}
 LeavesFabric (Some (plan config horizon)) old new = new ≡ old
 LeavesFabric (Some (sim program inputs config seed horizon)) old new = new ≡ old
+LeavesFabric (Some (big instants)) old new = Unit {0}
 LeavesFabric (Some (watch program inputs schedule observer config)) old new = Unit {0}
 LeavesFabric (Some (audit program inputs schedule config)) old new = new ≡ old
 LeavesFabric (Some (trace program inputs schedule config place from to)) old new = new ≡ old

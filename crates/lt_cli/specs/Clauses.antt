@@ -15,13 +15,14 @@ use Rattle.lt_load.specs.Loaded.{config_verdict}
 use Rattle.lt_load.specs.Setups.{check_verdict}
 use Rattle.lt_run.specs.Meaning.{meaning_verdict}
 use Rattle.lt_run.specs.Run.{run_verdict}
+use Rattle.lt_big.specs.Big.{big_verdict}
 use Rattle.lt_inspect.specs.Inspected.{audit_verdict, trace_verdict}
 use Rattle.lt_watch.specs.declared.fault.WatchFault.TheVariants as watched
 use Rattle.lt_watch.specs.Watch.{watch_verdict}
 use Rattle.lt_cli.specs.Draws.{sim_verdict}
-use Rattle.lt_cli.specs.Commands.{checked_text, printed_text, watch_refusal, words_verdict}
+use Rattle.lt_cli.specs.Commands.{checked_text, printed_text, summarized_text, watch_refusal, words_verdict}
 use Rattle.lt_cli.specs.Taken.{TookLine, TookText}
-use Rattle.lt_cli.specs.RunShown.{IsRunShown}
+use Rattle.lt_cli.specs.RunShown.{IsRunShown, IsBigShown}
 use Rattle.lt_cli.specs.Objects.{Objects, IsQuiet, Tells, world_of}
 use Rattle.lt_cli.specs.Ran.{Ran}
 use Rattle.lt_cli.specs.Asked.{EndsBySaid, VisitsFiles}
@@ -78,7 +79,7 @@ IsWriteCaused old new =
 -- what holds of a call of `ltta` that is asked for this by its words
 pub record Performs (asked : List (List ℕ)) (old new : Objects) (ends : Status) : Type 0 where
   -- the status says that the words are wrong only where they say no command, and then none but those of a failed write and of want
-  -- of memory comes in its place; only a run touches the fabric
+  -- of memory comes in its place; only a run touches the fabric, and that of the large input
   pub by_said : EndsBySaid (command_of asked) old new ends
   -- whether or not the files tell their bytes: the command's files are opened in their order, each once, and no more of each is read than
   -- its limit and what shows that it is passed
@@ -95,6 +96,8 @@ pub record Performs (asked : List (List ℕ)) (old new : Objects) (ends : Status
       → IsExact (λ setup. plan_of setup horizon) (config_verdict (old.files.named config)) old new ends
   pub sim : (program inputs config : List ℕ) (seed horizon : ℕ) → command_of asked ≡ Some (said.sim program inputs config seed horizon) → Tells old → IsQuiet old new → ends ≢ status.Memory
       → IsExact drawing_text (sim_verdict old.files.named program inputs config seed horizon) old new ends
+  pub big : (instants : ℕ) → command_of asked ≡ Some (said.big instants) → Tells old → IsQuiet old new → ends ≢ status.Memory
+      → IsExact (summarized_text instants) (big_verdict instants new.fabric) old new ends
   pub watch : (program inputs schedule observer : List ℕ) (config : Option (List ℕ)) → command_of asked ≡ Some (said.watch program inputs schedule observer config) → Tells old → IsQuiet old new → ends ≢ status.Memory
       → IsExactFor watch_refusal watched_text (watch_verdict old.files.named program inputs schedule observer config (world_of new)) old new ends
   pub audit : (program inputs schedule config : List ℕ) → command_of asked ≡ Some (said.audit program inputs schedule config) → Tells old → IsQuiet old new → ends ≢ status.Memory
@@ -104,6 +107,9 @@ pub record Performs (asked : List (List ℕ)) (old new : Objects) (ends : Status
   -- what a run shows that ended well, fact by fact
   pub run_shown : (program inputs schedule : List ℕ) (config : Option (List ℕ)) → command_of asked ≡ Some (said.run program inputs schedule config) → Tells old → IsQuiet old new → ends ≡ status.Ok
       → IsRunShown old.files.named program inputs schedule config old new
+  -- the same of a run of the large input
+  pub big_shown : (instants : ℕ) → command_of asked ≡ Some (said.big instants) → Tells old → IsQuiet old new → ends ≡ status.Ok
+      → IsBigShown instants old new
   -- what a status says of the outside
   pub outside : ends ≡ status.Outside → IsOutsideCaused old new
   pub failed : HasCallFailed old new → IsOfFailure ends

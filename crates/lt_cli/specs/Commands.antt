@@ -3,7 +3,7 @@ use Rattle.std.specs.Prelude.{◌≡◌, ℕ, List, [], Option, Some, None, Err}
 use Rattle.lt_print.specs.Canonical.{canonical}
 use Rattle.lt_front.specs.Examined.{ExaminedText}
 use Rattle.lt_plan.specs.Text.{plan_of}
-use Rattle.lt_words.specs.Reading.{Said, check, meaning, run, plan, sim, audit, trace, command_of}
+use Rattle.lt_words.specs.Reading.{Said, check, meaning, run, plan, sim, big, audit, trace, command_of}
 use Rattle.lt_words.specs.Reading as said
 use Rattle.lt_io.specs.Visits.{Errand}
 use Rattle.lt_answer.specs.Answered.{Verdict}
@@ -17,6 +17,7 @@ use Rattle.lt_run.specs.declared.outputs.Outputs.{Outputs}
 use Rattle.lt_run.specs.Errands.{meaning_errands, run_errands}
 use Rattle.lt_run.specs.Meaning.{meaning_verdict}
 use Rattle.lt_run.specs.Run.{run_verdict}
+use Rattle.lt_big.specs.Big.{big_verdict}
 use Rattle.lt_inspect.specs.Errands.{inspect_errands}
 use Rattle.lt_inspect.specs.Inspected.{audit_verdict, trace_verdict}
 use Rattle.lt_watch.specs.Errands.{watch_errands}
@@ -26,7 +27,7 @@ use Rattle.lt_watch.specs.Watch.{watch_verdict}
 use Rattle.lt_cli.specs.declared.refusal.Refusal.{Refusal}
 use Rattle.lt_cli.specs.declared.refusal.Refusal.TheVariants.{Words, Command, ObserverBytes, Observer}
 use Rattle.lt_cli.specs.Draws.{sim_verdict}
-use Rattle.lt_cli.specs.Texts.{outputs_text, watched_text, audited_text, drawing_text}
+use Rattle.lt_cli.specs.Texts.{outputs_text, summary_text, watched_text, audited_text, drawing_text}
 
 -- the text of what a command gives, or its refusal
 abbrev pub answer_verdict : {T E : Type 0} → (E → Refusal) → (T → List ℕ) → Verdict T E → Verdict (List ℕ) Refusal
@@ -49,6 +50,10 @@ checked_text checked = canonical checked.tree
 abbrev pub printed_text : Outputs → List ℕ
 printed_text printed = outputs_text printed.names printed.cells
 
+-- how many cells the outputs have after a run of so many instants, and the last of them
+abbrev pub summarized_text : (instants : ℕ) → Outputs → List ℕ
+summarized_text instants printed = summary_text instants printed.names printed.cells
+
 -- a command on these files; that of a run says what the fabric holds when it has ended, and how far the schedule was read
 abbrev pub command_verdict : (named : List ℕ → Option (List ℕ)) → (new : World) → Said → Verdict (List ℕ) Refusal
 command_verdict named new (check program config) = text_verdict checked_text (check_verdict named program config)
@@ -56,17 +61,19 @@ command_verdict named new (meaning program inputs) = text_verdict printed_text (
 command_verdict named new (run program inputs schedule config) = text_verdict printed_text (run_verdict named program inputs schedule config new)
 command_verdict named new (plan config horizon) = text_verdict (λ setup. plan_of setup horizon) (config_verdict (named config))
 command_verdict named new (sim program inputs config seed horizon) = text_verdict drawing_text (sim_verdict named program inputs config seed horizon)
+command_verdict named new (big instants) = text_verdict (summarized_text instants) (big_verdict instants new.fabric)
 command_verdict named new (said.watch program inputs schedule observer config) = answer_verdict watch_refusal watched_text (watch_verdict named program inputs schedule observer config new)
 command_verdict named new (audit program inputs schedule config) = text_verdict audited_text (audit_verdict named program inputs schedule config)
 command_verdict named new (trace program inputs schedule config node from to) = text_verdict (λ text. text) (trace_verdict named program inputs schedule config node from to)
 
--- the files of a command, in their order, and how far each may be read
+-- the files of a command, in their order, and how far each may be read; the large input is in none
 abbrev pub said_errands : Said → List Errand
 said_errands (check program config) = check_errands program config
 said_errands (meaning program inputs) = meaning_errands program inputs
 said_errands (run program inputs schedule config) = run_errands program inputs schedule config
 said_errands (plan config horizon) = config_errand config
 said_errands (sim program inputs config seed horizon) = load_errands program inputs (Some config)
+said_errands (big instants) = []
 said_errands (said.watch program inputs schedule observer config) = watch_errands program inputs schedule observer config
 said_errands (audit program inputs schedule config) = inspect_errands program inputs schedule config
 said_errands (trace program inputs schedule config place from to) = inspect_errands program inputs schedule config

@@ -21,7 +21,9 @@ use Rattle.lt_run.specs.Main.{output_streams}
 use Rattle.lt_load.specs.Plan.{Plan, load_verdict}
 use Rattle.lt_run.specs.declared.outputs.Outputs.{Outputs}
 use Rattle.lt_run.specs.Run.{Shows}
-use Rattle.lt_cli.specs.Commands.{printed_text}
+use Rattle.lt_big.specs.Texts.{horizon_of}
+use Rattle.lt_big.specs.Big.{loaded_verdict, events_of}
+use Rattle.lt_cli.specs.Commands.{printed_text, summarized_text}
 use Rattle.lt_cli.specs.Objects.{Objects}
 use Rattle.lt_cli.specs.Taken.{TookText}
 
@@ -59,3 +61,26 @@ pub record IsRunShown (named : List ℕ → Option (List ℕ)) (program inputs s
   -- of each output, on its node
   pub outputs : (y n x : ℕ) → y < length layout.outs → n < length layout.nodes → Gives (part_of layout n) (slice_index_or layout.outs y 0) x →
       IsOutputShown plan.checked.program layout shape plan.setup.timing plan.setup.pace plan.inputs.rows new.fabric events shows.told.run.lists.got shows.horizon y n x (slice_index_or printed.cells y [])
+
+-- a run of the large input for so many instants ended well
+pub record IsBigShown (instants : ℕ) (old new : Objects) : Type 0 where
+  -- the program, the setup and the rows of inputs that its texts are
+  pub plan : Plan
+  pub loaded : loaded_verdict instants (Ok plan)
+  -- the nodes with their parts of the program, and the channels between them
+  pub layout : Layout
+  pub laid : IsLayoutOf (flat_of plan.checked.program) plan.setup.placement layout
+  pub shape : Shape
+  pub shaped : IsShapeBy layout plan.setup.pace plan.setup.timing shape
+  -- the list that is drawn for it is no longer than a schedule may be
+  pub few : length (events_of instants shape plan.setup.timing (length plan.inputs.rows)) ≤ 5000000
+  -- `out` took how many cells the outputs have and the last of them, and `err` nothing
+  pub printed : Outputs
+  pub text : TookText (summarized_text instants printed) old new
+  -- what the fabric holds and tells after the list, and what the nodes were given
+  pub shows : Shows plan.checked.program layout shape plan.setup.timing plan.inputs.rows new.fabric (events_of instants shape plan.setup.timing (length plan.inputs.rows)) printed
+  -- which ends at the horizon of so many instants
+  pub at_horizon : shows.horizon ≡ horizon_of instants
+  -- of each output, on its node
+  pub outputs : (y n x : ℕ) → y < length layout.outs → n < length layout.nodes → Gives (part_of layout n) (slice_index_or layout.outs y 0) x →
+      IsOutputShown plan.checked.program layout shape plan.setup.timing plan.setup.pace plan.inputs.rows new.fabric (events_of instants shape plan.setup.timing (length plan.inputs.rows)) shows.told.run.lists.got shows.horizon y n x (slice_index_or printed.cells y [])

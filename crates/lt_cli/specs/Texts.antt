@@ -1,5 +1,5 @@
 -- What is printed: the lines of refusals, and the text of outputs.
-use Rattle.std.specs.Prelude.{ℕ, true, false, List, [], ◌++◌, ◌∷◌, codes, zip, Option, Some, None, Result, Ok, Err, if◌then◌else◌}
+use Rattle.std.specs.Prelude.{ℕ, true, false, List, [], ◌++◌, ◌∷◌, codes, zip, length, slice_get, ◌-◌, Option, Some, None, Result, Ok, Err, if◌then◌else◌}
 use Rattle.std.specs.List.{flat_map}
 use Rattle.std.specs.Fmt.{decimal, signed_decimal}
 use Rattle.lt_arch.specs.declared.shape.Shape.{Shape}
@@ -53,7 +53,7 @@ fault_line fault.Link = codes "fault: link"
 
 abbrev pub line_of : Refusal → List ℕ
 line_of Words =
-    codes "words: usage: ltta check P [C] | meaning P I | run P I S [C] | plan C [--horizon H] | sim P I C --seed N --horizon H | watch P I S O [C] | audit P I S C | trace P I S C [--node NAME] [--from T] [--to T]"
+    codes "words: usage: ltta check P [C] | meaning P I | run P I S [C] | plan C [--horizon H] | sim P I C --seed N --horizon H | big N | watch P I S O [C] | audit P I S C | trace P I S C [--node NAME] [--from T] [--to T]"
 line_of (Command f) = fault_line f
 line_of ObserverBytes = codes "limit: observer bytes 65536"
 line_of (Observer f) = observer_line f
@@ -122,6 +122,23 @@ output_line name cells = name ++ 58 ∷ cells_text cells ++ 10 ∷ []
 -- a line for each output, in order
 abbrev pub outputs_text : List (List ℕ) → List (List Cell) → List ℕ
 outputs_text names cells = flat_map (λ output. output_line output.0 output.1) (zip names cells)
+
+-- a space and the last of some cells, and nothing where there is none
+abbrev pub last_text : Option Cell → List ℕ
+last_text None = []
+last_text (Some cell) = 32 ∷ cell_text cell
+
+-- an output's name, a space, the number of its cells, the last of them and a line feed
+abbrev pub summary_line : List ℕ → List Cell → List ℕ
+summary_line name cells = name ++ 32 ∷ decimal (length cells) ++ last_text (slice_get cells (length cells - 1)) ++ 10 ∷ []
+
+-- such a line for each output, in order
+abbrev pub summary_lines : List (List ℕ) → List (List Cell) → List ℕ
+summary_lines names cells = flat_map (λ output. summary_line output.0 output.1) (zip names cells)
+
+-- the number of instants before them
+abbrev pub summary_text : (instants : ℕ) → List (List ℕ) → List (List Cell) → List ℕ
+summary_text instants names cells = codes "instants " ++ decimal instants ++ 10 ∷ summary_lines names cells
 
 -- what an observer makes of a run
 abbrev pub watched_text : Watched → List ℕ

@@ -1,5 +1,6 @@
 // What is printed for a command.
 ghost use Rattle.std.specs.Prelude.{◌≡◌, ◌<◌, ◌-◌, ◌^◌, [], option_map};
+ghost use Rattle.lt_io.specs.FilesState.{FilesState};
 ghost use Rattle.lt_answer.specs.World.{alone};
 ghost use Rattle.lt_play.specs.Played.{world};
 ghost use Rattle.lt_plan.specs.Text.{plan_of};
@@ -9,19 +10,22 @@ ghost use Rattle.lt_load.specs.Loaded.{config_verdict};
 ghost use Rattle.lt_load.specs.Setups.{check_verdict};
 ghost use Rattle.lt_run.specs.Meaning.{meaning_verdict};
 ghost use Rattle.lt_run.specs.Run.{run_verdict};
+ghost use Rattle.lt_big.specs.Big.{big_verdict};
 ghost use Rattle.lt_inspect.specs.Errands.{inspect_errands};
 ghost use Rattle.lt_inspect.specs.Inspected.{audit_verdict, trace_verdict};
 ghost use Rattle.lt_watch.specs.Errands.{watch_errands};
 ghost use Rattle.lt_watch.specs.Watch.{watch_verdict};
 ghost use Rattle.lt_cli.specs.Texts.{audited_text, watched_text};
-ghost use Rattle.lt_cli.specs.Commands.{checked_text, printed_text, watch_refusal};
+ghost use Rattle.lt_cli.specs.Commands.{checked_text, printed_text, summarized_text, watch_refusal};
 ghost use Rattle.lt_cli.specs.Asked.{Answers, AnswersText};
 
 use crate::Refusal;
 use crate::judgement::{audited_text, watched_text};
 use crate::print::outputs_text;
 use crate::refusal::watch_refusal;
+use crate::summary::summary_text;
 use lt_base::{List, Or};
+use lt_big::big;
 use lt_inspect::{audit, trace};
 use lt_io::{Fabric, Files};
 use lt_load::{check, load_config};
@@ -103,6 +107,25 @@ pub(crate) fn plan_answer<F: Files>(
 {
     match load_config(alloc, files, config) {
         Ok(config) => Ok(plan_text(alloc, &config, horizon)?),
+        Err(e) => Err(e.map(Refusal::Command)),
+    }
+}
+
+/// The summary of a run of the large input, for which no file is read.
+pub(crate) fn big_answer<W: Fabric>(
+    alloc: Global,
+    fabric: &mut W,
+    instants: u32,
+) -> Result<List<u8>, Or<Refusal>>
+    requires fabric { (W.state fabric.old).faults < 2 ^ 64 - 1 }
+    requires empty { (W.state fabric.old).kinds ≡ [] }
+    ensures { (files : FilesState) → AnswersText (summarized_text instants) [] (big_verdict instants (W.state fabric.new)) (world files (W.state fabric.old)) (world files (W.state fabric.new)) result }
+{
+    match big(alloc, fabric, instants) {
+        Ok(printed) => {
+            let names = printed.names.as_slice();
+            Ok(summary_text(alloc, instants, names, printed.cells.as_slice())?)
+        }
         Err(e) => Err(e.map(Refusal::Command)),
     }
 }

@@ -14,6 +14,7 @@ mod process;
 mod refusal;
 mod schedule_line;
 mod status;
+mod summary;
 mod timing_line;
 mod top;
 

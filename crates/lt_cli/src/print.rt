@@ -42,7 +42,8 @@ fn append_cells(text: &mut List<u8>, cells: &[Cell]) -> Result<(), Memory>
     Ok(())
 }
 
-fn append_cell(text: &mut List<u8>, cell: Cell) -> Result<(), Memory>
+/// Appends a cell: a number, a truth value or the sign of an absence.
+pub(crate) fn append_cell(text: &mut List<u8>, cell: Cell) -> Result<(), Memory>
     ensures { OnOk result (text.new ≡ text.old ++ cell_text cell) }
 {
     match cell {

@@ -54,7 +54,7 @@ impl Refusal {
             Refusal::Words => {
                 List::from_slice(
                     alloc,
-                    b"words: usage: ltta check P [C] | meaning P I | run P I S [C] | plan C [--horizon H] | sim P I C --seed N --horizon H | watch P I S O [C] | audit P I S C | trace P I S C [--node NAME] [--from T] [--to T]",
+                    b"words: usage: ltta check P [C] | meaning P I | run P I S [C] | plan C [--horizon H] | sim P I C --seed N --horizon H | big N | watch P I S O [C] | audit P I S C | trace P I S C [--node NAME] [--from T] [--to T]",
                 )
             }
             Refusal::Command(fault) => fault_line(alloc, fault),

@@ -9,7 +9,8 @@ ghost use Rattle.lt_cli.specs.Texts.{refusal_status, line_of};
 ghost use Rattle.lt_cli.specs.Written.{Written};
 
 use crate::answer::{
-    audit_answer, check_answer, meaning_answer, plan_answer, run_answer, trace_answer, watch_answer,
+    audit_answer, big_answer, check_answer, meaning_answer, plan_answer, run_answer, trace_answer,
+    watch_answer,
 };
 use crate::drawing::draw;
 use crate::{Refusal, Status};
@@ -20,8 +21,8 @@ use lt_words::{Command, read_words};
 use std::alloc::Global;
 
 /// Does what the words say: reads the files that they name, and writes a text to `out` or a refusal's line to `err`.
-/// A run, watched or not, opens the channels of its nodes on the fabric, which is empty before, and sends its messages there. No other
-/// command touches it.
+/// A run, watched or not, or that of the large input, opens the channels of its nodes on the fabric, which is empty before, and sends
+/// its messages there. No other command touches it.
 pub fn ltta<F: Files, W: Fabric, O: Sink, E: Sink>(
     alloc: Global,
     words: &[String],
@@ -116,6 +117,10 @@ fn obey<F: Files, W: Fabric, O: Sink, E: Sink>(
         } => {
             let loaded = load_plain(alloc, files, program, inputs, config);
             draw(alloc, out, err, loaded, seed, horizon)
+        }
+        Command::Big { instants } => {
+            let answer = big_answer(alloc, fabric, instants);
+            finish(alloc, out, err, answer)
         }
         Command::Watch {
             program,

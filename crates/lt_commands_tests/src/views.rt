@@ -1,4 +1,4 @@
-// Schedules that are drawn, observers, and schedules that are judged alone.
+// Schedules that are drawn, the large input, observers, and schedules that are judged alone.
 
 use crate::calls::{COUNTING, Fails, NONE, Texts, call};
 use crate::script::holds;
@@ -20,6 +20,15 @@ s time,event,place/0,act,b/0,ack,b>a/3,act,a/3,act,b/3,ack,a>b/6,act,a/6,act,b/6
 c protocol = 'timebased'/period = [9, 11]/delay = [1, 4]/send = 1/execute = 1/[nodes]/a = ['x', 'u']/b = ['v']/
 > sim p i c --seed 0 --horizon 7
 3 timing 1 Execute: 9 is not above 19/
+";
+
+const LARGE: &str = "\
+- the large input: the first output is the input and the last output of the instant before, and each other one is 1 more than
+- the one before it was
+> big 2
+0 instants 2/y0 2 2/y1 2 1/y2 2 2/y3 2 2/y4 2 2/y5 2 2/y6 2 2/y7 2 2/
+> big 10
+0 instants 10/y0 10 18/y1 10 16/y2 10 16/y3 10 15/y4 10 14/y5 10 13/y6 10 12/y7 10 11/
 ";
 
 const WATCHED: &str = "\
@@ -92,6 +101,7 @@ s time,event,place/5,act,a/5,act,a/
 #[test]
 fn drawn_watched_and_judged(rt: HostRuntime) -> Result<(), Fail> {
     holds(&rt, rt.alloc(), DRAWN)?;
+    holds(&rt, rt.alloc(), LARGE)?;
     holds(&rt, rt.alloc(), WATCHED)?;
     holds(&rt, rt.alloc(), JUDGED)?;
     Ok(())

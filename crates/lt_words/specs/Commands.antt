@@ -11,6 +11,10 @@ greatest_time = 1000000000000000
 abbrev pub greatest_seed : ℕ
 greatest_seed = 2 ^ 64 - 1
 
+-- the most instants of the large input
+abbrev pub most_instants : ℕ
+most_instants = 100000
+
 -- a text that is needed
 abbrev pub text_rule : (id : Text) → Rule
 text_rule id = record (new_rule id) { required = true }
@@ -26,6 +30,10 @@ number_rule id most = record (new_rule id) { long = Some id; parser = Some (pars
 -- one that is needed
 abbrev pub needed_number_rule : (id : Text) → (most : ℕ) → Rule
 needed_number_rule id most = record (number_rule id most) { required = true }
+
+-- a whole number from 1 up to a bound that is needed
+abbrev pub counted_rule : (id : Text) → (most : ℕ) → Rule
+counted_rule id most = record (text_rule id) { parser = Some (parser.Unsigned 1 most) }
 
 -- an option whose value is a text
 abbrev pub name_rule : (id : Text) → Rule
@@ -49,6 +57,9 @@ placed_app name = with_rule (with_rule (with_rule (new_app name) (text_rule (cod
 
 abbrev pub sim_app : App
 sim_app = with_rule (with_rule (placed_app (codes "sim")) (needed_number_rule (codes "seed") greatest_seed)) (needed_number_rule (codes "horizon") greatest_time)
+
+abbrev pub big_app : App
+big_app = with_rule (new_app (codes "big")) (counted_rule (codes "instants") most_instants)
 
 -- a command of this name on a program, its inputs, a schedule and one file more
 abbrev pub replayed_app : (name file : Text) → App
@@ -74,9 +85,9 @@ bare_app = record {
 abbrev pub with_programs : App → App
 with_programs app = with_subcommand (with_subcommand (with_subcommand (with_subcommand app check_app.top) meaning_app.top) run_app.top) plan_app.top
 
--- the one that draws a schedule
+-- those that draw a schedule
 abbrev pub with_drawings : App → App
-with_drawings app = with_subcommand app sim_app.top
+with_drawings app = with_subcommand (with_subcommand app sim_app.top) big_app.top
 
 -- those that look at a run
 abbrev pub with_views : App → App

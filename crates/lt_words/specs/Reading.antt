@@ -3,9 +3,9 @@ use Rattle.std.specs.Prelude.{ℕ, List, [], ◌∷◌, Option, None, option_map
 use Rattle.std.specs.Str.{bytes_eq}
 use Rattle.clap.specs.Words.{Row, Text, first_of, subcommand_of, fault_of}
 use Rattle.lt_words.specs.declared.command.Command.{Command}
-use Rattle.lt_words.specs.declared.command.Command.TheVariants.{Check, Meaning, Run, Plan, Sim, Watch, Audit, Trace}
+use Rattle.lt_words.specs.declared.command.Command.TheVariants.{Check, Meaning, Run, Plan, Sim, Big, Watch, Audit, Trace}
 use Rattle.lt_words.specs.Numbers.{number_text}
-use Rattle.lt_words.specs.Commands.{program_app, greatest_time, greatest_seed}
+use Rattle.lt_words.specs.Commands.{program_app, greatest_time, greatest_seed, most_instants}
 
 -- a command and its values
 pub data Said : Type 0 where
@@ -14,6 +14,7 @@ pub data Said : Type 0 where
   run : (program inputs schedule : Text) → (config : Option Text) → Said
   plan : (config : Text) → (horizon : Option ℕ) → Said
   sim : (program inputs config : Text) → (seed horizon : ℕ) → Said
+  big : (instants : ℕ) → Said
   watch : (program inputs schedule observer : Text) → (config : Option Text) → Said
   audit : (program inputs schedule config : Text) → Said
   trace : (program inputs schedule config : Text) → (node : Option Text) → (from to : ℕ) → Said
@@ -24,6 +25,7 @@ said_of (Meaning program inputs) = meaning program.now inputs.now
 said_of (Run program inputs schedule config) = run program.now inputs.now schedule.now (option_map (λ s. s.now) config)
 said_of (Plan config horizon) = plan config.now horizon
 said_of (Sim program inputs config seed horizon) = sim program.now inputs.now config.now seed horizon
+said_of (Big instants) = big instants
 said_of (Watch program inputs schedule observer config) = watch program.now inputs.now schedule.now observer.now (option_map (λ s. s.now) config)
 said_of (Audit program inputs schedule config) = audit program.now inputs.now schedule.now config.now
 said_of (Trace program inputs schedule config node from to) = trace program.now inputs.now schedule.now config.now (option_map (λ s. s.now) node) from to
@@ -40,6 +42,7 @@ number_at id most rows = option_map (number_text most) (first_of id rows)
 abbrev pub said_besides : (name : Text) → List Row → Said
 said_besides name rows =
     if bytes_eq name (codes "sim") then sim (text_at (codes "program") rows) (text_at (codes "inputs") rows) (text_at (codes "config") rows) (unwrap_or (number_at (codes "seed") greatest_seed rows) 0) (unwrap_or (number_at (codes "horizon") greatest_time rows) 0)
+    else if bytes_eq name (codes "big") then big (unwrap_or (number_at (codes "instants") most_instants rows) 0)
     else if bytes_eq name (codes "watch") then watch (text_at (codes "program") rows) (text_at (codes "inputs") rows) (text_at (codes "schedule") rows) (text_at (codes "observer") rows) (first_of (codes "config") rows)
     else if bytes_eq name (codes "audit") then audit (text_at (codes "program") rows) (text_at (codes "inputs") rows) (text_at (codes "schedule") rows) (text_at (codes "config") rows)
     else trace (text_at (codes "program") rows) (text_at (codes "inputs") rows) (text_at (codes "schedule") rows) (text_at (codes "config") rows) (first_of (codes "node") rows)

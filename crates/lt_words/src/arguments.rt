@@ -2,7 +2,7 @@
 ghost use Rattle.std.specs.Prelude.{◌≡◌, false, IfOk};
 ghost use Rattle.clap.specs.Words.{app_of, rule_of, with_rule, with_subcommand};
 ghost use Rattle.lt_words.specs.Local.{IsLocal};
-ghost use Rattle.lt_words.specs.Commands.{text_rule, optional_rule, number_rule, needed_number_rule, name_rule};
+ghost use Rattle.lt_words.specs.Commands.{text_rule, optional_rule, number_rule, needed_number_rule, counted_rule, name_rule};
 
 use clap::builder::ValueParser;
 use clap::{Arg, Command};
@@ -41,6 +41,14 @@ pub fn needed_number<'a>(alloc: Global, id: &'a str, most: u64) -> Arg<'a>
     ensures local { result.global ≡ false }
 {
     number(alloc, id, most).required(true)
+}
+
+/// A whole number from 1 up to a bound that a command needs.
+pub fn counted<'a>(alloc: Global, id: &'a str, most: u64) -> Arg<'a>
+    ensures rule { rule_of result ≡ counted_rule id.entry.now most }
+    ensures local { result.global ≡ false }
+{
+    text(alloc, id).value_parser(ValueParser::Unsigned(1, most))
 }
 
 /// An option `--ID` whose value is a text.

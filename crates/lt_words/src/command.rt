@@ -33,6 +33,10 @@ pub enum Command<'a> {
         seed: u64,
         horizon: u64,
     },
+    /// Run the large input for so many instants, and print a summary.
+    Big {
+        instants: u32,
+    },
     /// Run a program as `run` does, and print whether the observer holds of what it shows.
     Watch {
         program: &'a str,

@@ -2,11 +2,11 @@
 ghost use Rattle.std.specs.Prelude.{◌≡◌, IfOk};
 ghost use Rattle.clap.specs.Words.{app_of};
 ghost use Rattle.lt_words.specs.Local.{IsLocal};
-ghost use Rattle.lt_words.specs.Commands.{check_app, meaning_app, run_app, plan_app, placed_app, sim_app, replayed_app, watch_app, audit_app, trace_app};
+ghost use Rattle.lt_words.specs.Commands.{check_app, meaning_app, run_app, plan_app, placed_app, sim_app, big_app, replayed_app, watch_app, audit_app, trace_app};
 ghost use Rattle.lt_words.specs.Commands.{with_programs, with_drawings, with_views, bare_app, program_app};
 
 use crate::arguments::{
-    name, needed_number, number, optional_text, text, with_argument, with_command,
+    counted, name, needed_number, number, optional_text, text, with_argument, with_command,
 };
 use clap::Command;
 use lt_base::Memory;
@@ -14,6 +14,9 @@ use std::alloc::Global;
 
 /// The greatest time, in ticks, and so the greatest horizon.
 pub const GREATEST_TIME: u64 = 1_000_000_000_000_000;
+
+/// The most instants of the large input.
+pub const MOST_INSTANTS: u64 = 100_000;
 
 fn check<'a>(alloc: Global) -> Result<Command<'a>, Memory>
     ensures app { IfOk result (λ c. app_of c ≡ check_app) }
@@ -68,6 +71,16 @@ fn sim<'a>(alloc: Global) -> Result<Command<'a>, Memory>
         needed_number(alloc, "seed", u64::MAX),
     )?;
     with_argument(command, needed_number(alloc, "horizon", GREATEST_TIME))
+}
+
+fn big<'a>(alloc: Global) -> Result<Command<'a>, Memory>
+    ensures app { IfOk result (λ c. app_of c ≡ big_app) }
+    ensures local { IfOk result IsLocal }
+{
+    with_argument(
+        Command::new(alloc, "big"),
+        counted(alloc, "instants", MOST_INSTANTS),
+    )
 }
 
 // A command of this name on a program, its inputs, a schedule and one file more.
@@ -128,12 +141,13 @@ fn with_programs<'a>(alloc: Global, command: Command<'a>) -> Result<Command<'a>,
     Ok(command)
 }
 
-// The command with the one that draws a schedule.
+// The command with those that draw a schedule.
 fn with_drawings<'a>(alloc: Global, command: Command<'a>) -> Result<Command<'a>, Memory>
     ensures app { IfOk result (λ c. app_of c ≡ with_drawings (app_of command.entry)) }
     ensures local { IfOk result (λ c. IsLocal command.entry → IsLocal c) }
 {
     let command = with_command(command, sim(alloc)?)?;
+    let command = with_command(command, big(alloc)?)?;
     Ok(command)
 }
 

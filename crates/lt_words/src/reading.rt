@@ -8,7 +8,7 @@ ghost use Rattle.lt_words.specs.Ranges.{HasRanges};
 ghost use Rattle.lt_words.specs.Told.{Told};
 
 use crate::Command;
-use crate::commands::{GREATEST_TIME, program};
+use crate::commands::{GREATEST_TIME, MOST_INSTANTS, program};
 use crate::numbers::number_text;
 use clap::ArgMatches;
 use clap::error::ErrorKind;
@@ -83,6 +83,9 @@ fn command_besides<'a>(name: &str, matches: &ArgMatches<'a>) -> Command<'a>
     if name == "sim" {
         return sim(matches);
     }
+    if name == "big" {
+        return big(matches);
+    }
     if name == "watch" {
         return watch(matches);
     }
@@ -119,6 +122,15 @@ fn sim<'a>(matches: &ArgMatches<'a>) -> Command<'a>
         config: text_or_empty(matches, "config"),
         seed: number_at(matches, "seed", u64::MAX).unwrap_or(0),
         horizon: number_at(matches, "horizon", GREATEST_TIME).unwrap_or(0),
+    }
+}
+
+fn big<'a>(matches: &ArgMatches<'a>) -> Command<'a>
+    ensures said { said_of result ≡ said_besides (codes "big") (rows_of (found_of matches.now)) }
+    ensures ranges { HasRanges result }
+{
+    Command::Big {
+        instants: number_at(matches, "instants", MOST_INSTANTS).unwrap_or(0) as u32,
     }
 }
 

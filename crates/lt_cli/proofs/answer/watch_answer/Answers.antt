@@ -1,7 +1,4 @@
-use Rattle.std.specs.Prelude.{option_map}
-use Rattle.lt_play.specs.Played.{world}
 use Rattle.lt_watch.specs.Blamed.{watch_blame}
-use Rattle.lt_watch.specs.Watch.{watch_verdict}
 use Rattle.lt_cli.specs.Texts.{watched_text}
 use Rattle.lt_cli.specs.Commands.{watch_refusal}
 use Rattle.lt_cli.proofs.Texts.{answer_shown, answer_not_shown, answer_refused, watch_raise}

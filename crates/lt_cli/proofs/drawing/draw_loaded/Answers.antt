@@ -6,7 +6,8 @@ use Rattle.lt_load.specs.Plan.{LoadedPlan}
 use Rattle.lt_sim.specs.declared.fault.SimFault.{SimFault}
 use Rattle.lt_sim.specs.Drawn.{drawn}
 use Rattle.lt_sim.specs.Recorded.{Records}
-use Rattle.lt_cli.proofs.Drawn.{recorded_of, refused_of, loaded_sound}
+use Rattle.lt_big.proofs.Drawn.{loaded_sound}
+use Rattle.lt_cli.proofs.Drawn.{recorded_of, refused_of}
 use Rattle.lt_cli.proofs.drawing.draw_loaded.Goals as goal
 
 pub record-requires-clause-same : goal.record-requires-clause-same

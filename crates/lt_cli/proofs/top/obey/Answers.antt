@@ -21,6 +21,9 @@ pub returns-in-Sim : goal.returns-in-Sim
 returns-in-Sim g c =
     rw c.in-Sim.is (record { obeys = drawn_obeyed (g.F.Files.state c.args.files.now).named _ _ _ _ _ _ _ _ _ _ _ _ _ _ c.load_plain-loaded.ensures c.draw.ensures; leaves = refl })
 
+pub returns-in-Big : goal.returns-in-Big
+returns-in-Big g c = rw c.in-Big.is (record { obeys = text_obeyed (λ fault. Command fault) _ _ _ _ _ _ _ _ _ _ _ (c.big_answer-answer.ensures (g.F.Files.state c.args.files.now)) c.finish-in-Big.ensures; leaves = tt })
+
 pub returns-in-Watch : goal.returns-in-Watch
 returns-in-Watch g c = rw c.in-Watch.is (record { obeys = text_obeyed watch_refusal _ _ _ _ _ _ _ _ _ _ _ c.watch_answer-answer.ensures c.finish-in-Watch.ensures; leaves = tt })
 

@@ -1,0 +1,47 @@
+// A run of the large input.
+ghost use Rattle.std.specs.Prelude.{◌≡◌, ◌<◌, ◌-◌, ◌^◌, []};
+ghost use Rattle.lt_big.specs.Big.{big_verdict};
+ghost use Rattle.lt_big.specs.Stage.{AnsweredAlone, along_list};
+
+use crate::drawing::draw;
+use crate::loading::load;
+use crate::playing::play;
+use lt_base::Or;
+use lt_io::Fabric;
+use lt_load::{CommandFault, Loaded};
+use lt_run::Outputs;
+use std::alloc::Global;
+
+/// Runs the large input of so many instants, over a fabric that has no channel yet: its program is loaded with its setup and its
+/// inputs, a schedule is drawn for it from the number of instants as the seed up to the horizon, and each output is given with a cell
+/// for each instant that its node executes along this schedule.
+///
+/// All files are in memory, and none fails: beside want of memory and a failed call on the fabric, which counts there, the answer
+/// is what the texts determine.
+pub fn big<W: Fabric>(
+    alloc: Global,
+    fabric: &mut W,
+    instants: u32,
+) -> Result<Outputs, Or<CommandFault>>
+    requires count { (W.state fabric.old).faults < 2 ^ 64 - 1 }
+    requires empty { (W.state fabric.old).kinds ≡ [] }
+    ensures { AnsweredAlone (big_verdict instants (W.state fabric.new)) (W.state fabric.old) (W.state fabric.new) result }
+{
+    let loaded = load(alloc, instants)?;
+    run(alloc, fabric, &loaded, instants)
+}
+
+// Runs what was loaded along the schedule that is drawn for it.
+fn run<W: Fabric>(
+    alloc: Global,
+    fabric: &mut W,
+    loaded: &Loaded,
+    instants: u32,
+) -> Result<Outputs, Or<CommandFault>>
+    requires count { (W.state fabric.old).faults < 2 ^ 64 - 1 }
+    requires empty { (W.state fabric.old).kinds ≡ [] }
+    ensures { AnsweredAlone (along_list instants (W.state fabric.new) loaded.now) (W.state fabric.old) (W.state fabric.new) result }
+{
+    let schedule = draw(alloc, loaded, instants)?;
+    play(alloc, fabric, loaded, schedule)
+}
