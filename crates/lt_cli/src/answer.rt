@@ -68,7 +68,7 @@ pub(crate) fn meaning_answer<F: Files>(
     ensures { AnswersText printed_text (meaning_errands program.now inputs.now) (meaning_verdict (F.state files.old).named program.now inputs.now) (alone (F.state files.old)) (alone (F.state files.new)) result }
 {
     match meaning(alloc, files, program, inputs) {
-        Ok(printed) => Ok(outputs_text(alloc, printed.names.as_slice(), printed.cells.as_slice())?),
+        Ok(printed) => Ok(outputs_text(alloc, printed)?),
         Err(e) => Err(e.map(Refusal::Command)),
     }
 }
@@ -90,7 +90,7 @@ pub(crate) fn run_answer<F: Files, W: Fabric>(
         (world (F.state files.old) (W.state fabric.old)) (world (F.state files.new) (W.state fabric.new)) result }
 {
     match run(alloc, files, fabric, program, inputs, schedule, config) {
-        Ok(printed) => Ok(outputs_text(alloc, printed.names.as_slice(), printed.cells.as_slice())?),
+        Ok(printed) => Ok(outputs_text(alloc, printed)?),
         Err(e) => Err(e.map(Refusal::Command)),
     }
 }

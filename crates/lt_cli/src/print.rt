@@ -1,19 +1,24 @@
 // The text of outputs.
-ghost use Rattle.std.specs.Prelude.{◌≡◌, ◌++◌, ◌∷◌, [], OnOk, IfOk, length};
+ghost use Rattle.std.specs.Prelude.{◌≡◌, ◌++◌, ◌∷◌, [], OnOk, IfOk};
 ghost use Rattle.lt_cli.specs.Texts.{cell_text, cells_text, output_line, outputs_text};
 
 use itoa::Buffer;
 use lt_base::{Cell, List, Memory, Name, Value};
+use lt_run::Outputs;
 use std::alloc::Global;
+use std::mem::replace;
 
-/// The text of outputs with these names and cells: a line for each.
-pub fn outputs_text(alloc: Global, names: &[Name], cells: &[List<Cell>]) -> Result<List<u8>, Memory>
-    requires { length names.now ≡ length cells.now }
-    ensures { IfOk result (λ text. text ≡ outputs_text names.now cells.now) }
+/// The text of outputs: a line for each. A column is given up once its line is made, so that the cells and the text are
+/// never whole beside each other.
+pub fn outputs_text(alloc: Global, outputs: Outputs) -> Result<List<u8>, Memory>
+    ensures { IfOk result (λ text. text ≡ outputs_text outputs.names outputs.cells) }
 {
     let mut text = List::new(alloc);
-    for (output, name) in names.iter().enumerate() {
-        append_line(&mut text, name, &cells[output])?;
+    let names = outputs.names;
+    let mut columns = outputs.cells.into_vec();
+    for (output, name) in names.as_slice().iter().enumerate() {
+        let cells = replace(&mut columns[output], List::new(alloc));
+        append_line(&mut text, name, &cells)?;
     }
     Ok(text)
 }
