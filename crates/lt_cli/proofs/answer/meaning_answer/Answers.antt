@@ -1,6 +1,4 @@
-use Rattle.std.proofs.Common.{◌∙◌}
 use Rattle.lt_run.specs.Meaning.{meaning_verdict}
-use Rattle.lt_cli.specs.Texts.{outputs_text}
 use Rattle.lt_cli.specs.Commands.{printed_text}
 use Rattle.lt_cli.proofs.Texts.{text_shown, not_shown, text_refused}
 use Rattle.lt_cli.proofs.answer.meaning_answer.Goals as goal
@@ -8,7 +6,7 @@ use Rattle.lt_cli.proofs.answer.meaning_answer.Goals as goal
 pub returns-in_ok-outputs_text-in-Ok : goal.returns-in_ok-outputs_text-in-Ok
 returns-in_ok-outputs_text-in-Ok g c =
     text_shown printed_text (meaning_verdict (g.F.Files.state c.args.files.now).named c.args.program.now c.args.inputs.now) _ _ c.in-Ok.printed _ c.in-Ok.ensures
-    (c.in_ok-outputs_text-in-Ok.ensures ∙ (λ i. outputs_text (c.as_slice.ensures i) (c.as_slice-in-Ok.ensures i)))
+    c.in_ok-outputs_text-in-Ok.ensures
 
 pub returns-in_err-outputs_text-in-Ok : goal.returns-in_err-outputs_text-in-Ok
 returns-in_err-outputs_text-in-Ok g c =

@@ -1,8 +1,6 @@
-use Rattle.std.proofs.Common.{◌∙◌}
 use Rattle.std.specs.Prelude.{option_map}
 use Rattle.lt_play.specs.Played.{world}
 use Rattle.lt_run.specs.Run.{run_verdict}
-use Rattle.lt_cli.specs.Texts.{outputs_text}
 use Rattle.lt_cli.specs.Commands.{printed_text}
 use Rattle.lt_cli.proofs.Texts.{text_shown, not_shown, text_refused}
 use Rattle.lt_cli.proofs.answer.run_answer.Goals as goal
@@ -10,7 +8,7 @@ use Rattle.lt_cli.proofs.answer.run_answer.Goals as goal
 pub returns-in_ok-outputs_text-in-Ok : goal.returns-in_ok-outputs_text-in-Ok
 returns-in_ok-outputs_text-in-Ok g c =
     text_shown printed_text (run_verdict (g.F.Files.state c.args.files.now).named c.args.program.now c.args.inputs.now c.args.schedule.now (option_map (λ s. s.now) c.args.config) (world (g.F.Files.state c.run.new.files) (g.W.Fabric.state c.run.new.fabric))) _ _ c.in-Ok.printed _ c.in-Ok.ensures
-    (c.in_ok-outputs_text-in-Ok.ensures ∙ (λ i. outputs_text (c.as_slice.ensures i) (c.as_slice-in-Ok.ensures i)))
+    c.in_ok-outputs_text-in-Ok.ensures
 
 pub returns-in_err-outputs_text-in-Ok : goal.returns-in_err-outputs_text-in-Ok
 returns-in_err-outputs_text-in-Ok g c =
