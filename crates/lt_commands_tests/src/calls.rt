@@ -1,11 +1,12 @@
 // A call of `ltta` over objects in memory.
 ghost use Rattle.std.specs.Prelude.{◌≡◌, ◌<◌, ◌-◌, ◌^◌, [], All, IfOk};
 ghost use Rattle.lt_io.specs.MemFiles.{mem_files_state};
+ghost use Rattle.lt_io.specs.MemSink.{mem_sink_state};
 
 use crate::texts::bytes;
 use lt_base::{List, Memory, Name};
 use lt_cli::{Status, ltta};
-use lt_io::{Fabric, MemFabric, MemFile, MemFiles, MemSink};
+use lt_io::{Fabric, FlipFabric, MemFabric, MemFile, MemFiles, MemSink, Sink, TightFabric};
 use std::alloc::Global;
 
 /// The contents of the files `p`, `i`, `s`, `c` and `o`, as scripts have them.
@@ -24,7 +25,7 @@ pub const COUNTING: Texts = Texts {
     inputs: "instant,x/0,1/1,2/2,3/",
     schedule: "time,event,place/0,act,all/4,act,all/8,act,all/12,end,/",
     setup: "protocol = 'backpressure'/period = [1, 1000]/delay = [0, 1000]/[nodes]/all = ['x', 'y']/",
-    observer: "",
+    observer: "true",
 };
 
 /// Two nodes that read each other's last value, on three rows, along a schedule in which both execute an instant, send, and one
@@ -34,23 +35,22 @@ pub const ACROSS: Texts = Texts {
     inputs: "instant,x/0,1/1,1/2,1/",
     schedule: "time,event,place/0,act,a/0,act,b/3,ack,a>b/3,ack,b>a/10,act,a/10,act,b/12,data,a>b/12,data,b>a/20,act,a/20,end,",
     setup: "protocol = 'backpressure'/period = [9, 11]/delay = [1, 4]/[nodes]/a = ['x', 'u']/b = ['v']/",
-    observer: "",
+    observer: "true",
 };
 
-/// Which calls are to fail; 0 for none.
-#[derive(Clone, Copy, Drop)]
-pub struct Fails {
-    pub files: u64,
-    pub fabric: u64,
-    pub out: u64,
-    pub err: u64,
+/// What goes wrong in a call: on each object whose name stands in `whose`, of `files`, `fabric`, `out` and `err`, the call of
+/// this number, counted from 1. With `send` the send of this number finds no memory, and with `flip` the fabric changes what
+/// it carries.
+#[derive(Clone, Copy)]
+pub struct Fails<'a> {
+    pub whose: &'a str,
+    pub number: u32,
 }
 
-pub const NONE: Fails = Fails {
-    files: 0,
-    fabric: 0,
-    out: 0,
-    err: 0,
+/// Nothing goes wrong.
+pub const NOTHING: Fails = Fails {
+    whose: "",
+    number: 0,
 };
 
 /// How a call ended, and what was written.
@@ -69,71 +69,101 @@ fn words(alloc: Global, line: &str) -> Result<Vec<String>, Memory> {
     Ok(words)
 }
 
-fn listed(alloc: Global, call: u64) -> Result<List<u64>, Memory>
-    requires { call < 2 ^ 64 - 1 }
+// The calls on an object that are to fail: one, or none.
+fn failing(alloc: Global, fails: Fails, object: &str) -> Result<List<u64>, Memory>
     ensures { IfOk result (λ calls. All (λ n. n < 2 ^ 64 - 1) calls) }
 {
     let mut calls = List::new(alloc);
-    if call > 0 {
-        calls.push(call)?;
+    if fails.whose.contains(object) {
+        calls.push(u64::from(fails.number))?;
     }
     Ok(calls)
 }
 
-fn files(alloc: Global, texts: Texts, fails: u64) -> Result<MemFiles, Memory>
-    requires { fails < 2 ^ 64 - 1 }
-    ensures { IfOk result (λ files. (mem_files_state files).faults ≡ 0) }
+fn sink(alloc: Global, fails: Fails, object: &str) -> Result<MemSink, Memory>
+    ensures { IfOk result (λ sink. (mem_sink_state sink).faults ≡ 0) }
 {
-    let named = [
+    Ok(MemSink::new(alloc, failing(alloc, fails, object)?))
+}
+
+fn file(alloc: Global, name: &str, text: &str) -> Result<MemFile, Memory> {
+    let name = Name::from_str(alloc, name)?;
+    Ok(MemFile {
+        name,
+        bytes: bytes(alloc, text)?,
+    })
+}
+
+fn named(alloc: Global, texts: Texts) -> Result<List<MemFile>, Memory> {
+    let mut files = List::new(alloc);
+    for (name, text) in [
         ("p", texts.program),
         ("i", texts.inputs),
         ("s", texts.schedule),
         ("c", texts.setup),
         ("o", texts.observer),
-    ];
-    let mut files = List::new(alloc);
-    for (name, text) in named {
-        files.push(MemFile {
-            name: Name::from_str(alloc, name)?,
-            bytes: bytes(alloc, text)?,
-        })?;
+    ] {
+        files.push(file(alloc, name, text)?)?;
     }
-    Ok(MemFiles::new(files, listed(alloc, fails)?))
+    Ok(files)
 }
 
-/// Does what the words of this line say over these files, and a fabric that keeps what it carries.
-pub fn call(alloc: Global, line: &str, texts: Texts, fails: Fails) -> Result<Ended, Memory>
-    requires files { fails.files < 2 ^ 64 - 1 }
-    requires fabric { fails.fabric < 2 ^ 64 - 1 }
-    requires out { fails.out < 2 ^ 64 - 1 }
-    requires err { fails.err < 2 ^ 64 - 1 }
+fn files(alloc: Global, texts: Texts, fails: Fails) -> Result<MemFiles, Memory>
+    ensures { IfOk result (λ files. (mem_files_state files).faults ≡ 0) }
 {
-    let mut fabric = MemFabric::new(alloc, listed(alloc, fails.fabric)?);
-    call_over(alloc, line, texts, fails, &mut fabric)
+    let files = named(alloc, texts)?;
+    Ok(MemFiles::new(files, failing(alloc, fails, "files")?))
 }
 
-/// Does what the words of this line say over these files and this fabric, which is still empty.
-pub fn call_over<W: Fabric>(
+/// Does what the words of this line say over these files, where this goes wrong.
+pub fn call(alloc: Global, line: &str, texts: Texts, fails: Fails) -> Result<Ended, Memory> {
+    let mut out = sink(alloc, fails, "out")?;
+    let (status, err) = call_into(alloc, line, texts, fails, &mut out)?;
+    Ok(Ended {
+        status,
+        out: out.into_bytes(),
+        err,
+    })
+}
+
+/// The same with a sink for what is printed. Answers the status, and what is written of a refusal.
+pub fn call_into<O: Sink>(
+    alloc: Global,
+    line: &str,
+    texts: Texts,
+    fails: Fails,
+    out: &mut O,
+) -> Result<(Status, List<u8>), Memory>
+    requires count { (O.state out.old).faults < 2 ^ 64 - 1 }
+{
+    if fails.whose == "flip" {
+        let mut fabric = FlipFabric::new(alloc);
+        return call_over(alloc, line, texts, fails, &mut fabric, out);
+    }
+    if fails.whose == "send" {
+        let mut fabric = TightFabric::new(alloc, u64::from(fails.number));
+        return call_over(alloc, line, texts, fails, &mut fabric, out);
+    }
+    let mut fabric = MemFabric::new(alloc, failing(alloc, fails, "fabric")?);
+    call_over(alloc, line, texts, fails, &mut fabric, out)
+}
+
+// The same over a fabric, which is still empty.
+fn call_over<W: Fabric, O: Sink>(
     alloc: Global,
     line: &str,
     texts: Texts,
     fails: Fails,
     fabric: &mut W,
-) -> Result<Ended, Memory>
-    requires files { fails.files < 2 ^ 64 - 1 }
-    requires out { fails.out < 2 ^ 64 - 1 }
-    requires err { fails.err < 2 ^ 64 - 1 }
-    requires count { (W.state fabric.old).faults < 2 ^ 64 - 1 }
+    out: &mut O,
+) -> Result<(Status, List<u8>), Memory>
+    requires fabric { (W.state fabric.old).faults < 2 ^ 64 - 1 }
     requires empty { (W.state fabric.old).kinds ≡ [] }
+    requires out { (O.state out.old).faults < 2 ^ 64 - 1 }
 {
     let words = words(alloc, line)?;
-    let mut files = files(alloc, texts, fails.files)?;
-    let mut out = MemSink::new(alloc, listed(alloc, fails.out)?);
-    let mut err = MemSink::new(alloc, listed(alloc, fails.err)?);
-    let status = ltta(alloc, &words, &mut files, fabric, &mut out, &mut err);
-    Ok(Ended {
-        status,
-        out: out.into_bytes(),
-        err: err.into_bytes(),
-    })
+    let mut files = files(alloc, texts, fails)?;
+    let mut err = sink(alloc, fails, "err")?;
+    let status = ltta(alloc, &words, &mut files, fabric, out, &mut err);
+    Ok((status, err.into_bytes()))
 }

@@ -4,6 +4,8 @@
 #[cfg(test)]
 mod calls;
 #[cfg(test)]
+mod fronts;
+#[cfg(test)]
 mod limits;
 #[cfg(test)]
 mod network;

@@ -1,7 +1,6 @@
 // What is refused first, and schedules that are refused.
 
 use crate::script::holds;
-use std::test::Fail;
 
 const WORDS: &str = "\
 > run p i
@@ -170,16 +169,72 @@ s time,event,place/0,act,b/
 5 schedule offence at event 2: NoEnd/
 ";
 
-#[test]
-fn the_first_fault_is_told(rt: HostRuntime) -> Result<(), Fail> {
-    holds(&rt, rt.alloc(), WORDS)?;
-    holds(&rt, rt.alloc(), FILES)?;
-    Ok(())
-}
+const STRANGE: &str = "\
+- empty files
+p
+> check p
+2 syntax 3 Unexpected at byte 0/
+p node main(b: bool) returns (y: bool) let y = b; tel
+i instant,b/0,true/
+s
+> run p i s
+5 schedule 1 Header at row 0/
+o
+> watch p i q o
+10 observer 2 Unexpected at byte 0/
+- bytes that are no text
+p ~
+> check p
+2 syntax 1 BadByte at byte 0/
+p -- ~/node main(b: bool) returns (y: bool) let y = b; tel
+> check p
+0 node main(b: bool) returns (y: bool)/let/  y = b;/tel/
+c ~
+> check p c
+3 config 1 NotToml/
+i instant,b/0,~/
+> meaning p i
+4 inputs 1 NotCsv at row 1/
+i instant,b/0,true/
+s time,event,place/~,act,all/
+> run p i s
+5 schedule 2 Time at row 1/
+s time,event,place/0,~,all/
+> run p i s
+5 schedule 3 Kind at row 1/
+s time,event,place/0,act,~/
+> run p i s
+5 schedule 4 UnknownPlace at row 1/
+o ~
+> watch p i q o
+10 observer 1 BadByte at byte 0/
+- brackets without an end
+c a = {200000*[}
+> check p c
+3 config 1 NotToml/
+i {1000000*,}
+> meaning p i
+4 inputs 2 Header at row 0/
+s {4096*,}
+> run p i s
+4 inputs 2 Header at row 0/
+i instant,b/0,true/
+> run p i s
+5 schedule 5 NotCsv at row 0/
+o {200*(}
+> watch p i q o
+10 observer 3 TooDeep at byte 199/
+o {199*(}y{199*)}
+s time,event,place/0,act,all/1,end,/
+> watch p i s o
+0 holds 1/
+";
 
 #[test]
-fn rows_are_refused(rt: HostRuntime) -> Result<(), Fail> {
-    holds(&rt, rt.alloc(), INPUTS)?;
-    holds(&rt, rt.alloc(), SCHEDULES)?;
-    Ok(())
+fn the_first_fault_is_told(rt: HostRuntime) {
+    holds(&rt, rt.alloc(), WORDS);
+    holds(&rt, rt.alloc(), FILES);
+    holds(&rt, rt.alloc(), INPUTS);
+    holds(&rt, rt.alloc(), SCHEDULES);
+    holds(&rt, rt.alloc(), STRANGE);
 }

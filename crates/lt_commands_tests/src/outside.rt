@@ -1,121 +1,270 @@
-// Calls on the files, the fabric and the sinks that fail.
-ghost use Rattle.std.specs.Prelude.{◌<◌, ◌≤◌, ◌-◌, ◌^◌};
+// Calls on the files, on the fabric and on the sinks that fail, and messages that find no memory.
 
-use crate::calls::{ACROSS, COUNTING, Ended, Fails, NONE, Texts, call, call_over};
-use lt_base::Memory;
+use crate::calls::{ACROSS, NOTHING, call_into};
+use crate::script::holds;
 use lt_cli::Status;
-use lt_io::TightFabric;
-use std::alloc::Global;
+use lt_io::RealSink;
+use std::io::Cursor;
 use std::test::Fail;
 
-// The call on the files of this number fails.
-fn call_failing(alloc: Global, line: &str, texts: Texts, files: u64) -> Result<Ended, Memory>
-    requires { files < 2 ^ 64 - 1 }
-{
-    call(alloc, line, texts, Fails { files, ..NONE })
-}
+const FILES: &str = "\
+- each file is opened once and read twice, and nothing is written where a call on one fails
+> check p
+x files 1 3
+6 fault: read/
+x files 4 4
+0 node main(x: int) returns (y: int)/let/  y = 0 fby y + x;/tel/
+> check p c
+x files 1 6
+6 fault: read/
+x files 7 7
+0 node main(x: int) returns (y: int)/let/  y = 0 fby y + x;/tel/
+> meaning p i
+x files 1 6
+6 fault: read/
+x files 7 7
+0 y: 0 1 3/
+> run p i s
+x files 1 9
+6 fault: read/
+x files 10 10
+0 y: 0 1/
+> run p i s c
+x files 1 12
+6 fault: read/
+x files 13 13
+0 y: 0 1/
+> plan c
+x files 1 3
+6 fault: read/
+x files 4 4
+0 least execute 1/least send 1/timebased cycle 2000/backpressure cycle 4000/
+> sim p i c --seed 0 --horizon 0
+x files 1 9
+6 fault: read/
+> watch p i s o
+x files 1 12
+6 fault: read/
+x files 13 13
+0 holds 2/
+> watch p i s o c
+x files 1 15
+6 fault: read/
+x files 16 16
+0 holds 2/
+> audit p i s c
+x files 1 12
+6 fault: read/
+x files 13 13
+0 clean 4/
+> trace p i s c
+x files 1 12
+6 fault: read/
+x files 13 13
+0 time,event,place/0,act,all/4,act,all/8,act,all/12,end,/
+- the second piece of this schedule would be the ninth call
+s time,event,place/5,act,all/5,act,all/{1000000*x}
+> run p i s
+x files 8 8
+6 fault: read/
+x files 9 9
+5 schedule offence at event 2: TooSoon all/
+";
 
-// The call on the fabric of this number fails.
-fn run_failing(alloc: Global, fabric: u64) -> Result<Ended, Memory>
-    requires { fabric < 2 ^ 64 - 1 }
-{
-    call(alloc, "run p i s c", ACROSS, Fails { fabric, ..NONE })
-}
+const FABRIC: &str = "\
+- two nodes; the last line of the schedule has no line feed, so that its file is read three times
+p node main(x: int) returns (u: int; v: int) let u = x + (0 fby v); v = 10 + (0 fby u); tel
+i instant,x/0,1/1,1/2,1/
+c protocol = 'backpressure'/period = [9, 11]/delay = [1, 4]/[nodes]/a = ['x', 'u']/b = ['v']/
+s time,event,place/0,act,a/0,act,b/3,ack,a>b/3,ack,b>a/10,act,a/10,act,b/12,data,a>b/12,data,b>a/20,act,a/20,end,
+> run p i s c
+x files 1 13
+6 fault: read/
+x files 14 14
+0 u: 1 11/v: 10/
+- the channels are opened, both nodes acknowledge, both acknowledgements are delivered, both nodes send, both messages are
+- delivered, and one node acknowledges again
+x fabric 1 10
+6 fault: link/
+x fabric 11 11
+0 u: 1 11/v: 10/
+- of the five messages one finds no memory
+x send 1 5
+9
+x send 6 6
+0 u: 1 11/v: 10/
+- each int is one more than what was sent
+x flip 0 0
+0 u: 1 12/v: 10/
+> watch p i s o c
+x fabric 1 10
+6 fault: link/
+x fabric 11 11
+0 holds 1/
+x send 1 5
+9
+x send 6 6
+0 holds 1/
+- the channels are opened before the schedule
+> run p i q c
+6 fault: read/
+x fabric 1 1
+6 fault: link/
+x fabric 2 2
+6 fault: read/
+- no other command calls the fabric
+> check p c
+x fabric 1 1
+0 node main(x: int) returns (u: int; v: int)/let/  u = x + (0 fby v);/  v = 10 + (0 fby u);/tel/
+> meaning p i
+x fabric 1 1
+0 u: 1 11 12/v: 10 11 21/
+> plan c
+x fabric 1 1
+0 least execute 3/least send 3/timebased cycle 66/backpressure cycle 30/
+> audit p i s c
+x fabric 1 1
+0 clean 10/
+> trace p i s c --from 20
+x fabric 1 1
+0 time,event,place/20,act,a/20,end,/
+- the message that is delivered too late would be the eighth call
+s time,event,place/0,act,a/0,act,b/3,ack,a>b/3,ack,b>a/10,act,a/10,act,b/15,data,a>b/15,data,b>a/20,act,a/20,end,
+> run p i s c
+x fabric 1 7
+6 fault: link/
+x fabric 8 8
+5 schedule offence at event 7: ChannelOverdue data a>b/
+x send 1 4
+9
+x send 5 5
+5 schedule offence at event 7: ChannelOverdue data a>b/
+";
 
-// The send of this number finds no memory.
-fn run_tight(alloc: Global, at: u64) -> Result<Ended, Memory>
-    requires { at < 2 ^ 64 - 1 }
-{
-    let mut fabric = TightFabric::new(alloc, at);
-    call_over(alloc, "run p i s c", ACROSS, NONE, &mut fabric)
-}
+const WRITES: &str = "\
+- a text is taken at one write, and where that fails nothing is written at all
+> check p
+x out 1 1
+7
+x out 2 2
+0 node main(x: int) returns (y: int)/let/  y = 0 fby y + x;/tel/
+x err 1 1
+0 node main(x: int) returns (y: int)/let/  y = 0 fby y + x;/tel/
+> meaning p i
+x out 1 1
+7
+> run p i s
+x out 1 1
+7
+x err 1 1
+0 y: 0 1/
+> plan c
+x out 1 1
+7
+> watch p i s o
+x out 1 1
+7
+> audit p i s c
+x out 1 1
+7
+> trace p i s c
+x out 1 1
+7
+- where the files fail nothing is written to out, and err may fail too
+> run p i s
+x files,out 1 1
+6 fault: read/
+x files,err 1 1
+7
+> run p i s c
+x fabric,out 1 1
+6 fault: link/
+x fabric,err 1 1
+7
+- the line of a refusal of each status
+> run
+x out 1 1
+1 words: usage: ltta check P [C] | meaning P I | run P I S [C] | plan C [--horizon H] | sim P I C --seed N --horizon H | watch P I S O [C] | audit P I S C | trace P I S C [--node NAME] [--from T] [--to T]/
+x err 1 1
+7
+> check i
+x out 1 1
+2 syntax 3 Unexpected at byte 0/
+x err 1 1
+7
+> check p i
+x out 1 1
+3 config 1 NotToml/
+x err 1 1
+7
+> meaning p p
+x out 1 1
+4 inputs 2 Header at row 0/
+x err 1 1
+7
+> run p i c
+x out 1 1
+5 schedule 5 NotCsv at row 0/
+x err 1 1
+7
+> check q
+x out 1 1
+6 fault: read/
+x err 1 1
+7
+> watch p i s p
+x out 1 1
+10 observer 2 Unexpected at byte 5/
+x err 1 1
+7
+p {1048577* }
+> check p
+x out 1 1
+8 limit: program bytes 1048576/
+x err 1 1
+7
+";
 
-// Each file is opened once and read twice, but the schedule on two nodes, whose last line has no line feed, three times.
+const PIECES: &str = "\
+- a drawn schedule is written in pieces; where one of them fails, the earlier ones were taken
+c protocol = 'backpressure'/period = [1, 1]/delay = [0, 0]/[nodes]/all = ['x', 'y']/
+> sim p i c --seed 1 --horizon 10000
+0 time,event,place/{10000*@,act,all/}10000,end,/
+x out 1 1
+7
+x out 2 2
+7 time,event,place/{10000*@,act,all/}10000,end,/
+x out 3 3
+0 time,event,place/{10000*@,act,all/}10000,end,/
+x files,out 1 1
+6 fault: read/
+";
+
 #[test]
-fn a_failed_call_on_the_files_ends_it(rt: HostRuntime) -> Result<(), Fail> {
-    for (line, texts, calls) in [
-        ("meaning p i", COUNTING, 6u64),
-        ("run p i s", COUNTING, 9),
-        ("run p i s c", ACROSS, 13),
-    ] {
-        for n in 1u64..=14 {
-            let ended = call_failing(rt.alloc(), line, texts, n)?;
-            if n <= calls {
-                assert_eq!(rt; ended.status, Status::Outside, "{line}, call {n}");
-                assert_eq!(rt; ended.out.as_slice(), b"".as_slice());
-                assert_eq!(rt; ended.err.as_slice(), b"fault: read\n".as_slice());
-            } else {
-                assert_eq!(rt; ended.status, Status::Ok, "{line}, call {n}");
-            }
-        }
-    }
-    Ok(())
+fn failed_calls(rt: HostRuntime) {
+    holds(&rt, rt.alloc(), FILES);
+    holds(&rt, rt.alloc(), FABRIC);
+    holds(&rt, rt.alloc(), WRITES);
+    holds(&rt, rt.alloc(), PIECES);
 }
 
-// The channels are opened, both nodes acknowledge, both acknowledgements are delivered, both nodes send, both messages are
-// delivered, and one node acknowledges again. So the fourth call is the first delivery.
+// A place that is full holds as much of the text as it has room for.
 #[test]
-fn a_failed_call_on_the_fabric_ends_it(rt: HostRuntime) -> Result<(), Fail> {
-    for n in 1u64..=11 {
-        let ended = run_failing(rt.alloc(), n)?;
-        if n <= 10 {
-            assert_eq!(rt; ended.status, Status::Outside, "call {n}");
-            assert_eq!(rt; ended.out.as_slice(), b"".as_slice());
-            assert_eq!(rt; ended.err.as_slice(), b"fault: link\n".as_slice());
+fn a_front_fills_the_room(rt: HostRuntime) -> Result<(), Fail> {
+    let text = b"u: 1 11\nv: 10\n".as_slice();
+    for length in 0usize..=14 {
+        let mut room = [0u8; 14];
+        let mut out = RealSink::new(Cursor::new(&mut room[..length]));
+        let (status, err) = call_into(rt.alloc(), "run p i s c", ACROSS, NOTHING, &mut out)?;
+        drop(out);
+        let wanted = if length < 14 {
+            Status::Write
         } else {
-            assert_eq!(rt; ended.status, Status::Ok, "call {n}");
-        }
+            Status::Ok
+        };
+        assert_eq!(rt; status, wanted, "room for {length}");
+        assert!(rt; text.starts_with(&room[..length]), "room for {length}");
+        assert_eq!(rt; err.as_slice(), b"".as_slice());
     }
-    Ok(())
-}
-
-// Five messages are sent.
-#[test]
-fn a_message_without_memory_ends_it(rt: HostRuntime) -> Result<(), Fail> {
-    for at in 1u64..=6 {
-        let ended = run_tight(rt.alloc(), at)?;
-        let wanted = if at <= 5 { Status::Memory } else { Status::Ok };
-        assert_eq!(rt; ended.status, wanted, "send {at}");
-        assert_eq!(rt; ended.out.is_empty(), at <= 5, "send {at}");
-        assert_eq!(rt; ended.err.as_slice(), b"".as_slice());
-    }
-    Ok(())
-}
-
-// A text and a line are taken at one write.
-#[test]
-fn a_failed_write_ends_it(rt: HostRuntime) -> Result<(), Fail> {
-    let soon = Texts {
-        schedule: "time,event,place/5,act,all/5,act,all/6,end,/",
-        ..COUNTING
-    };
-    let failing_out = Fails { out: 1, ..NONE };
-    let failing_err = Fails { err: 1, ..NONE };
-    for (line, texts, fails) in [
-        ("run p i s c", ACROSS, failing_out),
-        ("run p i s", soon, failing_err),
-        ("run", COUNTING, failing_err),
-    ] {
-        let ended = call(rt.alloc(), line, texts, fails)?;
-        assert_eq!(rt; ended.status, Status::Write, "{line}");
-        assert_eq!(rt; ended.out.as_slice(), b"".as_slice());
-        assert_eq!(rt; ended.err.as_slice(), b"".as_slice());
-    }
-    Ok(())
-}
-
-// The second piece of the schedule would be the ninth call.
-#[test]
-fn nothing_is_read_behind_an_offence(rt: HostRuntime) -> Result<(), Fail> {
-    let texts = Texts {
-        schedule: "time,event,place/5,act,all/5,act,all/{10000000*x}",
-        ..COUNTING
-    };
-    let ended = call(rt.alloc(), "run p i s", texts, Fails { files: 9, ..NONE })?;
-    assert_eq!(rt; ended.status, Status::Schedule);
-    assert_eq!(rt;
-        ended.err.as_slice(),
-        b"schedule offence at event 2: TooSoon all\n".as_slice()
-    );
     Ok(())
 }

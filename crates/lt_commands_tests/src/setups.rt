@@ -1,7 +1,6 @@
 // Programs that are checked with a setup, and plans of setups.
 
 use crate::script::holds;
-use std::test::Fail;
 
 const ACCEPTED: &str = "\
 p node main(x: int) returns (u: int; v: int) let u = x + (0 fby v); v = 10 + (0 fby u); tel
@@ -114,16 +113,10 @@ c protocol = 'backpressure'/period = [9, 11]/[nodes]/a = ['x']/
 ";
 
 #[test]
-fn setups(rt: HostRuntime) -> Result<(), Fail> {
-    holds(&rt, rt.alloc(), ACCEPTED)?;
-    holds(&rt, rt.alloc(), SETUPS)?;
-    holds(&rt, rt.alloc(), PLACEMENTS)?;
-    holds(&rt, rt.alloc(), TIMINGS)?;
-    Ok(())
-}
-
-#[test]
-fn plans(rt: HostRuntime) -> Result<(), Fail> {
-    holds(&rt, rt.alloc(), PLANS)?;
-    Ok(())
+fn setups(rt: HostRuntime) {
+    holds(&rt, rt.alloc(), ACCEPTED);
+    holds(&rt, rt.alloc(), SETUPS);
+    holds(&rt, rt.alloc(), PLACEMENTS);
+    holds(&rt, rt.alloc(), TIMINGS);
+    holds(&rt, rt.alloc(), PLANS);
 }

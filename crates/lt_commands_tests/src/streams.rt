@@ -1,7 +1,6 @@
 // The streams that are printed: of the whole program, and of runs on one node.
 
 use crate::script::holds;
-use std::test::Fail;
 
 const MEANINGS: &str = "\
 - a counter, on three rows and on none
@@ -97,15 +96,9 @@ c protocol = 'backpressure'/period = [1, 11]/delay = [1, 4]/[nodes]/b = ['v', 'u
 ";
 
 #[test]
-fn meanings(rt: HostRuntime) -> Result<(), Fail> {
-    holds(&rt, rt.alloc(), MEANINGS)?;
-    Ok(())
-}
-
-#[test]
-fn runs(rt: HostRuntime) -> Result<(), Fail> {
-    holds(&rt, rt.alloc(), RUNS)?;
-    holds(&rt, rt.alloc(), CRUISE)?;
-    holds(&rt, rt.alloc(), RUNS_ON_A_NODE)?;
-    Ok(())
+fn streams(rt: HostRuntime) {
+    holds(&rt, rt.alloc(), MEANINGS);
+    holds(&rt, rt.alloc(), RUNS);
+    holds(&rt, rt.alloc(), CRUISE);
+    holds(&rt, rt.alloc(), RUNS_ON_A_NODE);
 }
