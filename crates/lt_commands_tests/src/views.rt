@@ -61,6 +61,42 @@ s time,event,place/0,act,all/4,act,all/8,act,all/12,end,/
 o not y
 > watch p i s o
 10 observer 5 NotBool at byte 4/
+- each other kind of fault, at the first byte of its token; an input is no output
+o not 1
+> watch p i s o
+10 observer 1 BadByte at byte 4/
+o not x
+> watch p i s o
+10 observer 4 UnknownName at byte 4/
+p node main(c: bool) returns (b: bool when c) let b = c when c; tel
+i instant,c/0,true/1,false/2,true/
+o true or b
+> watch p i s o
+10 observer 6 NotBase at byte 8/
+- the height 200, and one more
+o {199*not }true
+> watch p i s o
+0 fails at 0/
+o {200*not }true
+> watch p i s o
+10 observer 3 TooDeep at byte 796/
+- two nodes, of which one executes two instants and the other one: u is true and then false, and v is false
+p node main(x: bool) returns (u: bool; v: bool) let u = x and (true fby v); v = false fby u; tel
+i instant,x/0,true/1,true/2,true/
+c protocol = 'backpressure'/period = [9, 11]/delay = [1, 4]/[nodes]/a = ['x', 'u']/b = ['v']/
+s time,event,place/0,act,a/0,act,b/3,ack,a>b/3,ack,b>a/10,act,a/10,act,b/12,data,a>b/12,data,b>a/20,act,a/20,end,/
+o historically u
+> watch p i s o c
+0 fails at 1/
+o not v since u
+> watch p i s o c
+0 holds 1/
+o u or previous u
+> watch p i s o c
+0 holds 2/
+o true
+> watch p i s o c
+0 holds 1/
 ";
 
 const JUDGED: &str = "\
