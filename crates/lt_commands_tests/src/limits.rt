@@ -22,7 +22,6 @@ i {67108865*/}
 i {67108864*/}
 > meaning p i
 4 inputs 2 Header at row 0/
-i instant,x/0,1/1,2/2,3/
 ";
 
 const GREATEST_SCHEDULE: &str = "\
