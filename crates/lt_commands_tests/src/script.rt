@@ -22,6 +22,9 @@ pub struct Cell<'a> {
     pub last: u32,
 }
 
+// What stands before the text of a line, where it is no status.
+const KEYS: [&str; 8] = ["p", "i", "s", "c", "o", ">", "x", "-"];
+
 /// Every call of the script has to end so.
 pub fn holds<R: Abort>(rt: &R, alloc: Global, script: &str) {
     let mut cell = plain("", COUNTING);
@@ -29,7 +32,10 @@ pub fn holds<R: Abort>(rt: &R, alloc: Global, script: &str) {
         let (key, text) = line.split_once(' ').unwrap_or((line, ""));
         match key.parse::<u8>() {
             Ok(status) => ends(rt, alloc, cell, status, text),
-            Err(_) => cell = told(cell, key, text),
+            Err(_) => {
+                assert!(rt; KEYS.contains(&key), "no line of a script: {line}");
+                cell = told(cell, key, text);
+            }
         }
     }
 }

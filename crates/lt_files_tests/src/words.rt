@@ -48,6 +48,7 @@ fn said<'a>(command: &Command<'a>) -> (&'static str, [&'a str; 5], [u64; 2]) {
             [*program, *inputs, *config, "", ""],
             [*seed, *horizon],
         ),
+        Command::Big { instants } => ("big", ["", "", "", "", ""], [*instants as u64, 0]),
         Command::Watch {
             program,
             inputs,
@@ -117,6 +118,8 @@ fn lines_of_words(rt: HostRuntime) -> Result<(), Fail> {
             ["p", "i", "c", "", ""],
             [5, 0],
         ),
+        ("big 1", "big", ["", "", "", "", ""], [1, 0]),
+        ("big 100000", "big", ["", "", "", "", ""], [100_000, 0]),
         ("watch p i s o", "watch", ["p", "i", "s", "o", ""], [0, 0]),
         (
             "watch p i s o c",
@@ -154,6 +157,10 @@ fn lines_of_words(rt: HostRuntime) -> Result<(), Fail> {
         "sim p i c --horizon 1",
         "sim p i c --seed 18446744073709551616 --horizon 1",
         "sim p i c --seed -1 --horizon 1",
+        "big",
+        "big 0",
+        "big 100001",
+        "big 1 2",
         "watch p i s",
         "audit p i s",
         "trace p i s c --to 1000000000000001",
