@@ -1,12 +1,12 @@
 // Lines over long and over broken files, and rows as they read and are written.
-ghost use Rattle.std.specs.Prelude.{◌≡◌, ◌<◌, ◌-◌, ◌^◌, length, IfOk};
+ghost use Rattle.std.specs.Prelude.{◌≡◌, ◌<◌, ◌-◌, ◌*◌, ◌^◌, length, IfOk};
 ghost use Rattle.lt_io.specs.MemFiles.{mem_files_state};
 ghost use Rattle.lt_arch.specs.Schedule.{IsEventOf};
 
 use crate::fixtures::{file, listed};
 use lt_arch::{Chan, ChanKind, Event, Shape};
 use lt_base::{List, Memory, Name};
-use lt_io::{Files, MemFiles};
+use lt_io::{Files, MemFiles, RepeatFiles};
 use lt_rows::{LineFault, Lines, RowFault, print_event, read_event, read_header};
 use std::alloc::Global;
 use std::test::Fail;
@@ -88,6 +88,26 @@ fn no_piece_is_read_too_early(rt: HostRuntime) -> Result<(), Fail> {
     let mut files = in_memory(alloc, b"\n\r\nfirst\r\nsecond", 0)?;
     let line = first(alloc, &mut files)?;
     assert_eq!(rt; line.as_slice(), b"first\r".as_slice());
+    Ok(())
+}
+
+// The rows of a file that has these bytes so many times, as `count` counts them.
+fn count_same(alloc: Global, bytes: Vec<u8>, times: u64) -> Result<(u32, Option<LineFault>), Memory>
+    requires { length bytes.items * times < 2 ^ 63 }
+{
+    let mut files = RepeatFiles::new(List::of(bytes), times);
+    count(alloc, &mut files)
+}
+
+// Empty lines are no rows, but the row behind them holds them.
+#[test]
+fn empty_lines_end_at_the_limit(rt: HostRuntime) -> Result<(), Fail> {
+    let alloc = rt.alloc();
+    // 1,073,741,824 bytes, and one more.
+    let at = count_same(alloc, vec![in alloc; b'\n'; 32_768]?, 32_768)?;
+    let past = count_same(alloc, vec![in alloc; b'\n'; 33_025]?, 32_513)?;
+    assert_eq!(rt; at, (0, None));
+    assert_eq!(rt; past, (0, Some(LineFault::Bytes)));
     Ok(())
 }
 
