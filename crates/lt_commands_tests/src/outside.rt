@@ -184,7 +184,7 @@ x fabric,err 1 1
 - the line of a refusal of each status
 > run
 x out 1 1
-1 words: usage: ltta check P [C] | meaning P I | run P I S [C] | plan C [--horizon H] | sim P I C --seed N --horizon H | watch P I S O [C] | audit P I S C | trace P I S C [--node NAME] [--from T] [--to T]/
+1 words: usage: ltta check P [C] | meaning P I | run P I S [C] | plan C [--horizon H] | sim P I C --seed N --horizon H | big N | watch P I S O [C] | audit P I S C | trace P I S C [--node NAME] [--from T] [--to T]/
 x err 1 1
 7
 > check i
