@@ -1,5 +1,5 @@
 -- The command is one of which clap gives the matches.
-use Rattle.std.proofs.Common.{◌≡◌, ◌≢◌, List, [], true, refl, ap, subst, ◌∙◌, inl, inr}
+use Rattle.std.proofs.Common.{◌≡◌, ◌≢◌, List, [], true, Option, None, Result, Ok, Err, IfOk, OnOk, refl, ap, sym, subst, ◌∙◌, inl, inr}
 use Rattle.clap.specs.Words.{is_simple, App, Text, app_of, IsParsedFrom, has_subcommand, takes, fault_of, kind_of, HasKind}
 use Rattle.clap.specs.declared.builder.command.Command.{Command}
 use Rattle.clap.specs.declared.builder.command.Command.TheViews.{out-Command}
@@ -9,7 +9,10 @@ use Rattle.clap.specs.declared.error.kind.ErrorKind.TheVariants as kind
 use Rattle.lt_words.specs.Local.{IsLocal}
 use Rattle.clap.specs.Faults.{is_simple_and_free}
 use Rattle.clap.proofs.OnLiterals.{clap_on_literals}
+use Rattle.lt_base.specs.declared.memory.Memory.{Memory}
+use Rattle.lt_words.specs.declared.command.Command.{Command as Said}
 use Rattle.lt_words.specs.Commands.{program_app}
+use Rattle.lt_words.specs.Told.{Told}
 
 pub program_is_simple : is_simple program_app ≡ true
 unfolding program_app clap_on_literals
@@ -35,3 +38,9 @@ refused_words a e ws is passes kinds not_memory =
       (λ t. not_memory (passes (ap (λ x. takes x ws) is ∙ t))),
       (λ none. elim (subst (λ ks. HasKind ks e) (ap (λ x. fault_of x ws) is ∙ none) has) [ inl m ↦ not_memory m | inr no_kind ↦ absurd no_kind ]),
     )
+
+-- so is an answer that says no command
+pub told_none : (ws : List Text) (r : Result (Option Said) Memory) (e : Error) → IfOk r (λ c. c ≡ None) → OnOk r (kind_of e ≢ kind.OutOfMemory)
+    → (kind_of e ≢ kind.OutOfMemory → (takes program_app ws ≢ true) × (fault_of program_app ws ≢ [])) → Told ws r
+told_none ws (Err m) e none calm refused = tt
+told_none ws (Ok c) e none calm refused = subst (λ x. Told ws (Ok x)) (sym none) (refused calm)

@@ -1,5 +1,6 @@
 // What the words say.
-ghost use Rattle.std.specs.Prelude.{◌≡◌, ◌≢◌, ◌≤◌, None, true, Ok, [], map, option_map, unwrap_or, IfOk, IfSome, string_bytes, codes};
+ghost use Rattle.std.specs.Prelude.{◌≡◌, ◌≢◌, ◌≤◌, None, true, Ok, [], map, option_map, unwrap_or, IfOk, IfSome, OnOk, OnErr, string_bytes, codes};
+ghost use Rattle.clap.specs.Values.{kind_of};
 ghost use Rattle.clap.specs.Words.{rows_of, first_of, found_of, takes};
 ghost use Rattle.lt_words.specs.Commands.{program_app};
 ghost use Rattle.lt_words.specs.Numbers.{number_text};
@@ -11,7 +12,7 @@ use crate::Command;
 use crate::commands::{GREATEST_TIME, MOST_INSTANTS, program};
 use crate::numbers::number_text;
 use clap::ArgMatches;
-use clap::error::ErrorKind;
+use clap::error::{Error, ErrorKind};
 use lt_base::Memory;
 use std::alloc::Global;
 
@@ -161,10 +162,19 @@ fn read<'a>(alloc: Global, words: &'a [String]) -> Result<Option<Command<'a>>, M
             Some((name, inner)) => Ok(Some(command_of(name, inner))),
             None => Ok(None),
         },
-        Err(error) => match error.kind() {
-            ErrorKind::OutOfMemory => Err(Memory),
-            _ => Ok(None),
-        },
+        Err(error) => refused(&error),
+    }
+}
+
+// Words that `clap` refuses say no command, but for its own want of memory.
+fn refused<'a>(error: &Error) -> Result<Option<Command<'a>>, Memory>
+    ensures none { IfOk result (λ command. command ≡ None) }
+    ensures refused { OnOk result (kind_of error.now ≢ ErrorKind.OutOfMemory) }
+    ensures memory { OnErr result (kind_of error.now ≡ ErrorKind.OutOfMemory) }
+{
+    match error.kind() {
+        ErrorKind::OutOfMemory => Err(Memory),
+        _ => Ok(None),
     }
 }
 

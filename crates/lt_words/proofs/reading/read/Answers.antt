@@ -1,14 +1,16 @@
 use Rattle.std.proofs.Common.{◌∙◌, map, string_bytes}
 use Rattle.clap.specs.Words.{app_of}
 use Rattle.std.proofs.lemmas.Bool.{false≢true}
-use Rattle.lt_words.proofs.Simple.{met_one, refused_words}
+use Rattle.lt_words.proofs.Simple.{met_one, refused_words, told_none}
 use Rattle.lt_words.proofs.reading.read.Goals as goal
 
 pub returns : goal.returns
 returns c =
     let h = c.in-Err-try_get_matches_from.ensures in
-    refused_words (app_of c.in-Ok.command) c.in-Err-try_get_matches_from.error (map string_bytes c.args.words.now) c.in-Ok.ensures.app h.passes h.kinds
-    (λ m. c.in_default.not-OutOfMemory (c.kind.ensures ∙ m))
+    let error = c.in-Err-try_get_matches_from.error in
+    let words = map string_bytes c.args.words.now in
+    told_none words c.refused.result error c.refused.ensures.none c.refused.ensures.refused
+    (refused_words (app_of c.in-Ok.command) error words c.in-Ok.ensures.app h.passes h.kinds)
 
 pub returns-in-Ok-try_get_matches_from : goal.returns-in-Ok-try_get_matches_from
 returns-in-Ok-try_get_matches_from c =
