@@ -1,3 +1,4 @@
 pub mod Cells
 pub mod Stages
+pub mod Whole
 pub mod OneWatch
