@@ -12,6 +12,7 @@ use Rattle.lt_judge.specs.Verdict.{verdict}
 use Rattle.lt_load.specs.Plan.{Plan}
 use Rattle.lt_inspect.specs.declared.scene.Scene.{Scene}
 use Rattle.lt_inspect.specs.declared.audited.Audited.{Audited}
+use Rattle.lt_inspect.specs.Placed.{IsOfShape}
 use Rattle.lt_inspect.specs.Scenes.{IsSceneOf, scene_verdict}
 use Rattle.lt_inspect.specs.Inspected.{EndsWith, IsAudited, file_verdict, along_verdict, audit_verdict}
 use Rattle.lt_inspect.proofs.ToldFirst.{admissible, in_time}
@@ -42,6 +43,10 @@ read_file : {T : Type 0} (end : List Event → T → Type 0) (s : Shape) (t : Ti
 unfolding file_verdict
 read_file end s t rows bytes events x reads ended = subst (λ (r : Result (List Event) ScheduleFault). EndsWith end r (Ok x)) (sym reads) ended
 
+-- no miss names a node or a channel
+none_placed : (s : Shape) → IsOfShape s None
+none_placed s m is = cc
+
 -- an audit without a miss is shown so
 took_clean : (scene : Scene) (events : List Event) (audited : Audited) (old new : Objects) → IsAudited scene events audited → Accepts scene.timing → TookText (audited_text audited) old new → TookClean scene events old new
 took_clean scene events audited old new audits accepts text =
@@ -71,7 +76,7 @@ module _ (named : List ℕ → Option (List ℕ)) (program inputs schedule confi
 module _ (named : List ℕ → Option (List ℕ)) (program inputs schedule config : List ℕ) (plan : Plan) (scene : Scene) (events : List Event) (held : HoldSchedule named program inputs schedule config plan scene events) where
   -- what is told of events without a miss
   abbrev without : Audited
-  without = record { events = length events; miss = None; shape = scene.shape; placed = λ m is. cc }
+  without = record { events = length events; miss = None; shape = scene.shape; placed = none_placed scene.shape }
 
   no_miss : Accepts plan.setup.timing → HasNoMiss scene.shape scene.timing scene.rows events
   no_miss accepts =
