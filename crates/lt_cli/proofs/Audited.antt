@@ -1,6 +1,5 @@
 -- What an audit shows, from its verdict.
-use Rattle.std.proofs.Common.{◌≡◌, ◌∙◌, ℕ, List, length, Option, Some, None, Result, Ok, Err, refl, sym, ap, subst, inl, inr}
-use Rattle.std.specs.Prelude.{codes}
+use Rattle.std.proofs.Common.{◌≡◌, ◌∙◌, ℕ, List, length, Option, Some, None, Result, Ok, Err, refl, sym, subst, inl, inr}
 use Rattle.lt_arch.specs.declared.event.Event.{Event}
 use Rattle.lt_arch.specs.declared.shape.Shape.{Shape}
 use Rattle.lt_arch.specs.declared.timing.Timing.{Timing}
@@ -89,11 +88,15 @@ module _ (named : List ℕ → Option (List ℕ)) (program inputs schedule confi
   right : Accepts plan.setup.timing → audit_verdict named program inputs schedule config (Ok without)
   unfolding audit_verdict
   right accepts =
-      inr (plan, held.loaded, (
-        scene,
-        held.scene_is,
-        subst (λ (file : Option (List ℕ)). file_verdict (IsAudited scene) scene.shape scene.timing scene.rows file (Ok without)) (sym held.file) (read_file (IsAudited scene) scene.shape scene.timing scene.rows held.bytes events without held.reads (audits_clean accepts)),
-      ))
+      inr (
+        plan,
+        held.loaded,
+        (
+          scene,
+          held.scene_is,
+          subst (λ (file : Option (List ℕ)). file_verdict (IsAudited scene) scene.shape scene.timing scene.rows file (Ok without)) (sym held.file) (read_file (IsAudited scene) scene.shape scene.timing scene.rows held.bytes events without held.reads (audits_clean accepts)),
+        ),
+      )
 
   -- the files hold one list of events
   same_events : (q : Plan) (k : Scene) (es : List Event) → HoldSchedule named program inputs schedule config q k es → es ≡ events

@@ -84,8 +84,7 @@ module _ (named : List ℕ → Option (List ℕ)) (program inputs schedule : Lis
   pub run_along : (p : Plan) → load_verdict named program inputs config (Ok p) → along_verdict fabric (named schedule) p (Ok ran) → (r : IsRunAlong named program inputs schedule config fabric ran) × (r.plan ≡ p)
   unfolding along_verdict
   run_along p loaded (l, s, site, played) =
-      let read = has_read (λ events x. Shows p.checked.program l s p.setup.timing p.inputs.rows fabric events x) s p.setup.timing (length p.inputs.rows) (named schedule) ran played in
-      (
+      let read = has_read (λ events x. Shows p.checked.program l s p.setup.timing p.inputs.rows fabric events x) s p.setup.timing (length p.inputs.rows) (named schedule) ran played in (
         record {
           plan = p;
           loaded = loaded;

@@ -1,13 +1,10 @@
 -- What a watched run shows, from its verdict.
-use Rattle.std.proofs.Common.{◌≡◌, ◌∙◌, ◌⊎◌, ◌<◌, ◌≤◌, ℕ, min, List, [], ◌∷◌, length, Option, Some, None, Ok, Err, refl, sym, ap, subst, inl, inr, arith}
+use Rattle.std.proofs.Common.{◌≡◌, ◌∙◌, ◌⊎◌, ◌<◌, ◌≤◌, ℕ, min, List, [], ◌∷◌, length, Option, Some, None, Ok, refl, sym, ap, subst, inl, inr, arith}
 use Rattle.std.specs.Prelude.{slice_index_or}
 use Rattle.lt_base.specs.declared.value.Cell.{Cell}
 use Rattle.lt_arch.specs.State.{executed_of}
 use Rattle.lt_arch.specs.Schedule.{reached}
-use Rattle.lt_place.specs.Layout.{Gives, part_of}
 use Rattle.lt_lead.specs.Paced.{bound_by}
-use Rattle.lt_answer.specs.World.{World}
-use Rattle.lt_answer.specs.Answered.{AndThen}
 use Rattle.lt_past.specs.Faults.{IsObserverOf}
 use Rattle.lt_past.specs.Observer.{Observing}
 use Rattle.lt_load.specs.declared.fault.What.{What}
@@ -18,7 +15,7 @@ use Rattle.lt_run.specs.declared.outputs.Outputs.{Outputs}
 use Rattle.lt_run.specs.Run.{along_verdict}
 use Rattle.lt_watch.specs.declared.watched.Watched.{Watched}
 use Rattle.lt_watch.specs.Judged.{counted, column, IsLeast, IsWatched}
-use Rattle.lt_watch.specs.Whole.{Judges, Counts}
+use Rattle.lt_watch.specs.Whole.{Counts}
 use Rattle.lt_watch.specs.Watch.{observer_verdict, followed_verdict, plan_watch_verdict, watch_verdict}
 use Rattle.lt_watch.proofs.Whole.{instants, of_whole, counts_below, counts_reached, counts_low, outputs_low}
 use Rattle.lt_cli.specs.Objects.{Objects, world_of}

@@ -1,5 +1,5 @@
 -- A watched run leaves one refusal, up to its kind.
-use Rattle.std.proofs.Common.{◌≡◌, ◌∙◌, ℕ, List, Option, Ok, Err, inl, inr, sym, arith}
+use Rattle.std.proofs.Common.{◌≡◌, ℕ, List, Option, Ok, Err, inl, inr, arith}
 use Rattle.lt_base.specs.Program.{Function}
 use Rattle.lt_answer.specs.World.{World}
 use Rattle.lt_answer.specs.Answered.{AndThen}
@@ -7,7 +7,6 @@ use Rattle.lt_verdict.proofs.Decided.{HasOneKind, HasOneOutcome, and_then, and_t
 use Rattle.lt_past.specs.declared.fault.ObserverFault.{ObserverFault}
 use Rattle.lt_past.specs.Observer.{Observing}
 use Rattle.lt_past.proofs.Observed.{not_both, one_observer}
-use Rattle.lt_load.specs.declared.fault.CommandFault.{CommandFault}
 use Rattle.lt_load.specs.declared.fault.What.TheVariants.{ObserverBytes}
 use Rattle.lt_load.specs.Loaded.{whole_verdict}
 use Rattle.lt_load.specs.Main.{main_in}

@@ -1,5 +1,5 @@
 -- What is told of an observer, said of any lists of cells: those of a run, or the streams of the whole program.
-use Rattle.std.specs.Prelude.{◌≡◌, ◌⊎◌, ℕ, ◌<◌, ◌≤◌, List, [], ◌∷◌, length, slice_index_or}
+use Rattle.std.specs.Prelude.{◌≡◌, ℕ, ◌<◌, List, [], ◌∷◌, length, slice_index_or}
 use Rattle.lt_base.specs.declared.value.Cell.{Cell}
 use Rattle.lt_past.specs.Satisfaction.{Sat}
 use Rattle.lt_past.specs.Observer.{Observing}
