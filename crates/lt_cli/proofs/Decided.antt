@@ -4,7 +4,7 @@ use Rattle.std.specs.Prelude.{if◌then◌else◌}
 use Rattle.lt_answer.specs.World.{World}
 use Rattle.lt_front.specs.declared.fault.ProgramFault.{ProgramFault}
 use Rattle.lt_front.specs.Limits.{is_limit}
-use Rattle.lt_verdict.proofs.Decided.{HasOneKind, and_then}
+use Rattle.lt_verdict.proofs.Decided.{HasOneKind, HasOneOutcome, and_then}
 use Rattle.lt_load.specs.Loaded.{config_verdict}
 use Rattle.lt_load.specs.Setups.{check_verdict}
 use Rattle.lt_run.specs.Meaning.{meaning_verdict}
@@ -17,6 +17,7 @@ use Rattle.lt_place.specs.declared.layout.Layout.{Layout}
 use Rattle.lt_rows.specs.Limits.{most_events}
 use Rattle.lt_run.specs.Run.{IsLaidOutBy}
 use Rattle.lt_big.specs.Big.{events_of, loaded_verdict, along_verdict, big_verdict}
+use Rattle.lt_inspect.specs.Scenes.{scene_verdict}
 use Rattle.lt_inspect.specs.Inspected.{audit_verdict, trace_verdict}
 use Rattle.lt_load.specs.declared.fault.CommandFault.{CommandFault}
 use Rattle.lt_load.specs.Plan.{Plan}
@@ -25,7 +26,7 @@ use Rattle.lt_load.proofs.OneLoad.{config_decided}
 use Rattle.lt_load.proofs.OnePlain.{plain_load_decided}
 use Rattle.lt_load.proofs.OneShape.{one_shape}
 use Rattle.lt_cli.specs.Draws.{Drawing, too_many, drawing, plan_drawn_verdict, sim_verdict}
-use Rattle.lt_cli.proofs.Inspected.{audit_once, trace_once}
+use Rattle.lt_cli.proofs.Inspected.{scene_once, audit_once, trace_once}
 use Rattle.lt_load.proofs.OneCheck.{check_decided as one_check}
 use Rattle.lt_watch.specs.Watch.{watch_verdict}
 use Rattle.lt_watch.proofs.OneWatch.{watch_decided}
@@ -98,6 +99,10 @@ unfolding big_verdict loaded_verdict
 big_decided instants fabric =
     and_then fault_status (loaded_verdict instants) (λ plan. along_verdict instants fabric plan)
     (plain_load_decided fault_status tells_limits (λ f g main main'. refl) (λ f g names names' mixed mixed'. refl) _ _ _ _) (λ plan. along_decided instants fabric plan)
+
+-- the files hold one plan
+pub scene_decided : (named : List ℕ → Option (List ℕ)) (program inputs config : List ℕ) (node : Option (List ℕ)) → HasOneOutcome fault_status (scene_verdict named program inputs config node)
+scene_decided named program inputs config node = scene_once fault_status tells_limits (λ f g main main'. refl) named inputs node program config
 
 pub audit_decided : (named : List ℕ → Option (List ℕ)) (program inputs schedule config : List ℕ) → HasOneKind fault_status (audit_verdict named program inputs schedule config)
 audit_decided named program inputs schedule config = audit_once fault_status tells_limits (λ f g main main'. refl) named program inputs schedule config

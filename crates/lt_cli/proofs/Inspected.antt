@@ -49,12 +49,12 @@ module _ {T : Type 0} (end end' : List Event → T → Type 0) where
 
 -- two scenes of one plan have one shape, one timing and as many rows
 
-record AreAlike (k j : Scene) : Type 0 where
-  shape : j.shape ≡ k.shape
-  timing : j.timing ≡ k.timing
-  rows : j.rows ≡ k.rows
+pub record AreAlike (k j : Scene) : Type 0 where
+  pub shape : j.shape ≡ k.shape
+  pub timing : j.timing ≡ k.timing
+  pub rows : j.rows ≡ k.rows
 
-alike : (plan : Plan) (place : Option (List ℕ)) (k j : Scene) → IsSceneOf plan place k → IsSceneOf plan place j → AreAlike k j
+pub alike : (plan : Plan) (place : Option (List ℕ)) (k j : Scene) → IsSceneOf plan place k → IsSceneOf plan place j → AreAlike k j
 alike plan place k j is it = record {
   shape = one_shape (flat_of plan.checked.program) plan.setup.placement it.layout is.layout it.laid is.laid Plain plan.setup.timing j.shape k.shape it.shape is.shape;
   timing = it.timing ∙ sym is.timing;
@@ -103,7 +103,7 @@ module _ {K : Type 0} (kind : CommandFault → K) where
     unfolding setup_scene_verdict
     setup_once config checked = and_then_one kind (plain_config_verdict (named config)) _ (plain_config_decided kind (named config)) (λ setup. placed_once checked setup)
 
-    scene_once : (program config : List ℕ) → HasOneOutcome kind (scene_verdict named program inputs config node)
+    pub scene_once : (program config : List ℕ) → HasOneOutcome kind (scene_verdict named program inputs config node)
     unfolding scene_verdict
     scene_once program config = and_then_one kind (program_verdict (named program)) _ (program_decided kind along (named program)) (λ checked. setup_once config checked)
 

@@ -11,6 +11,8 @@ pub mod Facts
 pub mod Causes
 pub mod Failed
 pub mod Shown
+pub mod Watched
+pub mod Audited
 pub mod Performed
 pub mod Texts
 pub mod Asking

@@ -12,7 +12,7 @@ use Rattle.lt_answer.specs.Answered.{Verdict, Answered}
 use Rattle.lt_answer.proofs.Stages.{beside}
 use Rattle.lt_play.specs.Played.{world}
 use Rattle.lt_cli.specs.declared.refusal.Refusal.{Refusal}
-use Rattle.lt_cli.specs.declared.refusal.Refusal.TheVariants.{Words, Command, ObserverBytes, Observer}
+use Rattle.lt_cli.specs.declared.refusal.Refusal.TheVariants.{Words, Command, Observer}
 use Rattle.lt_cli.specs.declared.status.Status.{Status}
 use Rattle.lt_cli.specs.declared.status.Status.TheVariants as status
 use Rattle.lt_cli.specs.Blamed.{blame_of}
@@ -82,7 +82,6 @@ module _ (es : List Errand) (V : Verdict (List ℕ) Refusal) (a b : World) (o o'
   finished (Ok text) ends answered of_command (written, same) = text_written text ends answered written same
   finished (Err (Fault Words)) ends answered of_command finishes = absurd of_command
   finished (Err (Fault (Command fault))) ends answered of_command (written, same) = line_written (Command fault) ends (fault_not_words fault) answered written same
-  finished (Err (Fault ObserverBytes)) ends answered of_command (written, same) = line_written ObserverBytes ends (λ is. cc) answered written same
   finished (Err (Fault (Observer fault))) ends answered of_command (written, same) = line_written (Observer fault) ends (λ is. cc) answered written same
   finished (Err Memory) ends answered of_command (is, same_out, same_err) = not_found ends answered is same_out same_err
 

@@ -1,6 +1,10 @@
 -- All that holds of a call of `ltta`, from what it printed and whose count rose.
 use Rattle.std.proofs.Common.{◌≡◌, ◌≢◌, ℕ, IsTrue, List, Option, Some, refl, sym, ◌∙◌, ap}
 use Rattle.lt_io.specs.FabricState.{FabricState}
+use Rattle.lt_arch.specs.declared.event.Event.{Event}
+use Rattle.lt_timing.specs.Accepts.{Accepts}
+use Rattle.lt_load.specs.Plan.{Plan}
+use Rattle.lt_inspect.specs.declared.scene.Scene.{Scene}
 use Rattle.lt_plan.specs.Text.{plan_of}
 use Rattle.lt_load.specs.Loaded.{config_verdict}
 use Rattle.lt_load.specs.Setups.{check_verdict}
@@ -21,6 +25,8 @@ use Rattle.lt_cli.specs.Commands.{checked_text, printed_text, summarized_text, w
 use Rattle.lt_cli.specs.Objects.{Objects, IsQuiet, Tells, world_of}
 use Rattle.lt_cli.specs.Asked.{Asked}
 use Rattle.lt_cli.specs.RunShown.{IsRunShown, IsBigShown}
+use Rattle.lt_cli.specs.WatchShown.{IsWatchShown}
+use Rattle.lt_cli.specs.AuditShown.{HoldSchedule, TookClean, IsAuditShown}
 use Rattle.lt_cli.specs.Clauses.{Performs, IsExact, IsExactFor, IsMissingExact, IsMissingFor}
 use Rattle.lt_cli.proofs.Gave.{Gave, gave}
 use Rattle.lt_cli.proofs.Facts.{words_exact, asked_gave}
@@ -29,6 +35,8 @@ use Rattle.lt_cli.proofs.Causes.{outside_caused, write_caused, missing_exact, mi
 use Rattle.lt_cli.proofs.Refusals.{watch_reads}
 use Rattle.lt_cli.proofs.Failed.{call_failed}
 use Rattle.lt_cli.proofs.Shown.{run_shown, big_shown}
+use Rattle.lt_cli.proofs.Watched.{watch_shown}
+use Rattle.lt_cli.proofs.Audited.{audit_shown, audit_clean}
 use Rattle.lt_cli.proofs.Decided.{check_decided, meaning_decided, run_decided, plan_decided, sim_decided, big_decided, watched_decided, audit_decided, trace_decided}
 
 module _ (asked : List (List ℕ)) (old new : Objects) (ends : Status) (did : Asked asked old new ends) where
@@ -90,6 +98,22 @@ module _ (asked : List (List ℕ)) (old new : Objects) (ends : Status) (did : As
   audit_exact program inputs schedule config is tells quiet enough =
       exact_for (λ f. Command f) audited_text (audit_verdict old.files.named program inputs schedule config) (audit_decided old.files.named program inputs schedule config) old new ends
       (given (audit program inputs schedule config) is tells quiet enough)
+
+  shown_watch : (program inputs schedule observer : List ℕ) (config : Option (List ℕ)) → command_of asked ≡ Some (watch program inputs schedule observer config) → Tells old → IsQuiet old new → ends ≡ status.Ok
+      → IsWatchShown old.files.named program inputs schedule observer config old new
+  shown_watch program inputs schedule observer config is tells quiet at =
+      let told = (watch_exact program inputs schedule observer config is tells quiet (λ none. let wrong : status.Ok ≡ status.Memory = sym at ∙ none in cc)).text at in
+      watch_shown old.files.named program inputs schedule observer config old new told.0 told.2 told.1
+
+  shown_audit : (program inputs schedule config : List ℕ) → command_of asked ≡ Some (audit program inputs schedule config) → Tells old → IsQuiet old new → ends ≡ status.Ok → IsAuditShown old.files.named program inputs schedule config old new
+  shown_audit program inputs schedule config is tells quiet at =
+      let told = (audit_exact program inputs schedule config is tells quiet (λ none. let wrong : status.Ok ≡ status.Memory = sym at ∙ none in cc)).text at in
+      audit_shown old.files.named program inputs schedule config old new told.0 told.2 told.1
+
+  clean_audit : (program inputs schedule config : List ℕ) → command_of asked ≡ Some (audit program inputs schedule config) → Tells old → IsQuiet old new → ends ≢ status.Memory
+      → (plan : Plan) (scene : Scene) (events : List Event) → HoldSchedule old.files.named program inputs schedule config plan scene events → Accepts plan.setup.timing → (ends ≡ status.Ok) × TookClean scene events old new
+  clean_audit program inputs schedule config is tells quiet enough plan scene events held accepts =
+      audit_clean old.files.named program inputs schedule config plan scene events held old new ends (audit_exact program inputs schedule config is tells quiet enough) accepts
 
   trace_exact : (program inputs schedule config : List ℕ) (node : Option (List ℕ)) (from to : ℕ) → command_of asked ≡ Some (trace program inputs schedule config node from to) → Tells old → IsQuiet old new → ends ≢ status.Memory
       → IsExact (λ text. text) (trace_verdict old.files.named program inputs schedule config node from to) old new ends
@@ -171,6 +195,9 @@ module _ (asked : List (List ℕ)) (old new : Objects) (ends : Status) (did : As
       trace = trace_exact;
       run_shown = shown;
       big_shown = shown_big;
+      watch_shown = shown_watch;
+      audit_shown = shown_audit;
+      audit_clean = clean_audit;
       outside = λ at. outside_caused (words_verdict old.files.named (world_of new) asked) old new ends did.ran at;
       failed = λ rose. call_failed old new (words_verdict old.files.named (world_of new) asked) ends did.ran rose;
       write = λ at. write_caused (words_verdict old.files.named (world_of new) asked) old new ends did.ran at;

@@ -11,7 +11,7 @@ use Rattle.lt_load.specs.Blamed.{command_blame}
 use Rattle.lt_load.specs.declared.fault.CommandFault.{CommandFault}
 use Rattle.lt_load.specs.declared.fault.CommandFault.TheVariants as fault
 use Rattle.lt_cli.specs.declared.refusal.Refusal.{Refusal}
-use Rattle.lt_cli.specs.declared.refusal.Refusal.TheVariants.{Words, Command, ObserverBytes, Observer}
+use Rattle.lt_cli.specs.declared.refusal.Refusal.TheVariants.{Words, Command, Observer}
 use Rattle.lt_cli.specs.declared.status.Status.{Status}
 use Rattle.lt_cli.specs.declared.status.Status.TheVariants as status
 use Rattle.lt_cli.specs.Blamed.{blame_of}
@@ -90,14 +90,12 @@ fault_not_write f is =
 pub not_ok : (r : Refusal) → refusal_status r ≡ status.Ok → ⊥
 not_ok Words is = cc
 not_ok (Command f) is = fault_not_ok f is
-not_ok ObserverBytes is = cc
 not_ok (Observer f) is = cc
 
 -- nor that of a failed write
 pub not_write : (r : Refusal) → refusal_status r ≡ status.Write → ⊥
 not_write Words is = cc
 not_write (Command f) is = fault_not_write f is
-not_write ObserverBytes is = cc
 not_write (Observer f) is = cc
 
 -- a failed call has its own status, and its line
@@ -112,7 +110,6 @@ blames_by f (inr link) = inr (ap command_blame link)
 pub outside_blames : (r : Refusal) → refusal_status r ≡ status.Outside → (blame_of r ≡ Reading) ⊎ (blame_of r ≡ Linking)
 outside_blames Words is = cc
 outside_blames (Command f) is = blames_by f (fault_calls f is)
-outside_blames ObserverBytes is = cc
 outside_blames (Observer f) is = cc
 
 -- a blame tells what was called
@@ -145,23 +142,19 @@ blamed_links f is = subst (λ (whose : Blame). BlamedFor whose f) is (blamed_for
 pub reading_line : (r : Refusal) → blame_of r ≡ Reading → line_of r ≡ codes "fault: read"
 reading_line Words is = cc
 reading_line (Command f) is = ap (λ (e : CommandFault). line_of (Command e)) (blamed_reads f is)
-reading_line ObserverBytes is = cc
 reading_line (Observer f) is = cc
 
 pub linking_line : (r : Refusal) → blame_of r ≡ Linking → line_of r ≡ codes "fault: link"
 linking_line Words is = cc
 linking_line (Command f) is = ap (λ (e : CommandFault). line_of (Command e)) (blamed_links f is)
-linking_line ObserverBytes is = cc
 linking_line (Observer f) is = cc
 
 -- of a watched run
 
 pub watch_blames : (e : WatchFault) → blame_of (watch_refusal e) ≡ watch_blame e
 watch_blames (watch.Command f) = refl
-watch_blames watch.ObserverBytes = refl
 watch_blames (watch.Observer f) = refl
 
 pub watch_reads : (e : WatchFault) → blame_of (watch_refusal e) ≡ Reading → e ≡ watch.Command fault.Read
 watch_reads (watch.Command f) is = ap (λ (g : CommandFault). watch.Command g) (blamed_reads f is)
-watch_reads watch.ObserverBytes is = cc
 watch_reads (watch.Observer f) is = cc

@@ -30,10 +30,10 @@ use Rattle.lt_big.specs.Big.{big_verdict, loaded_verdict, events_of}
 use Rattle.lt_cli.specs.Commands.{printed_text, summarized_text}
 use Rattle.lt_cli.specs.Objects.{Objects, world_of}
 use Rattle.lt_cli.specs.Taken.{TookText}
-use Rattle.lt_cli.specs.RunShown.{IsOutputShown, IsRunShown, IsBigShown}
+use Rattle.lt_cli.specs.RunShown.{IsOutputShown, IsRunAlong, IsRunShown, IsBigShown}
 
 -- a schedule file that is played to its end reads as events
-record HasRead {T : Type 0} (end : List Event → T → Type 0) (s : Shape) (t : Timing) (rows : ℕ) (file : Option (List ℕ)) (x : T) : Type 0 where
+pub record HasRead {T : Type 0} (end : List Event → T → Type 0) (s : Shape) (t : Timing) (rows : ℕ) (file : Option (List ℕ)) (x : T) : Type 0 where
   pub bytes : List ℕ
   pub file_is : file ≡ Some bytes
   pub events : List Event
@@ -79,31 +79,33 @@ module _ (p : Plan) (l : Layout) (s : Shape) (fabric : FabricState) (events : Li
         enough = subst (λ (m : ℕ). min (bound_by p.setup.pace p.setup.timing n shows.horizon) (length rows) ≤ m) (sym count) (shows.told.run.enough p.setup.pace (record { shaped = shaped; fits = p.setup.paced }) n (in_shape n within));
       }
 
-module _ (named : List ℕ → Option (List ℕ)) (program inputs schedule : List ℕ) (config : Option (List ℕ)) (old new : Objects) (printed : Outputs) (text : TookText (printed_text printed) old new) where
-  along_shown : (p : Plan) → load_verdict named program inputs config (Ok p) → along_verdict new.fabric (named schedule) p (Ok printed) → IsRunShown named program inputs schedule config old new
+module _ (named : List ℕ → Option (List ℕ)) (program inputs schedule : List ℕ) (config : Option (List ℕ)) (fabric : FabricState) (ran : Outputs) where
+  -- the run of a plan
+  pub run_along : (p : Plan) → load_verdict named program inputs config (Ok p) → along_verdict fabric (named schedule) p (Ok ran) → (r : IsRunAlong named program inputs schedule config fabric ran) × (r.plan ≡ p)
   unfolding along_verdict
-  along_shown p loaded (l, s, site, played) =
-      let read = has_read (λ events x. Shows p.checked.program l s p.setup.timing p.inputs.rows new.fabric events x) s p.setup.timing (length p.inputs.rows) (named schedule) printed played in
-      record {
-        plan = p;
-        loaded = loaded;
-        layout = l;
-        laid = site.layout;
-        shape = s;
-        shaped = site.shape;
-        bytes = read.bytes;
-        file = read.file_is;
-        events = read.events;
-        reads = read.reads;
-        printed = printed;
-        text = text;
-        shows = read.at_end;
-        outputs = output_shown p l s new.fabric read.events printed site.shape site.layout read.at_end;
-      }
+  run_along p loaded (l, s, site, played) =
+      let read = has_read (λ events x. Shows p.checked.program l s p.setup.timing p.inputs.rows fabric events x) s p.setup.timing (length p.inputs.rows) (named schedule) ran played in (
+        record {
+          plan = p;
+          loaded = loaded;
+          layout = l;
+          laid = site.layout;
+          shape = s;
+          shaped = site.shape;
+          bytes = read.bytes;
+          file = read.file_is;
+          events = read.events;
+          reads = read.reads;
+          shows = read.at_end;
+          outputs = output_shown p l s fabric read.events ran site.shape site.layout read.at_end;
+        },
+        refl,
+      )
 
+module _ (named : List ℕ → Option (List ℕ)) (program inputs schedule : List ℕ) (config : Option (List ℕ)) (old new : Objects) (printed : Outputs) (text : TookText (printed_text printed) old new) where
   steps_shown : AndThen (load_verdict named program inputs config) (λ plan. along_verdict new.fabric (named schedule) plan) (Ok printed) → IsRunShown named program inputs schedule config old new
   steps_shown (inl refused) = absurd refused
-  steps_shown (inr (p, loaded, played)) = along_shown p loaded played
+  steps_shown (inr (p, loaded, played)) = record { printed = printed; text = text; run = (run_along named program inputs schedule config new.fabric printed p loaded played).0 }
 
   pub run_shown : run_verdict named program inputs schedule config (world_of new) (Ok printed) → IsRunShown named program inputs schedule config old new
   unfolding ordered_verdict

@@ -97,5 +97,4 @@ watch_raise = record { same = watch_blames; of_command = watch_of_command }
   where
     watch_of_command : (e : WatchFault) → IsOfCommand (Err (Fault (watch_refusal e)))
     watch_of_command (watch.Command f) = tt
-    watch_of_command watch.ObserverBytes = tt
     watch_of_command (watch.Observer f) = tt

@@ -12,7 +12,7 @@ use Rattle.lt_words.specs.Reading.{Said, check, meaning, run, plan, sim, big, wa
 use Rattle.lt_load.specs.declared.fault.CommandFault.{CommandFault}
 use Rattle.lt_load.specs.Plan.{LoadedPlan}
 use Rattle.lt_cli.specs.declared.refusal.Refusal.{Refusal}
-use Rattle.lt_cli.specs.declared.refusal.Refusal.TheVariants.{Words, Command, ObserverBytes, Observer}
+use Rattle.lt_cli.specs.declared.refusal.Refusal.TheVariants.{Words, Command, Observer}
 use Rattle.lt_cli.specs.declared.status.Status.{Status}
 use Rattle.lt_cli.specs.declared.status.Status.TheVariants as status
 use Rattle.lt_cli.specs.Blamed.{blame_of}
@@ -28,7 +28,6 @@ abbrev pub IsOfCommand : Result (List ℕ) (Or Refusal) → Type 0
 IsOfCommand (Ok text) = Unit {0}
 IsOfCommand (Err (Fault Words)) = ⊥
 IsOfCommand (Err (Fault (Command fault))) = Unit {0}
-IsOfCommand (Err (Fault ObserverBytes)) = Unit {0}
 IsOfCommand (Err (Fault (Observer fault))) = Unit {0}
 IsOfCommand (Err Memory) = Unit {0}
 

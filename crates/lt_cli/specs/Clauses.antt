@@ -1,5 +1,7 @@
 -- What holds of a call of `ltta`, fact by fact.
 use Rattle.std.specs.Prelude.{◌≡◌, ◌≢◌, ◌<◌, ◌⊎◌, ◌↔◌, ℕ, IsTrue, List, Option, Some, None, Ok, Err, codes}
+use Rattle.lt_arch.specs.declared.event.Event.{Event}
+use Rattle.lt_timing.specs.Accepts.{Accepts}
 use Rattle.lt_answer.specs.Answered.{Verdict}
 use Rattle.lt_load.specs.declared.fault.CommandFault.{CommandFault}
 use Rattle.lt_load.specs.declared.fault.CommandFault.TheVariants.{Read}
@@ -13,9 +15,11 @@ use Rattle.lt_words.specs.Reading as said
 use Rattle.lt_plan.specs.Text.{plan_of}
 use Rattle.lt_load.specs.Loaded.{config_verdict}
 use Rattle.lt_load.specs.Setups.{check_verdict}
+use Rattle.lt_load.specs.Plan.{Plan}
 use Rattle.lt_run.specs.Meaning.{meaning_verdict}
 use Rattle.lt_run.specs.Run.{run_verdict}
 use Rattle.lt_big.specs.Big.{big_verdict}
+use Rattle.lt_inspect.specs.declared.scene.Scene.{Scene}
 use Rattle.lt_inspect.specs.Inspected.{audit_verdict, trace_verdict}
 use Rattle.lt_watch.specs.declared.fault.WatchFault.TheVariants as watched
 use Rattle.lt_watch.specs.Watch.{watch_verdict}
@@ -23,6 +27,8 @@ use Rattle.lt_cli.specs.Draws.{sim_verdict}
 use Rattle.lt_cli.specs.Commands.{checked_text, printed_text, summarized_text, watch_refusal, words_verdict}
 use Rattle.lt_cli.specs.Taken.{TookLine, TookText}
 use Rattle.lt_cli.specs.RunShown.{IsRunShown, IsBigShown}
+use Rattle.lt_cli.specs.WatchShown.{IsWatchShown}
+use Rattle.lt_cli.specs.AuditShown.{HoldSchedule, TookClean, IsAuditShown}
 use Rattle.lt_cli.specs.Objects.{Objects, IsQuiet, Tells, world_of}
 use Rattle.lt_cli.specs.Ran.{Ran}
 use Rattle.lt_cli.specs.Asked.{EndsBySaid, VisitsFiles}
@@ -110,6 +116,15 @@ pub record Performs (asked : List (List ℕ)) (old new : Objects) (ends : Status
   -- the same of a run of the large input
   pub big_shown : (instants : ℕ) → command_of asked ≡ Some (said.big instants) → Tells old → IsQuiet old new → ends ≡ status.Ok
       → IsBigShown instants old new
+  -- what a watched run and an audit show that ended well
+  pub watch_shown : (program inputs schedule observer : List ℕ) (config : Option (List ℕ)) → command_of asked ≡ Some (said.watch program inputs schedule observer config) → Tells old → IsQuiet old new → ends ≡ status.Ok
+      → IsWatchShown old.files.named program inputs schedule observer config old new
+  pub audit_shown : (program inputs schedule config : List ℕ) → command_of asked ≡ Some (said.audit program inputs schedule config) → Tells old → IsQuiet old new → ends ≡ status.Ok
+      → IsAuditShown old.files.named program inputs schedule config old new
+  -- an audit of an admissible list over a setup whose timing is accepted ends well, and tells that no message is too few or too many
+  pub audit_clean : (program inputs schedule config : List ℕ) → command_of asked ≡ Some (said.audit program inputs schedule config) → Tells old → IsQuiet old new → ends ≢ status.Memory
+      → (plan : Plan) (scene : Scene) (events : List Event) → HoldSchedule old.files.named program inputs schedule config plan scene events → Accepts plan.setup.timing
+      → (ends ≡ status.Ok) × TookClean scene events old new
   -- what a status says of the outside
   pub outside : ends ≡ status.Outside → IsOutsideCaused old new
   pub failed : HasCallFailed old new → IsOfFailure ends

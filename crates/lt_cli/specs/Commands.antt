@@ -25,7 +25,7 @@ use Rattle.lt_watch.specs.declared.fault.WatchFault.{WatchFault}
 use Rattle.lt_watch.specs.declared.fault.WatchFault.TheVariants as watched
 use Rattle.lt_watch.specs.Watch.{watch_verdict}
 use Rattle.lt_cli.specs.declared.refusal.Refusal.{Refusal}
-use Rattle.lt_cli.specs.declared.refusal.Refusal.TheVariants.{Words, Command, ObserverBytes, Observer}
+use Rattle.lt_cli.specs.declared.refusal.Refusal.TheVariants.{Words, Command, Observer}
 use Rattle.lt_cli.specs.Draws.{sim_verdict}
 use Rattle.lt_cli.specs.Texts.{outputs_text, summary_text, watched_text, audited_text, drawing_text}
 
@@ -39,7 +39,6 @@ text_verdict shown V = answer_verdict (λ fault. Command fault) shown V
 -- the refusal of a watched run
 abbrev pub watch_refusal : WatchFault → Refusal
 watch_refusal (watched.Command fault) = Command fault
-watch_refusal watched.ObserverBytes = ObserverBytes
 watch_refusal (watched.Observer fault) = Observer fault
 
 -- a program in its canonical form

@@ -11,4 +11,6 @@ pub mod Commands
 pub mod Asked
 pub mod Taken
 pub mod RunShown
+pub mod WatchShown
+pub mod AuditShown
 pub mod Clauses

@@ -38,8 +38,8 @@ pub record IsOutputShown (p : WholeProgram) (l : Layout) (s : Shape) (t : Timing
   -- they are at least as many as the bound for the horizon, by who paces the rounds, or one for each row of inputs
   pub enough : min (bound_by pace t n horizon) (length inputs) ≤ length cells
 
--- a run of this program on these inputs, along this schedule and with this setup, files of these names, ended well
-pub record IsRunShown (named : List ℕ → Option (List ℕ)) (program inputs schedule : List ℕ) (config : Option (List ℕ)) (old new : Objects) : Type 0 where
+-- the outputs of a run of this program on these inputs, along this schedule and with this setup, files of these names, over a fabric that ends so
+pub record IsRunAlong (named : List ℕ → Option (List ℕ)) (program inputs schedule : List ℕ) (config : Option (List ℕ)) (fabric : FabricState) (ran : Outputs) : Type 0 where
   -- the program, the setup and the rows of inputs that the files hold
   pub plan : Plan
   pub loaded : load_verdict named program inputs config (Ok plan)
@@ -53,14 +53,18 @@ pub record IsRunShown (named : List ℕ → Option (List ℕ)) (program inputs s
   pub file : named schedule ≡ Some bytes
   pub events : List Event
   pub reads : verdict shape plan.setup.timing (length plan.inputs.rows) bytes ≡ Ok events
+  -- what the fabric holds and tells after the events, and what the nodes were given
+  pub shows : Shows plan.checked.program layout shape plan.setup.timing plan.inputs.rows fabric events ran
+  -- of each output, on its node
+  pub outputs : (y n x : ℕ) → y < length layout.outs → n < length layout.nodes → Gives (part_of layout n) (slice_index_or layout.outs y 0) x →
+      IsOutputShown plan.checked.program layout shape plan.setup.timing plan.setup.pace plan.inputs.rows fabric events shows.told.run.lists.got shows.horizon y n x (slice_index_or ran.cells y [])
+
+-- such a run ended well
+pub record IsRunShown (named : List ℕ → Option (List ℕ)) (program inputs schedule : List ℕ) (config : Option (List ℕ)) (old new : Objects) : Type 0 where
   -- `out` took the text of the outputs' cells, and `err` nothing
   pub printed : Outputs
   pub text : TookText (printed_text printed) old new
-  -- what the fabric holds and tells after the events, and what the nodes were given
-  pub shows : Shows plan.checked.program layout shape plan.setup.timing plan.inputs.rows new.fabric events printed
-  -- of each output, on its node
-  pub outputs : (y n x : ℕ) → y < length layout.outs → n < length layout.nodes → Gives (part_of layout n) (slice_index_or layout.outs y 0) x →
-      IsOutputShown plan.checked.program layout shape plan.setup.timing plan.setup.pace plan.inputs.rows new.fabric events shows.told.run.lists.got shows.horizon y n x (slice_index_or printed.cells y [])
+  pub run : IsRunAlong named program inputs schedule config new.fabric printed
 
 -- a run of the large input for so many instants ended well
 pub record IsBigShown (instants : ℕ) (old new : Objects) : Type 0 where

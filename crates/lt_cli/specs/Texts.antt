@@ -13,7 +13,7 @@ use Rattle.lt_rows.specs.declared.fault.RowFault.TheVariants as row
 use Rattle.lt_front.specs.declared.fault.ProgramFault.{ProgramFault}
 use Rattle.lt_front.specs.Limits.{is_limit}
 use Rattle.lt_load.specs.declared.fault.What.{What}
-use Rattle.lt_load.specs.declared.fault.What.TheVariants.{ProgramBytes, ConfigBytes, InputsBytes, ScheduleBytes}
+use Rattle.lt_load.specs.declared.fault.What.TheVariants.{ProgramBytes, ConfigBytes, InputsBytes, ObserverBytes, ScheduleBytes}
 use Rattle.lt_load.specs.declared.fault.CommandFault.{CommandFault}
 use Rattle.lt_load.specs.declared.fault.CommandFault.TheVariants as fault
 use Rattle.lt_texts.specs.Lines.{program_line}
@@ -26,7 +26,7 @@ use Rattle.lt_watch.specs.declared.watched.Watched.TheVariants.{Holds, Fails}
 use Rattle.lt_cli.specs.ScheduleLines.{row_line, offence_line, node_name, channel_text}
 use Rattle.lt_cli.specs.Draws.{Drawing}
 use Rattle.lt_cli.specs.declared.refusal.Refusal.{Refusal}
-use Rattle.lt_cli.specs.declared.refusal.Refusal.TheVariants.{Words, Command, ObserverBytes, Observer}
+use Rattle.lt_cli.specs.declared.refusal.Refusal.TheVariants.{Words, Command, Observer}
 use Rattle.lt_cli.specs.declared.status.Status.{Status}
 use Rattle.lt_cli.specs.declared.status.Status.TheVariants as status
 
@@ -36,6 +36,7 @@ abbrev pub limit_line : What → List ℕ
 limit_line ProgramBytes = codes "limit: program bytes 1048576"
 limit_line ConfigBytes = codes "limit: config bytes 262144"
 limit_line InputsBytes = codes "limit: inputs bytes 67108864"
+limit_line ObserverBytes = codes "limit: observer bytes 65536"
 limit_line ScheduleBytes = codes "limit: schedule bytes 1073741824"
 
 abbrev pub fault_line : CommandFault → List ℕ
@@ -55,7 +56,6 @@ abbrev pub line_of : Refusal → List ℕ
 line_of Words =
     codes "words: usage: ltta check P [C] | meaning P I | run P I S [C] | plan C [--horizon H] | sim P I C --seed N --horizon H | big N | watch P I S O [C] | audit P I S C | trace P I S C [--node NAME] [--from T] [--to T]"
 line_of (Command f) = fault_line f
-line_of ObserverBytes = codes "limit: observer bytes 65536"
 line_of (Observer f) = observer_line f
 
 -- the status of a refusal
@@ -87,7 +87,6 @@ fault_status fault.Link = status.Outside
 abbrev pub refusal_status : Refusal → Status
 refusal_status Words = status.Words
 refusal_status (Command f) = fault_status f
-refusal_status ObserverBytes = status.Limit
 refusal_status (Observer f) = status.Observer
 
 -- the status of a text, or of a refusal

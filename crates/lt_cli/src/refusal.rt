@@ -27,8 +27,6 @@ pub enum Refusal {
     Words,
     /// The command's files are at fault, or a call on them failed.
     Command(CommandFault),
-    /// The file of an observer has more than 65,536 bytes.
-    ObserverBytes,
     /// The observer is at fault.
     Observer(ObserverFault),
 }
@@ -41,7 +39,6 @@ impl Refusal {
         match self {
             Refusal::Words => Status::Words,
             Refusal::Command(fault) => fault_status(fault),
-            Refusal::ObserverBytes => Status::Limit,
             Refusal::Observer(_) => Status::Observer,
         }
     }
@@ -58,7 +55,6 @@ impl Refusal {
                 )
             }
             Refusal::Command(fault) => fault_line(alloc, fault),
-            Refusal::ObserverBytes => List::from_slice(alloc, b"limit: observer bytes 65536"),
             Refusal::Observer(fault) => observer_line(alloc, *fault),
         }
     }
@@ -70,7 +66,6 @@ pub(crate) fn watch_refusal(fault: WatchFault) -> Refusal
 {
     match fault {
         WatchFault::Command(fault) => Refusal::Command(fault),
-        WatchFault::ObserverBytes => Refusal::ObserverBytes,
         WatchFault::Observer(fault) => Refusal::Observer(fault),
     }
 }
@@ -153,6 +148,7 @@ fn limit_line(alloc: Global, what: What) -> Result<List<u8>, Memory>
         What::ProgramBytes => List::from_slice(alloc, b"limit: program bytes 1048576"),
         What::ConfigBytes => List::from_slice(alloc, b"limit: config bytes 262144"),
         What::InputsBytes => List::from_slice(alloc, b"limit: inputs bytes 67108864"),
+        What::ObserverBytes => List::from_slice(alloc, b"limit: observer bytes 65536"),
         What::ScheduleBytes => List::from_slice(alloc, b"limit: schedule bytes 1073741824"),
     }
 }

@@ -12,7 +12,7 @@ use Rattle.lt_config.specs.declared.config.Config.{Config}
 use Rattle.lt_config.specs.declared.fault.ConfigFault.{ConfigFault}
 use Rattle.lt_config.specs.Reading.{config_of, setup_in}
 use Rattle.lt_load.specs.declared.fault.What.{What}
-use Rattle.lt_load.specs.declared.fault.What.TheVariants.{ProgramBytes, ConfigBytes, InputsBytes, ScheduleBytes}
+use Rattle.lt_load.specs.declared.fault.What.TheVariants.{ProgramBytes, ConfigBytes, InputsBytes, ObserverBytes, ScheduleBytes}
 use Rattle.lt_load.specs.declared.fault.CommandFault.{CommandFault}
 use Rattle.lt_load.specs.declared.fault.CommandFault.TheVariants as fault
 use Rattle.lt_load.specs.Main.{main_in}
@@ -22,6 +22,7 @@ abbrev pub limit_of : What → ℕ
 limit_of ProgramBytes = 1048576
 limit_of ConfigBytes = 262144
 limit_of InputsBytes = 67108864
+limit_of ObserverBytes = 65536
 limit_of ScheduleBytes = 1073741824
 
 -- these are the bytes, and not too many

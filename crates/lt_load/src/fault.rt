@@ -15,6 +15,7 @@ pub enum What {
     ProgramBytes,
     ConfigBytes,
     InputsBytes,
+    ObserverBytes,
     ScheduleBytes,
 }
 

@@ -25,6 +25,7 @@ impl What {
             What::ProgramBytes => 1_048_576,
             What::ConfigBytes => 262_144,
             What::InputsBytes => 67_108_864,
+            What::ObserverBytes => 65_536,
             What::ScheduleBytes => 1_073_741_824,
         }
     }

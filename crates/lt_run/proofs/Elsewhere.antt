@@ -19,7 +19,7 @@ use Rattle.lt_play.specs.declared.fault.PlayFault.{PlayFault}
 use Rattle.lt_play.specs.declared.fault.PlayFault.TheVariants.{Schedule, Link}
 use Rattle.lt_play.specs.Played.{IsNearPlay}
 use Rattle.lt_load.specs.declared.fault.What.{What}
-use Rattle.lt_load.specs.declared.fault.What.TheVariants.{ProgramBytes, ConfigBytes, InputsBytes, ScheduleBytes}
+use Rattle.lt_load.specs.declared.fault.What.TheVariants.{ProgramBytes, ConfigBytes, InputsBytes, ObserverBytes, ScheduleBytes}
 use Rattle.lt_load.specs.declared.fault.CommandFault.{CommandFault}
 use Rattle.lt_load.specs.declared.fault.CommandFault.TheVariants as fault
 use Rattle.lt_load.specs.Blamed.{command_blame}
@@ -38,6 +38,7 @@ abbrev of_limit : What → Blame
 of_limit ProgramBytes = Content
 of_limit ConfigBytes = Content
 of_limit InputsBytes = Content
+of_limit ObserverBytes = Content
 of_limit ScheduleBytes = Linking
 
 abbrev of_fault : CommandFault → Blame
@@ -57,6 +58,7 @@ near_limit : (file : Option (List ℕ)) (place : ℕ) (what : What) → of_limit
 near_limit file place ProgramBytes is = tt
 near_limit file place ConfigBytes is = tt
 near_limit file place InputsBytes is = tt
+near_limit file place ObserverBytes is = tt
 near_limit file place ScheduleBytes is = absurd (cc)
 
 -- of the others nothing is said

@@ -6,7 +6,7 @@ use Rattle.lt_answer.specs.Answered.{Verdict}
 use Rattle.lt_judge.specs.declared.fault.ScheduleFault.TheVariants as schedule
 use Rattle.lt_judge.specs.Near.{IsNearFile}
 use Rattle.lt_load.specs.declared.fault.What.{What}
-use Rattle.lt_load.specs.declared.fault.What.TheVariants.{ProgramBytes, ConfigBytes, InputsBytes, ScheduleBytes}
+use Rattle.lt_load.specs.declared.fault.What.TheVariants.{ProgramBytes, ConfigBytes, InputsBytes, ObserverBytes, ScheduleBytes}
 use Rattle.lt_load.specs.declared.fault.CommandFault.{CommandFault}
 use Rattle.lt_load.specs.declared.fault.CommandFault.TheVariants as fault
 
@@ -15,6 +15,7 @@ abbrev pub IsNearLimit : Option (List ℕ) → (place : ℕ) → What → Type 0
 IsNearLimit file place ProgramBytes = Unit {0}
 IsNearLimit file place ConfigBytes = Unit {0}
 IsNearLimit file place InputsBytes = Unit {0}
+IsNearLimit file place ObserverBytes = Unit {0}
 IsNearLimit file place ScheduleBytes = IsNearFile file place (Fault schedule.Bytes)
 
 -- a schedule file that is refused was read to at most a piece past the row that is refused

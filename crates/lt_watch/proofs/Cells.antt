@@ -123,12 +123,12 @@ mapped_take cells outs zero = refl
 mapped_take cells [] (suc k) = refl
 mapped_take cells (y ∷ ys) (suc k) = ap (λ z. column cells y ∷ z) (mapped_take cells ys k)
 
-mapped_at : (cells : List (List Cell)) (outs : List ℕ) (k : ℕ) → k < length outs → column (map (column cells) outs) k ≡ column cells (get_or outs k 0)
+pub mapped_at : (cells : List (List Cell)) (outs : List ℕ) (k : ℕ) → k < length outs → column (map (column cells) outs) k ≡ column cells (get_or outs k 0)
 mapped_at cells [] k h = absurd (omega (arith, h))
 mapped_at cells (y ∷ ys) zero h = refl
 mapped_at cells (y ∷ ys) (suc k) h = mapped_at cells ys k (omega (arith, h))
 
-mapped_length : (cells : List (List Cell)) (outs : List ℕ) → length (map (column cells) outs) ≡ length outs
+pub mapped_length : (cells : List (List Cell)) (outs : List ℕ) → length (map (column cells) outs) ≡ length outs
 mapped_length cells [] = refl
 mapped_length cells (y ∷ ys) = ap suc (mapped_length cells ys)
 

@@ -1,4 +1,4 @@
-pub mod Bytes
 pub mod Cells
 pub mod Stages
+pub mod Whole
 pub mod OneWatch

@@ -1,25 +1,24 @@
 -- A watched run leaves one refusal, up to its kind.
-use Rattle.std.proofs.Common.{◌≡◌, ◌∙◌, ℕ, List, Option, Ok, Err, inl, inr, sym, arith}
+use Rattle.std.proofs.Common.{◌≡◌, ℕ, List, Option, Ok, Err, inl, inr, arith}
 use Rattle.lt_base.specs.Program.{Function}
 use Rattle.lt_answer.specs.World.{World}
 use Rattle.lt_answer.specs.Answered.{AndThen}
-use Rattle.lt_verdict.proofs.Decided.{HasOneKind, HasOneOutcome, of_form, of_file, and_then, and_then_one, raised, raised_one}
+use Rattle.lt_verdict.proofs.Decided.{HasOneKind, HasOneOutcome, and_then, and_then_one, raised, raised_one}
 use Rattle.lt_past.specs.declared.fault.ObserverFault.{ObserverFault}
 use Rattle.lt_past.specs.Observer.{Observing}
 use Rattle.lt_past.proofs.Observed.{not_both, one_observer}
-use Rattle.lt_load.specs.declared.fault.CommandFault.{CommandFault}
-use Rattle.lt_load.specs.declared.fault.CommandFault.TheVariants.{Read}
-use Rattle.lt_load.specs.Loaded.{IsWithin}
+use Rattle.lt_load.specs.declared.fault.What.TheVariants.{ObserverBytes}
+use Rattle.lt_load.specs.Loaded.{whole_verdict}
 use Rattle.lt_load.specs.Main.{main_in}
 use Rattle.lt_load.specs.Plan.{Plan, load_verdict}
-use Rattle.lt_load.proofs.OneLoad.{TellsLimits}
+use Rattle.lt_load.proofs.OneLoad.{TellsLimits, whole_decided}
 use Rattle.lt_load.proofs.OneCheck.{MergesPlaces, MergesTimings}
 use Rattle.lt_load.proofs.OnePlan.{load_decided}
 use Rattle.lt_run.specs.Near.{ReadNear}
 use Rattle.lt_run.specs.Run.{along_verdict}
 use Rattle.lt_run.proofs.OneRun.{along_decided}
 use Rattle.lt_watch.specs.declared.fault.WatchFault.{WatchFault}
-use Rattle.lt_watch.specs.declared.fault.WatchFault.TheVariants.{Command, ObserverBytes, Observer}
+use Rattle.lt_watch.specs.declared.fault.WatchFault.TheVariants.{Command, Observer}
 use Rattle.lt_watch.specs.declared.watched.Watched.{Watched}
 use Rattle.lt_watch.specs.Watch.{InCommand, observer_bytes_verdict, observed_verdict, observer_verdict, told_verdict, followed_verdict, plan_watch_verdict, watch_verdict}
 
@@ -29,8 +28,7 @@ module _ {K : Type 0} (kind : WatchFault → K) where
   MergesObservers = (e f : ObserverFault) → kind (Observer e) ≡ kind (Observer f)
 
   bytes_decided : (file : Option (List ℕ)) → HasOneOutcome kind (observer_bytes_verdict file)
-  unfolding observer_bytes_verdict
-  bytes_decided file = of_file kind (Command Read) file _ (λ bytes. of_form kind (IsWithin 65536 bytes) ObserverBytes (λ x y p q. p.same ∙ sym q.same))
+  bytes_decided file = raised_one (λ e. Command e) kind (whole_verdict ObserverBytes file) (whole_decided (λ e. kind (Command e)) ObserverBytes file)
 
   observed_decided : MergesObservers → (main : Function) (bytes : List ℕ) → HasOneOutcome (λ e. kind (Observer e)) (observed_verdict main bytes)
   observed_decided merges main bytes = record {

@@ -1,5 +1,5 @@
 -- A watched run, step after step.
-use Rattle.std.proofs.Common.{◌≡◌, ◌∙◌, ◌<◌, ◌≤◌, ℕ, zero, suc, true, false, inl, inr, List, [], ◌∷◌, map, take, length, get_or, Option, Some, None, Result, Ok, Err, IsTrue, refl, sym, ap, subst, arith, ltb-true, ltb-false, ◌++◌}
+use Rattle.std.proofs.Common.{◌≡◌, ◌∙◌, ◌<◌, ◌≤◌, ℕ, zero, suc, true, false, inl, inr, List, [], ◌∷◌, take, length, get_or, Option, Some, None, Result, Ok, Err, IsTrue, refl, sym, ap, subst, arith, ltb-true, ltb-false, ◌++◌}
 use Rattle.std.specs.Prelude.{◌↔◌, ◌^◌, IsErrAnd, nat_lt, slice_index_or}
 use Rattle.lt_base.specs.declared.memory.Or.{Or}
 use Rattle.lt_base.specs.declared.memory.Or.TheVariants.{Fault, Memory}
@@ -44,6 +44,7 @@ use Rattle.lt_watch.specs.declared.watched.Watched.{Watched}
 use Rattle.lt_watch.specs.Blamed.{watch_blame}
 use Rattle.lt_watch.specs.Errands.{observer_errand, watch_errands}
 use Rattle.lt_watch.specs.Judged.{column, counted, is_true, signals_at, IsLeast, Tells, IsWatched}
+use Rattle.lt_watch.proofs.Cells.{mapped_at, mapped_length}
 use Rattle.lt_watch.specs.Watch.{InCommand, observer_verdict, told_verdict, followed_verdict, plan_watch_verdict, watch_verdict, run_along, followed_along, loaded_watch_verdict}
 
 -- two steps, of which the second needs neither files nor fabric
@@ -79,19 +80,10 @@ taken (suc m) [] i d h = absurd (omega (arith, h))
 taken (suc m) (x ∷ xs) zero d h = refl
 taken (suc m) (x ∷ xs) (suc i) d h = taken m xs i d (omega (arith, h))
 
-column_at : (cells : List (List Cell)) (outs : List ℕ) (k : ℕ) → k < length outs → get_or (map (column cells) outs) k [] ≡ column cells (get_or outs k 0)
-column_at cells [] k h = absurd (omega (arith, h))
-column_at cells (y ∷ ys) zero h = refl
-column_at cells (y ∷ ys) (suc k) h = column_at cells ys k (omega (arith, h))
-
-mapped : (cells : List (List Cell)) (outs : List ℕ) → length (map (column cells) outs) ≡ length outs
-mapped cells [] = refl
-mapped cells (y ∷ ys) = ap suc (mapped cells ys)
-
 -- each output that is named has as many cells
 enough : (outs : List ℕ) (cells : List (List Cell)) (n k : ℕ) → IsLeast (counted outs cells) n → k < length outs → n ≤ length (column cells (get_or outs k 0))
 enough [] cells n k least h = absurd (omega (arith, h))
-enough (y ∷ ys) cells n k least h = subst (λ z. n ≤ length z) (column_at cells (y ∷ ys) k h) (least.below k (omega (arith, h, mapped cells (y ∷ ys))))
+enough (y ∷ ys) cells n k least h = subst (λ z. n ≤ length z) (mapped_at cells (y ∷ ys) k h) (least.below k (omega (arith, h, mapped_length cells (y ∷ ys))))
 
 beyond : (cells : List (List Cell)) (y : ℕ) → length cells ≤ y → length (column cells y) ≡ 0
 beyond [] y h = refl

@@ -1,12 +1,12 @@
 -- The files of a watched run, in their order, and how far each may be read.
-use Rattle.std.specs.Prelude.{ℕ, List, [], ◌∷◌, ◌++◌, Option}
+use Rattle.std.specs.Prelude.{ℕ, List, ◌++◌, Option}
 use Rattle.lt_io.specs.Visits.{Errand}
 use Rattle.lt_judge.specs.Errand.{schedule_errand}
-use Rattle.lt_load.specs.Errands.{load_errands}
+use Rattle.lt_load.specs.declared.fault.What.TheVariants.{ObserverBytes}
+use Rattle.lt_load.specs.Errands.{load_errands, whole_errand}
 
--- an observer, up to its limit and one byte more, which shows that there are too many
 abbrev pub observer_errand : (name : List ℕ) → List Errand
-observer_errand name = record { name = name; most = 65537 } ∷ []
+observer_errand name = whole_errand ObserverBytes name
 
 -- the program, the setup if there is one, the inputs, the observer and the schedule
 abbrev pub watch_errands : (program inputs schedule observer : List ℕ) (config : Option (List ℕ)) → List Errand

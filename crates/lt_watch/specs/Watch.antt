@@ -4,21 +4,21 @@ use Rattle.lt_base.specs.declared.value.Value.{Value}
 use Rattle.lt_base.specs.Program.{Function, WholeProgram}
 use Rattle.lt_io.specs.FabricState.{FabricState}
 use Rattle.lt_answer.specs.World.{World}
-use Rattle.lt_answer.specs.Answered.{Verdict, AndThen, OfForm, OfFile}
+use Rattle.lt_answer.specs.Answered.{Verdict, AndThen}
 use Rattle.lt_verdict.specs.Rules.{Raised}
 use Rattle.lt_past.specs.declared.fault.ObserverFault.{ObserverFault}
 use Rattle.lt_past.specs.Observer.{Observing}
 use Rattle.lt_past.specs.Faults.{IsObserverOf, IsFault}
 use Rattle.lt_load.specs.declared.fault.CommandFault.{CommandFault}
-use Rattle.lt_load.specs.declared.fault.CommandFault.TheVariants.{Read}
-use Rattle.lt_load.specs.Loaded.{IsWithin}
+use Rattle.lt_load.specs.declared.fault.What.TheVariants.{ObserverBytes}
+use Rattle.lt_load.specs.Loaded.{whole_verdict}
 use Rattle.lt_load.specs.Main.{main_in}
 use Rattle.lt_load.specs.Plan.{Plan, LoadedPlan, load_verdict}
 use Rattle.lt_run.specs.declared.outputs.Outputs.{Outputs}
 use Rattle.lt_run.specs.Near.{ReadNear}
 use Rattle.lt_run.specs.Run.{along_loaded, along_verdict}
 use Rattle.lt_watch.specs.declared.fault.WatchFault.{WatchFault}
-use Rattle.lt_watch.specs.declared.fault.WatchFault.TheVariants.{Command, ObserverBytes, Observer}
+use Rattle.lt_watch.specs.declared.fault.WatchFault.TheVariants.{Command, Observer}
 use Rattle.lt_watch.specs.declared.watched.Watched.{Watched}
 use Rattle.lt_watch.specs.Judged.{IsWatched}
 
@@ -26,9 +26,9 @@ use Rattle.lt_watch.specs.Judged.{IsWatched}
 abbrev pub InCommand : {T : Type 0} → Verdict T CommandFault → Verdict T WatchFault
 InCommand V = Raised (λ e. Command e) V
 
--- the bytes of an observer's file, that they are more than 65536, or that the file is missing
-unfoldable pub observer_bytes_verdict : Option (List ℕ) → Verdict (List ℕ) WatchFault
-observer_bytes_verdict file = OfFile (Command Read) file (λ bytes. OfForm (IsWithin 65536 bytes) ObserverBytes)
+-- the bytes of an observer's file, that they are too many, or that the file is missing
+abbrev pub observer_bytes_verdict : Option (List ℕ) → Verdict (List ℕ) WatchFault
+observer_bytes_verdict file = InCommand (whole_verdict ObserverBytes file)
 
 -- the observer that the bytes are, or their first fault
 abbrev pub observed_verdict : Function → List ℕ → Verdict Observing ObserverFault

@@ -10,13 +10,10 @@ ghost use Rattle.lt_watch.specs.Watch.{InCommand, observer_bytes_verdict, observ
 
 use crate::WatchFault;
 use lt_base::{Func, List, Or};
-use lt_io::{Files, Whole, read_file};
-use lt_load::{CommandFault, Loaded, load};
+use lt_io::Files;
+use lt_load::{Loaded, What, fetch_within, load};
 use lt_past::{Observer, read_observer};
 use std::alloc::Global;
-
-/// The most bytes of an observer's file.
-const MOST_BYTES: usize = 65_536;
 
 /// Loads what a run is of.
 pub(crate) fn load_run<F: Files>(
@@ -45,11 +42,9 @@ fn fetch_observer<F: Files>(
     requires { (F.state files.old).faults < 2 ^ 64 - 1 }
     ensures { Answered watch_blame (observer_errand name.now) (observer_bytes_verdict ((F.state files.old).named name.now)) (alone (F.state files.old)) (alone (F.state files.new)) result }
 {
-    match read_file(alloc, files, name, MOST_BYTES) {
-        Ok(Whole::Bytes(bytes)) => Ok(bytes),
-        Ok(Whole::TooLong) => Err(Or::Fault(WatchFault::ObserverBytes)),
-        Err(Or::Fault(_)) => Err(Or::Fault(WatchFault::Command(CommandFault::Read))),
-        Err(Or::Memory) => Err(Or::Memory),
+    match fetch_within(alloc, files, name, What::ObserverBytes) {
+        Ok(bytes) => Ok(bytes),
+        Err(e) => Err(e.map(WatchFault::Command)),
     }
 }
 
