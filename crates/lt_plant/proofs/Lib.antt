@@ -1,7 +1,6 @@
 pub mod Bits
 pub mod Below
 pub mod InboxesRead
-pub mod Listed
 pub mod PortLoops
 pub mod Firsts
 pub mod Filling

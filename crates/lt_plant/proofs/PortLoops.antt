@@ -8,9 +8,9 @@ use Rattle.lt_arch.specs.Deeds.{all_below, some_below}
 use Rattle.lt_link.specs.Inbox.{InboxState, no_inbox, is_fresh}
 use Rattle.lt_plant.specs.Acts.{marked}
 use Rattle.lt_plant.specs.Freshness.{is_to, fresh_at, fresh_or_other, fresh_one, TakenUpTo}
-use Rattle.lt_plant.specs.Ports.{numbers}
+use Rattle.lt_wiring.specs.Ports.{numbers}
 use Rattle.lt_plant.proofs.InboxesRead.{taken_none, taken_more, taken_skip}
-use Rattle.lt_plant.proofs.Listed.{from_start, onward, here, at_end, within_zero, passes_zero}
+use Rattle.lt_wiring.proofs.Listed.{from_start, onward, here, at_end, within_zero, passes_zero}
 
 one_more : (p : ℕ → Bool) (c : ℕ) → p c ≡ true → all_below p c ≡ true → all_below p (c + 1) ≡ true
 one_more p c a b = ap (all_below p) (add-one c) ∙ (λ i. a i && b i)

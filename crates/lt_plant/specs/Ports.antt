@@ -1,19 +1,10 @@
 -- The channels of each node, as lists.
-use Rattle.std.specs.Prelude.{◌≡◌, ℕ, zero, suc, ◌<◌, Bool, true, false, List, [], ◌∷◌, ◌++◌, length, slice_index_or}
+use Rattle.std.specs.Prelude.{◌≡◌, ℕ, ◌<◌, true, false, List, [], length, slice_index_or}
 use Rattle.lt_arch.specs.declared.chan.Chan.{Chan}
+use Rattle.lt_wiring.specs.Ports.{numbers}
 use Rattle.lt_plant.specs.declared.ports.Ports.{Ports}
 use Rattle.lt_plant.specs.Sends.{is_from}
 use Rattle.lt_plant.specs.Freshness.{is_to}
-
--- a list with one more number at its end, or as it was
-abbrev pub push_number : Bool → ℕ → List ℕ → List ℕ
-push_number true k ks = ks ++ k ∷ []
-push_number false k ks = ks
-
--- the numbers below n that pass a test, in increasing order
-abbrev pub numbers : (on : ℕ → Bool) (n : ℕ) → List ℕ
-numbers on zero = []
-numbers on (suc k) = push_number (on k) k (numbers on k)
 
 -- the channels of node n
 abbrev pub ports_of : List Chan → (n : ℕ) → Ports

@@ -4,7 +4,8 @@ ghost use Rattle.lt_arch.specs.Readers.{is_data, node_count, chan_count};
 ghost use Rattle.lt_plant.specs.Local.{firsts};
 ghost use Rattle.lt_plant.specs.Sends.{is_from, same_truth};
 ghost use Rattle.lt_plant.specs.Freshness.{is_to};
-ghost use Rattle.lt_plant.specs.Ports.{push_number, numbers, ports_of, HasPorts};
+ghost use Rattle.lt_wiring.specs.Ports.{push_number, numbers};
+ghost use Rattle.lt_plant.specs.Ports.{ports_of, HasPorts};
 
 use crate::literals::carries_data;
 use crate::ports::Ports;
@@ -92,7 +93,7 @@ pub fn ports(alloc: Global, shape: &Shape) -> Result<List<Ports>, Memory>
 }
 
 /// The channels to a node that carry data, or those that carry acknowledgements.
-#[tactic(auto, using(crate::proofs::Listed::within_zero, crate::proofs::Listed::passes_zero))]
+#[tactic(auto, using(lt_wiring::proofs::Listed::within_zero, lt_wiring::proofs::Listed::passes_zero))]
 pub fn incoming<'a>(channels: &[Chan], ports: &'a List<Ports>, node: u32, kind: bool) -> &'a [u32]
     requires { HasPorts channels.now node ports.now }
     ensures are { result.now ≡ numbers (is_to channels.now node kind) (length channels.now) }
@@ -109,7 +110,7 @@ pub fn incoming<'a>(channels: &[Chan], ports: &'a List<Ports>, node: u32, kind: 
 }
 
 /// The channels from a node that carry data, or those that carry acknowledgements.
-#[tactic(auto, using(crate::proofs::Listed::within_zero, crate::proofs::Listed::passes_zero))]
+#[tactic(auto, using(lt_wiring::proofs::Listed::within_zero, lt_wiring::proofs::Listed::passes_zero))]
 pub fn outgoing<'a>(channels: &[Chan], ports: &'a List<Ports>, node: u32, kind: bool) -> &'a [u32]
     requires { HasPorts channels.now node ports.now }
     ensures are { result.now ≡ numbers (is_from channels.now node kind) (length channels.now) }
