@@ -17,9 +17,9 @@ use Rattle.lt_place.specs.declared.layout.Layout.{Layout}
 use Rattle.lt_place.specs.Layout.{IsLayoutOf, Gives, part_of}
 use Rattle.lt_lead.specs.Paced.{IsShapeBy, bound_by}
 use Rattle.lt_lead.proofs.ByPace.{nodes_are}
-use Rattle.lt_net.specs.Local.{local_stream, fed_row}
-use Rattle.lt_net.specs.Net.{between, row_at}
-use Rattle.lt_net.proofs.Firsts.{length-firsts}
+use Rattle.lt_plant.specs.Local.{local_stream, fed_row}
+use Rattle.lt_plant.specs.Payloads.{between, row_at}
+use Rattle.lt_plant.proofs.Firsts.{length-firsts}
 use Rattle.lt_replay.specs.Replays.{EndsWith, replay_verdict}
 use Rattle.lt_run.specs.Main.{output_streams}
 use Rattle.lt_load.specs.Plan.{Plan, load_verdict}

@@ -13,8 +13,8 @@ use Rattle.lt_place.specs.declared.layout.Layout.{Layout}
 use Rattle.lt_place.specs.Layout.{IsLayoutOf, Gives, part_of}
 use Rattle.lt_config.specs.declared.pace.Pace.{Pace}
 use Rattle.lt_lead.specs.Paced.{IsShapeBy, bound_by}
-use Rattle.lt_net.specs.Local.{local_stream}
-use Rattle.lt_net.specs.Net.{between, row_at}
+use Rattle.lt_plant.specs.Local.{local_stream}
+use Rattle.lt_plant.specs.Payloads.{between, row_at}
 use Rattle.lt_judge.specs.Verdict.{verdict}
 use Rattle.lt_front.specs.Flattened.{flat_of}
 use Rattle.lt_run.specs.Main.{output_streams}

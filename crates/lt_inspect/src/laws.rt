@@ -1,7 +1,7 @@
 // What an accepted timing means for a schedule.
 ghost use Rattle.lt_inspect.specs.Clean.{AcceptedIsClean};
 
-use lt_net::laws::shapes_fit;
+use lt_plant::laws::shapes_fit;
 
 /// Where the timing is accepted, at no event of a schedule so far without an offence a node executes with a message too few or too
 /// many.

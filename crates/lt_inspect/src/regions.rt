@@ -11,9 +11,9 @@ use lt_base::{Name, Or};
 use lt_config::Config;
 use lt_front::Checked;
 use lt_load::{CommandFault, layout_of, main_of};
-use lt_net::laws::shapes_fit;
-use lt_net::shape_of;
 use lt_place::PlaceFault;
+use lt_plant::laws::shapes_fit;
+use lt_plant::shape_of;
 use std::alloc::Global;
 
 /// Where a program runs by a setup: its placement is legal, and the node that is named, if one is, is one of the setup's, in this

@@ -4,7 +4,7 @@ use Rattle.lt_arch.specs.declared.timing.Timing.{Timing}
 use Rattle.lt_arch.specs.declared.shape.Shape.{Shape}
 use Rattle.lt_timing.specs.Bounds.{bound_of}
 use Rattle.lt_place.specs.declared.layout.Layout.{Layout}
-use Rattle.lt_net.specs.Channels.{IsShapeOf}
+use Rattle.lt_plant.specs.Channels.{IsShapeOf}
 use Rattle.lt_config.specs.declared.pace.Pace.{Pace}
 use Rattle.lt_config.specs.declared.pace.Pace.TheVariants.{Plain, Leader}
 use Rattle.lt_config.specs.Paced.{FitsPace}

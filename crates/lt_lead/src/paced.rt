@@ -9,8 +9,8 @@ use crate::lead_shape;
 use lt_arch::{Shape, Timing};
 use lt_base::Memory;
 use lt_config::Pace;
-use lt_net::shape_of;
 use lt_place::Layout;
+use lt_plant::shape_of;
 use std::alloc::Global;
 
 /// The nodes of a placed layout and the channels between them, by who paces the rounds.

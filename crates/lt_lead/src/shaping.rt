@@ -3,14 +3,14 @@ ghost use Rattle.std.specs.Prelude.{◌≡◌, ◌<◌, ◌^◌, length, IfOk, O
 ghost use Rattle.lt_arch.specs.declared.chan.ChanKind.TheVariants.{Data};
 ghost use Rattle.lt_norm.specs.Flat.{Originated};
 ghost use Rattle.lt_place.specs.Layout.{IsPlaced};
-ghost use Rattle.lt_net.specs.Channels.{channel, push_if, chans_from, chans_below, all_chans};
+ghost use Rattle.lt_plant.specs.Channels.{channel, push_if, chans_from, chans_below, all_chans};
 ghost use Rattle.lt_lead.specs.Channels.{leads_to, IsLeadShapeOf};
 
 use lt_arch::{Chan, ChanKind, Shape};
 use lt_base::{List, Memory};
-use lt_net::is_crossed;
 use lt_place::laws::names_differ;
 use lt_place::{Crossing, Layout};
+use lt_plant::is_crossed;
 use std::alloc::Global;
 
 fn leads_to(cross: &[Crossing], leader: u32, from: u32, to: u32) -> bool

@@ -11,14 +11,16 @@ use Rattle.lt_arch.specs.Readers.{chan_count, chan_of, carries_data}
 use Rattle.lt_arch.specs.Times.{Times}
 use Rattle.lt_io.specs.FabricState.{FabricState, kind_of}
 use Rattle.lt_link.specs.Inbox.{InboxState}
-use Rattle.lt_net.specs.Net.{NetState, types_for}
+use Rattle.lt_plant.specs.Payloads.{types_for}
+use Rattle.lt_net.specs.Net.{NetState}
 use Rattle.lt_net.specs.Kept.{IsSized}
 use Rattle.lt_net.specs.Event.{HasKinds, SameStatic}
 use Rattle.lt_net.specs.Executes.{CanExecute, Executes}
 use Rattle.lt_net.specs.Ran.{Acknowledges}
-use Rattle.lt_net.specs.Routes.{filled}
-use Rattle.lt_net.specs.Sends.{SendsUpTo, is_from, message_on, how_many}
-use Rattle.lt_net.proofs.Filling.{filled-size, filled-length}
+use Rattle.lt_plant.specs.Routes.{filled}
+use Rattle.lt_plant.specs.Sends.{is_from}
+use Rattle.lt_net.specs.Sends.{SendsUpTo, message_on, how_many}
+use Rattle.lt_plant.proofs.Filling.{filled-size, filled-length}
 use Rattle.lt_net.proofs.IdleActivation.{upto_of}
 
 ack_on : (a b : Bool) → (a && not b) ≡ true → b ≡ false

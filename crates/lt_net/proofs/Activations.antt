@@ -19,13 +19,14 @@ use Rattle.lt_arch.specs.Schedule.{after_all, HasNoOffence, OnePlace, IsOnePlace
 use Rattle.lt_arch.proofs.Changes.{executed-act, delivered-act, one_if, updated-here, updated-other}
 use Rattle.lt_arch.proofs.Noted.{noted-act}
 use Rattle.lt_link.specs.Bits.{bit_of}
-use Rattle.lt_net.specs.Net.{NetState, Lists, state_of, between, row_at, message_of}
+use Rattle.lt_plant.specs.Payloads.{between, row_at, message_of}
+use Rattle.lt_net.specs.Net.{NetState, Lists, state_of}
 use Rattle.lt_link.specs.Inbox.{InboxState}
 use Rattle.lt_net.specs.Stands.{HasRun, Stands}
 use Rattle.lt_place.specs.Layout.{part_of}
-use Rattle.lt_net.specs.Local.{upto, fed_row}
+use Rattle.lt_plant.specs.Local.{upto, fed_row}
 use Rattle.lt_net.specs.Owns.{OwnPayload}
-use Rattle.lt_net.specs.Acts.{takes_on, marked, MarkedOn}
+use Rattle.lt_plant.specs.Acts.{takes_on, marked, MarkedOn}
 use Rattle.lt_net.proofs.EndStands.{Passes, timely-more, after_all-more, clean-more}
 use Rattle.lt_net.proofs.DeliveryStands.{got_entry, message_same}
 use Rattle.lt_net.proofs.Counts.{counted, sent-act}

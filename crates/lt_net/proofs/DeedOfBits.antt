@@ -15,8 +15,8 @@ use Rattle.lt_link.specs.Bits.{bit_of, differ}
 use Rattle.lt_net.specs.Net.{NetState, Lists, state_of}
 use Rattle.lt_link.specs.Inbox.{InboxState, no_inbox}
 use Rattle.lt_net.specs.Stands.{Stands}
-use Rattle.lt_net.specs.Freshness.{fresh_or_other, fresh_one, fresh_at}
-use Rattle.lt_net.proofs.Bits.{data_fresh, ack_bit_tells, acks_unread}
+use Rattle.lt_plant.specs.Freshness.{fresh_or_other, fresh_one, fresh_at}
+use Rattle.lt_plant.proofs.Bits.{data_fresh, ack_bit_tells, acks_unread}
 use Rattle.lt_net.proofs.BitsTell.{all_below-same, or_same, and_right, bits_are_all_in}
 use Rattle.lt_net.proofs.Activations.{and_parts}
 use Rattle.lt_net.proofs.Counts.{counted}

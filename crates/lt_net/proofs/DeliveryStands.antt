@@ -22,17 +22,18 @@ use Rattle.lt_arch.proofs.Noted.{noted-del}
 use Rattle.lt_arch.proofs.Facts.{clear}
 use Rattle.lt_arch.proofs.Changes.{updated-here, updated-other}
 use Rattle.lt_place.specs.declared.layout.Layout.{Layout}
-use Rattle.lt_net.specs.Layout.{IsLaidOut}
+use Rattle.lt_plant.specs.Layout.{IsLaidOut}
 use Rattle.lt_place.specs.Layout.{part_of, crossing_of}
-use Rattle.lt_net.specs.Local.{upto, fed_row, firsts, local_value, newest}
+use Rattle.lt_plant.specs.Local.{upto, fed_row, firsts, local_value, newest}
 use Rattle.lt_link.specs.Bits.{bit_of}
-use Rattle.lt_net.specs.Net.{NetState, Lists, state_of, between, row_at, message_of, channel_between}
+use Rattle.lt_plant.specs.Payloads.{between, row_at, message_of, channel_between}
+use Rattle.lt_net.specs.Net.{NetState, Lists, state_of}
 use Rattle.lt_link.specs.Inbox.{InboxState}
 use Rattle.lt_net.specs.Stands.{Stands}
 use Rattle.lt_net.specs.Owns.{Enough, OwnPayload}
-use Rattle.lt_net.specs.Chain.{HasChannels}
+use Rattle.lt_plant.specs.Channels.{HasChannels}
 use Rattle.lt_net.specs.Event.{GoesOn}
-use Rattle.lt_net.proofs.Firsts.{firsts-same, upto-same}
+use Rattle.lt_plant.proofs.Firsts.{firsts-same, upto-same}
 use Rattle.lt_net.proofs.OwnAfterDelivery.{Extends, fed_row_same, grows_extends, local_runs_grown}
 use Rattle.lt_net.proofs.EndStands.{Passes, timely-more, after_all-more, clean-more}
 use Rattle.lt_arch.specs.Schedule.{AreUpTo}

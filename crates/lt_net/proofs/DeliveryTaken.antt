@@ -21,7 +21,7 @@ use Rattle.lt_net.specs.Net.{NetState, Lists, state_of}
 use Rattle.lt_link.specs.Inbox.{InboxState, no_inbox}
 use Rattle.lt_net.specs.Stands.{Stands}
 use Rattle.lt_net.specs.Event.{GoesOn, Happens, Holds, HeldBy, HasKinds, IsTaken}
-use Rattle.lt_net.specs.Net.{types_for}
+use Rattle.lt_plant.specs.Payloads.{types_for}
 use Rattle.lt_base.specs.Value.{ty_of}
 use Rattle.lt_net.specs.Kept.{Kept}
 use Rattle.lt_net.specs.Receives.{Receives}

@@ -20,13 +20,13 @@ use Rattle.lt_arch.specs.Times.{HasTimes}
 use Rattle.lt_net.specs.Net.{NetState, Lists, state_of}
 use Rattle.lt_net.specs.Stands.{Stands}
 use Rattle.lt_net.specs.Kept.{Kept}
-use Rattle.lt_net.specs.Freshness.{fresh_or_other, fresh_one}
-use Rattle.lt_net.specs.Wakes.{Wakes, AreConfigured}
+use Rattle.lt_plant.specs.Freshness.{fresh_or_other, fresh_one}
+use Rattle.lt_plant.specs.Wakes.{Wakes, AreConfigured}
 use Rattle.lt_arch.specs.declared.timing.Protocol.{Protocol}
 use Rattle.lt_arch.specs.declared.limits.TheConstants.{GREATEST_TIME}
 use Rattle.lt_net.specs.Kept.{HasRoom}
-use Rattle.lt_net.specs.Net.{types_for}
-use Rattle.lt_net.specs.Given.{FitsPart}
+use Rattle.lt_plant.specs.Payloads.{types_for, channel_between}
+use Rattle.lt_plant.specs.Given.{FitsPart}
 use Rattle.lt_net.proofs.IdleActivation.{deed_by_bits}
 use Rattle.std.proofs.lemmas.Bool.Decides.{eqb_tells}
 use Rattle.std.proofs.lemmas.List.{length-map}
@@ -34,15 +34,15 @@ use Rattle.lt_arch.specs.State.{executed_of}
 use Rattle.lt_arch.specs.Deeds.{all_in, any_in, all_ack, more}
 use Rattle.lt_place.specs.Layout.{Gives, part_of, crossing_of, no_crossing}
 use Rattle.lt_base.proofs.Streams.{stream_length}
-use Rattle.lt_net.specs.Layout.{place_in}
-use Rattle.lt_net.specs.Net.{channel_between}
-use Rattle.lt_net.specs.Track.{track_at}
-use Rattle.lt_net.specs.Routes.{route_of, exit_of}
+use Rattle.lt_plant.specs.Layout.{place_in}
+use Rattle.lt_plant.specs.Track.{track_at}
+use Rattle.lt_plant.specs.Routes.{route_of, exit_of}
 use Rattle.lt_net.specs.Executes.{CanExecute}
-use Rattle.lt_net.proofs.Bits.{leb-le}
-use Rattle.lt_net.proofs.FedRows.{can_feed, type_entry}
+use Rattle.lt_plant.proofs.Bits.{leb-le}
+use Rattle.lt_plant.proofs.FedRows.{type_entry}
+use Rattle.lt_net.proofs.FedRows.{can_feed}
 use Rattle.lt_net.proofs.ReplayStep.{deed_more}
-use Rattle.lt_net.proofs.Firsts.{length-firsts}
+use Rattle.lt_plant.proofs.Firsts.{length-firsts}
 
 module _ {C M : Type 0} (phase : C → Phase) (protocol : C → Protocol) (send execute : C → ℕ) (stands : M → Function → List (List Value) → Type 0) (made left : M → ℕ) (net : NetState C M) (kept : Kept phase stands made left net) (configured : AreConfigured protocol send execute net.timing net.controllers)
     (n at : ℕ) (timely : at ≤ GREATEST_TIME) (nb : n < node_count net.shape) (passes : (s : Shape) (t : Timing) (st : State) → HasTimes net.watch s t st → offence_of s t st (Act n at) ≡ None)

@@ -17,16 +17,17 @@ use Rattle.lt_arch.specs.Step.{offence_of, sends_on}
 use Rattle.lt_arch.specs.Times.{HasTimes}
 use Rattle.lt_io.specs.FabricState.{FabricState}
 use Rattle.lt_net.specs.Net.{NetState}
-use Rattle.lt_net.specs.Track.{track_at}
+use Rattle.lt_plant.specs.Track.{track_at}
 use Rattle.lt_net.specs.Event.{IsTaken, Holds}
 use Rattle.lt_net.specs.Kept.{Kept, IsSized, HasRoom}
-use Rattle.lt_net.specs.Given.{FitsPart, HasRow}
-use Rattle.lt_net.specs.Freshness.{fresh_or_other, fresh_one}
-use Rattle.lt_net.specs.Sends.{is_from}
-use Rattle.lt_net.specs.Wakes.{Wakes, AreConfigured}
+use Rattle.lt_plant.specs.Given.{FitsPart}
+use Rattle.lt_net.specs.Given.{HasRow}
+use Rattle.lt_plant.specs.Freshness.{fresh_or_other, fresh_one}
+use Rattle.lt_plant.specs.Sends.{is_from}
+use Rattle.lt_plant.specs.Wakes.{Wakes, AreConfigured}
 use Rattle.lt_net.specs.Executes.{CanExecute, Executes}
 use Rattle.lt_net.specs.Ran.{SameRest, Acknowledges}
-use Rattle.lt_net.proofs.Filling.{tracked-size, tracked-room}
+use Rattle.lt_plant.proofs.Filling.{tracked-size, tracked-room}
 use Rattle.lt_net.proofs.IdleActivation.{free_now, empty_now, configured_still}
 use Rattle.lt_net.proofs.ExecuteTaken.{acks_are, run_halted, run_sized, execute_kept, execute_happens, execute_holds}
 use Rattle.lt_net.specs.Halts.{HasHalted}

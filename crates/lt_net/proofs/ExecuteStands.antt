@@ -7,7 +7,7 @@ use Rattle.std.proofs.lemmas.Option.{slice_get_within}
 use Rattle.lt_base.specs.declared.value.Value.{Value}
 use Rattle.lt_base.specs.declared.value.Cell.{Cell}
 use Rattle.lt_base.specs.Typing.{input_types, AllFit, RowFits}
-use Rattle.lt_net.proofs.Firsts.{upto-same}
+use Rattle.lt_plant.proofs.Firsts.{upto-same}
 use Rattle.std.proofs.Math.ListN.{get_or-append}
 use Rattle.std.proofs.Math.Seq.{get_or-append_seam}
 use Rattle.lt_base.specs.Program.{Function}
@@ -21,15 +21,16 @@ use Rattle.lt_arch.specs.Times.{Times, SentOn}
 use Rattle.lt_arch.specs.Schedule.{OnePlace}
 use Rattle.lt_arch.proofs.Changes.{one_if}
 use Rattle.lt_place.specs.Layout.{Gives, part_of}
-use Rattle.lt_net.specs.Track.{TrackState, track_at}
-use Rattle.lt_net.specs.Local.{upto, fed_row}
+use Rattle.lt_plant.specs.Track.{TrackState, track_at}
+use Rattle.lt_plant.specs.Local.{upto, fed_row}
 use Rattle.lt_machine.specs.Follows.{Follows}
-use Rattle.lt_net.specs.Net.{NetState, Lists, state_of, between, row_at}
+use Rattle.lt_plant.specs.Payloads.{between, row_at}
+use Rattle.lt_net.specs.Net.{NetState, Lists, state_of}
 use Rattle.lt_link.specs.Inbox.{InboxState}
 use Rattle.lt_net.specs.Stands.{Stands}
 use Rattle.lt_net.specs.Owns.{OwnPayload}
 use Rattle.lt_net.specs.Event.{Takes}
-use Rattle.lt_net.specs.Acts.{takes_on, MarkedOn}
+use Rattle.lt_plant.specs.Acts.{takes_on, MarkedOn}
 use Rattle.lt_net.proofs.DeliveryStands.{got_entry}
 use Rattle.lt_net.proofs.NextInstant.{fresh_at_execute}
 use Rattle.lt_net.proofs.MachinesRun.{run_next}

@@ -22,21 +22,22 @@ use Rattle.lt_net.specs.Stands.{HasRun, Stands}
 use Rattle.lt_net.specs.Halts.{HasHalted}
 use Rattle.lt_net.specs.Event.{GoesOn, Happens, Holds, InputsGo}
 use Rattle.lt_net.specs.Kept.{Kept}
-use Rattle.lt_net.specs.Acts.{marked}
-use Rattle.lt_net.specs.Freshness.{fresh_or_other, fresh_one, is_to}
-use Rattle.lt_net.specs.Sends.{SendsUpTo, is_from, message_on, with_message}
-use Rattle.lt_net.specs.Wakes.{Wakes, AreConfigured}
+use Rattle.lt_plant.specs.Acts.{marked}
+use Rattle.lt_plant.specs.Freshness.{fresh_or_other, fresh_one, is_to}
+use Rattle.lt_plant.specs.Sends.{is_from}
+use Rattle.lt_net.specs.Sends.{SendsUpTo, message_on, with_message}
+use Rattle.lt_plant.specs.Wakes.{Wakes, AreConfigured}
 use Rattle.lt_arch.specs.declared.timing.Protocol.{Protocol}
-use Rattle.lt_net.proofs.SendLoop.{lt_yes}
+use Rattle.lt_plant.proofs.Below.{lt_yes}
 use Rattle.lt_arch.specs.declared.limits.TheConstants.{GREATEST_TIME}
 use Rattle.lt_arch.specs.Readers.{is_data, no_chan, is_back_pressure}
 use Rattle.lt_arch.proofs.Changes.{execute_sends}
 use Rattle.lt_net.specs.Kept.{HasRoom, IsSized}
-use Rattle.lt_net.specs.Net.{types_for}
+use Rattle.lt_plant.specs.Payloads.{types_for}
 use Rattle.lt_net.specs.Event.{Takes}
-use Rattle.lt_net.specs.Given.{FitsPart}
+use Rattle.lt_plant.specs.Given.{FitsPart}
 use Rattle.lt_net.specs.Executes.{Executes}
-use Rattle.lt_net.proofs.Filling.{filled-size}
+use Rattle.lt_plant.proofs.Filling.{filled-size}
 use Rattle.lt_net.proofs.InstantStands.{instant_ran, instant_stands, buffers_typed}
 use Rattle.lt_net.proofs.NextLists.{next_lists}
 use Rattle.lt_net.proofs.Activations.{marked_bit, marked_payload, true_false}

@@ -19,15 +19,15 @@ use Rattle.lt_norm.specs.Flat.{Originated}
 use Rattle.lt_place.specs.declared.layout.Feed.TheVariants.{Input}
 use Rattle.lt_place.specs.declared.layout.Layout.{Layout}
 use Rattle.lt_place.specs.Layout.{IsPlaced, part_of}
-use Rattle.lt_net.specs.Layout.{IsLaidOut}
-use Rattle.lt_net.specs.Net.{NetState, row_at}
-use Rattle.lt_net.specs.Chain.{HasChannels}
-use Rattle.lt_net.specs.Channels.{FitsLayout}
-use Rattle.lt_net.specs.Given.{FitsPart}
+use Rattle.lt_plant.specs.Layout.{IsLaidOut}
+use Rattle.lt_plant.specs.Payloads.{row_at}
+use Rattle.lt_net.specs.Net.{NetState}
+use Rattle.lt_plant.specs.Channels.{HasChannels, FitsLayout}
+use Rattle.lt_plant.specs.Given.{FitsPart}
 use Rattle.lt_net.specs.Loop.{Given}
 use Rattle.lt_net.specs.Starts.{IsMadeOf}
-use Rattle.lt_net.specs.Whole.{RowsFit as HasInputs}
-use Rattle.lt_net.proofs.LaidOut.{part, at_feed, laid_out}
+use Rattle.lt_plant.specs.Whole.{RowsFit as HasInputs}
+use Rattle.lt_plant.proofs.LaidOut.{part, at_feed, laid_out}
 
 -- a row that fits has a value, of its type, for each input
 input_fits : (ds : List Decl) (n : ℕ) (row : List Value) → RowFits (map (λ d. d.ty) (take n ds)) (map Some row) → n ≤ length ds → (i : ℕ) → i < n → (i < length row) × (ty_at ds i ≡ Some (ty_of (slice_index_or row i (Truth false))))

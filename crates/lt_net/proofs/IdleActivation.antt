@@ -26,15 +26,16 @@ use Rattle.lt_net.specs.Stands.{Stands}
 use Rattle.lt_net.specs.Owns.{OwnPayload}
 use Rattle.lt_net.specs.Event.{IsTaken, GoesOn, Happens, Holds, HeldBy, InputsGo, Same, SendsOwn}
 use Rattle.lt_net.specs.Kept.{Kept}
-use Rattle.lt_net.specs.Acts.{takes_on, marked, MarkedOn}
-use Rattle.lt_net.specs.Freshness.{fresh_or_other, fresh_one, is_to, TakenUpTo}
-use Rattle.lt_net.specs.Sends.{SendsUpTo, is_from, message_on, with_message}
-use Rattle.lt_net.specs.Wakes.{Wakes, AreConfigured}
+use Rattle.lt_plant.specs.Acts.{takes_on, marked, MarkedOn}
+use Rattle.lt_plant.specs.Freshness.{fresh_or_other, fresh_one, is_to, TakenUpTo}
+use Rattle.lt_plant.specs.Sends.{is_from}
+use Rattle.lt_net.specs.Sends.{SendsUpTo, message_on, with_message}
+use Rattle.lt_plant.specs.Wakes.{Wakes, AreConfigured}
 use Rattle.lt_net.proofs.Uncounted.{uncounted, uncounted_same, either_protocol}
 use Rattle.lt_net.proofs.DeliveryStands.{got_entry}
 use Rattle.lt_arch.specs.declared.timing.Protocol.{Protocol}
-use Rattle.lt_net.proofs.SendLoop.{lt_yes}
-use Rattle.lt_net.proofs.InboxesRead.{taken_marks, no_marks}
+use Rattle.lt_plant.proofs.Below.{lt_yes}
+use Rattle.lt_plant.proofs.InboxesRead.{taken_marks, no_marks}
 use Rattle.lt_net.proofs.DeedOfBits.{deed_is}
 use Rattle.lt_net.proofs.Activations.{idle_stands, one_next, plus_none}
 use Rattle.lt_net.proofs.EndStands.{Passes}

@@ -17,25 +17,26 @@ use Rattle.lt_arch.specs.Schedule.{OnePlace}
 use Rattle.lt_arch.specs.Times.{Times, SentOn}
 use Rattle.lt_machine.specs.Follows.{Follows}
 use Rattle.lt_place.specs.Layout.{part_of}
-use Rattle.lt_net.specs.Layout.{IsLaidOut}
-use Rattle.lt_net.specs.Local.{fed_row, upto, firsts}
-use Rattle.lt_net.specs.Net.{types_for, NetState, Lists, state_of, between, row_at}
-use Rattle.lt_net.specs.Routes.{AreRoutes, AreExits}
-use Rattle.lt_net.specs.Chain.{HasChannels}
+use Rattle.lt_plant.specs.Layout.{IsLaidOut}
+use Rattle.lt_plant.specs.Local.{fed_row, upto, firsts}
+use Rattle.lt_plant.specs.Payloads.{types_for, between, row_at}
+use Rattle.lt_net.specs.Net.{NetState, Lists, state_of}
+use Rattle.lt_plant.specs.Routes.{AreRoutes, AreExits}
+use Rattle.lt_plant.specs.Channels.{HasChannels}
 use Rattle.lt_net.specs.Stands.{HasRun, Stands}
 use Rattle.lt_net.specs.Kept.{IsSized}
 use Rattle.lt_net.specs.Event.{Takes}
-use Rattle.lt_net.specs.Acts.{takes_on, MarkedOn}
-use Rattle.lt_net.specs.Freshness.{is_to, TakenUpTo}
-use Rattle.lt_net.specs.Given.{FitsPart}
+use Rattle.lt_plant.specs.Acts.{takes_on, MarkedOn}
+use Rattle.lt_plant.specs.Freshness.{is_to, TakenUpTo}
+use Rattle.lt_plant.specs.Given.{FitsPart}
 use Rattle.lt_net.specs.Executes.{Executes, ins_of}
 use Rattle.lt_net.proofs.EndStands.{Passes}
-use Rattle.lt_net.proofs.Firsts.{firsts-same, upto-same}
-use Rattle.lt_net.proofs.InboxesRead.{taken_marks}
+use Rattle.lt_plant.proofs.Firsts.{firsts-same, upto-same}
+use Rattle.lt_plant.proofs.InboxesRead.{taken_marks}
 use Rattle.lt_net.proofs.IdleActivation.{or_false}
 use Rattle.lt_net.proofs.NextInstant.{fresh_at_execute}
 use Rattle.lt_net.proofs.FedRows.{ins_are, ins_fit}
-use Rattle.lt_net.proofs.OutputsGo.{appends, unfilled}
+use Rattle.lt_plant.proofs.OutputsGo.{appends, unfilled}
 use Rattle.lt_net.proofs.OwnPayloads.{filled_own, filled_typed}
 use Rattle.lt_net.proofs.ExecuteStands.{execute_stands}
 use Rattle.lt_net.proofs.MachinesRun.{run_next}

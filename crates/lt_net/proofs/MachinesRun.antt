@@ -17,9 +17,10 @@ use Rattle.lt_arch.specs.Deeds.{deed_at}
 use Rattle.lt_arch.specs.Schedule.{OnePlace}
 use Rattle.lt_machine.specs.Follows.{Follows}
 use Rattle.lt_place.specs.Layout.{Gives, part_of}
-use Rattle.lt_net.specs.Track.{TrackState, track_at}
-use Rattle.lt_net.specs.Local.{fed_row, firsts, local_stream}
-use Rattle.lt_net.specs.Net.{NetState, Lists, state_of, between, row_at}
+use Rattle.lt_plant.specs.Track.{TrackState, track_at}
+use Rattle.lt_plant.specs.Local.{fed_row, firsts, local_stream}
+use Rattle.lt_plant.specs.Payloads.{between, row_at}
+use Rattle.lt_net.specs.Net.{NetState, Lists, state_of}
 use Rattle.lt_net.specs.Stands.{HasRun, Stands}
 use Rattle.lt_net.specs.Event.{Takes}
 use Rattle.lt_net.proofs.DeliveryStands.{got_entry}

@@ -19,13 +19,14 @@ use Rattle.lt_arch.specs.Step.{after, is_execute}
 use Rattle.lt_arch.specs.Schedule.{OnePlace, IsOnePlace}
 use Rattle.lt_arch.proofs.Changes.{executed-act, delivered-act, one_if}
 use Rattle.lt_place.specs.Layout.{Gives, part_of}
-use Rattle.lt_net.specs.Track.{track_at}
-use Rattle.lt_net.specs.Local.{fed_row, firsts, local_stream}
+use Rattle.lt_plant.specs.Track.{track_at}
+use Rattle.lt_plant.specs.Local.{fed_row, firsts, local_stream}
 use Rattle.lt_machine.specs.Follows.{Follows}
-use Rattle.lt_net.specs.Net.{NetState, Lists, state_of, between, row_at}
+use Rattle.lt_plant.specs.Payloads.{between, row_at}
+use Rattle.lt_net.specs.Net.{NetState, Lists, state_of}
 use Rattle.lt_net.specs.Stands.{Stands}
 use Rattle.lt_net.specs.Event.{Takes}
-use Rattle.lt_net.proofs.Firsts.{firsts-same}
+use Rattle.lt_plant.proofs.Firsts.{firsts-same}
 use Rattle.lt_net.proofs.EndStands.{Passes, timely-more, after_all-more, clean-more}
 use Rattle.lt_arch.specs.declared.limits.TheConstants.{GREATEST_TIME}
 

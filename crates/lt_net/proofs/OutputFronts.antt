@@ -10,16 +10,18 @@ use Rattle.lt_arch.specs.Readers.{node_count, to_of}
 use Rattle.lt_arch.specs.Schedule.{OnePlace, IsOnePlace}
 use Rattle.lt_place.specs.declared.layout.Layout.{Layout}
 use Rattle.lt_place.specs.Layout.{Gives, part_of, crossing_of}
-use Rattle.lt_net.specs.Track.{track_at}
-use Rattle.lt_net.specs.Layout.{IsLaidOut}
-use Rattle.lt_net.specs.Local.{Messages, fed_row, local_runs, local_stream, newest}
-use Rattle.lt_net.specs.Net.{NetState, Lists, state_of, between, row_at, channel_between}
-use Rattle.lt_net.specs.Whole.{CarriesOwn, RowsFit}
+use Rattle.lt_plant.specs.Track.{track_at}
+use Rattle.lt_plant.specs.Layout.{IsLaidOut}
+use Rattle.lt_plant.specs.Local.{Messages, fed_row, local_runs, local_stream, newest}
+use Rattle.lt_plant.specs.Payloads.{between, row_at, channel_between}
+use Rattle.lt_net.specs.Net.{NetState, Lists, state_of}
+use Rattle.lt_plant.specs.Whole.{CarriesOwn, RowsFit}
 use Rattle.lt_net.specs.Stands.{Stands}
 use Rattle.lt_net.specs.Owns.{Owns, OwnPayload}
-use Rattle.lt_net.specs.Chain.{HasChannels, SameInputs, CellsAreFronts}
-use Rattle.lt_net.proofs.Firsts.{firsts-same, upto-same}
-use Rattle.lt_net.proofs.LocalFronts.{fronts}
+use Rattle.lt_plant.specs.Channels.{HasChannels}
+use Rattle.lt_net.specs.Chain.{SameInputs, CellsAreFronts}
+use Rattle.lt_plant.proofs.Firsts.{firsts-same, upto-same}
+use Rattle.lt_plant.proofs.LocalFronts.{fronts}
 
 -- a front of the rows gives the same row
 front_row : (rows : List (List Value)) (m k : ℕ) → k < m → row_at (take m rows) k ≡ row_at rows k

@@ -9,8 +9,9 @@ use Rattle.lt_base.specs.Meaning.{calls}
 use Rattle.lt_arch.specs.Readers.{chan_count, from_of, to_of, carries_data}
 use Rattle.lt_io.specs.declared.message.Message.{Message}
 use Rattle.lt_io.specs.FabricState.{FabricState}
-use Rattle.lt_net.specs.Local.{newest, local_runs}
-use Rattle.lt_net.specs.Net.{NetState, Lists, between, row_at}
+use Rattle.lt_plant.specs.Local.{newest, local_runs}
+use Rattle.lt_plant.specs.Payloads.{between, row_at}
+use Rattle.lt_net.specs.Net.{NetState, Lists}
 use Rattle.lt_net.specs.Owns.{OwnPayload, Owns, OwnsTransit}
 use Rattle.lt_net.proofs.OutputFronts.{local_runs_same}
 

@@ -17,18 +17,19 @@ use Rattle.lt_arch.specs.Readers.{chan_count, from_of, to_of, carries_data}
 use Rattle.lt_machine.specs.Follows.{Follows}
 use Rattle.lt_place.specs.declared.layout.Layout.{Layout}
 use Rattle.lt_place.specs.Layout.{Gives, part_of, crossing_of, no_crossing}
-use Rattle.lt_net.specs.declared.route.Route.{Route}
-use Rattle.lt_net.specs.Layout.{IsLaidOut, place_in}
-use Rattle.lt_net.specs.Local.{fed_row, upto, firsts, newest, local_runs, local_value}
-use Rattle.lt_net.specs.Net.{Lists, between, row_at, channel_between, types_for}
+use Rattle.lt_plant.specs.declared.route.Route.{Route}
+use Rattle.lt_plant.specs.Layout.{IsLaidOut, place_in}
+use Rattle.lt_plant.specs.Local.{fed_row, upto, firsts, newest, local_runs, local_value}
+use Rattle.lt_plant.specs.Payloads.{between, row_at, channel_between, types_for}
+use Rattle.lt_net.specs.Net.{Lists}
 use Rattle.lt_net.specs.Owns.{OwnPayload}
-use Rattle.lt_net.specs.Routes.{AreRoutes, route_of, filled}
-use Rattle.lt_net.specs.Chain.{HasChannels}
-use Rattle.lt_net.proofs.CrossedValues.{IsGiven, goes_on_with}
-use Rattle.lt_net.proofs.OutputsGo.{places_apart}
-use Rattle.lt_net.proofs.InstantTables.{filled-here}
-use Rattle.lt_net.proofs.TypedPayloads.{filled-types}
-use Rattle.lt_net.proofs.FedRows.{type_entry}
+use Rattle.lt_plant.specs.Routes.{AreRoutes, route_of, filled}
+use Rattle.lt_plant.specs.Channels.{HasChannels}
+use Rattle.lt_plant.proofs.CrossedValues.{IsGiven, goes_on_with}
+use Rattle.lt_plant.proofs.OutputsGo.{places_apart}
+use Rattle.lt_plant.proofs.InstantTables.{filled-here}
+use Rattle.lt_plant.proofs.TypedPayloads.{filled-types}
+use Rattle.lt_plant.proofs.FedRows.{type_entry}
 
 -- node n's part, run on these lists: its newest row is that of instant m, and its machine answered these cells
 module _ (f : Function) (l : Layout) (s : Shape) (laid : IsLaidOut f l) (channels : HasChannels l s) (routes : List Route) (are : AreRoutes l s routes)

@@ -11,7 +11,7 @@ use Rattle.lt_net.specs.Net.{NetState, Lists}
 use Rattle.lt_net.specs.Event.{SameStatic, deed_by, sends_by}
 use Rattle.lt_net.specs.Sends.{how_many}
 use Rattle.lt_net.specs.Ticks.{change_cost, size_at, work_by, cost_by, event_cost}
-use Rattle.lt_net.proofs.FedRows.{map_entry}
+use Rattle.lt_plant.proofs.FedRows.{map_entry}
 
 at_most_all : (p : ℕ → Bool) (n : ℕ) → how_many p n ≤ n
 at_most_all p zero = omega arith

@@ -13,16 +13,18 @@ use Rattle.lt_arch.specs.State.{State, NodeState, Phase, Wait, Ready, First, Sen
 use Rattle.lt_arch.specs.Readers.{node_count, chan_count, to_of, from_of}
 use Rattle.lt_arch.specs.Deeds.{deed_at, deed_of, more, all_in, any_in, all_ack}
 use Rattle.lt_arch.specs.Schedule.{after_all, OnePlace}
-use Rattle.lt_net.proofs.Bits.{leb-le}
+use Rattle.lt_plant.proofs.Bits.{leb-le}
 use Rattle.lt_io.specs.declared.message.Message.{Message}
 use Rattle.lt_place.specs.Layout.{crossing_of}
 use Rattle.lt_io.specs.FabricState.{FabricState, KeepsFabric, Delivers, SameLists}
-use Rattle.lt_net.specs.Net.{NetState, Lists, state_of, row_at, channel_between}
+use Rattle.lt_plant.specs.Payloads.{row_at, channel_between}
+use Rattle.lt_net.specs.Net.{NetState, Lists, state_of}
 use Rattle.lt_net.specs.Stands.{Stands}
 use Rattle.lt_net.specs.Owns.{OwnPayload, Owns, OwnsTransit, Enough}
 use Rattle.lt_net.specs.Event.{Holds, HeldBy, HasKinds, SameStatic, GoesOn, InputsGo, SendsOwn, sends_by}
-use Rattle.lt_net.specs.Layout.{IsLaidOut}
-use Rattle.lt_net.specs.Chain.{HasChannels, SameInputs}
+use Rattle.lt_plant.specs.Layout.{IsLaidOut}
+use Rattle.lt_plant.specs.Channels.{HasChannels}
+use Rattle.lt_net.specs.Chain.{SameInputs}
 use Rattle.lt_net.specs.Replay.{Tells, Keeps, KeepsOn}
 use Rattle.lt_net.proofs.OwnAfterDelivery.{owns_delivery, transit_delivery, own_payload_same}
 use Rattle.lt_net.proofs.OwnAfterActivation.{owns_longer, transit_longer, own_stays}

@@ -1,36 +1,19 @@
 -- One channel more.
-use Rattle.std.proofs.Common.{◌≡◌, ◌≢◌, ℕ, suc, ◌+◌, ◌<◌, Bool, true, false, List, [], ◌∷◌, ◌++◌, length, set, Option, Some, None, refl, sym, ap, ◌∙◌, subst, arith, inl, inr, length-set, cond}
+use Rattle.std.proofs.Common.{◌≡◌, ℕ, ◌+◌, ◌<◌, Bool, true, false, List, [], ◌∷◌, ◌++◌, length, set, Option, Some, None, refl, sym, ap, ◌∙◌, subst, arith, inl, inr, length-set, cond}
 use Rattle.std.specs.Prelude.{◌&&◌, nat_lt, IsTrue, slice_index_or}
-use Rattle.std.proofs.lemmas.Bool.Decides.{eqb_tells, leb_tells}
+use Rattle.std.proofs.lemmas.Bool.Decides.{eqb_tells}
 use Rattle.std.proofs.lemmas.List.{get_or-set_same, get_or-set_other}
 use Rattle.lt_arch.specs.Times.{Times}
 use Rattle.lt_io.specs.declared.message.Message.{Message}
 use Rattle.lt_io.specs.FabricState.{FabricState, Grows, Sends, KeepsFabric}
 use Rattle.lt_net.specs.Sends.{SendsOn, with_message, SendsUpTo}
-
-pub lt_none : (c : ℕ) → nat_lt c 0 ≡ false
-lt_none c = elim (leb_tells (suc c) 0) [ inl h ↦ absurd (omega (arith, h.1)) | inr h ↦ h.0 ]
-
-pub lt_here : (i : ℕ) → nat_lt i (i + 1) ≡ true
-lt_here i = elim (leb_tells (suc i) (i + 1)) [ inl h ↦ h.0 | inr h ↦ absurd (omega (arith, h.1)) ]
-
-pub lt_self : (i : ℕ) → nat_lt i i ≡ false
-lt_self i = elim (leb_tells (suc i) i) [ inl h ↦ absurd (omega (arith, h.1)) | inr h ↦ h.0 ]
-
-pub lt_other : (c i : ℕ) → c ≢ i → nat_lt c (i + 1) ≡ nat_lt c i
-lt_other c i ne = elim (leb_tells (suc c) i) [
-  | inl h ↦ elim (leb_tells (suc c) (i + 1)) [ inl k ↦ cc (h.0, k.0) | inr k ↦ absurd (omega (arith, h.1, k.1)) ]
-  | inr h ↦ elim (leb_tells (suc c) (i + 1)) [ inl k ↦ absurd (ne (omega (arith, h.1, k.1))) | inr k ↦ cc (h.0, k.0) ]
-]
+use Rattle.lt_plant.proofs.Below.{lt_none, lt_here, lt_self, lt_other}
 
 pub keeps_refl : (s : FabricState) → KeepsFabric s s
 keeps_refl s = record { faithful = refl; sound = refl; told = refl; prompt = λ t. t; kinds = refl }
 
 pub keeps_trans : (a b c : FabricState) → KeepsFabric a b → KeepsFabric b c → KeepsFabric a c
 keeps_trans a b c x y = record { faithful = y.faithful ∙ x.faithful; sound = y.sound ∙ x.sound; told = y.told ∙ x.told; prompt = λ t. y.prompt (x.prompt t); kinds = y.kinds ∙ x.kinds }
-
-pub lt_yes : (c i : ℕ) → c < i → nat_lt c i ≡ true
-lt_yes c i h = elim (leb_tells (suc c) i) [ inl e ↦ e.0 | inr e ↦ absurd (omega (arith, e.1, h)) ]
 
 pub sends_none : (p : ℕ → Bool) (m : ℕ → Message) (s : FabricState) → SendsOn (λ c. nat_lt c 0 && p c) m s s
 sends_none p m s =

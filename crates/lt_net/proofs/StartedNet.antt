@@ -22,21 +22,22 @@ use Rattle.lt_norm.specs.Flat.{Originated}
 use Rattle.lt_place.specs.declared.layout.Crossing.{Crossing}
 use Rattle.lt_place.specs.declared.layout.Layout.{Layout}
 use Rattle.lt_place.specs.Layout.{IsPlaced, part_of, no_part}
-use Rattle.lt_net.specs.declared.route.Route.{Route}
-use Rattle.lt_net.specs.declared.route.Exit.{Exit}
-use Rattle.lt_net.specs.declared.ports.Ports.{Ports}
-use Rattle.lt_net.specs.Ports.{ports_of, no_ports}
-use Rattle.lt_net.specs.Layout.{joins}
-use Rattle.lt_net.specs.Local.{firsts}
+use Rattle.lt_plant.specs.declared.route.Route.{Route}
+use Rattle.lt_plant.specs.declared.route.Exit.{Exit}
+use Rattle.lt_plant.specs.declared.ports.Ports.{Ports}
+use Rattle.lt_plant.specs.Ports.{ports_of, no_ports}
+use Rattle.lt_plant.specs.Layout.{joins}
+use Rattle.lt_plant.specs.Local.{firsts}
 use Rattle.lt_net.specs.Net.{NetState}
-use Rattle.lt_net.specs.Track.{TrackState, track_at}
-use Rattle.lt_net.specs.Channels.{FitsLayout}
+use Rattle.lt_plant.specs.Track.{TrackState, track_at}
+use Rattle.lt_plant.specs.Channels.{FitsLayout}
 use Rattle.lt_net.specs.Stands.{Stands}
 use Rattle.lt_net.specs.Kept.{Kept, IsSized, HasRoom}
-use Rattle.lt_net.specs.Starts.{no_lists, literals_on, first_inbox, route_to, exit_for, most_fed, most_given, IsBlank, AreReady, AreAtStart, IsFresh}
-use Rattle.lt_net.proofs.FirstTables.{are_routes, are_exits, types_are, few_types, first_box, on_channel}
+use Rattle.lt_plant.specs.Starts.{literals_on, first_inbox, route_to, exit_for, most_fed, most_given, IsBlank, AreReady, AreAtStart}
+use Rattle.lt_net.specs.Starts.{no_lists, IsFresh}
+use Rattle.lt_plant.proofs.FirstTables.{are_routes, are_exits, types_are, few_types, first_box, on_channel}
 use Rattle.lt_net.proofs.FixedParts.{fixed}
-use Rattle.lt_net.proofs.Firsts.{length-firsts, get-firsts}
+use Rattle.lt_plant.proofs.Firsts.{length-firsts, get-firsts}
 
 pub none_sent : (p : Protocol) → 0 - unsent (first_phase p) ≡ 0
 none_sent BackPressure = refl

@@ -23,7 +23,7 @@ use Rattle.lt_net.specs.Stands.{Stands}
 use Rattle.lt_net.specs.Owns.{OwnPayload, Gets}
 use Rattle.lt_net.specs.Event.{Holds, SendsOwn, sends_by}
 use Rattle.lt_net.specs.Replay.{Tells}
-use Rattle.lt_net.proofs.Firsts.{map-append-one}
+use Rattle.lt_plant.proofs.Firsts.{map-append-one}
 use Rattle.lt_net.proofs.Counts.{counted, sent-act, data-act}
 use Rattle.lt_net.proofs.EndStands.{after_all-more}
 use Rattle.lt_net.proofs.DeliveryStands.{del-node}

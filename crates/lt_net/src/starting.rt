@@ -1,82 +1,26 @@
 // A plant before the first event.
-ghost use Rattle.std.specs.Prelude.{◌≡◌, ◌≤◌, ◌<◌, ◌+◌, ◌*◌, ◌^◌, max, length, replicate, All, IfOk};
+ghost use Rattle.std.specs.Prelude.{◌≡◌, ◌≤◌, ◌<◌, ◌+◌, ◌*◌, ◌^◌, length, IfOk};
 ghost use Rattle.lt_arch.specs.Readers.{node_count, chan_count};
 ghost use Rattle.lt_arch.specs.Schedule.{OnePlace};
 ghost use Rattle.lt_arch.specs.Shapes.{HaveSameNodes};
 ghost use Rattle.lt_norm.specs.Flat.{Originated};
 ghost use Rattle.lt_place.specs.Layout.{IsPlaced};
-ghost use Rattle.lt_net.specs.Channels.{FitsLayout};
+ghost use Rattle.lt_plant.specs.Channels.{FitsLayout};
 ghost use Rattle.lt_net.specs.Kept.{Kept, HasRoom};
-ghost use Rattle.lt_net.specs.Wakes.{AreConfigured};
-ghost use Rattle.lt_net.specs.Starts.{most_fed, most_given, IsBlank, AreReady, AreAtStart, IsMadeOf, IsFresh};
+ghost use Rattle.lt_plant.specs.Wakes.{AreConfigured};
+ghost use Rattle.lt_plant.specs.Starts.{AreReady, AreAtStart};
+ghost use Rattle.lt_net.specs.Starts.{IsMadeOf, IsFresh};
 
-use crate::listing::ports;
-use crate::literals::{buffers, inboxes};
 use crate::plant::Plant;
-use crate::tables::{exits, routes};
-use crate::track::Track;
 use lt_arch::{Controller, Shape, Timing, Watch};
-use lt_base::{Cell, Memory, Value};
+use lt_base::Memory;
 use lt_machine::Machine;
-use lt_place::{Layout, Part};
+use lt_place::Layout;
+use lt_plant::listing::ports;
+use lt_plant::literals::{buffers, inboxes};
+use lt_plant::room::{counts, outs, tracks, values};
+use lt_plant::tables::{exits, routes};
 use std::alloc::Global;
-
-// The number of inputs of the part that has most.
-fn most_fed(nodes: &[Part]) -> usize
-    ensures { result ≡ most_fed nodes.now }
-{
-    let mut most = 0;
-    for n in 0..nodes.len() {
-        most = most.max(nodes[n].feeds.len());
-    }
-    most
-}
-
-// The number of outputs of the part that has most.
-fn most_given(nodes: &[Part]) -> usize
-    ensures { result ≡ most_given nodes.now }
-{
-    let mut most = 0;
-    for n in 0..nodes.len() {
-        most = most.max(nodes[n].outs.len());
-    }
-    most
-}
-
-// Room for a message, and for a row of each part.
-fn values(alloc: Global, layout: &Layout) -> Result<Vec<Value>, Memory>
-    ensures { IfOk result (λ values. length values.items ≡ max (length layout.now.cross) (most_fed layout.now.nodes)) }
-{
-    let room = layout.cross.len().max(most_fed(layout.nodes.as_slice()));
-    Ok(vec![in alloc; Value::Bool(false); room]?)
-}
-
-// Room for a row of outputs of each part.
-fn outs(alloc: Global, layout: &Layout) -> Result<Vec<Cell>, Memory>
-    ensures { IfOk result (λ outs. length outs.items ≡ most_given layout.now.nodes) }
-{
-    let room = most_given(layout.nodes.as_slice());
-    Ok(vec![in alloc; Cell::Absent; room]?)
-}
-
-// Room for the cells of each output.
-fn tracks(alloc: Global, layout: &Layout, rows: u32) -> Result<Vec<Track>, Memory>
-    ensures size { IfOk result (λ tracks. length tracks.items ≡ length layout.now.outs) }
-    ensures blank { IfOk result (λ tracks. All (IsBlank rows) tracks.items) }
-{
-    let count = layout.outs.len();
-    let mut tracks = Vec::with_capacity(alloc, count)?;
-    for _output in 0..count {
-        tracks.push(Track::with_room(alloc, rows)?)?;
-    }
-    Ok(tracks)
-}
-
-fn counts(alloc: Global, shape: &Shape) -> Result<Vec<u32>, Memory>
-    ensures { IfOk result (λ counts. counts.items ≡ replicate (node_count shape.now) 0) }
-{
-    Ok(vec![in alloc; 0; shape.nodes.len()]?)
-}
 
 impl<C: Controller, M: Machine> Plant<C, M> {
     /// Nothing has happened. Room for all that an event needs is taken here.

@@ -25,8 +25,8 @@ use Rattle.lt_net.specs.NetModel.{StoppableNet}
 use Rattle.lt_net.specs.Event.{SameStatic}
 use Rattle.lt_net.specs.Loop.{Closed}
 use Rattle.lt_net.specs.Net.{Lists}
-use Rattle.lt_net.specs.Layout.{IsLaidOut}
-use Rattle.lt_net.specs.Whole.{RowsFit}
+use Rattle.lt_plant.specs.Layout.{IsLaidOut}
+use Rattle.lt_plant.specs.Whole.{RowsFit}
 use Rattle.lt_net.specs.Replay.{Keeps, Ends}
 use Rattle.lt_play.specs.declared.fault.PlayFault.{PlayFault}
 use Rattle.lt_play.specs.declared.fault.PlayFault.TheVariants.{Schedule, Link}

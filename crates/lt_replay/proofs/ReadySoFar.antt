@@ -6,7 +6,7 @@ use Rattle.lt_base.specs.Program.{Function}
 use Rattle.lt_place.specs.declared.layout.Part.{Part}
 use Rattle.lt_place.specs.declared.layout.Layout.{Layout}
 use Rattle.lt_place.specs.Layout.{part_of}
-use Rattle.lt_net.specs.Starts.{AreReady}
+use Rattle.lt_plant.specs.Starts.{AreReady}
 use Rattle.lt_replay.specs.Ready.{IsReady, AreReadySoFar}
 use Rattle.lt_replay.proofs.PartRead.{part_read}
 

@@ -20,7 +20,7 @@ use Rattle.lt_norm.specs.Flat.{Originated}
 use Rattle.lt_place.specs.declared.layout.Layout.{Layout}
 use Rattle.lt_place.specs.Layout.{IsPlaced, Gives, part_of}
 use Rattle.lt_place.specs.Nodes.{node_of}
-use Rattle.lt_net.proofs.Named.{node_below}
+use Rattle.lt_plant.proofs.Named.{node_below}
 use Rattle.lt_front.specs.Flattened.{KeepsMain}
 use Rattle.lt_replay.specs.Run.{IsRun}
 use Rattle.lt_load.specs.Main.{main_in}

@@ -1,6 +1,6 @@
 // A loaded program along a schedule.
 ghost use Rattle.std.specs.Prelude.{◌≡◌, ◌<◌, ◌-◌, ◌^◌, [], length};
-ghost use Rattle.lt_net.specs.Starts.{AreReady};
+ghost use Rattle.lt_plant.specs.Starts.{AreReady};
 ghost use Rattle.lt_run.specs.Printed.{HasPrinted};
 ghost use Rattle.lt_run.specs.Run.{HasOutputs};
 

@@ -1,4 +1,4 @@
-use Rattle.lt_net.proofs.FirstTables.{senders_are}
+use Rattle.lt_plant.proofs.FirstTables.{senders_are}
 use Rattle.lt_net.proofs.StartedNet.{fresh, kept, room}
 use Rattle.lt_net.proofs.plant.Plant.start.Goals as goal
 

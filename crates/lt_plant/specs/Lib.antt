@@ -1,0 +1,15 @@
+pub mod Track
+pub mod Layout
+pub mod Local
+pub mod Payloads
+pub mod Whole
+pub mod Routes
+pub mod Acts
+pub mod Sends
+pub mod Freshness
+pub mod Ports
+pub mod Executes
+pub mod Wakes
+pub mod Given
+pub mod Channels
+pub mod Starts

@@ -1,0 +1,127 @@
+// Which channels lead to a node, and from it.
+ghost use Rattle.std.specs.Prelude.{◌≡◌, ◌<◌, ◌+◌, ◌*◌, ◌^◌, ◌==◌, ◌&&◌, ℕ, true, length, IfOk, OnOk, slice_index_or};
+ghost use Rattle.lt_arch.specs.Readers.{is_data, node_count, chan_count};
+ghost use Rattle.lt_plant.specs.Local.{firsts};
+ghost use Rattle.lt_plant.specs.Sends.{is_from, same_truth};
+ghost use Rattle.lt_plant.specs.Freshness.{is_to};
+ghost use Rattle.lt_wiring.specs.Ports.{push_number, numbers};
+ghost use Rattle.lt_plant.specs.Ports.{ports_of, HasPorts};
+
+use crate::literals::carries_data;
+use crate::ports::Ports;
+use lt_arch::{Chan, Shape};
+use lt_base::{List, Memory};
+use std::alloc::Global;
+
+fn is_incoming(channel: &Chan, node: u32, kind: bool) -> bool
+    ensures { result ≡ ((channel.now.to == node) && same_truth kind (is_data channel.now.kind)) }
+{
+    channel.to == node && carries_data(channel.kind) == kind
+}
+
+fn is_outgoing(channel: &Chan, node: u32, kind: bool) -> bool
+    ensures { result ≡ ((channel.now.from == node) && same_truth kind (is_data channel.now.kind)) }
+{
+    channel.from == node && carries_data(channel.kind) == kind
+}
+
+fn push_number(has: bool, number: u32, numbers: &mut List<u32>) -> Result<(), Memory>
+    ensures { OnOk result (numbers.new ≡ push_number has number numbers.old) }
+{
+    if has {
+        numbers.push(number)?;
+    }
+    Ok(())
+}
+
+fn numbers_to(alloc: Global, channels: &[Chan], node: u32, kind: bool) -> Result<List<u32>, Memory>
+    requires { length channels.now < 2 ^ 32 }
+    ensures { IfOk result (λ list. list ≡ numbers (is_to channels.now node kind) (length channels.now)) }
+{
+    let mut list = List::new(alloc);
+    for c in 0..channels.len() {
+        let has = is_incoming(&channels[c], node, kind);
+        push_number(has, c as u32, &mut list)?;
+    }
+    Ok(list)
+}
+
+fn numbers_from(
+    alloc: Global,
+    channels: &[Chan],
+    node: u32,
+    kind: bool,
+) -> Result<List<u32>, Memory>
+    requires { length channels.now < 2 ^ 32 }
+    ensures { IfOk result (λ list. list ≡ numbers (is_from channels.now node kind) (length channels.now)) }
+{
+    let mut list = List::new(alloc);
+    for c in 0..channels.len() {
+        let has = is_outgoing(&channels[c], node, kind);
+        push_number(has, c as u32, &mut list)?;
+    }
+    Ok(list)
+}
+
+fn ports_of(alloc: Global, channels: &[Chan], node: u32) -> Result<Ports, Memory>
+    requires { length channels.now < 2 ^ 32 }
+    ensures { IfOk result (λ ports. ports ≡ ports_of channels.now node) }
+{
+    let data_in = numbers_to(alloc, channels, node, true)?;
+    let data_out = numbers_from(alloc, channels, node, true)?;
+    let acks_in = numbers_to(alloc, channels, node, false)?;
+    let acks_out = numbers_from(alloc, channels, node, false)?;
+    Ok(Ports {
+        data_in,
+        data_out,
+        acks_in,
+        acks_out,
+    })
+}
+
+/// The channels of each node.
+pub fn ports(alloc: Global, shape: &Shape) -> Result<List<Ports>, Memory>
+    requires { 2 * (node_count shape.now + chan_count shape.now) < 2 ^ 32 }
+    ensures { IfOk result (λ ports. ports ≡ firsts (ports_of shape.now.channels) (node_count shape.now)) }
+{
+    let channels = shape.channels.as_slice();
+    let mut ports = List::new(alloc);
+    for node in 0..shape.nodes.len() {
+        ports.push(ports_of(alloc, channels, node as u32)?)?;
+    }
+    Ok(ports)
+}
+
+/// The channels to a node that carry data, or those that carry acknowledgements.
+#[tactic(auto, using(lt_wiring::proofs::Listed::within_zero, lt_wiring::proofs::Listed::passes_zero))]
+pub fn incoming<'a>(channels: &[Chan], ports: &'a List<Ports>, node: u32, kind: bool) -> &'a [u32]
+    requires { HasPorts channels.now node ports.now }
+    ensures are { result.now ≡ numbers (is_to channels.now node kind) (length channels.now) }
+    ensures within { (i : ℕ) → i < length result.now → slice_index_or result.now i 0 < length channels.now }
+    ensures on { (i : ℕ) → i < length result.now → is_to channels.now node kind (slice_index_or result.now i 0) ≡ true }
+{
+    let _ = channels;
+    let here = &ports.as_slice()[node as usize];
+    if kind {
+        here.data_in.as_slice()
+    } else {
+        here.acks_in.as_slice()
+    }
+}
+
+/// The channels from a node that carry data, or those that carry acknowledgements.
+#[tactic(auto, using(lt_wiring::proofs::Listed::within_zero, lt_wiring::proofs::Listed::passes_zero))]
+pub fn outgoing<'a>(channels: &[Chan], ports: &'a List<Ports>, node: u32, kind: bool) -> &'a [u32]
+    requires { HasPorts channels.now node ports.now }
+    ensures are { result.now ≡ numbers (is_from channels.now node kind) (length channels.now) }
+    ensures within { (i : ℕ) → i < length result.now → slice_index_or result.now i 0 < length channels.now }
+    ensures on { (i : ℕ) → i < length result.now → is_from channels.now node kind (slice_index_or result.now i 0) ≡ true }
+{
+    let _ = channels;
+    let here = &ports.as_slice()[node as usize];
+    if kind {
+        here.data_out.as_slice()
+    } else {
+        here.acks_out.as_slice()
+    }
+}
