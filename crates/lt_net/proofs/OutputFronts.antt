@@ -1,18 +1,17 @@
 -- A net's cells are fronts of the streams of the whole.
-use Rattle.std.proofs.Common.{◌≡◌, ℕ, suc, ◌<◌, List, [], length, map, take, Some, refl, sym, ap, ◌∙◌, subst, arith}
+use Rattle.std.proofs.Common.{◌≡◌, ℕ, suc, ◌<◌, List, [], length, take, refl, sym, ap, ◌∙◌, subst, arith}
 use Rattle.std.specs.Prelude.{slice_index_or}
 use Rattle.std.proofs.lemmas.List.{get_or-take}
 use Rattle.lt_base.specs.declared.value.Value.{Value}
 use Rattle.lt_base.specs.Program.{Function}
-use Rattle.lt_base.specs.Meaning.{Callee, calls, environments, stream_of}
+use Rattle.lt_base.specs.Meaning.{calls, stream_of}
 use Rattle.lt_arch.specs.State.{Phase}
 use Rattle.lt_arch.specs.Readers.{node_count, to_of}
 use Rattle.lt_arch.specs.Schedule.{OnePlace, IsOnePlace}
-use Rattle.lt_place.specs.declared.layout.Layout.{Layout}
 use Rattle.lt_place.specs.Layout.{Gives, part_of, crossing_of}
 use Rattle.lt_plant.specs.Track.{track_at}
 use Rattle.lt_plant.specs.Layout.{IsLaidOut}
-use Rattle.lt_plant.specs.Local.{Messages, fed_row, local_runs, local_stream, newest}
+use Rattle.lt_plant.specs.Local.{newest}
 use Rattle.lt_plant.specs.Payloads.{between, row_at, channel_between}
 use Rattle.lt_net.specs.Net.{NetState, Lists, state_of}
 use Rattle.lt_plant.specs.Whole.{CarriesOwn, RowsFit}
@@ -20,19 +19,11 @@ use Rattle.lt_net.specs.Stands.{Stands}
 use Rattle.lt_net.specs.Owns.{Owns, OwnPayload}
 use Rattle.lt_plant.specs.Channels.{HasChannels}
 use Rattle.lt_net.specs.Chain.{SameInputs, CellsAreFronts}
-use Rattle.lt_plant.proofs.Firsts.{firsts-same, upto-same}
-use Rattle.lt_plant.proofs.LocalFronts.{fronts}
+use Rattle.lt_plant.proofs.LocalFronts.{fronts, local_stream_same, local_runs_same}
 
 -- a front of the rows gives the same row
 front_row : (rows : List (List Value)) (m k : ℕ) → k < m → row_at (take m rows) k ≡ row_at rows k
 front_row rows m k h = get_or-take m rows k [] h
-
-module _ (l : Layout) (got : Messages) (n m : ℕ) (rows rows' : ℕ → List Value) (same : (k : ℕ) → k < m → rows k ≡ rows' k) where
-  pub local_stream_same : (x : ℕ) → local_stream l got n rows m x ≡ local_stream l got n rows' m x
-  local_stream_same x = ap (λ rs. stream_of [] (part_of l n).flat.func rs x) (firsts-same _ _ m (λ k b. ap (λ row. fed_row l got n row k) (same k b)))
-
-  pub local_runs_same : (callee : Callee) → local_runs callee l got n rows m ≡ local_runs callee l got n rows' m
-  local_runs_same callee = ap (environments callee (part_of l n).flat.func) (upto-same _ _ m (λ k b. ap (λ row. map Some (fed_row l got n row k)) (same k b)))
 
 pub same_rows_of : {C M : Type 0} (net : NetState C M) (ls : Lists) (rows : List (List Value)) → SameInputs net ls rows → (n k : ℕ) → n < node_count net.shape → k < length (ls.inputs n) → row_at (ls.inputs n) k ≡ row_at rows k
 same_rows_of net ls rows inputs n k b h = ap (λ r. row_at r k) (inputs.fronts n b) ∙ front_row rows (length (ls.inputs n)) k h

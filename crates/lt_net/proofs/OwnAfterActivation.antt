@@ -13,7 +13,7 @@ use Rattle.lt_plant.specs.Local.{newest, local_runs}
 use Rattle.lt_plant.specs.Payloads.{between, row_at}
 use Rattle.lt_net.specs.Net.{NetState, Lists}
 use Rattle.lt_net.specs.Owns.{OwnPayload, Owns, OwnsTransit}
-use Rattle.lt_net.proofs.OutputFronts.{local_runs_same}
+use Rattle.lt_plant.proofs.LocalFronts.{local_runs_same}
 
 module _ {C M : Type 0} (net : NetState C M) (ls next : Lists) (got : (c : ℕ) → next.got c ≡ ls.got c) (more : ℕ → List (List Value)) (inputs : (n : ℕ) → next.inputs n ≡ ls.inputs n ++ more n) where
   got_is : next.got ≡ ls.got

@@ -7,7 +7,8 @@ use Rattle.lt_plant.specs.Payloads.{between, row_at}
 use Rattle.lt_net.specs.Net.{state_of}
 use Rattle.lt_plant.specs.Local.{local_stream}
 use Rattle.lt_net.specs.Replay.{Closes}
-use Rattle.lt_net.proofs.OutputFronts.{cells_are_fronts, same_rows_of, local_stream_same}
+use Rattle.lt_plant.proofs.LocalFronts.{local_stream_same}
+use Rattle.lt_net.proofs.OutputFronts.{cells_are_fronts, same_rows_of}
 
 pub closes : Closes
 closes C M phase stands made left inputs events net fabric ls bound f placed channels one_place rows fit admissible least k = record {

@@ -1,5 +1,5 @@
 // A plant before the first event.
-ghost use Rattle.std.specs.Prelude.{◌≡◌, ◌≤◌, ◌<◌, ◌+◌, ◌*◌, ◌^◌, length, IfOk};
+ghost use Rattle.std.specs.Prelude.{◌≡◌, ◌<◌, ◌+◌, ◌*◌, ◌^◌, IfOk};
 ghost use Rattle.lt_arch.specs.Readers.{node_count, chan_count};
 ghost use Rattle.lt_arch.specs.Schedule.{OnePlace};
 ghost use Rattle.lt_arch.specs.Shapes.{HaveSameNodes};

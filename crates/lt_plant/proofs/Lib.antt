@@ -11,6 +11,7 @@ pub mod InboxValues
 pub mod InstantTables
 pub mod LaidOut
 pub mod CrossedValues
+pub mod Fitting
 pub mod OutputsGo
 pub mod FedRows
 pub mod TypedPayloads

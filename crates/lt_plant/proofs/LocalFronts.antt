@@ -11,9 +11,9 @@ use Rattle.lt_base.proofs.Streams.{cells_same}
 use Rattle.lt_place.specs.declared.layout.Layout.{Layout}
 use Rattle.lt_plant.specs.Layout.{IsLaidOut, origin_in}
 use Rattle.lt_place.specs.Layout.{part_of}
-use Rattle.lt_plant.specs.Local.{Messages, fed_row, upto, firsts, runs, local_stream, newest}
+use Rattle.lt_plant.specs.Local.{Messages, fed_row, upto, firsts, runs, local_runs, local_stream, newest}
 use Rattle.lt_plant.specs.Whole.{CarriesOwn, Fronts}
-use Rattle.lt_plant.proofs.Firsts.{map-firsts, reverse-firsts, reverse-upto, take-firsts, firsts-list, take_all}
+use Rattle.lt_plant.proofs.Firsts.{map-firsts, reverse-firsts, reverse-upto, take-firsts, firsts-list, take_all, firsts-same, upto-same}
 use Rattle.lt_plant.proofs.WholeSolves.{agrees}
 
 -- the rows of a run, newest first
@@ -82,3 +82,11 @@ fronts f l layout got rows executed within inputs carries n x b d =
     local_is_front f l layout got at executed (length rows) within inputs carries n m (length rows - m) x b (omega arith) d
     ∙ ap (λ j. take m (stream_of [] f (firsts at j) (origin_in (part_of l n) x))) (let e : m + (length rows - m) ≡ length rows = omega (arith, h) in e)
     ∙ ap (λ rs. take m (stream_of [] f rs (origin_in (part_of l n) x))) all
+
+-- rows that are the same give the same streams, and the same runs
+module _ (l : Layout) (got : Messages) (n m : ℕ) (rows rows' : ℕ → List Value) (same : (k : ℕ) → k < m → rows k ≡ rows' k) where
+  pub local_stream_same : (x : ℕ) → local_stream l got n rows m x ≡ local_stream l got n rows' m x
+  local_stream_same x = ap (λ rs. stream_of [] (part_of l n).flat.func rs x) (firsts-same _ _ m (λ k b. ap (λ row. fed_row l got n row k) (same k b)))
+
+  pub local_runs_same : (callee : Callee) → local_runs callee l got n rows m ≡ local_runs callee l got n rows' m
+  local_runs_same callee = ap (environments callee (part_of l n).flat.func) (upto-same _ _ m (λ k b. ap (λ row. map Some (fed_row l got n row k)) (same k b)))

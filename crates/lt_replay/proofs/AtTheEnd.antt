@@ -32,7 +32,7 @@ use Rattle.lt_net.specs.Replay.{Keeps, Ends}
 use Rattle.lt_plant.proofs.Firsts.{firsts-same}
 use Rattle.lt_net.proofs.OutputFronts.{same_rows_of}
 use Rattle.lt_plant.proofs.LaidOut.{laid_out}
-use Rattle.lt_net.proofs.Fitting.{has_inputs}
+use Rattle.lt_plant.proofs.Fitting.{has_inputs}
 use Rattle.lt_plant.specs.Layout.{IsLaidOut}
 use Rattle.lt_plant.specs.Whole.{RowsFit as HasInputs}
 use Rattle.lt_play.specs.Played.{IsLeast}
