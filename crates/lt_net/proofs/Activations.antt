@@ -22,7 +22,8 @@ use Rattle.lt_link.specs.Bits.{bit_of}
 use Rattle.lt_plant.specs.Payloads.{between, row_at, message_of}
 use Rattle.lt_net.specs.Net.{NetState, Lists, state_of}
 use Rattle.lt_link.specs.Inbox.{InboxState}
-use Rattle.lt_net.specs.Stands.{HasRun, Stands}
+use Rattle.lt_plant.specs.Standing.{HasRun}
+use Rattle.lt_net.specs.Stands.{Stands}
 use Rattle.lt_place.specs.Layout.{part_of}
 use Rattle.lt_plant.specs.Local.{upto, fed_row}
 use Rattle.lt_net.specs.Owns.{OwnPayload}
@@ -140,7 +141,7 @@ module _ {C M : Type 0} (phase : C → Phase) (stands : M → Function → List 
       (i : ℕ) (c : C) → slice_get cs i ≡ Some c → phase c ≡ ((state_of net next).node i).phase
   phases_are cs control is within woke i c h = elim (got_entry net.controllers n i control c within (ap (λ xs. slice_get xs i) (sym is) ∙ h)) [
     | inl e ↦ ap phase e.1 ∙ woke ∙ sym (ap (λ (z : State). (z.node i).phase) state_is ∙ ap (λ j. ((after net.shape net.timing net.rows (state_of net ls) (Act n at)).node j).phase) e.0 ∙ ap (λ (v : NodeState). v.phase) phase-here)
-    | inr e ↦ s.phases i c e.1 ∙ sym (ap (λ (z : State). (z.node i).phase) state_is ∙ ap (λ (v : NodeState). v.phase) (phase-other i e.0))
+    | inr e ↦ s.plant.phases i c e.1 ∙ sym (ap (λ (z : State). (z.node i).phase) state_is ∙ ap (λ (v : NodeState). v.phase) (phase-other i e.0))
   ]
 
   pub times_are : (w : Times) (sends : List (Option ℕ)) → SentOn (sends_on net.shape net.timing n (deed_at net.shape net.rows (state_of net ls) n)) at net.watch.sends sends →
@@ -155,7 +156,7 @@ module _ {C M : Type 0} (phase : C → Phase) (stands : M → Function → List 
       (fresh : deed_at net.shape net.rows (state_of net ls) n ≡ Execute → (c : ℕ) → c < chan_count net.shape → carries_data net.shape c ≡ true → to_of net.shape c ≡ n → length (ls.got c) ≡ executed_of (state_of net ls) n) where
     pub bits_are : (c : ℕ) (d : InboxState) → slice_get ibs c ≡ Some d → d.bit ≡ bit_of (length (next.got c))
     bits_are c d h = let e = marks.each c d h in
-        ap (λ (z : InboxState). z.bit) e.2 ∙ marked_bit _ (e.0) ∙ s.bits c (e.0) (e.1) ∙ ap (λ ms. bit_of (length ms)) (sym (got c))
+        ap (λ (z : InboxState). z.bit) e.2 ∙ marked_bit _ (e.0) ∙ s.plant.bits c (e.0) (e.1) ∙ ap (λ ms. bit_of (length ms)) (sym (got c))
 
     payload_is : (c : ℕ) (d : InboxState) → slice_get ibs c ≡ Some d → (z : InboxState) × (slice_get net.inboxes c ≡ Some z) × (d.payload ≡ z.payload)
     payload_is c d h = let e = marks.each c d h in (e.0, e.1, ap (λ (z : InboxState). z.payload) e.2 ∙ marked_payload _ (e.0))
@@ -163,7 +164,7 @@ module _ {C M : Type 0} (phase : C → Phase) (stands : M → Function → List 
     pub payloads_are : (c : ℕ) (d : InboxState) → slice_get ibs c ≡ Some d → carries_data net.shape c ≡ true → d.payload ≡ message_of net.layout net.shape next.got c (length (next.got c))
     payloads_are c d h data_too =
         let e = payload_is c d h in
-        e.2 ∙ s.payloads c (e.0) (e.1) data_too ∙ sym (ap (message_of net.layout net.shape next.got c) (ap length (got c)) ∙ message_same net.layout net.shape ls.got next.got c (length (ls.got c)) (got c))
+        e.2 ∙ s.plant.payloads c (e.0) (e.1) data_too ∙ sym (ap (message_of net.layout net.shape next.got c) (ap length (got c)) ∙ message_same net.layout net.shape ls.got next.got c (length (ls.got c)) (got c))
 
     pub data_reads_are : (c : ℕ) (d : InboxState) → slice_get ibs c ≡ Some d → carries_data net.shape c ≡ true → d.read ≡ bit_of (suc ((state_of net next).node (to_of net.shape c)).executed)
     data_reads_are c d h data_too =
@@ -180,12 +181,12 @@ module _ {C M : Type 0} (phase : C → Phase) (stands : M → Function → List 
               let now = executed_is to ∙ ap (λ x. executed_of (state_of net ls) to + one_if x) hit in
               let new : ((state_of net next).node to).executed ≡ suc (executed_of (state_of net ls) to) = omega (arith, now) in
               let came : length (ls.got c) ≡ executed_of (state_of net ls) to = fresh (when_execute deed parts.1) c cb data_too here ∙ ap (λ i. executed_of (state_of net ls) i) (sym here) in
-              inl (on_is ∙ hit, ap (λ x. bit_of (suc x)) new ∙ not_not (bit_of (executed_of (state_of net ls) to)) ∙ ap bit_of (sym came) ∙ sym (s.bits c (e.0) (e.1)))
+              inl (on_is ∙ hit, ap (λ x. bit_of (suc x)) new ∙ not_not (bit_of (executed_of (state_of net ls) to)) ∙ ap bit_of (sym came) ∙ sym (s.plant.bits c (e.0) (e.1)))
           | inr miss ↦
               let now = executed_is to ∙ ap (λ x. executed_of (state_of net ls) to + one_if x) miss in
               let same : ((state_of net next).node to).executed ≡ executed_of (state_of net ls) to = omega (arith, now) in
               inr (on_is ∙ miss, ap (λ x. bit_of (suc x)) same)
-        ]) (s.data_reads c (e.0) (e.1) data_too)
+        ]) (s.plant.data_reads c (e.0) (e.1) data_too)
 
     pub ack_reads_are : (c : ℕ) (d : InboxState) → slice_get ibs c ≡ Some d → carries_data net.shape c ≡ false → d.read ≡ bit_of (sent_of (state_of net next) (to_of net.shape c))
     ack_reads_are c d h ack =
@@ -203,12 +204,12 @@ module _ {C M : Type 0} (phase : C → Phase) (stands : M → Function → List 
               let low = (one_place next.events timely_next clean_next).ack_low c cb ack in
               let high = one.ack_high c cb ack in
               let same = delivered_is c in
-              let there : sent_of (state_of net next) to ≡ length (ls.got c) = le_both _ _ (subst (λ x. sent_of (state_of net next) to ≤ x) (same ∙ sym (s.got c cb)) low) (subst (λ x. length (ls.got c) ≤ x) (sym now) (subst (λ x. x ≤ sent_of (state_of net ls) to + 1) (sym (s.got c cb)) high)) in
-              inl (on_is ∙ hit, ap bit_of there ∙ sym (s.bits c (e.0) (e.1)))
+              let there : sent_of (state_of net next) to ≡ length (ls.got c) = le_both _ _ (subst (λ x. sent_of (state_of net next) to ≤ x) (same ∙ sym (s.plant.messages c cb)) low) (subst (λ x. length (ls.got c) ≤ x) (sym now) (subst (λ x. x ≤ sent_of (state_of net ls) to + 1) (sym (s.plant.messages c cb)) high)) in
+              inl (on_is ∙ hit, ap bit_of there ∙ sym (s.plant.bits c (e.0) (e.1)))
           | inr miss ↦
               let now = sent_is to ∙ ap (λ x. sent_of (state_of net ls) to + one_if x) miss in
               inr (on_is ∙ miss, ap bit_of (now ∙ plus_none (sent_of (state_of net ls) to)))
-        ]) (s.ack_reads c (e.0) (e.1) ack)
+        ]) (s.plant.ack_reads c (e.0) (e.1) ack)
 
   -- after a deed other than Execute
   module _ (idle : is_execute (deed_at net.shape net.rows (state_of net ls) n) ≡ false) (inputs : (i : ℕ) → next.inputs i ≡ ls.inputs i)
@@ -230,15 +231,17 @@ module _ {C M : Type 0} (phase : C → Phase) (stands : M → Function → List 
       timely = timely_next;
       clean = clean_next;
       times = times_are w sends on watch;
-      phases = phases_are cs control controls within woke;
-      inputs = λ i h. ap length (inputs i) ∙ s.inputs i h ∙ executed_same i;
-      got = λ c h. ap length (got c) ∙ s.got c h ∙ sym (delivered_is c);
-      fit = λ i ib. subst (λ (z : Lists). AllFit (input_types (part_of net.layout i).flat.func) (upto (λ k. map Some (fed_row net.layout (between net.shape z.got) i (row_at (z.inputs i) k) k)) (length (z.inputs i)))) (sym next_is) (s.fit i ib);
-      ran = subst (λ (z : Lists). HasRun stands made net.layout net.shape net.machines net.executed net.tracks z.inputs z.got) (sym next_is) s.ran;
-      steps_left = λ i m h. subst (λ rs. net.rows ≤ length rs + left m) (sym (inputs i)) (s.steps_left i m h);
-      payloads = payloads_are ibs marks inboxes no_execute;
-      bits = bits_are ibs marks inboxes no_execute;
-      data_reads = data_reads_are ibs marks inboxes no_execute;
-      ack_reads = ack_reads_are ibs marks inboxes no_execute;
-      buffers = λ c k h carries len. subst (λ (z : Lists). OwnPayload net.layout net.shape z (from_of net.shape c) (to_of net.shape c) k (slice_index_or net.buffers c [])) (sym next_is) (s.buffers c k h carries (ap length (sym (inputs (from_of net.shape c))) ∙ len));
+      plant = record {
+        phases = phases_are cs control controls within woke;
+        rows = λ i h. ap length (inputs i) ∙ s.plant.rows i h ∙ executed_same i;
+        messages = λ c h. ap length (got c) ∙ s.plant.messages c h ∙ sym (delivered_is c);
+        fit = λ i ib. subst (λ (z : Lists). AllFit (input_types (part_of net.layout i).flat.func) (upto (λ k. map Some (fed_row net.layout (between net.shape z.got) i (row_at (z.inputs i) k) k)) (length (z.inputs i)))) (sym next_is) (s.plant.fit i ib);
+        ran = subst (λ (z : Lists). HasRun stands made net.layout net.shape net.machines net.executed net.tracks z.inputs z.got) (sym next_is) s.plant.ran;
+        steps_left = λ i m h. subst (λ rs. net.rows ≤ length rs + left m) (sym (inputs i)) (s.plant.steps_left i m h);
+        payloads = payloads_are ibs marks inboxes no_execute;
+        bits = bits_are ibs marks inboxes no_execute;
+        data_reads = data_reads_are ibs marks inboxes no_execute;
+        ack_reads = ack_reads_are ibs marks inboxes no_execute;
+        buffers = λ c k h carries len. subst (λ (z : Lists). OwnPayload net.layout net.shape z (from_of net.shape c) (to_of net.shape c) k (slice_index_or net.buffers c [])) (sym next_is) (s.plant.buffers c k h carries (ap length (sym (inputs (from_of net.shape c))) ∙ len));
+      };
     }

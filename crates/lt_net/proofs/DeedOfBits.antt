@@ -45,8 +45,8 @@ module _ {C M : Type 0} (phase : C → Phase) (stands : M → Function → List 
       let at : slice_get net.inboxes c ≡ Some b = slice_get-get_or net.inboxes c no_inbox (omega (arith, h, inboxes)) in
       let e = executed_of (state_of net ls) (to_of net.shape c) in
       let d = ((state_of net ls).chan c).delivered in
-      (λ i. differ (s.bits c b at i) (s.data_reads c b at data_too i))
-      ∙ ap (λ x. differ (bit_of x) (bit_of (suc e))) (s.got c h)
+      (λ i. differ (s.plant.bits c b at i) (s.plant.data_reads c b at data_too i))
+      ∙ ap (λ x. differ (bit_of x) (bit_of (suc e))) (s.plant.messages c h)
       ∙ data_fresh e d (one.data_low c h data_too) (one.data_high c h data_too)
 
   pub bits_are_any_in : (n : ℕ) → some_below (fresh_one net.shape.channels net.inboxes n true) (length net.shape.channels) ≡ any_in net.shape (state_of net ls) n
@@ -61,8 +61,8 @@ module _ {C M : Type 0} (phase : C → Phase) (stands : M → Function → List 
       let at : slice_get net.inboxes c ≡ Some b = slice_get-get_or net.inboxes c no_inbox (omega (arith, h, inboxes)) in
       let some = (counted net.shape net.timing net.rows ls.events s.clean).phases n in
       let here : ((state_of net ls).node n).executed ≡ suc (sent_of (state_of net ls) n) = minus_one _ _ waits some in
-      (λ i. differ (s.bits c b at i) (s.ack_reads c b at ack i))
-      ∙ ap (λ x. differ (bit_of x) (bit_of (sent_of (state_of net ls) (to_of net.shape c)))) (s.got c h)
+      (λ i. differ (s.plant.bits c b at i) (s.plant.ack_reads c b at ack i))
+      ∙ ap (λ x. differ (bit_of x) (bit_of (sent_of (state_of net ls) (to_of net.shape c)))) (s.plant.messages c h)
       ∙ ack_bit_tells net.shape (state_of net ls) one c h ack (subst (λ i. ((state_of net ls).node i).executed ≡ suc (sent_of (state_of net ls) i)) (sym to) here)
     where
       minus_one : (e u : ℕ) → u ≡ 1 → u ≤ e → e ≡ suc (e - u)

@@ -102,9 +102,9 @@ module _ {C M : Type 0} (phase : C → Phase) (stands : M → Function → List 
       let k = channel_between net.shape (crossing_of net.layout c).from (crossing_of net.layout c).to in
       let there = channels.there c h in
       let low = one.data_low k there (channels.carries c h) in
-      let got = s.got k there in
+      let got = s.plant.messages k there in
       let to = channels.to c h in
-      let executed = s.inputs (to_of net.shape k) (omega (arith, to, channels.nodes, placed.receivers c h)) in
+      let executed = s.plant.rows (to_of net.shape k) (omega (arith, to, channels.nodes, placed.receivers c h)) in
       let same : length (ls.inputs (to_of net.shape k)) ≡ length (ls.inputs (crossing_of net.layout c).to) = ap (λ j. length (ls.inputs j)) to in
       omega (arith, low, got, executed, same)
 
@@ -148,41 +148,43 @@ module _ {C M : Type 0} (phase : C → Phase) (stands : M → Function → List 
         timely = subst (λ es. AreUpTo GREATEST_TIME es) (sym goes.events) (timely-more GREATEST_TIME ls.events (Del ch at) s.timely offence.0);
         clean = subst (λ es. HasNoOffence net.shape net.timing net.rows (start net.timing.protocol) es) (sym goes.events) (clean-more net.shape net.timing net.rows (start net.timing.protocol) ls.events (Del ch at) s.clean offence.1);
         times = subst (λ z. HasTimes delivered_net.watch net.shape net.timing z) (sym state_is) (noted-del net.watch net.shape net.timing net.rows (state_of net ls) s.times ch at (omega (arith, here, s.times.chan_count)) own_clear);
-        phases = λ n c h. s.phases n c h ∙ ap (λ (nd : NodeState). nd.phase) (sym (node_same n));
-        inputs = λ n h. ap length (goes.inputs n) ∙ s.inputs n h ∙ ap (λ (nd : NodeState). nd.executed) (sym (node_same n));
-        got = λ c h. elim (eqb_tells c ch) [
-          | inl e ↦
-              let at_ch : length (next.got ch) ≡ ((state_of net next).chan ch).delivered =
-              longer ∙ ap (λ x. x + 1) (s.got ch here) ∙ sym (ap (λ (z : State). (z.chan ch).delivered) state_is ∙ del-here net.shape net.timing net.rows (state_of net ls) ch at own_clear) in
-              subst (λ c. length (next.got c) ≡ ((state_of net next).chan c).delivered) (sym e.1) at_ch
-          | inr e ↦ ap length (goes.got.elsewhere c e.1) ∙ s.got c h ∙ sym (ap (λ (z : State). (z.chan c).delivered) state_is ∙ del-other net.shape net.timing net.rows (state_of net ls) ch at c e.1)
-        ];
-        fit = λ n nb. subst (λ rs. AllFit (input_types (part_of net.layout n).flat.func) rs) (same_upto n nb) (s.fit n nb);
-        ran = record {
-          executed = λ n h. s.ran.executed n h ∙ ap length (sym (goes.inputs n));
-          machines = λ n m h. subst (λ rs. stands m (part_of net.layout n).flat.func rs) (same_rows n (let w = slice_get_within net.machines n m h in omega (arith, w, machines))) (s.ran.machines n m h);
-          steps_made = λ n m h. s.ran.steps_made n m h ∙ ap length (sym (goes.inputs n));
-          cells = λ y n x yb nb gives. s.ran.cells y n x yb nb gives ∙ ap (λ rs. stream_of [] (part_of net.layout n).flat.func rs x) (same_rows n nb);
+        plant = record {
+          phases = λ n c h. s.plant.phases n c h ∙ ap (λ (nd : NodeState). nd.phase) (sym (node_same n));
+          rows = λ n h. ap length (goes.inputs n) ∙ s.plant.rows n h ∙ ap (λ (nd : NodeState). nd.executed) (sym (node_same n));
+          messages = λ c h. elim (eqb_tells c ch) [
+            | inl e ↦
+                let at_ch : length (next.got ch) ≡ ((state_of net next).chan ch).delivered =
+                longer ∙ ap (λ x. x + 1) (s.plant.messages ch here) ∙ sym (ap (λ (z : State). (z.chan ch).delivered) state_is ∙ del-here net.shape net.timing net.rows (state_of net ls) ch at own_clear) in
+                subst (λ c. length (next.got c) ≡ ((state_of net next).chan c).delivered) (sym e.1) at_ch
+            | inr e ↦ ap length (goes.got.elsewhere c e.1) ∙ s.plant.messages c h ∙ sym (ap (λ (z : State). (z.chan c).delivered) state_is ∙ del-other net.shape net.timing net.rows (state_of net ls) ch at c e.1)
+          ];
+          fit = λ n nb. subst (λ rs. AllFit (input_types (part_of net.layout n).flat.func) rs) (same_upto n nb) (s.plant.fit n nb);
+          ran = record {
+            executed = λ n h. s.plant.ran.executed n h ∙ ap length (sym (goes.inputs n));
+            machines = λ n m h. subst (λ rs. stands m (part_of net.layout n).flat.func rs) (same_rows n (let w = slice_get_within net.machines n m h in omega (arith, w, machines))) (s.plant.ran.machines n m h);
+            steps_made = λ n m h. s.plant.ran.steps_made n m h ∙ ap length (sym (goes.inputs n));
+            cells = λ y n x yb nb gives. s.plant.ran.cells y n x yb nb gives ∙ ap (λ rs. stream_of [] (part_of net.layout n).flat.func rs x) (same_rows n nb);
+          };
+          steps_left = λ n m h. let a = s.plant.steps_left n m h in omega (arith, a, ap length (goes.inputs n));
+          payloads = λ c d h data_too. elim (got_entry net.inboxes ch c (record b { payload = payload; bit = bit }) d in_inboxes h) [
+            | inl e ↦ ap (λ (x : InboxState). x.payload) e.1 ∙ subst (λ c. payload ≡ message_of net.layout net.shape next.got c (length (next.got c))) (sym e.0)
+                (sym (ap (message_of net.layout net.shape next.got ch) (longer ∙ add-one (length (ls.got ch))) ∙ ap (λ ms. slice_index_or ms (length (ls.got ch)) []) goes.got.there ∙ get_or-append_seam (ls.got ch) payload [] []))
+            | inr e ↦ s.plant.payloads c d e.1 data_too ∙ sym (ap (message_of net.layout net.shape next.got c) (ap length (goes.got.elsewhere c e.0)) ∙ message_same net.layout net.shape ls.got next.got c (length (ls.got c)) (goes.got.elsewhere c e.0))
+          ];
+          bits = λ c d h. elim (got_entry net.inboxes ch c (record b { payload = payload; bit = bit }) d in_inboxes h) [
+            | inl e ↦ ap (λ (x : InboxState). x.bit) e.1 ∙ bit_is ∙ ap not (s.plant.bits ch b at_inbox) ∙ subst (λ c. bit_of (suc (length (ls.got ch))) ≡ bit_of (length (next.got c))) (sym e.0) (ap bit_of (sym (longer ∙ add-one (length (ls.got ch)))))
+            | inr e ↦ s.plant.bits c d e.1 ∙ ap (λ ms. bit_of (length ms)) (sym (goes.got.elsewhere c e.0))
+          ];
+          data_reads = λ c d h data_too. elim (got_entry net.inboxes ch c (record b { payload = payload; bit = bit }) d in_inboxes h) [
+            | inl e ↦ ap (λ (x : InboxState). x.read) e.1 ∙ s.plant.data_reads ch b at_inbox (subst (λ c. carries_data net.shape c ≡ true) e.0 data_too) ∙ subst (λ c. bit_of (suc ((state_of net ls).node (to_of net.shape ch)).executed) ≡ bit_of (suc ((state_of net next).node (to_of net.shape c)).executed)) (sym e.0) (ap (λ (nd : NodeState). bit_of (suc nd.executed)) (sym (node_same (to_of net.shape ch))))
+            | inr e ↦ s.plant.data_reads c d e.1 data_too ∙ ap (λ (nd : NodeState). bit_of (suc nd.executed)) (sym (node_same (to_of net.shape c)))
+          ];
+          ack_reads = λ c d h ack. elim (got_entry net.inboxes ch c (record b { payload = payload; bit = bit }) d in_inboxes h) [
+            | inl e ↦ ap (λ (x : InboxState). x.read) e.1 ∙ s.plant.ack_reads ch b at_inbox (subst (λ c. carries_data net.shape c ≡ false) e.0 ack) ∙ subst (λ c. bit_of (sent_of (state_of net ls) (to_of net.shape ch)) ≡ bit_of (sent_of (state_of net next) (to_of net.shape c))) (sym e.0) (ap (λ (nd : NodeState). bit_of (nd.executed - unsent nd.phase)) (sym (node_same (to_of net.shape ch))))
+            | inr e ↦ s.plant.ack_reads c d e.1 ack ∙ ap (λ (nd : NodeState). bit_of (nd.executed - unsent nd.phase)) (sym (node_same (to_of net.shape c)))
+          ];
+          buffers = λ c k h carries len.
+              let len' = subst (λ rs. length rs ≡ suc k) (goes.inputs (from_of net.shape c)) len in
+              own_same (from_of net.shape c) (to_of net.shape c) k (slice_index_or net.buffers c []) (omega (arith, len')) (s.plant.buffers c k h carries len');
         };
-        steps_left = λ n m h. let a = s.steps_left n m h in omega (arith, a, ap length (goes.inputs n));
-        payloads = λ c d h data_too. elim (got_entry net.inboxes ch c (record b { payload = payload; bit = bit }) d in_inboxes h) [
-          | inl e ↦ ap (λ (x : InboxState). x.payload) e.1 ∙ subst (λ c. payload ≡ message_of net.layout net.shape next.got c (length (next.got c))) (sym e.0)
-              (sym (ap (message_of net.layout net.shape next.got ch) (longer ∙ add-one (length (ls.got ch))) ∙ ap (λ ms. slice_index_or ms (length (ls.got ch)) []) goes.got.there ∙ get_or-append_seam (ls.got ch) payload [] []))
-          | inr e ↦ s.payloads c d e.1 data_too ∙ sym (ap (message_of net.layout net.shape next.got c) (ap length (goes.got.elsewhere c e.0)) ∙ message_same net.layout net.shape ls.got next.got c (length (ls.got c)) (goes.got.elsewhere c e.0))
-        ];
-        bits = λ c d h. elim (got_entry net.inboxes ch c (record b { payload = payload; bit = bit }) d in_inboxes h) [
-          | inl e ↦ ap (λ (x : InboxState). x.bit) e.1 ∙ bit_is ∙ ap not (s.bits ch b at_inbox) ∙ subst (λ c. bit_of (suc (length (ls.got ch))) ≡ bit_of (length (next.got c))) (sym e.0) (ap bit_of (sym (longer ∙ add-one (length (ls.got ch)))))
-          | inr e ↦ s.bits c d e.1 ∙ ap (λ ms. bit_of (length ms)) (sym (goes.got.elsewhere c e.0))
-        ];
-        data_reads = λ c d h data_too. elim (got_entry net.inboxes ch c (record b { payload = payload; bit = bit }) d in_inboxes h) [
-          | inl e ↦ ap (λ (x : InboxState). x.read) e.1 ∙ s.data_reads ch b at_inbox (subst (λ c. carries_data net.shape c ≡ true) e.0 data_too) ∙ subst (λ c. bit_of (suc ((state_of net ls).node (to_of net.shape ch)).executed) ≡ bit_of (suc ((state_of net next).node (to_of net.shape c)).executed)) (sym e.0) (ap (λ (nd : NodeState). bit_of (suc nd.executed)) (sym (node_same (to_of net.shape ch))))
-          | inr e ↦ s.data_reads c d e.1 data_too ∙ ap (λ (nd : NodeState). bit_of (suc nd.executed)) (sym (node_same (to_of net.shape c)))
-        ];
-        ack_reads = λ c d h ack. elim (got_entry net.inboxes ch c (record b { payload = payload; bit = bit }) d in_inboxes h) [
-          | inl e ↦ ap (λ (x : InboxState). x.read) e.1 ∙ s.ack_reads ch b at_inbox (subst (λ c. carries_data net.shape c ≡ false) e.0 ack) ∙ subst (λ c. bit_of (sent_of (state_of net ls) (to_of net.shape ch)) ≡ bit_of (sent_of (state_of net next) (to_of net.shape c))) (sym e.0) (ap (λ (nd : NodeState). bit_of (nd.executed - unsent nd.phase)) (sym (node_same (to_of net.shape ch))))
-          | inr e ↦ s.ack_reads c d e.1 ack ∙ ap (λ (nd : NodeState). bit_of (nd.executed - unsent nd.phase)) (sym (node_same (to_of net.shape c)))
-        ];
-        buffers = λ c k h carries len.
-            let len' = subst (λ rs. length rs ≡ suc k) (goes.inputs (from_of net.shape c)) len in
-            own_same (from_of net.shape c) (to_of net.shape c) k (slice_index_or net.buffers c []) (omega (arith, len')) (s.buffers c k h carries len');
       }

@@ -66,7 +66,7 @@ module _ {C M : Type 0} (phase : C → Phase) (protocol : C → Protocol) (send 
   more_rows =
       let st = state_of net (kept.standing).0 in
       let left_over : executed_of (state_of net (kept.standing).0) n < net.rows = leb-le _ _ (deed_more (st.node n).phase (all_in net.shape st n) (any_in net.shape st n) (all_ack net.shape st n) (more net.rows st n) deed_now) in
-      let count = s.ran.executed n nb ∙ s.inputs n nb in
+      let count = s.plant.ran.executed n nb ∙ s.plant.rows n nb in
       omega (arith, left_over, count)
 
   module _ (room : HasRoom net) (row : List Value) (fits : FitsPart net.layout n row) (inputs outputs : M → ℕ)
@@ -100,7 +100,7 @@ module _ {C M : Type 0} (phase : C → Phase) (protocol : C → Protocol) (send 
         let same = kept.fixed.laid.outs n nl in
         let x = slice_index_or (part_of net.layout n).flat.func.outs out 0 in
         let gives : Gives (part_of net.layout n) (slice_index_or net.layout.outs y 0) x = record { place = out; out = at; own = slice_get-get_or (part_of net.layout n).flat.func.outs out 0 (omega (arith, w, same)) } in
-        ap length (s.ran.cells y n x lt nl gives) ∙ stream_length [] (part_of net.layout n).flat.func x _ ∙ length-firsts _ (length ((kept.standing).0.inputs n))
+        ap length (s.plant.ran.cells y n x lt nl gives) ∙ stream_length [] (part_of net.layout n).flat.func x _ ∙ length-firsts _ (length ((kept.standing).0.inputs n))
 
     pub can_execute : CanExecute inputs outputs left (record net { controllers = cs }) n row
     can_execute = record {
@@ -108,9 +108,9 @@ module _ {C M : Type 0} (phase : C → Phase) (protocol : C → Protocol) (send 
       machine = omega (arith, nl, kept.sized.machines);
       count = omega (arith, nb, kept.sized.executed);
       more = more_rows;
-      has_left = λ m h. let l = s.steps_left n m h in let i = s.inputs n nb in let e = s.ran.executed n nb in let r = more_rows in omega (arith, l, i, e, r);
-      wide = λ m h. (numbers m (part_of net.layout n).flat.func _ (s.ran.machines n m h)).0 ∙ sym (kept.fixed.laid.fed n nl);
-      long = λ m h. (numbers m (part_of net.layout n).flat.func _ (s.ran.machines n m h)).1 ∙ kept.fixed.laid.outs n nl;
+      has_left = λ m h. let l = s.plant.steps_left n m h in let i = s.plant.rows n nb in let e = s.plant.ran.executed n nb in let r = more_rows in omega (arith, l, i, e, r);
+      wide = λ m h. (numbers m (part_of net.layout n).flat.func _ (s.plant.ran.machines n m h)).0 ∙ sym (kept.fixed.laid.fed n nl);
+      long = λ m h. (numbers m (part_of net.layout n).flat.func _ (s.plant.ran.machines n m h)).1 ∙ kept.fixed.laid.outs n nl;
       room = room.inputs n nl;
       room_out = room.outputs n nl;
       feeds = can_feed phase stands made left net kept.fixed.whole kept.fixed.laid kept.fixed.channels room.routes kept.sized.inboxes kept.sized.inbox_types n nl row fits;
@@ -124,8 +124,8 @@ module _ {C M : Type 0} (phase : C → Phase) (protocol : C → Protocol) (send 
           let yb : y < length net.layout.outs = omega (arith, lt, room.exits.size) in
           let c = cells_count y yb (exit_is y on) in
           let most = room.cells y yb in
-          let i = s.inputs n nb in
-          let e = s.ran.executed n nb in
+          let i = s.plant.rows n nb in
+          let e = s.plant.ran.executed n nb in
           let r = more_rows in
           omega (arith, c, most, i, e, r);
       inboxes = kept.sized.inboxes;

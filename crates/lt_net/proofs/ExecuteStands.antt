@@ -60,7 +60,7 @@ module _ {C M : Type 0} (phase : C → Phase) (stands : M → Function → List 
     (buffers : List (List Value)) (filled : (c : ℕ) → c < chan_count net.shape → carries_data net.shape c ≡ true → from_of net.shape c ≡ n → OwnPayload net.layout net.shape next (from_of net.shape c) (to_of net.shape c) (length (ls.inputs n)) (slice_index_or buffers c []))
     (unfilled : (c : ℕ) → from_of net.shape c ≢ n → slice_index_or buffers c [] ≡ slice_index_or net.buffers c []) where
   fresh : deed_at net.shape net.rows (state_of net ls) n ≡ Execute → (c : ℕ) → c < chan_count net.shape → carries_data net.shape c ≡ true → to_of net.shape c ≡ n → length (ls.got c) ≡ executed_of (state_of net ls) n
-  fresh e c h data_too to = fresh_at_execute phase stands made left net n at one_place ls s offence executes nb c h data_too to ∙ s.inputs n nb
+  fresh e c h data_too to = fresh_at_execute phase stands made left net n at one_place ls s offence executes nb c h data_too to ∙ s.plant.rows n nb
 
   longer : length (next.inputs n) ≡ suc (length (ls.inputs n))
   longer = ap length takes.there ∙ length-append (ls.inputs n) (row ∷ []) ∙ add-one (length (ls.inputs n))
@@ -92,7 +92,7 @@ module _ {C M : Type 0} (phase : C → Phase) (stands : M → Function → List 
       let front : upto (rows ls.got (ls.inputs n)) m ≡ upto (rows ls.got (next.inputs n)) m =
       upto-same _ _ m (λ k h. sym (ap (λ r. map Some (fed_row net.layout (between net.shape ls.got) n r k)) (ap (λ rs. row_at rs k) takes.there ∙ get_or-append (ls.inputs n) (row ∷ []) [] k h))) in
       let both : AllFit ts (upto (rows ls.got (next.inputs n)) (suc m)) =
-      (subst (λ r. RowFits ts (map Some (fed_row net.layout (between net.shape ls.got) n r m))) (sym last) row_fits, subst (λ rs. AllFit ts rs) front (s.fit n nl)) in
+      (subst (λ r. RowFits ts (map Some (fed_row net.layout (between net.shape ls.got) n r m))) (sym last) row_fits, subst (λ rs. AllFit ts rs) front (s.plant.fit n nl)) in
       subst (λ k. AllFit ts (upto (rows next.got (next.inputs n)) k)) (sym longer) (subst (λ g. AllFit ts (upto (rows g (next.inputs n)) (suc m))) (sym got_is) both)
 
   own_still : (i j k : ℕ) (p : List Value) → k < length (ls.inputs i) → OwnPayload net.layout net.shape ls i j k p → OwnPayload net.layout net.shape next i j k p
@@ -113,35 +113,37 @@ module _ {C M : Type 0} (phase : C → Phase) (stands : M → Function → List 
     timely = timely_next phase stands made left net n at one_place ls next s offence events got b;
     clean = clean_next phase stands made left net n at one_place ls next s offence events got b;
     times = times_are phase stands made left net n at one_place ls next s offence events got b w sends on watch;
-    phases = phases_are phase stands made left net n at one_place ls next s offence events got b cs control controls within woke;
-    inputs = λ i h. elim (eqb_tells i n) [
-      | inl e ↦ subst (λ i. length (next.inputs i) ≡ ((state_of net next).node i).executed) (sym e.1) (longer ∙ ap suc (s.inputs n nb) ∙ sym executed_here)
-      | inr e ↦ ap length (takes.elsewhere i e.1) ∙ s.inputs i h ∙ sym (executed_other i e.1)
-    ];
-    got = λ c h. ap length (got c) ∙ s.got c h ∙ sym (delivered_is phase stands made left net n at one_place ls next s offence events got b c);
-    fit = λ i ib. elim (eqb_tells i n) [
-      | inl e ↦ subst (λ i. AllFit (input_types (part_of net.layout i).flat.func) (upto (λ k. map Some (fed_row net.layout (between net.shape next.got) i (row_at (next.inputs i) k) k)) (length (next.inputs i)))) (sym e.1) fit_here
-      | inr e ↦ subst (λ rs. AllFit (input_types (part_of net.layout i).flat.func) rs) (upto_other i e.1) (s.fit i ib)
-    ];
-    ran = run_next phase stands made left net n at one_place ls next s offence got nb nl executes row takes m0 m1 at_machine ins ins_is outs steps follows made1 es counts counted tracks appends;
-    steps_left = λ i m h. elim (got_entry net.machines n i m1 m (slice_get_within net.machines n m0 at_machine) h) [
-      | inl e ↦
-          let before = s.steps_left n m0 at_machine in
-          let l = longer in
-          subst (λ i. net.rows ≤ length (next.inputs i) + left m) (sym e.0) (subst (λ z. net.rows ≤ length (next.inputs n) + left z) (sym e.1) (omega (arith, before, l, left1)))
-      | inr e ↦ subst (λ rs. net.rows ≤ length rs + left m) (sym (takes.elsewhere i e.0)) (s.steps_left i m e.1)
-    ];
-    payloads = payloads_are phase stands made left net n at one_place ls next s offence events got b ibs marks inboxes fresh;
-    bits = bits_are phase stands made left net n at one_place ls next s offence events got b ibs marks inboxes fresh;
-    data_reads = data_reads_are phase stands made left net n at one_place ls next s offence events got b ibs marks inboxes fresh;
-    ack_reads = ack_reads_are phase stands made left net n at one_place ls next s offence events got b ibs marks inboxes fresh;
-    buffers = λ c k h carries len. elim (eqb_tells (from_of net.shape c) n) [
-      | inl e ↦
-          let k_is : length (ls.inputs n) ≡ k = let l = sym longer ∙ ap (λ j. length (next.inputs j)) (sym e.1) ∙ len in omega (arith, l) in
-          subst (λ k. OwnPayload net.layout net.shape next (from_of net.shape c) (to_of net.shape c) k (slice_index_or buffers c [])) k_is (filled c h carries e.1)
-      | inr e ↦
-          let len' : length (ls.inputs (from_of net.shape c)) ≡ suc k = ap length (sym (takes.elsewhere (from_of net.shape c) e.1)) ∙ len in
-          subst (λ p. OwnPayload net.layout net.shape next (from_of net.shape c) (to_of net.shape c) k p) (sym (unfilled c e.1))
-          (own_still (from_of net.shape c) (to_of net.shape c) k (slice_index_or net.buffers c []) (omega (arith, len')) (s.buffers c k h carries len'))
-    ];
+    plant = record {
+      phases = phases_are phase stands made left net n at one_place ls next s offence events got b cs control controls within woke;
+      rows = λ i h. elim (eqb_tells i n) [
+        | inl e ↦ subst (λ i. length (next.inputs i) ≡ ((state_of net next).node i).executed) (sym e.1) (longer ∙ ap suc (s.plant.rows n nb) ∙ sym executed_here)
+        | inr e ↦ ap length (takes.elsewhere i e.1) ∙ s.plant.rows i h ∙ sym (executed_other i e.1)
+      ];
+      messages = λ c h. ap length (got c) ∙ s.plant.messages c h ∙ sym (delivered_is phase stands made left net n at one_place ls next s offence events got b c);
+      fit = λ i ib. elim (eqb_tells i n) [
+        | inl e ↦ subst (λ i. AllFit (input_types (part_of net.layout i).flat.func) (upto (λ k. map Some (fed_row net.layout (between net.shape next.got) i (row_at (next.inputs i) k) k)) (length (next.inputs i)))) (sym e.1) fit_here
+        | inr e ↦ subst (λ rs. AllFit (input_types (part_of net.layout i).flat.func) rs) (upto_other i e.1) (s.plant.fit i ib)
+      ];
+      ran = run_next phase stands made left net n at one_place ls next s offence got nb nl executes row takes m0 m1 at_machine ins ins_is outs steps follows made1 es counts counted tracks appends;
+      steps_left = λ i m h. elim (got_entry net.machines n i m1 m (slice_get_within net.machines n m0 at_machine) h) [
+        | inl e ↦
+            let before = s.plant.steps_left n m0 at_machine in
+            let l = longer in
+            subst (λ i. net.rows ≤ length (next.inputs i) + left m) (sym e.0) (subst (λ z. net.rows ≤ length (next.inputs n) + left z) (sym e.1) (omega (arith, before, l, left1)))
+        | inr e ↦ subst (λ rs. net.rows ≤ length rs + left m) (sym (takes.elsewhere i e.0)) (s.plant.steps_left i m e.1)
+      ];
+      payloads = payloads_are phase stands made left net n at one_place ls next s offence events got b ibs marks inboxes fresh;
+      bits = bits_are phase stands made left net n at one_place ls next s offence events got b ibs marks inboxes fresh;
+      data_reads = data_reads_are phase stands made left net n at one_place ls next s offence events got b ibs marks inboxes fresh;
+      ack_reads = ack_reads_are phase stands made left net n at one_place ls next s offence events got b ibs marks inboxes fresh;
+      buffers = λ c k h carries len. elim (eqb_tells (from_of net.shape c) n) [
+        | inl e ↦
+            let k_is : length (ls.inputs n) ≡ k = let l = sym longer ∙ ap (λ j. length (next.inputs j)) (sym e.1) ∙ len in omega (arith, l) in
+            subst (λ k. OwnPayload net.layout net.shape next (from_of net.shape c) (to_of net.shape c) k (slice_index_or buffers c [])) k_is (filled c h carries e.1)
+        | inr e ↦
+            let len' : length (ls.inputs (from_of net.shape c)) ≡ suc k = ap length (sym (takes.elsewhere (from_of net.shape c) e.1)) ∙ len in
+            subst (λ p. OwnPayload net.layout net.shape next (from_of net.shape c) (to_of net.shape c) k p) (sym (unfilled c e.1))
+            (own_still (from_of net.shape c) (to_of net.shape c) k (slice_index_or net.buffers c []) (omega (arith, len')) (s.plant.buffers c k h carries len'))
+      ];
+    };
   }

@@ -18,7 +18,8 @@ use Rattle.lt_arch.specs.Times.{Times, HasTimes, SentOn}
 use Rattle.lt_io.specs.FabricState.{FabricState}
 use Rattle.lt_net.specs.Net.{NetState, Lists, state_of}
 use Rattle.lt_link.specs.Inbox.{InboxState, no_inbox}
-use Rattle.lt_net.specs.Stands.{HasRun, Stands}
+use Rattle.lt_plant.specs.Standing.{HasRun}
+use Rattle.lt_net.specs.Stands.{Stands}
 use Rattle.lt_net.specs.Halts.{HasHalted}
 use Rattle.lt_net.specs.Event.{GoesOn, Happens, Holds, InputsGo}
 use Rattle.lt_net.specs.Kept.{Kept}

@@ -71,14 +71,14 @@ module _ {C M : Type 0} (phase : C → Phase) (protocol : C → Protocol) (send 
 
   pub deed_by_bits : (ls : Lists) → Stands phase stands made left net ls → d ≡ deed_at net.shape net.rows (state_of net ls) n
   deed_by_bits ls s = deed_is phase stands made left net ls kept.fixed.one_place s kept.sized.inboxes n (slice_index_or net.executed n 0) wakes.before d _ _ _ _
-      (s.phases n wakes.before wakes.there) (s.ran.executed n nb ∙ s.inputs n nb) refl refl refl refl wakes.deed_is
+      (s.plant.phases n wakes.before wakes.there) (s.plant.ran.executed n nb ∙ s.plant.rows n nb) refl refl refl refl wakes.deed_is
 
   pub woke_is : (ls : Lists) → Stands phase stands made left net ls → phase wakes.after ≡ phase_at net.shape net.timing net.rows (state_of net ls) n
   woke_is ls s =
       let before = wakes.before in
       let ph : Phase = ((state_of net ls).node n).phase in
       let d' : Deed = deed_at net.shape net.rows (state_of net ls) n in
-      wakes.phase_is ∙ (λ i. phase_after (send wakes.before) (execute wakes.before) (s.phases n wakes.before wakes.there i) (deed_by_bits ls s i)) ∙ elim (either_protocol net.timing.protocol) [
+      wakes.phase_is ∙ (λ i. phase_after (send wakes.before) (execute wakes.before) (s.plant.phases n wakes.before wakes.there i) (deed_by_bits ls s i)) ∙ elim (either_protocol net.timing.protocol) [
         | inl bp ↦ uncounted_same (send wakes.before) (execute wakes.before) (send_of net.timing n) (execute_of net.timing n) ph d' (uncounted net.shape net.timing net.rows bp ls.events n)
         | inr tb ↦ let c = configured.sends tb n wakes.before wakes.there in let e = configured.executes tb n wakes.before wakes.there in λ i. phase_after (c i) (e i) ph d'
       ]
@@ -204,7 +204,7 @@ module _ {C M : Type 0} (phase : C → Phase) (protocol : C → Protocol) (send 
       record {
         message = message;
         kinds = kinds;
-        bits = λ c h. bits c h ∙ ap not (s.bits c (slice_index_or net.inboxes c no_inbox) (slice_get-get_or net.inboxes c no_inbox (omega (arith, h, kept.sized.inboxes))));
+        bits = λ c h. bits c h ∙ ap not (s.plant.bits c (slice_index_or net.inboxes c no_inbox) (slice_get-get_or net.inboxes c no_inbox (omega (arith, h, kept.sized.inboxes))));
         sent = λ c h on. transit c h ∙ ap (λ b. with_message b (old.transit c) (message c)) (sym (is c) ∙ on);
         others = λ c h off. transit c h ∙ ap (λ b. with_message b (old.transit c) (message c)) (sym (is c) ∙ off);
         told = λ t c h on. sent t c h ∙ ap (λ b. with_message b (old.sent c) (message c)) (sym (is c) ∙ on);
@@ -292,7 +292,7 @@ module _ {C M : Type 0} (phase : C → Phase) (protocol : C → Protocol) (send 
           (λ c h. upto.sends.transit c ∙ ap (λ b. with_message b (old.transit c) (message_on net.buffers net.inboxes c)) (on_is c h))
           (λ t c h. upto.sends.sent t c ∙ ap (λ b. with_message b (old.sent c) (message_on net.buffers net.inboxes c)) (on_is c h))
           (λ t c h. upto.sends.delivered t c)
-          (λ c h on carries k len. subst (λ (z : Lists). OwnPayload net.layout net.shape z (from_of net.shape c) (to_of net.shape c) k (slice_index_or net.buffers c [])) (sym next_is) (s.buffers c k h carries len));
+          (λ c h on carries k len. subst (λ (z : Lists). OwnPayload net.layout net.shape z (from_of net.shape c) (to_of net.shape c) k (slice_index_or net.buffers c [])) (sym next_is) (s.plant.buffers c k h carries len));
     }
 
     pub send_holds : Holds net old → Holds send_net new

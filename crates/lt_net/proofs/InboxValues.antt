@@ -24,5 +24,5 @@ pub read_is_arrived : {C M : Type 0} (phase : C → Phase) (stands : M → Funct
 read_is_arrived phase stands made left net ls s channels c m b h at_inbox count =
     let l = net.layout in
     let ch = channel_between net.shape (crossing_of l c).from (crossing_of l c).to in
-    ap (λ ps. slice_index_or ps (place_in l c) (crossing_of l c).first) (s.payloads ch b at_inbox (channels.carries c h) ∙ ap (message_of l net.shape ls.got ch) count)
+    ap (λ ps. slice_index_or ps (place_in l c) (crossing_of l c).first) (s.plant.payloads ch b at_inbox (channels.carries c h) ∙ ap (message_of l net.shape ls.got ch) count)
     ∙ read_at l net.shape ls.got c m ch h refl (channels.from c h) (channels.to c h)

@@ -23,7 +23,8 @@ use Rattle.lt_plant.specs.Payloads.{types_for, between, row_at}
 use Rattle.lt_net.specs.Net.{NetState, Lists, state_of}
 use Rattle.lt_plant.specs.Routes.{AreRoutes, AreExits}
 use Rattle.lt_plant.specs.Channels.{HasChannels}
-use Rattle.lt_net.specs.Stands.{HasRun, Stands}
+use Rattle.lt_plant.specs.Standing.{HasRun}
+use Rattle.lt_net.specs.Stands.{Stands}
 use Rattle.lt_net.specs.Kept.{IsSized}
 use Rattle.lt_net.specs.Event.{Takes}
 use Rattle.lt_plant.specs.Acts.{takes_on, MarkedOn}
@@ -78,7 +79,7 @@ module _ {C M : Type 0} (phase : C → Phase) (stands : M → Function → List 
   all_fit : AllFit (input_types (part_of net.layout n).flat.func) (upto (λ k. map Some (fed_row net.layout (between net.shape next.got) n (row_at (next.inputs n) k) k)) (suc (length (ls.inputs n))))
   all_fit = (
     subst (λ r. RowFits (input_types (part_of net.layout n).flat.func) (map Some r)) (sym newest_row) row_fits,
-    subst (λ rs. AllFit (input_types (part_of net.layout n).flat.func) rs) (upto-same _ _ (length (ls.inputs n)) (λ k kb. ap (map Some) (sym (earlier k kb)))) (s.fit n nl),
+    subst (λ rs. AllFit (input_types (part_of net.layout n).flat.func) rs) (upto-same _ _ (length (ls.inputs n)) (λ k kb. ap (map Some) (sym (earlier k kb)))) (s.plant.fit n nl),
   )
 
   follows_next : Follows (part_of net.layout n).flat.func (firsts (λ k. fed_row net.layout (between net.shape next.got) n (row_at (next.inputs n) k) k) (length (ls.inputs n)))
@@ -86,7 +87,7 @@ module _ {C M : Type 0} (phase : C → Phase) (stands : M → Function → List 
   follows_next =
       subst (λ rs. Follows (part_of net.layout n).flat.func rs (fed_row net.layout (between net.shape next.got) n (row_at (next.inputs n) (length (ls.inputs n))) (length (ls.inputs n))) ex.outs) (firsts-same _ _ (length (ls.inputs n)) (λ k kb. sym (earlier k kb)))
       (subst (λ r. Follows (part_of net.layout n).flat.func (firsts (λ k. fed_row net.layout (between net.shape ls.got) n (row_at (ls.inputs n) k) k) (length (ls.inputs n))) r ex.outs) (ins_is ∙ sym newest_row)
-      (ex.steps.follows (part_of net.layout n).flat.func (firsts (λ k. fed_row net.layout (between net.shape ls.got) n (row_at (ls.inputs n) k) k) (length (ls.inputs n))) (s.ran.machines n ex.before ex.there)))
+      (ex.steps.follows (part_of net.layout n).flat.func (firsts (λ k. fed_row net.layout (between net.shape ls.got) n (row_at (ls.inputs n) k) k) (length (ls.inputs n))) (s.plant.ran.machines n ex.before ex.there)))
 
   to_is : (c : ℕ) → is_to net.shape.channels n true c ≡ takes_on net.shape n Execute c
   unfolding chan_of

@@ -21,7 +21,8 @@ use Rattle.lt_plant.specs.Track.{TrackState, track_at}
 use Rattle.lt_plant.specs.Local.{fed_row, firsts, local_stream}
 use Rattle.lt_plant.specs.Payloads.{between, row_at}
 use Rattle.lt_net.specs.Net.{NetState, Lists, state_of}
-use Rattle.lt_net.specs.Stands.{HasRun, Stands}
+use Rattle.lt_plant.specs.Standing.{HasRun}
+use Rattle.lt_net.specs.Stands.{Stands}
 use Rattle.lt_net.specs.Event.{Takes}
 use Rattle.lt_net.proofs.DeliveryStands.{got_entry}
 use Rattle.lt_net.proofs.NextInstant.{new_machine, new_cells}
@@ -61,21 +62,21 @@ module _ {C M : Type 0} (phase : C → Phase) (stands : M → Function → List 
   run_next = record {
     executed = λ i h. ap (λ xs. slice_index_or xs i 0) counts ∙ elim (eqb_tells i n) [
       | inl e ↦ subst (λ i. slice_index_or (set net.executed n (slice_index_or net.executed n 0 + 1)) i 0 ≡ length (next.inputs i)) (sym e.1)
-          (get_or-set_same net.executed n _ 0 counted ∙ ap (λ x. x + 1) (s.ran.executed n nb) ∙ add-one _ ∙ sym longer)
-      | inr e ↦ get_or-set_other net.executed n i _ 0 e.1 ∙ s.ran.executed i h ∙ ap length (sym (takes.elsewhere i e.1))
+          (get_or-set_same net.executed n _ 0 counted ∙ ap (λ x. x + 1) (s.plant.ran.executed n nb) ∙ add-one _ ∙ sym longer)
+      | inr e ↦ get_or-set_other net.executed n i _ 0 e.1 ∙ s.plant.ran.executed i h ∙ ap length (sym (takes.elsewhere i e.1))
     ];
     machines = λ i m h. elim (got_entry net.machines n i m1 m (slice_get_within net.machines n m0 at_machine) h) [
       | inl e ↦ subst (λ z. stands z (part_of net.layout i).flat.func (firsts (λ k. fed_row net.layout (between net.shape next.got) i (row_at (next.inputs i) k) k) (length (next.inputs i)))) (sym e.1)
           (subst (λ i. stands m1 (part_of net.layout i).flat.func (firsts (λ k. fed_row net.layout (between net.shape next.got) i (row_at (next.inputs i) k) k) (length (next.inputs i)))) (sym e.0)
           (new_machine phase stands made left net n at one_place ls s offence executes nb next row takes got m0 m1 at_machine ins ins_is steps))
-      | inr e ↦ subst (λ rs. stands m (part_of net.layout i).flat.func rs) (rows_other i e.0) (s.ran.machines i m e.1)
+      | inr e ↦ subst (λ rs. stands m (part_of net.layout i).flat.func rs) (rows_other i e.0) (s.plant.ran.machines i m e.1)
     ];
     steps_made = λ i m h. elim (got_entry net.machines n i m1 m (slice_get_within net.machines n m0 at_machine) h) [
-      | inl e ↦ ap made e.1 ∙ made1 ∙ ap (λ x. x + 1) (s.ran.steps_made n m0 at_machine) ∙ add-one _ ∙ sym longer ∙ ap (λ j. length (next.inputs j)) (sym e.0)
-      | inr e ↦ s.ran.steps_made i m e.1 ∙ ap length (sym (takes.elsewhere i e.0))
+      | inl e ↦ ap made e.1 ∙ made1 ∙ ap (λ x. x + 1) (s.plant.ran.steps_made n m0 at_machine) ∙ add-one _ ∙ sym longer ∙ ap (λ j. length (next.inputs j)) (sym e.0)
+      | inr e ↦ s.plant.ran.steps_made i m e.1 ∙ ap length (sym (takes.elsewhere i e.0))
     ];
     cells = λ y i x yb ib gives. elim (appends y i x yb ib gives) [
       | inl e ↦ e.3 ∙ here y i x yb gives (e.0) (e.1) (e.2)
-      | inr e ↦ e.1 ∙ s.ran.cells y i x yb ib gives ∙ ap (λ rs. stream_of [] (part_of net.layout i).flat.func rs x) (rows_other i e.0)
+      | inr e ↦ e.1 ∙ s.plant.ran.cells y i x yb ib gives ∙ ap (λ rs. stream_of [] (part_of net.layout i).flat.func rs x) (rows_other i e.0)
     ];
   }

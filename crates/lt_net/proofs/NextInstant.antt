@@ -49,7 +49,7 @@ module _ {C M : Type 0} (phase : C → Phase) (stands : M → Function → List 
       executed-act net.shape net.timing net.rows st n at n
       ∙ ap (λ x. executed_of st n + one_if x) (ap (λ x. x && is_execute (deed_at net.shape net.rows st n)) (same_number n) ∙ ap is_execute executes) in
       let same = delivered-act net.shape net.timing net.rows st n at c in
-      omega (arith, low, high, grew, same, s.got c h, s.inputs n b)
+      omega (arith, low, high, grew, same, s.plant.messages c h, s.plant.rows n b)
     where
       same_number : (i : ℕ) → (i == i) ≡ true
       same_number i = elim (eqb_tells i i) [ inl h ↦ h.0 | inr h ↦ absurd (h.1 refl) ]
@@ -82,7 +82,7 @@ module _ {C M : Type 0} (phase : C → Phase) (stands : M → Function → List 
         stands new (part_of net.layout n).flat.func (firsts (λ k. fed_row net.layout (between net.shape next.got) n (row_at (next.inputs n) k) k) (length (next.inputs n)))
     new_machine old new at_machine ins is steps =
         subst (λ rs. stands new (part_of net.layout n).flat.func rs) (ap (λ r. firsts (λ k. fed_row net.layout (between net.shape ls.got) n (row_at (ls.inputs n) k) k) (length (ls.inputs n)) ++ r ∷ []) is ∙ sym rows_more)
-        (steps (part_of net.layout n).flat.func _ (s.ran.machines n old at_machine))
+        (steps (part_of net.layout n).flat.func _ (s.plant.ran.machines n old at_machine))
 
     -- and so do the cells of each of its outputs
     pub new_cells : (old : M) → slice_get net.machines n ≡ Some old → (ins : List Value) → ins ≡ fed_row net.layout (between net.shape ls.got) n row (length (ls.inputs n)) → (outs : List Cell) →
@@ -92,6 +92,6 @@ module _ {C M : Type 0} (phase : C → Phase) (stands : M → Function → List 
     new_cells old at_machine ins is outs follows nb y x c yb gives at_out =
         let f = (part_of net.layout n).flat.func in
         let before = firsts (λ k. fed_row net.layout (between net.shape ls.got) n (row_at (ls.inputs n) k) k) (length (ls.inputs n)) in
-        ap (λ cs. cs ++ c ∷ []) (s.ran.cells y n x yb nb gives)
-        ∙ sym ((follows f before (s.ran.machines n old at_machine)) gives.place x c gives.own at_out)
+        ap (λ cs. cs ++ c ∷ []) (s.plant.ran.cells y n x yb nb gives)
+        ∙ sym ((follows f before (s.plant.ran.machines n old at_machine)) gives.place x c gives.own at_out)
         ∙ ap (λ rs. stream_of [] f rs x) (ap (λ r. before ++ r ∷ []) is ∙ sym rows_more)

@@ -46,11 +46,11 @@ module _ {C M : Type 0} (phase : C → Phase) (stands : M → Function → List 
       let ch = channel c in
       let there = channels.there c h in
       let low = one.data_low ch there (channels.carries c h) in
-      let got = s.got ch there in
+      let got = s.plant.messages ch there in
       let to = channels.to c h in
       let nodes = channels.nodes in
       let receiver = placed.receivers c h in
-      let executed = s.inputs (to_of net.shape ch) (omega (arith, to, nodes, receiver)) in
+      let executed = s.plant.rows (to_of net.shape ch) (omega (arith, to, nodes, receiver)) in
       let same : length (ls.inputs (to_of net.shape ch)) ≡ length (ls.inputs (crossing_of net.layout c).to) = ap (λ j. length (ls.inputs j)) to in
       omega (arith, low, got, executed, same, e)
 
@@ -76,12 +76,12 @@ module _ {C M : Type 0} (phase : C → Phase) (stands : M → Function → List 
       let l = net.layout in
       let b : n < node_count net.shape = omega (arith, nb, channels.nodes) in
       let len = length (ls.inputs n) in
-      s.ran.cells y n x yb nb gives
+      s.plant.ran.cells y n x yb nb gives
       ∙ local_stream_same l (between net.shape ls.got) n len (row_at (ls.inputs n)) (row_at rows) (λ k h. same_rows n k b h) x
       ∙ fronts f l placed (between net.shape ls.got) rows (λ n. length (ls.inputs n))
       (λ i ib. inputs.within i (omega (arith, ib, channels.nodes))) fit carries n x nb (placed.given_declared n (slice_index_or net.layout.outs y 0) x nb gives)
       ∙ ap (λ z. take len (stream_of [] f rows z)) (placed.given_origin n (slice_index_or net.layout.outs y 0) x nb gives)
-      ∙ ap (λ z. take z (stream_of [] f rows (slice_index_or net.layout.outs y 0))) (s.inputs n b)
+      ∙ ap (λ z. take z (stream_of [] f rows (slice_index_or net.layout.outs y 0))) (s.plant.rows n b)
 
 pub cells_are_fronts : CellsAreFronts
 cells_are_fronts C M phase stands made left net ls f placed channels one_place s owns rows fit inputs y n x yb nb gives =

@@ -42,7 +42,7 @@ module _ {C M : Type 0} (phase : C → Phase) (stands : M → Function → List 
   sent_below : (c k : ℕ) → c < chan_count net.shape → from_of net.shape c < node_count net.shape → carries_data net.shape c ≡ true → k < length (old.sent c) → k < length (ls.inputs (from_of net.shape c))
   sent_below c k h b carries lt =
       let count = tells.sent_count c h carries in
-      let i = s.inputs (from_of net.shape c) b in
+      let i = s.plant.rows (from_of net.shape c) b in
       low (((state_of net ls).node (from_of net.shape c)).executed) (unsent ((state_of net ls).node (from_of net.shape c)).phase) count i lt
     where
       low : (x u : ℕ) → length (old.sent c) ≡ x - u → length (ls.inputs (from_of net.shape c)) ≡ x → k < length (old.sent c) → k < length (ls.inputs (from_of net.shape c))

@@ -13,3 +13,5 @@ pub mod Wakes
 pub mod Given
 pub mod Channels
 pub mod Starts
+pub mod Plant
+pub mod Standing
