@@ -20,7 +20,7 @@ use Rattle.lt_net.specs.Stands.{Stands}
 use Rattle.lt_net.specs.Owns.{OwnPayload}
 use Rattle.lt_net.specs.Event.{Holds, HeldBy, SendsOwn, sends_by}
 use Rattle.lt_net.proofs.Counts.{counted, wakes-n, data-act}
-use Rattle.lt_net.proofs.Activations.{and_parts, either_way}
+use Rattle.lt_plant.proofs.Entries.{and_parts, either_way}
 
 held_length : (v : Option ℕ) (last : Bool) (ms : List Message) → HeldBy v last ms → length ms ≡ length (in_transit v)
 held_length None last ms h = ap length h

@@ -20,14 +20,15 @@ use Rattle.lt_link.specs.Bits.{bit_of}
 use Rattle.lt_io.specs.FabricState.{FabricState, Delivers}
 use Rattle.lt_net.specs.Net.{NetState, Lists, state_of}
 use Rattle.lt_net.specs.Stands.{Stands}
-use Rattle.lt_net.specs.Owns.{OwnPayload, Gets}
+use Rattle.lt_plant.specs.Changes.{Gets}
+use Rattle.lt_net.specs.Owns.{OwnPayload}
 use Rattle.lt_net.specs.Event.{Holds, SendsOwn, sends_by}
 use Rattle.lt_net.specs.Replay.{Tells}
 use Rattle.lt_plant.proofs.Firsts.{map-append-one}
 use Rattle.lt_net.proofs.Counts.{counted, sent-act, data-act}
 use Rattle.lt_net.proofs.EndStands.{after_all-more}
 use Rattle.lt_net.proofs.DeliveryStands.{del-node}
-use Rattle.lt_net.proofs.Activations.{either_way}
+use Rattle.lt_plant.proofs.Entries.{either_way}
 use Rattle.lt_net.proofs.SentMessages.{sent_number}
 
 abbrev no_message : Message

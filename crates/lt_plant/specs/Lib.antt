@@ -15,3 +15,5 @@ pub mod Channels
 pub mod Starts
 pub mod Plant
 pub mod Standing
+pub mod Changes
+pub mod Room
