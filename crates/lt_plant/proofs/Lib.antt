@@ -31,3 +31,4 @@ pub mod Feeds
 pub mod InstantRun
 pub mod Delivered
 pub mod Able
+pub mod OutputFronts

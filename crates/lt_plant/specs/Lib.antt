@@ -17,3 +17,4 @@ pub mod Plant
 pub mod Standing
 pub mod Changes
 pub mod Room
+pub mod Own
