@@ -12,10 +12,10 @@ use Rattle.lt_arch.specs.Times.{Times}
 use Rattle.lt_io.specs.FabricState.{FabricState, kind_of}
 use Rattle.lt_link.specs.Inbox.{InboxState}
 use Rattle.lt_plant.specs.Payloads.{types_for}
-use Rattle.lt_net.specs.Net.{NetState}
+use Rattle.lt_net.specs.Net.{NetState, plant_of}
 use Rattle.lt_net.specs.Kept.{IsSized}
 use Rattle.lt_net.specs.Event.{HasKinds, SameStatic}
-use Rattle.lt_net.specs.Executes.{CanExecute, Executes}
+use Rattle.lt_plant.specs.Executes.{CanExecute, Executes}
 use Rattle.lt_net.specs.Ran.{Acknowledges}
 use Rattle.lt_plant.specs.Routes.{filled}
 use Rattle.lt_plant.specs.Sends.{is_from}
@@ -36,7 +36,7 @@ three : (s0 s1 s2 s3 x y z : ℕ) → s1 ≤ s0 + x → s2 ≤ s1 + y → s3 ≤
 three s0 s1 s2 s3 x y z a b c = omega (arith, a, b, c)
 
 module _ {C M : Type 0} (inputs outputs left : M → ℕ) (stands : M → Function → List (List Value) → Type 0) (made : M → ℕ) (net mid view : NetState C M) (is : view ≡ mid) (n : ℕ) (row : List Value)
-    (sized : IsSized net) (ex : Executes stands made left net mid n row) (static : SameStatic net mid) (cs : List Chan) (cs_is : cs ≡ view.shape.channels) (ps : List (List Value)) (ps_is : ps ≡ view.buffers) where
+    (sized : IsSized net) (ex : Executes stands made left (plant_of net) (plant_of mid) n row) (static : SameStatic net mid) (cs : List Chan) (cs_is : cs ≡ view.shape.channels) (ps : List (List Value)) (ps_is : ps ≡ view.buffers) where
   chans : cs ≡ net.shape.channels
   chans = cs_is ∙ ap (λ (z : NetState C M). z.shape.channels) is ∙ ap (λ (s : Shape). s.channels) static.shape
 
@@ -69,7 +69,7 @@ module _ {C M : Type 0} (inputs outputs left : M → ℕ) (stands : M → Functi
         three s0 s1 s2 s3 size (how_many (is_from net.shape.channels n false) (chan_count net.shape) * (8 * k + 8)) (8 * k + 8) made_step sent_here (acted k f)
 
   -- a node's acknowledgements have no values
-  module _ (can : CanExecute inputs outputs left net n row) (fabric : FabricState) (kinds : HasKinds net fabric) where
+  module _ (can : CanExecute inputs outputs left (plant_of net) n row) (fabric : FabricState) (kinds : HasKinds net fabric) where
     no_data : (c : ℕ) → is_from net.shape.channels n false c ≡ true → carries_data net.shape c ≡ false
     unfolding chan_of
     no_data c on = ack_on _ _ on

@@ -16,7 +16,8 @@ use Rattle.lt_arch.specs.Times.{Times, HasTimes}
 use Rattle.lt_arch.proofs.Noted.{noted-end}
 use Rattle.lt_link.specs.Bits.{bit_of}
 use Rattle.lt_io.specs.FabricState.{FabricState}
-use Rattle.lt_net.specs.Net.{NetState, Lists, state_of}
+use Rattle.lt_plant.proofs.Delivered.{stays_at}
+use Rattle.lt_net.specs.Net.{NetState, Lists, plant_of, state_of}
 use Rattle.lt_net.specs.Stands.{Stands}
 use Rattle.lt_net.specs.Event.{GoesOn, Happens}
 
@@ -64,17 +65,7 @@ module _ {C M : Type 0} (phase : C → Phase) (stands : M → Function → List 
       timely = timely-more GREATEST_TIME ls.events (End at) s.timely clear.0;
       clean = clean-more net.shape net.timing net.rows (start net.timing.protocol) ls.events (End at) s.clean clear.1;
       times = subst (λ st. HasTimes ended_net.watch net.shape net.timing st) (sym (after_all-more net.shape net.timing net.rows (start net.timing.protocol) ls.events (End at))) (noted-end net.watch net.shape net.timing net.rows (state_of net ls) s.times at);
-      phases = λ n c h. s.phases n c h ∙ ap (λ nd. nd.phase) (sym (node_same n));
-      inputs = λ n h. s.inputs n h ∙ ap (λ nd. nd.executed) (sym (node_same n));
-      got = λ c h. s.got c h ∙ ap (λ ch. ch.delivered) (sym (chan_same c));
-      fit = s.fit;
-      ran = s.ran;
-      steps_left = s.steps_left;
-      payloads = s.payloads;
-      bits = s.bits;
-      data_reads = λ c b h d. s.data_reads c b h d ∙ ap (λ (nd : NodeState). bit_of (suc nd.executed)) (sym (node_same (to_of net.shape c)));
-      ack_reads = λ c b h d. s.ack_reads c b h d ∙ ap (λ (nd : NodeState). bit_of (nd.executed - unsent nd.phase)) (sym (node_same (to_of net.shape c)));
-      buffers = s.buffers;
+      plant = stays_at phase stands made left (plant_of net) (state_of net ls) (state_of net (with_end ls)) ls.inputs ls.got s.plant (record { nodes = node_same; delivered = λ c. ap (λ ch. ch.delivered) (chan_same c) });
     }
 
     next_is : (next : Lists) (row : Option (List Value)) (payload : List Value) → GoesOn net ls next (End at) row payload → next ≡ with_end ls

@@ -16,7 +16,7 @@ use Rattle.lt_arch.specs.Deeds.{all_below, some_below}
 use Rattle.lt_arch.specs.Step.{offence_of, sends_on}
 use Rattle.lt_arch.specs.Times.{HasTimes}
 use Rattle.lt_io.specs.FabricState.{FabricState}
-use Rattle.lt_net.specs.Net.{NetState}
+use Rattle.lt_net.specs.Net.{NetState, plant_of}
 use Rattle.lt_plant.specs.Track.{track_at}
 use Rattle.lt_net.specs.Event.{IsTaken, Holds}
 use Rattle.lt_net.specs.Kept.{Kept, IsSized, HasRoom}
@@ -25,7 +25,7 @@ use Rattle.lt_net.specs.Given.{HasRow}
 use Rattle.lt_plant.specs.Freshness.{fresh_or_other, fresh_one}
 use Rattle.lt_plant.specs.Sends.{is_from}
 use Rattle.lt_plant.specs.Wakes.{Wakes, AreConfigured}
-use Rattle.lt_net.specs.Executes.{CanExecute, Executes}
+use Rattle.lt_plant.specs.Executes.{CanExecute, Executes}
 use Rattle.lt_net.specs.Ran.{SameRest, Acknowledges}
 use Rattle.lt_plant.proofs.Filling.{tracked-size, tracked-room}
 use Rattle.lt_net.proofs.IdleActivation.{free_now, empty_now, configured_still}
@@ -67,10 +67,10 @@ module _ {C M : Type 0} (phase : C → Phase) (protocol : C → Protocol) (send 
       fits : FitsPart net.layout n r
       fits = let g = row_given in subst (λ x. FitsPart net.layout n x) (some_same g.0 r (sym g.1 ∙ r_is)) g.2
 
-      pub run_can : (inputs outputs : M → ℕ) → ((m : M) (f : Function) (rows : List (List Value)) → stands m f rows → (inputs m ≡ f.n_in) × (outputs m ≡ length f.outs)) → CanExecute inputs outputs left (record net { controllers = cs }) n r
+      pub run_can : (inputs outputs : M → ℕ) → ((m : M) (f : Function) (rows : List (List Value)) → stands m f rows → (inputs m ≡ f.n_in) × (outputs m ≡ length f.outs)) → CanExecute inputs outputs left (record (plant_of net) { controllers = cs }) n r
       run_can inputs outputs numbers = can_execute phase protocol send execute stands made left net b.0 b.1 n at timely b.2 b.3 cs d wakes executes b.4 r fits inputs outputs numbers
 
-      module _ (new : NetState C M) (ex : Executes stands made left (record net { controllers = cs }) new n r) (rest : SameRest (record net { controllers = cs }) new) where
+      module _ (new : NetState C M) (ex : Executes stands made left (record (plant_of net) { controllers = cs }) (plant_of new) n r) (rest : SameRest (record net { controllers = cs }) new) where
         new_is : new ≡ record net { watch = new.watch; controllers = cs; machines = set net.machines n ex.after; executed = new.executed; inboxes = new.inboxes; tracks = new.tracks; buffers = new.buffers }
         new_is = λ i. record {
           layout = rest.static.layout i;

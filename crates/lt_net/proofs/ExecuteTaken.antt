@@ -16,9 +16,10 @@ use Rattle.lt_arch.specs.Deeds.{all_below, some_below, deed_at}
 use Rattle.lt_arch.specs.Step.{offence_of, sends_on}
 use Rattle.lt_arch.specs.Times.{Times, HasTimes, SentOn}
 use Rattle.lt_io.specs.FabricState.{FabricState}
-use Rattle.lt_net.specs.Net.{NetState, Lists, state_of}
+use Rattle.lt_net.specs.Net.{NetState, Lists, state_of, plant_of}
 use Rattle.lt_link.specs.Inbox.{InboxState, no_inbox}
-use Rattle.lt_net.specs.Stands.{HasRun, Stands}
+use Rattle.lt_plant.specs.Standing.{HasRun}
+use Rattle.lt_net.specs.Stands.{Stands}
 use Rattle.lt_net.specs.Halts.{HasHalted}
 use Rattle.lt_net.specs.Event.{GoesOn, Happens, Holds, InputsGo}
 use Rattle.lt_net.specs.Kept.{Kept}
@@ -34,13 +35,14 @@ use Rattle.lt_arch.specs.Readers.{is_data, no_chan, is_back_pressure}
 use Rattle.lt_arch.proofs.Changes.{execute_sends}
 use Rattle.lt_net.specs.Kept.{HasRoom, IsSized}
 use Rattle.lt_plant.specs.Payloads.{types_for}
-use Rattle.lt_net.specs.Event.{Takes}
+use Rattle.lt_plant.specs.Changes.{Takes}
 use Rattle.lt_plant.specs.Given.{FitsPart}
-use Rattle.lt_net.specs.Executes.{Executes}
+use Rattle.lt_plant.specs.Executes.{Executes}
 use Rattle.lt_plant.proofs.Filling.{filled-size}
 use Rattle.lt_net.proofs.InstantStands.{instant_ran, instant_stands, buffers_typed}
 use Rattle.lt_net.proofs.NextLists.{next_lists}
-use Rattle.lt_net.proofs.Activations.{marked_bit, marked_payload, true_false}
+use Rattle.lt_plant.proofs.Activated.{marked_bit, marked_payload}
+use Rattle.lt_plant.proofs.Entries.{true_false}
 use Rattle.lt_net.proofs.IdleActivation.{deed_by_bits, clear_of, woke_is, control_within, controls_length, sent_holds, carried_on}
 
 and_acks : (b x : Bool) → (b ≡ false → x ≡ false) → x ≡ (b && x)
@@ -62,7 +64,7 @@ module _ {C M : Type 0} (phase : C → Phase) (protocol : C → Protocol) (send 
     (n at : ℕ) (timely : at ≤ GREATEST_TIME) (nb : n < node_count net.shape) (passes : (s : Shape) (t : Timing) (st : State) → HasTimes net.watch s t st → offence_of s t st (Act n at) ≡ None)
     (cs : List C) (d : Deed)
     (wakes : Wakes phase protocol send execute net.controllers cs n (all_below (fresh_or_other net.shape.channels net.inboxes n true) (length net.shape.channels)) (some_below (fresh_one net.shape.channels net.inboxes n true) (length net.shape.channels)) (all_below (fresh_or_other net.shape.channels net.inboxes n false) (length net.shape.channels)) (nat_lt (slice_index_or net.executed n 0) net.rows) d)
-    (executes : d ≡ Execute) (room : HasRoom net) (row : List Value) (fits : FitsPart net.layout n row) (mid : NetState C M) (ex : Executes stands made left (record net { controllers = cs }) mid n row) where
+    (executes : d ≡ Execute) (room : HasRoom net) (row : List Value) (fits : FitsPart net.layout n row) (mid : NetState C M) (ex : Executes stands made left (record (plant_of net) { controllers = cs }) (plant_of mid) n row) where
   module _ (ls next : Lists) (s : Stands phase stands made left net ls) (goes : GoesOn net ls next (Act n at) (Some row) []) where
     exec_is : deed_at net.shape net.rows (state_of net ls) n ≡ Execute
     exec_is = sym (deed_by_bits phase protocol send execute stands made left net kept configured n at timely nb passes cs d wakes ls s) ∙ executes

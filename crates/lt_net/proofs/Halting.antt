@@ -9,7 +9,8 @@ use Rattle.lt_arch.specs.declared.event.Event.TheVariants.{Act, Del, End}
 use Rattle.lt_arch.specs.State.{Phase}
 use Rattle.lt_arch.specs.Times.{Times}
 use Rattle.lt_net.specs.Net.{NetState, Lists}
-use Rattle.lt_net.specs.Stands.{HasRun, Stands}
+use Rattle.lt_plant.specs.Standing.{HasRun}
+use Rattle.lt_net.specs.Stands.{Stands}
 use Rattle.lt_net.specs.Halts.{MayTake, HasHalted}
 
 may_stay : (e : Event) (row : Option (List Value)) (rows : ℕ → List (List Value)) → MayTake e row rows rows
@@ -24,11 +25,11 @@ module _ {C M : Type 0} (phase : C → Phase) (stands : M → Function → List 
 
   -- where nothing was changed
   pub same_halted : (old new : NetState C M) → new ≡ old → Stands phase stands made left old ls → HasHalted stands made new ls e row
-  same_halted old new same s = subst (λ z. HasHalted stands made z ls e row) (sym same) (stays old s.ran)
+  same_halted old new same s = subst (λ z. HasHalted stands made z ls e row) (sym same) (stays old s.plant.ran)
 
   -- where only a controller and the watch were
   pub idle_halted : (net now : NetState C M) → net ≡ now → (w : Times) (cs : List C) → Stands phase stands made left now ls → HasHalted stands made (record net { watch = w; controllers = cs }) ls e row
-  idle_halted net now is w cs s = stays (record net { watch = w; controllers = cs }) (subst (λ z. Stands phase stands made left z ls) (sym is) s).ran
+  idle_halted net now is w cs s = stays (record net { watch = w; controllers = cs }) (subst (λ z. Stands phase stands made left z ls) (sym is) s).plant.ran
 
 pub on_err_any : {T E P : Type 0} (r : Result T E) → P → OnErr r P
 on_err_any (Ok x) p = tt

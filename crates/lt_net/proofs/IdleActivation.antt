@@ -20,11 +20,12 @@ use Rattle.lt_arch.specs.Times.{Times, HasTimes, in_transit, SentOn}
 use Rattle.lt_arch.proofs.Changes.{transit-act, one_if}
 use Rattle.lt_io.specs.declared.message.Message.{Message}
 use Rattle.lt_io.specs.FabricState.{FabricState}
-use Rattle.lt_net.specs.Net.{NetState, Lists, state_of}
+use Rattle.lt_net.specs.Net.{NetState, Lists, plant_of, state_of}
 use Rattle.lt_link.specs.Inbox.{InboxState, no_inbox}
 use Rattle.lt_net.specs.Stands.{Stands}
 use Rattle.lt_net.specs.Owns.{OwnPayload}
-use Rattle.lt_net.specs.Event.{IsTaken, GoesOn, Happens, Holds, HeldBy, InputsGo, Same, SendsOwn}
+use Rattle.lt_plant.specs.Changes.{Same}
+use Rattle.lt_net.specs.Event.{IsTaken, GoesOn, Happens, Holds, HeldBy, InputsGo, SendsOwn}
 use Rattle.lt_net.specs.Kept.{Kept}
 use Rattle.lt_plant.specs.Acts.{takes_on, marked, MarkedOn}
 use Rattle.lt_plant.specs.Freshness.{fresh_or_other, fresh_one, is_to, TakenUpTo}
@@ -32,12 +33,14 @@ use Rattle.lt_plant.specs.Sends.{is_from}
 use Rattle.lt_net.specs.Sends.{SendsUpTo, message_on, with_message}
 use Rattle.lt_plant.specs.Wakes.{Wakes, AreConfigured}
 use Rattle.lt_net.proofs.Uncounted.{uncounted, uncounted_same, either_protocol}
-use Rattle.lt_net.proofs.DeliveryStands.{got_entry}
+use Rattle.lt_plant.proofs.Activated.{marked_bit, marked_payload}
+use Rattle.lt_plant.proofs.Entries.{got_entry, or_false, true_false}
 use Rattle.lt_arch.specs.declared.timing.Protocol.{Protocol}
 use Rattle.lt_plant.proofs.Below.{lt_yes}
 use Rattle.lt_plant.proofs.InboxesRead.{taken_marks, no_marks}
-use Rattle.lt_net.proofs.DeedOfBits.{deed_is}
-use Rattle.lt_net.proofs.Activations.{idle_stands, one_next, plus_none}
+use Rattle.lt_plant.proofs.DeedOfBits.{deed_is}
+use Rattle.lt_net.proofs.Counts.{counted}
+use Rattle.lt_net.proofs.Activations.{idle_stands, one_next, ahead_of}
 use Rattle.lt_net.proofs.EndStands.{Passes}
 use Rattle.lt_arch.specs.declared.limits.TheConstants.{GREATEST_TIME}
 
@@ -50,10 +53,6 @@ idle_goes : (d : Deed) (n at : ℕ) (row : Option (List Value)) (old : ℕ → L
 idle_goes Nothing n at row old h = λ i. refl
 idle_goes Send n at row old h = λ i. refl
 idle_goes Execute n at row old h = absurd (cc)
-
-pub or_false : (b : Bool) → (b || false) ≡ b
-or_false true = refl
-or_false false = refl
 
 none_there : (v : Option ℕ) (xs : List ℕ) (one : Bool) → xs ≡ in_transit v → length xs + one_if one ≤ 1 → one ≡ true → v ≡ None
 none_there None xs one e h t = refl
@@ -70,15 +69,16 @@ module _ {C M : Type 0} (phase : C → Phase) (protocol : C → Protocol) (send 
   clear_of ls s = (timely, passes net.shape net.timing (state_of net ls) s.times)
 
   pub deed_by_bits : (ls : Lists) → Stands phase stands made left net ls → d ≡ deed_at net.shape net.rows (state_of net ls) n
-  deed_by_bits ls s = deed_is phase stands made left net ls kept.fixed.one_place s kept.sized.inboxes n (slice_index_or net.executed n 0) wakes.before d _ _ _ _
-      (s.phases n wakes.before wakes.there) (s.ran.executed n nb ∙ s.inputs n nb) refl refl refl refl wakes.deed_is
+  deed_by_bits ls s = deed_is phase stands made left (plant_of net) (state_of net ls) ls.inputs ls.got s.plant (ahead_of net.shape (state_of net ls) (kept.fixed.one_place ls.events s.timely s.clean)) kept.sized.inboxes
+      (counted net.shape net.timing net.rows ls.events s.clean).phases n (slice_index_or net.executed n 0) wakes.before d _ _ _ _
+      (s.plant.phases n wakes.before wakes.there) (s.plant.ran.executed n nb ∙ s.plant.rows n nb) refl refl refl refl wakes.deed_is
 
   pub woke_is : (ls : Lists) → Stands phase stands made left net ls → phase wakes.after ≡ phase_at net.shape net.timing net.rows (state_of net ls) n
   woke_is ls s =
       let before = wakes.before in
       let ph : Phase = ((state_of net ls).node n).phase in
       let d' : Deed = deed_at net.shape net.rows (state_of net ls) n in
-      wakes.phase_is ∙ (λ i. phase_after (send wakes.before) (execute wakes.before) (s.phases n wakes.before wakes.there i) (deed_by_bits ls s i)) ∙ elim (either_protocol net.timing.protocol) [
+      wakes.phase_is ∙ (λ i. phase_after (send wakes.before) (execute wakes.before) (s.plant.phases n wakes.before wakes.there i) (deed_by_bits ls s i)) ∙ elim (either_protocol net.timing.protocol) [
         | inl bp ↦ uncounted_same (send wakes.before) (execute wakes.before) (send_of net.timing n) (execute_of net.timing n) ph d' (uncounted net.shape net.timing net.rows bp ls.events n)
         | inr tb ↦ let c = configured.sends tb n wakes.before wakes.there in let e = configured.executes tb n wakes.before wakes.there in λ i. phase_after (c i) (e i) ph d'
       ]
@@ -117,7 +117,7 @@ module _ {C M : Type 0} (phase : C → Phase) (protocol : C → Protocol) (send 
       let found = kept.standing in
       let ls = found.0 in
       let s = found.1 in
-      let one = (one_next phase stands made left net n at kept.fixed.one_place ls (with_act ls) s (clear_of ls s) refl (λ c. refl) here).one c h in
+      let one = (one_next phase stands made left net n at kept.fixed.one_place ls (with_act ls) s (clear_of ls s) refl).one c h in
       let grew = transit-act net.shape net.timing net.rows (state_of net ls) n at c in
       none_there (slice_index_or net.watch.sends c None) ((state_of net ls).chan c).transit (sends_on net.shape net.timing n (deed_at net.shape net.rows (state_of net ls) n) c)
       (s.times.transit c h) (omega (arith, one, grew)) (ap (λ x. sends_on net.shape net.timing n x c) (sym (deed_by_bits ls s)) ∙ on)
@@ -147,10 +147,10 @@ module _ {C M : Type 0} (phase : C → Phase) (protocol : C → Protocol) (send 
         e.2 ∙ ap (marked (takes_on net.shape n d c)) (sym (Rattle.std.proofs.lemmas.Option.get_or_from_slice_get net.inboxes c e.0 no_inbox e.1))
 
     pub bit_still : (c : ℕ) → c < chan_count net.shape → (slice_index_or ibs c no_inbox).bit ≡ (slice_index_or net.inboxes c no_inbox).bit
-    bit_still c h = ap (λ (z : InboxState). z.bit) (entry_marked c h) ∙ Rattle.lt_net.proofs.Activations.marked_bit _ (slice_index_or net.inboxes c no_inbox)
+    bit_still c h = ap (λ (z : InboxState). z.bit) (entry_marked c h) ∙ marked_bit _ (slice_index_or net.inboxes c no_inbox)
 
     payload_still : (c : ℕ) → c < chan_count net.shape → (slice_index_or ibs c no_inbox).payload ≡ (slice_index_or net.inboxes c no_inbox).payload
-    payload_still c h = ap (λ (z : InboxState). z.payload) (entry_marked c h) ∙ Rattle.lt_net.proofs.Activations.marked_payload _ (slice_index_or net.inboxes c no_inbox)
+    payload_still c h = ap (λ (z : InboxState). z.payload) (entry_marked c h) ∙ marked_payload _ (slice_index_or net.inboxes c no_inbox)
 
     pub kept_idle : Kept phase stands made left idle_net
     kept_idle =
@@ -204,7 +204,7 @@ module _ {C M : Type 0} (phase : C → Phase) (protocol : C → Protocol) (send 
       record {
         message = message;
         kinds = kinds;
-        bits = λ c h. bits c h ∙ ap not (s.bits c (slice_index_or net.inboxes c no_inbox) (slice_get-get_or net.inboxes c no_inbox (omega (arith, h, kept.sized.inboxes))));
+        bits = λ c h. bits c h ∙ ap not (s.plant.bits c (slice_index_or net.inboxes c no_inbox) (slice_get-get_or net.inboxes c no_inbox (omega (arith, h, kept.sized.inboxes))));
         sent = λ c h on. transit c h ∙ ap (λ b. with_message b (old.transit c) (message c)) (sym (is c) ∙ on);
         others = λ c h off. transit c h ∙ ap (λ b. with_message b (old.transit c) (message c)) (sym (is c) ∙ off);
         told = λ t c h on. sent t c h ∙ ap (λ b. with_message b (old.sent c) (message c)) (sym (is c) ∙ on);
@@ -238,7 +238,7 @@ module _ {C M : Type 0} (phase : C → Phase) (protocol : C → Protocol) (send 
       payload = [];
       goes = λ ls next s goes. idle_next (ap is_execute idle) w net.watch.sends on_none watch net.inboxes marks_none ls next row s goes;
       carried = λ ls next s goes. carried_on ls next s old old (λ c. record { payload = []; bit = not (slice_index_or net.inboxes c no_inbox).bit }) refl (λ c h. refl) (λ c h. same_message (old.transit c) _ c) (λ t c h. same_message (old.sent c) _ c) (λ t c h. refl)
-          (λ c h on. absurd (Rattle.lt_net.proofs.Activations.true_false (sym on ∙ sends_nothing c)));
+          (λ c h on. absurd (true_false (sym on ∙ sends_nothing c)));
     }
 
     pub nothing_holds : (old : FabricState) → Holds net old → Holds nothing_net old
@@ -292,7 +292,7 @@ module _ {C M : Type 0} (phase : C → Phase) (protocol : C → Protocol) (send 
           (λ c h. upto.sends.transit c ∙ ap (λ b. with_message b (old.transit c) (message_on net.buffers net.inboxes c)) (on_is c h))
           (λ t c h. upto.sends.sent t c ∙ ap (λ b. with_message b (old.sent c) (message_on net.buffers net.inboxes c)) (on_is c h))
           (λ t c h. upto.sends.delivered t c)
-          (λ c h on carries k len. subst (λ (z : Lists). OwnPayload net.layout net.shape z (from_of net.shape c) (to_of net.shape c) k (slice_index_or net.buffers c [])) (sym next_is) (s.buffers c k h carries len));
+          (λ c h on carries k len. subst (λ (z : Lists). OwnPayload net.layout net.shape z (from_of net.shape c) (to_of net.shape c) k (slice_index_or net.buffers c [])) (sym next_is) (s.plant.buffers c k h carries len));
     }
 
     pub send_holds : Holds net old → Holds send_net new

@@ -63,7 +63,7 @@ module _ {C M : Type 0} (phase : C → Phase) (stands : M → Function → List 
         let b : n < node_count net.shape = subst (IsPlacedIn net.shape) is there in
         let st = state_of net kept.0 in
         let left_over : executed_of (state_of net kept.0) n < net.rows = leb-le _ _ (deed_more ((state_of net kept.0).node n).phase (all_in net.shape (state_of net kept.0) n) (any_in net.shape (state_of net kept.0) n) (all_ack net.shape (state_of net kept.0) n) (more net.rows (state_of net kept.0) n) d) in
-        let count = (kept.1).stands_for.ran.executed n b ∙ (kept.1).stands_for.inputs n b in
+        let count = (kept.1).stands_for.plant.ran.executed n b ∙ (kept.1).stands_for.plant.rows n b in
         let some = slice_get-get_or inputs (slice_index_or net.executed n 0) [] (omega (arith, left_over, count, given.rows)) in
         absurd (let q = sym (row_is ∙ ap (row_for net inputs) is ∙ some) ∙ none in cc)
 
@@ -71,7 +71,7 @@ module _ {C M : Type 0} (phase : C → Phase) (stands : M → Function → List 
     right_row n at r value_of is lt =
         let s = (kept.1).stands_for in
         let b : n < node_count net.shape = subst (IsPlacedIn net.shape) value_of there in
-        let count : slice_index_or net.executed n 0 ≡ length ((kept.0).inputs n) = s.ran.executed n b in
+        let count : slice_index_or net.executed n 0 ≡ length ((kept.0).inputs n) = s.plant.ran.executed n b in
         sym (get_or_from_slice_get inputs (length ((kept.0).inputs n)) r [] (ap (slice_get inputs) (sym count) ∙ sym (row_is ∙ ap (row_for net inputs) value_of) ∙ is))
 
     pub one_more : Happens (Stands phase stands made left net) (Stands phase stands made left next_net) net e row old new → Holds next_net new → HasKinds next_net new → SameStatic net next_net → KeepsFabric old new →

@@ -13,7 +13,8 @@ use Rattle.lt_plant.specs.Local.{newest, local_runs}
 use Rattle.lt_plant.specs.Payloads.{between, row_at}
 use Rattle.lt_net.specs.Net.{NetState, Lists}
 use Rattle.lt_net.specs.Owns.{OwnPayload, Owns, OwnsTransit}
-use Rattle.lt_plant.proofs.LocalFronts.{local_runs_same}
+use Rattle.lt_plant.specs.Standing.{HasOwnValues}
+use Rattle.lt_plant.proofs.OwnValues.{own_stays as values_stay}
 
 module _ {C M : Type 0} (net : NetState C M) (ls next : Lists) (got : (c : ℕ) → next.got c ≡ ls.got c) (more : ℕ → List (List Value)) (inputs : (n : ℕ) → next.inputs n ≡ ls.inputs n ++ more n) where
   got_is : next.got ≡ ls.got
@@ -23,11 +24,7 @@ module _ {C M : Type 0} (net : NetState C M) (ls next : Lists) (got : (c : ℕ) 
   longer n = let e = ap length (inputs n) in let m = length-append (ls.inputs n) (more n) in omega (arith, e, m)
 
   pub own_stays : (i j k : ℕ) (p : List Value) → k < length (ls.inputs i) → OwnPayload net.layout net.shape ls i j k p → OwnPayload net.layout net.shape next i j k p
-  own_stays i j k p h own c x cb from to gives =
-      ap (λ g. newest (local_runs (calls [] 0) net.layout (between net.shape g) i (row_at (next.inputs i)) (suc k)) x) got_is
-      ∙ ap (λ es. newest es x) (local_runs_same net.layout (between net.shape ls.got) i (suc k) (row_at (next.inputs i)) (row_at (ls.inputs i))
-      (λ m mb. ap (λ rs. row_at rs m) (inputs i) ∙ get_or-append (ls.inputs i) (more i) [] m (omega (arith, mb, h))) (calls [] 0))
-      ∙ own c x cb from to gives
+  own_stays i j k p h own = subst (λ g. HasOwnValues net.layout net.shape next.inputs g i j k p) (sym got_is) (values_stay net.layout net.shape ls.inputs next.inputs ls.got more inputs i j k p h own)
 
   pub owns_longer : Owns net ls → Owns net next
   owns_longer owns = record {

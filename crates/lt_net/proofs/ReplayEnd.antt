@@ -14,8 +14,8 @@ pub closes : Closes
 closes C M phase stands made left inputs events net fabric ls bound f placed channels one_place rows fit admissible least k = record {
   local = λ y n x yb nb gives.
       let b : n < node_count net.shape = omega (arith, nb, channels.nodes) in
-      let len = k.stands_for.inputs n b in
-      k.stands_for.ran.cells y n x yb nb gives
+      let len = k.stands_for.plant.rows n b in
+      k.stands_for.plant.ran.cells y n x yb nb gives
       ∙ local_stream_same net.layout (between net.shape ls.got) n (length (ls.inputs n)) (row_at (ls.inputs n)) (row_at inputs) (λ j jb. same_rows_of net ls inputs k.same_inputs n j b jb) x
       ∙ ap (λ m. local_stream net.layout (between net.shape ls.got) n (row_at inputs) m x) len;
   holds = k.holds;

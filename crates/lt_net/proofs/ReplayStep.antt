@@ -150,7 +150,7 @@ module _ {C M : Type 0} (phase : C → Phase) (stands : M → Function → List 
     fronts : (i : ℕ) → i < node_count net.shape → Front inputs (next.inputs i)
     fronts i ib = act_fronts n at inputs (deed_at net.shape net.rows (state_of net ls) n) row ls.inputs next.inputs goes.inputs (λ d r is.
         let left_over : executed_of (state_of net ls) n < net.rows = leb-le _ _ (deed_more ((state_of net ls).node n).phase (all_in net.shape (state_of net ls) n) (any_in net.shape (state_of net ls) n) (all_ack net.shape (state_of net ls) n) (more net.rows (state_of net ls) n) d) in
-        let lt : length (ls.inputs n) < net.rows = let e = s.inputs n b in omega (arith, e, left_over) in
+        let lt : length (ls.inputs n) < net.rows = let e = s.plant.rows n b in omega (arith, e, left_over) in
         (row_is r is lt, omega (arith, lt, rows_is))) i (k.same_inputs.fronts i ib, k.same_inputs.within i ib)
 
     pub keeps_act : Keeps phase stands made left inputs (read ++ Act n at ∷ []) next_net new next
@@ -171,9 +171,9 @@ module _ {C M : Type 0} (phase : C → Phase) (stands : M → Function → List 
       let j = channel_between net.shape (crossing_of net.layout c).from (crossing_of net.layout c).to in
       let there = channels.there c h in
       let low = (one_place ls.events s.timely s.clean).data_low j there (channels.carries c h) in
-      let got = s.got j there in
+      let got = s.plant.messages j there in
       let to = channels.to c h in
-      let executed = s.inputs (to_of net.shape j) (omega (arith, to, channels.nodes, placed.receivers c h)) in
+      let executed = s.plant.rows (to_of net.shape j) (omega (arith, to, channels.nodes, placed.receivers c h)) in
       let same : length (ls.inputs (to_of net.shape j)) ≡ length (ls.inputs (crossing_of net.layout c).to) = ap (λ i. length (ls.inputs i)) to in
       omega (arith, low, got, executed, same)
 
@@ -221,7 +221,7 @@ module _ {C M : Type 0} (phase : C → Phase) (stands : M → Function → List 
           let jb' = subst (λ ms. j < length ms) (same.sent told c) jb in
           subst (λ ms. OwnPayload net.layout net.shape next (from_of net.shape c) (to_of net.shape c) j (slice_index_or {A = Message} ms j (record { payload = []; bit = false })).payload) (sym (same.sent told c))
           (own_stays net ls next goes.got (λ i. []) nothing_more (from_of net.shape c) (to_of net.shape c) j _
-          (low c (((state_of net ls).node (from_of net.shape c)).executed) (unsent ((state_of net ls).node (from_of net.shape c)).phase) j (t.sent_count c h carries) (s.inputs (from_of net.shape c) (ends c h)) jb') (t.sent_own c j h carries jb'));
+          (low c (((state_of net ls).node (from_of net.shape c)).executed) (unsent ((state_of net ls).node (from_of net.shape c)).phase) j (t.sent_count c h carries) (s.plant.rows (from_of net.shape c) (ends c h)) jb') (t.sent_own c j h carries jb'));
     }
 
     pub keeps_end : Keeps phase stands made left inputs (read ++ End at ∷ []) next_net new next

@@ -20,7 +20,7 @@ use Rattle.lt_net.specs.Stands.{Stands}
 use Rattle.lt_net.specs.Owns.{OwnPayload}
 use Rattle.lt_net.specs.Event.{Holds, HeldBy, SendsOwn, sends_by}
 use Rattle.lt_net.proofs.Counts.{counted, wakes-n, data-act}
-use Rattle.lt_net.proofs.Activations.{and_parts, either_way}
+use Rattle.lt_plant.proofs.Entries.{and_parts, either_way}
 
 held_length : (v : Option ℕ) (last : Bool) (ms : List Message) → HeldBy v last ms → length ms ≡ length (in_transit v)
 held_length None last ms h = ap length h
@@ -47,7 +47,7 @@ module _ {C M : Type 0} (phase : C → Phase) (stands : M → Function → List 
       let law = (counted net.shape net.timing net.rows ls.events s.clean).sent c carries in
       let held = held_length _ _ _ (holds.transit c h) in
       let times = ap length (s.times.transit c h) in
-      let got = s.got c h in
+      let got = s.plant.messages c h in
       omega (arith, law, held, times, got)
 
   -- a node that sends has executed one instant more than it has sent
@@ -58,7 +58,7 @@ module _ {C M : Type 0} (phase : C → Phase) (stands : M → Function → List 
       let e = executed_of (state_of net ls) n in
       let same : cond (is_execute (deed_at net.shape net.rows (state_of net ls) n)) (e + 1) e ≡ e = ap (λ x. cond x (e + 1) e) (not_both _ sending) in
       let sends = w.sends ∙ ap (λ x. sent_of (state_of net ls) n + one_if x) sending in
-      go e (unsent ((state_of net ls).node n).phase) (unsent (phase_at net.shape net.timing net.rows (state_of net ls) n)) (length (ls.inputs n)) (low_unsent ((state_of net ls).node n).phase) (s.inputs n b) (ap (λ x. x - unsent (phase_at net.shape net.timing net.rows (state_of net ls) n)) (sym same) ∙ sends)
+      go e (unsent ((state_of net ls).node n).phase) (unsent (phase_at net.shape net.timing net.rows (state_of net ls) n)) (length (ls.inputs n)) (low_unsent ((state_of net ls).node n).phase) (s.plant.rows n b) (ap (λ x. x - unsent (phase_at net.shape net.timing net.rows (state_of net ls) n)) (sym same) ∙ sends)
     where
       go : (e u v l : ℕ) → u ≤ 1 → l ≡ e → e - v ≡ (e - u) + 1 → l ≡ suc (e - u)
       go e u v l a h k = omega (arith, a, h, k)

@@ -87,17 +87,19 @@ module _ {C M : Type 0} (phase : C → Phase) (stands : M → Function → List 
     timely = tt;
     clean = tt;
     times = times;
-    phases = at_start.phases;
-    inputs = λ n lt. refl;
-    got = λ c lt. refl;
-    fit = λ n lt. tt;
-    ran = record { executed = none_executed; machines = ready.stand; steps_made = ready.unmade; cells = λ y n x yb nb gives. (blank_at y yb).empty };
-    steps_left = λ n m h. let e = ready.enough n m h in omega (arith, e);
-    payloads = λ c b h carries. ap (λ (z : InboxState). z.payload) (box c b h) ∙ ap (λ x. if x then map (λ (cr : Crossing). cr.first) (filter (joins (from_of s c) (to_of s c)) l.cross) else []) carries;
-    bits = λ c b h. ap (λ (z : InboxState). z.bit) (box c b h);
-    data_reads = λ c b h carries. ap (λ (z : InboxState). z.read) (box c b h) ∙ carries;
-    ack_reads = λ c b h carries. ap (λ (z : InboxState). z.read) (box c b h) ∙ carries ∙ sym (ap bit_of (none_sent t.protocol));
-    buffers = λ c k lt carries long. absurd (no_fewer k long);
+    plant = record {
+      phases = at_start.phases;
+      rows = λ n lt. refl;
+      messages = λ c lt. refl;
+      fit = λ n lt. tt;
+      ran = record { executed = none_executed; machines = ready.stand; steps_made = ready.unmade; cells = λ y n x yb nb gives. (blank_at y yb).empty };
+      steps_left = λ n m h. let e = ready.enough n m h in omega (arith, e);
+      payloads = λ c b h carries. ap (λ (z : InboxState). z.payload) (box c b h) ∙ ap (λ x. if x then map (λ (cr : Crossing). cr.first) (filter (joins (from_of s c) (to_of s c)) l.cross) else []) carries;
+      bits = λ c b h. ap (λ (z : InboxState). z.bit) (box c b h);
+      data_reads = λ c b h carries. ap (λ (z : InboxState). z.read) (box c b h) ∙ carries;
+      ack_reads = λ c b h carries. ap (λ (z : InboxState). z.read) (box c b h) ∙ carries ∙ sym (ap bit_of (none_sent t.protocol));
+      buffers = λ c k lt carries long. absurd (no_fewer k long);
+    };
   }
 
   pub fresh : IsFresh phase stands made left net

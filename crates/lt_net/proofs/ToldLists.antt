@@ -20,14 +20,15 @@ use Rattle.lt_link.specs.Bits.{bit_of}
 use Rattle.lt_io.specs.FabricState.{FabricState, Delivers}
 use Rattle.lt_net.specs.Net.{NetState, Lists, state_of}
 use Rattle.lt_net.specs.Stands.{Stands}
-use Rattle.lt_net.specs.Owns.{OwnPayload, Gets}
+use Rattle.lt_plant.specs.Changes.{Gets}
+use Rattle.lt_net.specs.Owns.{OwnPayload}
 use Rattle.lt_net.specs.Event.{Holds, SendsOwn, sends_by}
 use Rattle.lt_net.specs.Replay.{Tells}
 use Rattle.lt_plant.proofs.Firsts.{map-append-one}
 use Rattle.lt_net.proofs.Counts.{counted, sent-act, data-act}
 use Rattle.lt_net.proofs.EndStands.{after_all-more}
 use Rattle.lt_net.proofs.DeliveryStands.{del-node}
-use Rattle.lt_net.proofs.Activations.{either_way}
+use Rattle.lt_plant.proofs.Entries.{either_way}
 use Rattle.lt_net.proofs.SentMessages.{sent_number}
 
 abbrev no_message : Message
@@ -42,7 +43,7 @@ module _ {C M : Type 0} (phase : C → Phase) (stands : M → Function → List 
   sent_below : (c k : ℕ) → c < chan_count net.shape → from_of net.shape c < node_count net.shape → carries_data net.shape c ≡ true → k < length (old.sent c) → k < length (ls.inputs (from_of net.shape c))
   sent_below c k h b carries lt =
       let count = tells.sent_count c h carries in
-      let i = s.inputs (from_of net.shape c) b in
+      let i = s.plant.rows (from_of net.shape c) b in
       low (((state_of net ls).node (from_of net.shape c)).executed) (unsent ((state_of net ls).node (from_of net.shape c)).phase) count i lt
     where
       low : (x u : ℕ) → length (old.sent c) ≡ x - u → length (ls.inputs (from_of net.shape c)) ≡ x → k < length (old.sent c) → k < length (ls.inputs (from_of net.shape c))

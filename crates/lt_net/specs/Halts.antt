@@ -7,8 +7,8 @@ use Rattle.lt_arch.specs.declared.event.Event.TheVariants.{Act, Del, End}
 use Rattle.lt_net.specs.declared.fault.NetFault.{NetFault}
 use Rattle.lt_net.specs.declared.fault.NetFault.TheVariants.{Offence as Refused, Link, Memory as NoMemory, Stopped}
 use Rattle.lt_net.specs.Net.{NetState, Lists}
-use Rattle.lt_net.specs.Event.{Takes, Same}
-use Rattle.lt_net.specs.Stands.{HasRun}
+use Rattle.lt_plant.specs.Changes.{Takes, Same}
+use Rattle.lt_plant.specs.Standing.{HasRun}
 
 -- the fault stops the net
 abbrev pub HaltsBy : NetFault → Type 0

@@ -21,3 +21,14 @@ pub mod DrawnShape
 pub mod LayoutShape
 pub mod TableRows
 pub mod FirstTables
+pub mod Entries
+pub mod Activated
+pub mod DeedOfBits
+pub mod NextRun
+pub mod OwnValues
+pub mod OwnPayloads
+pub mod Feeds
+pub mod InstantRun
+pub mod Delivered
+pub mod Able
+pub mod OutputFronts

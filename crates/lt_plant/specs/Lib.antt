@@ -13,3 +13,8 @@ pub mod Wakes
 pub mod Given
 pub mod Channels
 pub mod Starts
+pub mod Plant
+pub mod Standing
+pub mod Changes
+pub mod Room
+pub mod Own

@@ -69,12 +69,12 @@ module _ {C M : Type 0} (phase : C → Phase) (stands : M → Function → List 
   state_is i = reached net.shape net.timing (rows i) (k.events i)
 
   count_is : (n : ℕ) → n < node_count net.shape → length (ls.inputs n) ≡ executed_of last n
-  count_is n b = k.stands_for.inputs n b ∙ ap (λ st. executed_of st n) state_is
+  count_is n b = k.stands_for.plant.rows n b ∙ ap (λ st. executed_of st n) state_is
 
   were_given : WereGiven net.shape last inputs ls
   were_given = record {
     rows = λ n b. k.same_inputs.fronts n b ∙ ap (λ m. take m inputs) (count_is n b);
-    payloads = λ c b. k.stands_for.got c b ∙ ap (λ (st : State). (st.chan c).delivered) state_is;
+    payloads = λ c b. k.stands_for.plant.messages c b ∙ ap (λ (st : State). (st.chan c).delivered) state_is;
   }
 
   are_left : length net.inboxes ≡ chan_count net.shape → IsLeft net.shape last ls fabric
@@ -82,7 +82,7 @@ module _ {C M : Type 0} (phase : C → Phase) (stands : M → Function → List 
     count = λ c b. held_count (slice_index_or net.watch.sends c None) (slice_index_or net.inboxes c no_inbox).bit (fabric.transit c) (k.holds.transit c b)
         ∙ ap length (sym (k.stands_for.times.transit c b)) ∙ ap (λ (st : State). length (st.chan c).transit) state_is;
     bits = λ c j b low. held_bit (slice_index_or net.watch.sends c None) (slice_index_or net.inboxes c no_inbox).bit (fabric.transit c) (length (ls.got c)) j (k.holds.transit c b)
-        (k.stands_for.bits c (slice_index_or net.inboxes c no_inbox) (slice_get-get_or net.inboxes c no_inbox (omega (arith, b, sized)))) low;
+        (k.stands_for.plant.bits c (slice_index_or net.inboxes c no_inbox) (slice_get-get_or net.inboxes c no_inbox (omega (arith, b, sized)))) low;
   }
 
   is_told : IsTrue fabric.told → IsTold net.layout net.shape last ls fabric
@@ -105,7 +105,7 @@ module _ {C M : Type 0} (phase : C → Phase) (stands : M → Function → List 
   has_steps : length net.machines ≡ length net.layout.nodes → node_count net.shape ≡ length net.layout.nodes → HasSteps stands made net.layout net.shape net.timing inputs events ls.got net.machines
   has_steps sized nodes = record {
     count = sized;
-    steps = λ n m is. k.stands_for.ran.steps_made n m is ∙ count_is n (within n m is);
+    steps = λ n m is. k.stands_for.plant.ran.steps_made n m is ∙ count_is n (within n m is);
     stand = λ n m is.
         let b = within n m is in
         let l = net.layout in
@@ -113,7 +113,7 @@ module _ {C M : Type 0} (phase : C → Phase) (stands : M → Function → List 
         (firsts-same (λ j. fed_row l (between net.shape ls.got) n (row_at (ls.inputs n) j) j) (λ j. fed_row l (between net.shape ls.got) n (row_at inputs j) j) (length (ls.inputs n))
         (λ j low. ap (λ row. fed_row l (between net.shape ls.got) n row j) (same_rows_of net ls inputs k.same_inputs n j b low))
         ∙ ap (firsts (λ j. fed_row l (between net.shape ls.got) n (row_at inputs j) j)) (count_is n b))
-        (k.stands_for.ran.machines n m is);
+        (k.stands_for.plant.ran.machines n m is);
   }
     where
       within : (n : ℕ) (m : M) → slice_get net.machines n ≡ Some m → n < node_count net.shape

@@ -21,8 +21,7 @@ use Rattle.lt_plant.specs.declared.route.Route.{Route}
 use Rattle.lt_plant.specs.Layout.{IsLaidOut, place_in}
 use Rattle.lt_plant.specs.Local.{fed_row, upto, firsts, newest, local_runs, local_value}
 use Rattle.lt_plant.specs.Payloads.{between, row_at, channel_between, types_for}
-use Rattle.lt_net.specs.Net.{Lists}
-use Rattle.lt_net.specs.Owns.{OwnPayload}
+use Rattle.lt_plant.specs.Standing.{HasOwnValues}
 use Rattle.lt_plant.specs.Routes.{AreRoutes, route_of, filled}
 use Rattle.lt_plant.specs.Channels.{HasChannels}
 use Rattle.lt_plant.proofs.CrossedValues.{IsGiven, goes_on_with}
@@ -33,13 +32,13 @@ use Rattle.lt_plant.proofs.FedRows.{type_entry}
 
 -- node n's part, run on these lists: its newest row is that of instant m, and its machine answered these cells
 module _ (f : Function) (l : Layout) (s : Shape) (laid : IsLaidOut f l) (channels : HasChannels l s) (routes : List Route) (are : AreRoutes l s routes)
-    (n : ℕ) (nl : n < length l.nodes) (next : Lists) (m : ℕ)
-    (fits : AllFit (input_types (part_of l n).flat.func) (upto (λ k. map Some (fed_row l (between s next.got) n (row_at (next.inputs n) k) k)) (suc m)))
+    (n : ℕ) (nl : n < length l.nodes) (inputs got : ℕ → List (List Value)) (m : ℕ)
+    (fits : AllFit (input_types (part_of l n).flat.func) (upto (λ k. map Some (fed_row l (between s got) n (row_at (inputs n) k) k)) (suc m)))
     (outs : List Cell) (count : length outs ≡ length (part_of l n).outs)
-    (follows : Follows (part_of l n).flat.func (firsts (λ k. fed_row l (between s next.got) n (row_at (next.inputs n) k) k) m) (fed_row l (between s next.got) n (row_at (next.inputs n) m) m) outs) where
+    (follows : Follows (part_of l n).flat.func (firsts (λ k. fed_row l (between s got) n (row_at (inputs n) k) k) m) (fed_row l (between s got) n (row_at (inputs n) m) m) outs) where
   -- the cell of what crosses
   cell_given : (c x : ℕ) → c < length l.cross → (crossing_of l c).from ≡ n → Gives (part_of l n) (crossing_of l c).var x →
-      IsGiven (newest (local_runs (calls [] 0) l (between s next.got) n (row_at (next.inputs n)) (suc m))) x (ty_of (crossing_of l c).first) (slice_index_or outs (route_of routes c).out Absent)
+      IsGiven (newest (local_runs (calls [] 0) l (between s got) n (row_at (inputs n)) (suc m))) x (ty_of (crossing_of l c).first) (slice_index_or outs (route_of routes c).out Absent)
   cell_given c x lt from gives =
       let q = part_of l n in
       let at : slice_get q.outs (route_of routes c).out ≡ Some (crossing_of l c).var = subst (λ i. slice_get (part_of l i).outs (route_of routes c).out ≡ Some (crossing_of l c).var) from (are.outs c lt) in
@@ -47,7 +46,7 @@ module _ (f : Function) (l : Layout) (s : Shape) (laid : IsLaidOut f l) (channel
       let w = slice_get_within q.outs (route_of routes c).out (crossing_of l c).var at in
       let cell : slice_get outs gives.place ≡ Some (slice_index_or outs (route_of routes c).out Absent) = ap (slice_get outs) (sym place) ∙ slice_get-get_or outs (route_of routes c).out Absent (omega (arith, w, count)) in
       let moved : Gives (part_of l (crossing_of l c).from) (crossing_of l c).var x = subst (λ i. Gives (part_of l i) (crossing_of l c).var x) (sym from) gives in
-      goes_on_with q.flat.func (laid.parts_good n nl) (laid.parts_causal n nl) (laid.parts_clocked n nl) (laid.parts_typed n nl) (λ k. fed_row l (between s next.got) n (row_at (next.inputs n) k) k) m fits
+      goes_on_with q.flat.func (laid.parts_good n nl) (laid.parts_causal n nl) (laid.parts_clocked n nl) (laid.parts_typed n nl) (λ k. fed_row l (between s got) n (row_at (inputs n) k) k) m fits
       x (ty_of (crossing_of l c).first) (slice_index_or outs (route_of routes c).out Absent)
       (laid.given_declared n (crossing_of l c).var x nl gives)
       (subst (λ i. Rattle.lt_base.specs.Typing.ty_at (part_of l i).flat.func.decls x ≡ Some (ty_of (crossing_of l c).first)) from (laid.sent_type c x lt moved))
@@ -76,7 +75,7 @@ module _ (f : Function) (l : Layout) (s : Shape) (laid : IsLaidOut f l) (channel
         omega (arith, w, e, k, are.places c lt)
 
     -- the payload of each data channel from the node has the values of instant m
-    pub filled_own : (ch : ℕ) → ch < chan_count s → carries_data s ch ≡ true → from_of s ch ≡ n → OwnPayload l s next (from_of s ch) (to_of s ch) m (slice_index_or qs ch [])
+    pub filled_own : (ch : ℕ) → ch < chan_count s → carries_data s ch ≡ true → from_of s ch ≡ n → HasOwnValues l s inputs got (from_of s ch) (to_of s ch) m (slice_index_or qs ch [])
     filled_own ch lt data_too from_ch c x lc from to gives =
         let here : (crossing_of l c).from ≡ n = from ∙ from_ch in
         let given = cell_given c x lc here (subst (λ i. Gives (part_of l i) (crossing_of l c).var x) from_ch gives) in
@@ -89,7 +88,7 @@ module _ (f : Function) (l : Layout) (s : Shape) (laid : IsLaidOut f l) (channel
         let value : slice_index_or (slice_index_or qs ch []) (place_in l c) (crossing_of l c).first ≡ given.value =
         ap (λ xs. slice_index_or (slice_index_or xs ch []) (place_in l c) (crossing_of l c).first) is
         ∙ (λ i. slice_index_or (slice_index_or (filled l.cross routes n outs (length l.cross) ps) (sym channel i) []) (sym (are.places c lc) i) (crossing_of l c).first) ∙ entry in
-        ap (λ i. local_value (calls [] 0) l (between s next.got) i (row_at (next.inputs i)) m x) from_ch ∙ given.value_is ∙ ap (λ v. Some v) (sym value)
+        ap (λ i. local_value (calls [] 0) l (between s got) i (row_at (inputs i)) m x) from_ch ∙ given.value_is ∙ ap (λ v. Some v) (sym value)
 
     put_typed : (c : ℕ) → c < length l.cross → (crossing_of l c).from ≡ n → (v : Value) → slice_index_or outs (route_of routes c).out Absent ≡ Here v → slice_get (map ty_of (slice_index_or ps (route_of routes c).channel [])) (route_of routes c).place ≡ Some (ty_of v)
     put_typed c lt from v cell =
