@@ -1,13 +1,12 @@
-// A program on two nodes.
+// A program on two nodes: x and u on node a, v on node b.
 ghost use Rattle.std.specs.Prelude.{◌≡◌, IfOk, length};
 ghost use Rattle.lt_place.specs.Placement.{node_names};
 
-use crate::programs::checked;
-use lt_base::{List, Memory, Name, Value};
+use crate::answers::tell_value;
+use lt_base::{List, Memory, Name};
 use lt_front::Checked;
-use lt_place::{Feed, Layout, NamedNode, NamedNodes, Placement, place};
+use lt_place::{Layout, NamedNode, NamedNodes, Placement, place};
 use std::alloc::Global;
-use std::test::Fail;
 
 fn names(alloc: Global, texts: &[&str]) -> Result<List<Name>, Memory> {
     let mut names = List::new(alloc);
@@ -33,9 +32,6 @@ fn two_nodes(alloc: Global, on_a: &[&str], on_b: &[&str]) -> Result<Placement, M
     Ok(Placement::Named(NamedNodes { nodes }))
 }
 
-const DELAYING: &str = "node main(x: int) returns (u, v: int) let u = x; v = 0 fby u; tel";
-
-// x and u on node a, v on node b.
 fn delay_across(alloc: Global, checked: &Checked) -> Result<Layout, Memory> {
     let placement = two_nodes(alloc, ["x", "u"].as_slice(), ["v"].as_slice())?;
     checked.kept();
@@ -45,48 +41,48 @@ fn delay_across(alloc: Global, checked: &Checked) -> Result<Layout, Memory> {
     }
 }
 
-// What the inputs of all parts are, part by part.
-fn feeds_of(alloc: Global, layout: &Layout) -> Result<Vec<Feed>, Memory> {
-    let mut feeds = Vec::new(alloc);
-    for part in layout.nodes.as_slice() {
-        for feed in part.feeds.as_slice() {
-            feeds.push(*feed)?;
-        }
-    }
-    Ok(feeds)
+/// Tells something of a program on both nodes.
+pub fn tell_layout(
+    alloc: Global,
+    line: &mut String,
+    checked: &Checked,
+    what: &str,
+) -> Result<(), Memory> {
+    let layout = delay_across(alloc, checked)?;
+    tell(line, &layout, what)
 }
 
-// What all parts give out, part by part.
-fn outs_of(alloc: Global, layout: &Layout) -> Result<Vec<u32>, Memory> {
-    let mut outs = Vec::new(alloc);
-    for part in layout.nodes.as_slice() {
-        for out in part.outs.as_slice() {
-            outs.push(*out)?;
-        }
+fn tell(line: &mut String, layout: &Layout, what: &str) -> Result<(), Memory> {
+    if what == "nodes" {
+        return tell_value(line, layout.names.len());
     }
-    Ok(outs)
+    if what == "outputs" {
+        return tell_value(line, layout.outs.as_slice());
+    }
+    if what == "crossings" {
+        return tell_value(line, layout.cross.as_slice());
+    }
+    if what == "feeds" {
+        return tell_feeds(line, layout);
+    }
+    if what == "outs" {
+        return tell_outs(line, layout);
+    }
+    Err(Memory)
 }
 
-#[test]
-fn a_delay_crosses(rt: HostRuntime) -> Result<(), Fail> {
-    let checked = checked(rt.alloc(), DELAYING)?;
-    let layout = delay_across(rt.alloc(), &checked)?;
-    assert_eq!(rt; layout.names.len(), 2);
-    assert_eq!(rt; layout.outs.as_slice(), [1, 2].as_slice());
-    assert_eq!(rt; layout.cross.len(), 1);
-    for crossing in layout.cross.as_slice() {
-        assert_eq!(rt;
-            (crossing.from, crossing.to, crossing.first),
-            (0, 1, Value::Int(0))
-        );
-        assert_eq!(rt; (crossing.var, crossing.reader), (1, 2));
+// What the inputs of each part are.
+fn tell_feeds(line: &mut String, layout: &Layout) -> Result<(), Memory> {
+    for part in layout.nodes.as_slice() {
+        tell_value(line, part.feeds.as_slice())?;
     }
-    let feeds = feeds_of(rt.alloc(), &layout)?;
-    assert_eq!(rt;
-        feeds.as_slice(),
-        [Feed::Input(0), Feed::Cross(0)].as_slice()
-    );
-    let outs = outs_of(rt.alloc(), &layout)?;
-    assert_eq!(rt; outs.as_slice(), [1, 2].as_slice());
+    Ok(())
+}
+
+// What each part gives out.
+fn tell_outs(line: &mut String, layout: &Layout) -> Result<(), Memory> {
+    for part in layout.nodes.as_slice() {
+        tell_value(line, part.outs.as_slice())?;
+    }
     Ok(())
 }

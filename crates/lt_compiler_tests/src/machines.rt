@@ -1,4 +1,4 @@
-// Programs on both machines.
+// What the machines of a program with an int and a truth value as inputs and two outputs show on rows of these, as `2 true, 1 false`.
 ghost use Rattle.std.specs.Prelude.{◌≡◌, ◌<◌, ◌≤◌, ◌*◌, ◌^◌, [], length, true, IfOk};
 ghost use Rattle.lt_base.specs.Dependence.{Causal};
 ghost use Rattle.lt_base.specs.Typing.{TypedFunction};
@@ -7,7 +7,7 @@ ghost use Rattle.lt_base.specs.Sizes.{weight_with};
 ghost use Rattle.lt_step.specs.Compile.{CodeOf};
 ghost use Rattle.lt_step.specs.Size.{extent};
 
-use crate::programs::checked;
+use crate::answers::tell_cells;
 use lt_base::tables::imp;
 use lt_base::{Cell, Func, Memory, Or, Steps, Value};
 use lt_cause::causal;
@@ -18,41 +18,40 @@ use lt_step::{Code, compile};
 use std::alloc::Global;
 use std::marker::Brand;
 use std::sync::ledger::{Blank, Ledger};
-use std::test::Fail;
 
-// An int and a truth value as inputs, and both outputs, where they are present.
-type Row = (i64, bool, Option<(i64, i64)>);
+// An int and a truth value as inputs.
+type Row = (i64, bool);
 
-// Sums of what came before, and the highest value so far.
-const HIGHEST: &str =
-    "node main(x: int; c: bool) returns (y, z: int) let y = 0 fby (y + x); z = max(x, 0 fby z); tel";
+// The steps that a machine can make.
+const STEPS: u32 = 3;
 
-const HIGHEST_ROWS: [Row; 3] = [
-    (2, true, Some((0, 2))),
-    (1, false, Some((2, 2))),
-    (5, true, Some((3, 5))),
-];
-
-// A delay moves at the instants of its own clock.
-const SOMETIMES: &str =
-    "node main(x: int; c: bool) returns (y, w: int when c) let y = x when c; w = 0 fby y; tel";
-
-const SOMETIMES_ROWS: [Row; 3] = [
-    (5, true, Some((5, 0))),
-    (6, false, None),
-    (7, true, Some((7, 5))),
-];
-
-fn int(n: i64) -> Cell {
-    Cell::Here(Value::Int(n))
+fn row_of(text: &str) -> Option<Row> {
+    let (int, truth) = text.split_once(' ')?;
+    let int = int.parse::<i64>().ok()?;
+    if truth == "true" {
+        return Some((int, true));
+    }
+    if truth == "false" {
+        return Some((int, false));
+    }
+    None
 }
 
-// The cells of both outputs.
-fn pair(cells: Option<(i64, i64)>) -> [Cell; 2] {
-    match cells {
-        None => [Cell::Absent, Cell::Absent],
-        Some((y, w)) => [int(y), int(w)],
+// The rows of a text; none where one is no row, or there are more than a machine can make steps.
+fn rows_of(alloc: Global, text: &str) -> Result<Vec<Row>, Memory>
+    ensures { IfOk result (λ rows. length rows.items ≤ 3) }
+{
+    let mut rows = Vec::new(alloc);
+    for part in text.split(", ") {
+        match row_of(part) {
+            Some(row) => rows.push(row)?,
+            None => return Err(Memory),
+        }
     }
+    if rows.len() > STEPS as usize {
+        return Err(Memory);
+    }
+    Ok(rows)
 }
 
 // Whether a function has as many inputs and outputs.
@@ -63,13 +62,14 @@ fn is_two_by_two(function: &Func) -> bool
     function.n_in == 2 && function.outs.len() == 2
 }
 
-// Whether a machine of this function gives these cells.
-fn gives<M: Machine, L: Ledger>(
+// Tells the cells of both outputs on each row.
+fn tell_rows<M: Machine, L: Ledger>(
+    line: &mut String,
     machine: &mut M,
     function: &Func,
     rows: &[Row],
     blank: Blank,
-) -> bool
+) -> Result<(), Memory>
     requires stands { M.stands machine.old function.now [] }
     requires left { length rows.now ≤ M.left machine.old }
     requires name { blank.name ≡ L.name }
@@ -77,18 +77,16 @@ fn gives<M: Machine, L: Ledger>(
     requires some { 0 < blank.parts }
 {
     if !is_two_by_two(function) {
-        return false;
+        return Err(Memory);
     }
     let mut steps = Steps::<L>::new(blank);
-    for (x, c, cells) in rows {
+    for (x, c) in rows {
         let ins = [Value::Int(*x), Value::Bool(*c)];
         let mut outs = [Cell::Absent, Cell::Absent];
         machine.step(&ins, &mut outs, &mut steps);
-        if outs != pair(*cells) {
-            return false;
-        }
+        tell_cells(line, outs.as_slice())?;
     }
-    true
+    Ok(())
 }
 
 // The step code of a flat function.
@@ -109,36 +107,56 @@ fn code_of(alloc: Global, flat: &Flat) -> Result<Code, Memory>
     }
 }
 
-// Whether a machine of this code gives these cells.
-fn run_code(alloc: Global, flat: &Flat, code: Code, rows: &[Row; 3]) -> Result<bool, Memory>
-    requires { CodeOf flat.now.func code }
+// Tells what a machine of this code shows.
+fn run_code(
+    alloc: Global,
+    line: &mut String,
+    flat: &Flat,
+    code: Code,
+    rows: &Vec<Row>,
+) -> Result<(), Memory>
+    requires code { CodeOf flat.now.func code }
+    requires rows { length rows.now.items ≤ 3 }
 {
-    let mut machine = StepMachine::start(alloc, code, Import::new(imp), 3)?;
-    Ok(gives::<_, Brand>(&mut machine, &flat.func, rows, Blank::new(1)))
+    let mut machine = StepMachine::start(alloc, code, Import::new(imp), STEPS)?;
+    tell_rows::<_, Brand>(
+        line,
+        &mut machine,
+        &flat.func,
+        rows.as_slice(),
+        Blank::new(1),
+    )
 }
 
-fn code_gives(alloc: Global, checked: &Checked, rows: &[Row; 3]) -> Result<bool, Memory> {
+/// Tells what the machine of a program's step code shows.
+pub fn tell_code(
+    alloc: Global,
+    line: &mut String,
+    checked: &Checked,
+    text: &str,
+) -> Result<(), Memory> {
+    let rows = rows_of(alloc, text)?;
     checked.kept();
     let code = code_of(alloc, &checked.flat)?;
-    run_code(alloc, &checked.flat, code, rows)
+    run_code(alloc, line, &checked.flat, code, &rows)
 }
 
-fn table_gives(alloc: Global, checked: &Checked, rows: &[Row; 3]) -> Result<bool, Memory> {
+/// Tells what the machine that keeps all values of a program shows.
+pub fn tell_table(
+    alloc: Global,
+    line: &mut String,
+    checked: &Checked,
+    text: &str,
+) -> Result<(), Memory> {
+    let rows = rows_of(alloc, text)?;
     checked.kept();
     let flat = &checked.flat;
-    let mut machine = TableMachine::start(alloc, flat, 3)?;
-    Ok(gives::<_, Brand>(&mut machine, &flat.func, rows, Blank::new(1)))
-}
-
-#[test]
-fn machines_give_the_cells_of_the_outputs(rt: HostRuntime) -> Result<(), Fail> {
-    for (text, rows) in [(HIGHEST, HIGHEST_ROWS), (SOMETIMES, SOMETIMES_ROWS)] {
-        let checked = checked(rt.alloc(), text)?;
-        assert!(rt; code_gives(rt.alloc(), &checked, &rows)?, "code of {text}");
-        assert!(rt;
-            table_gives(rt.alloc(), &checked, &rows)?,
-            "table of {text}"
-        );
-    }
-    Ok(())
+    let mut machine = TableMachine::start(alloc, flat, STEPS)?;
+    tell_rows::<_, Brand>(
+        line,
+        &mut machine,
+        &flat.func,
+        rows.as_slice(),
+        Blank::new(1),
+    )
 }

@@ -1,15 +1,17 @@
 // Each object of the outside through its trait, and each generic function at a concrete object.
-ghost use Rattle.std.specs.Prelude.{◌≡◌, ◌<◌, ◌-◌, ◌^◌, ◌∷◌, [], map};
+ghost use Rattle.std.specs.Prelude.{◌≡◌, ◌<◌, ◌-◌, ◌^◌, ◌∷◌, [], map, IfOk};
 ghost use Rattle.lt_base.specs.Value.{ty_of};
 
 use crate::fixtures::{file, listed};
+use crate::texts::{tell, tell_bytes};
 use lt_base::{List, Memory, Or, Ty, Value};
 use lt_io::{
-    Fabric, Failed, Files, FlipFabric, LinkErr, MemFabric, MemFiles, MemSink, RealFiles, RealSink,
-    RepeatFiles, Sink, SinkErr, TightFabric, Whole, read_file, write_all,
+    Fabric, Failed, Files, FlipFabric, LinkErr, MemFabric, MemFile, MemFiles, MemSink, RealFiles,
+    RealSink, RepeatFiles, Sink, SinkErr, TightFabric, Whole, read_file, write_all,
 };
 use std::alloc::Global;
 use std::io::Cursor;
+use std::path::PathBuf;
 use std::test::Fail;
 use std::{env, fs};
 
@@ -31,29 +33,47 @@ fn outcome<F: Files>(
     }
 }
 
-#[test]
-fn files_are_read(rt: HostRuntime) -> Result<(), Fail> {
-    let alloc = rt.alloc();
-    // The calls are an open, a read of all bytes, and a read at the end.
-    let rows = [
-        (0u64, 5usize, "first"),
-        (0, 4, "too long"),
-        (1, 5, "failed"),
-        (3, 5, "failed"),
-        (4, 5, "first"),
-    ];
-    for (fails, limit, wanted) in rows {
-        let mut named = List::new(alloc);
-        named.push(file(alloc, "a", b"first")?)?;
-        named.push(file(alloc, "a", b"second")?)?;
-        let mut files = MemFiles::new(named, listed(alloc, fails)?);
-        let read = outcome(alloc, &mut files, "a", limit)?;
-        assert_eq!(rt; read.as_slice(), wanted.as_bytes(), "{limit}, {fails}");
+fn call_of(text: &str) -> Result<u64, Memory>
+    ensures { IfOk result (λ call. call < 2 ^ 32) }
+{
+    match text.parse::<u32>() {
+        Ok(call) => Ok(u64::from(call)),
+        Err(_) => Err(Memory),
     }
+}
+
+// Two files of one name.
+fn two_files(alloc: Global) -> Result<List<MemFile>, Memory> {
+    let mut named = List::new(alloc);
+    named.push(file(alloc, "a", b"first")?)?;
+    named.push(file(alloc, "a", b"second")?)?;
+    Ok(named)
+}
+
+/// Tells how a file is read of which a call fails, with a limit: the words are the number of the call, counted from 1, and the limit.
+/// The calls are an open, a read of all bytes, and a read at the end. Without words, a file that repeats a line is read.
+pub fn tell_file(alloc: Global, line: &mut String, text: &str) -> Result<(), Memory> {
+    let (call, limit) = text.split_once(' ').unwrap_or((text, ""));
+    if text == "repeated" {
+        return tell_repeated(alloc, line);
+    }
+    tell_limited(alloc, line, call_of(call)?, call_of(limit)?)
+}
+
+fn tell_limited(alloc: Global, line: &mut String, call: u64, limit: u64) -> Result<(), Memory>
+    requires call { call < 2 ^ 32 }
+    requires limit { limit < 2 ^ 32 }
+{
+    let files = two_files(alloc)?;
+    let mut files = MemFiles::new(files, listed(alloc, call)?);
+    let read = outcome(alloc, &mut files, "a", limit as usize)?;
+    tell_bytes(line, read.as_slice())
+}
+
+fn tell_repeated(alloc: Global, line: &mut String) -> Result<(), Memory> {
     let mut files = RepeatFiles::new(List::from_slice(alloc, b"on\n")?, 4);
     let read = outcome(alloc, &mut files, "lines", 12)?;
-    assert_eq!(rt; read.as_slice(), b"on\non\non\non\n".as_slice());
-    Ok(())
+    tell_bytes(line, read.as_slice())
 }
 
 // Writes two texts, and answers how the second ended.
@@ -64,40 +84,55 @@ fn write_two<S: Sink>(sink: &mut S, first: &[u8], second: &[u8]) -> Result<(), S
     write_all(sink, second)
 }
 
-#[test]
-fn sinks_are_written(rt: HostRuntime) -> Result<(), Fail> {
-    let alloc = rt.alloc();
-    let rows = [(0u64, Ok(()), "one two"), (2, Err(SinkErr::Failed), "one ")];
-    for (fails, ended, wanted) in rows {
-        let mut sink = MemSink::new(alloc, listed(alloc, fails)?);
-        assert_eq!(rt; write_two(&mut sink, b"one ", b"two"), ended, "{fails}");
-        assert_eq!(rt; sink.into_bytes().as_slice(), wanted.as_bytes(), "{fails}");
+/// Tells how a sink ends of which the call of this number fails, and what it holds; `room` is a stream with room for six bytes.
+pub fn tell_sink(alloc: Global, line: &mut String, text: &str) -> Result<(), Memory> {
+    if text == "room" {
+        return tell_room(line);
     }
-    // A stream with little room takes a front, and then nothing.
+    let mut sink = MemSink::new(alloc, listed(alloc, call_of(text)?)?);
+    tell(line, write_two(&mut sink, b"one ", b"two"))?;
+    tell_bytes(line, sink.into_bytes().as_slice())
+}
+
+// It takes a front, and then nothing.
+fn tell_room(line: &mut String) -> Result<(), Memory> {
     let mut room = [0u8; 6];
+    tell(line, write_into(&mut room))?;
+    tell_bytes(line, room.as_slice())
+}
+
+fn write_into(room: &mut [u8; 6]) -> Result<(), SinkErr> {
     let mut sink = RealSink::new(Cursor::new(&mut room[..]));
-    assert_eq!(rt; write_two(&mut sink, b"one ", b"two"), Err(SinkErr::Failed));
-    drop(sink);
-    assert_eq!(rt; room.as_slice(), b"one tw".as_slice());
+    write_two(&mut sink, b"one ", b"two")
+}
+
+fn path_of(rt: HostRuntime) -> Result<PathBuf, Fail> {
+    let mut path = env::temp_dir(&rt)?;
+    path.push("lt_io_written")?;
+    Ok(path)
+}
+
+fn write_at(rt: HostRuntime, path: &PathBuf) -> Result<(), Fail> {
+    let mut sink = RealSink::new(fs::create(&rt, path)?);
+    write_two(&mut sink, b"one ", b"two")?;
     Ok(())
+}
+
+fn read_at(rt: HostRuntime, path: &PathBuf) -> Result<List<u8>, Fail> {
+    let name = path.to_str().ok_or("no text")?;
+    let mut files = RealFiles::new(rt);
+    Ok(outcome(rt.alloc(), &mut files, name, 7)?)
 }
 
 #[test]
 fn a_real_file_is_written_and_read(rt: HostRuntime) -> Result<(), Fail> {
-    let alloc = rt.alloc();
-    let mut path = env::temp_dir(&rt)?;
-    path.push("lt_io_written")?;
-    let mut sink = RealSink::new(fs::create(&rt, &path)?);
-    write_two(&mut sink, b"one ", b"two")?;
-    drop(sink);
-    let name = path.to_str().ok_or("no text")?;
-    let mut files = RealFiles::new(rt);
-    let read = outcome(alloc, &mut files, name, 7)?;
-    assert_eq!(rt; read.as_slice(), b"one two".as_slice());
+    let path = path_of(rt)?;
+    write_at(rt, &path)?;
+    let read = read_at(rt, &path)?;
+    assert!(rt; read.as_slice() == b"one two".as_slice());
     fs::remove_file(&rt, &path)?;
-    let mut files = RealFiles::new(rt);
-    let read = outcome(alloc, &mut files, name, 7)?;
-    assert_eq!(rt; read.as_slice(), b"failed".as_slice());
+    let read = read_at(rt, &path)?;
+    assert!(rt; read.as_slice() == b"failed".as_slice());
     Ok(())
 }
 
@@ -132,35 +167,24 @@ const FIRST: Pair = [Value::Int(5), Value::Bool(true)];
 
 const SECOND: Pair = [Value::Int(i64::MAX), Value::Bool(false)];
 
-#[test]
-fn fabrics_carry_messages(rt: HostRuntime) -> Result<(), Fail> {
-    let alloc = rt.alloc();
-    let whole = Ok([(FIRST, true), (SECOND, false)]);
-    let failed = Err(LinkErr::Failed);
-    for (fails, wanted) in [
-        (0u64, whole),
-        (1, failed),
-        (3, failed),
-        (5, failed),
-        (6, whole),
-    ] {
-        let mut fabric = MemFabric::new(alloc, listed(alloc, fails)?);
-        assert_eq!(rt;
-            carry_two(alloc, &mut fabric, FIRST, SECOND),
-            wanted,
-            "{fails}"
-        );
+/// Tells what a fabric carries of which the call of this number fails; `tight` is one that finds no memory for the second message,
+/// and `flip` one that changes what it carries.
+pub fn tell_fabric(alloc: Global, line: &mut String, text: &str) -> Result<(), Memory> {
+    if text == "tight" {
+        let mut fabric = TightFabric::new(alloc, 2);
+        return tell_carried(alloc, line, &mut fabric);
     }
-    let mut fabric = TightFabric::new(alloc, 2);
-    assert_eq!(rt;
-        carry_two(alloc, &mut fabric, FIRST, SECOND),
-        Err(LinkErr::Memory)
-    );
-    let flipped = [
-        ([Value::Int(6), Value::Bool(false)], true),
-        ([Value::Int(i64::MIN), Value::Bool(true)], false),
-    ];
-    let mut fabric = FlipFabric::new(alloc);
-    assert_eq!(rt; carry_two(alloc, &mut fabric, FIRST, SECOND), Ok(flipped));
-    Ok(())
+    if text == "flip" {
+        let mut fabric = FlipFabric::new(alloc);
+        return tell_carried(alloc, line, &mut fabric);
+    }
+    let mut fabric = MemFabric::new(alloc, listed(alloc, call_of(text)?)?);
+    tell_carried(alloc, line, &mut fabric)
+}
+
+fn tell_carried<W: Fabric>(alloc: Global, line: &mut String, fabric: &mut W) -> Result<(), Memory>
+    requires count { (W.state fabric.old).faults < 2 ^ 64 - 1 }
+    requires empty { (W.state fabric.old).kinds ≡ [] }
+{
+    tell(line, carry_two(alloc, fabric, FIRST, SECOND))
 }

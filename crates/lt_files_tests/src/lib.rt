@@ -1,7 +1,9 @@
 //! Tests of what stands between the files and a program: the objects of the outside, the checks of a program and the lines of
-//! its faults, and what inputs, schedules, setups and words read as.
+//! its faults, and what inputs, schedules, setups and words read as: scripts of questions.
 #![tactic(auto)]
 
+#[cfg(test)]
+mod answers;
 #[cfg(test)]
 mod config;
 #[cfg(test)]
@@ -14,5 +16,11 @@ mod inputs;
 mod io;
 #[cfg(test)]
 mod rows;
+#[cfg(test)]
+mod script;
+#[cfg(test)]
+mod tests;
+#[cfg(test)]
+mod texts;
 #[cfg(test)]
 mod words;

@@ -4,12 +4,12 @@ ghost use Rattle.lt_io.specs.MemFiles.{mem_files_state};
 ghost use Rattle.lt_arch.specs.Schedule.{IsEventOf};
 
 use crate::fixtures::{file, listed};
+use crate::texts::{tell, tell_bytes};
 use lt_arch::{Chan, ChanKind, Event, Shape};
 use lt_base::{List, Memory, Name};
 use lt_io::{Files, MemFiles, RepeatFiles};
-use lt_rows::{LineFault, Lines, RowFault, print_event, read_event, read_header};
+use lt_rows::{LineFault, Lines, print_event, read_event, read_header};
 use std::alloc::Global;
-use std::test::Fail;
 
 // The lines of the file `lines`: their number, and how the reading ends.
 fn count<F: Files>(alloc: Global, files: &mut F) -> Result<(u32, Option<LineFault>), Memory>
@@ -66,29 +66,27 @@ fn count_far(alloc: Global, byte: u8, call: u64) -> Result<(u32, Option<LineFaul
     count(alloc, &mut files)
 }
 
-// The opening is the first call, and each read one more.
-#[test]
-fn no_piece_is_read_too_early(rt: HostRuntime) -> Result<(), Fail> {
-    let alloc = rt.alloc();
-    let read = Some(LineFault::Read);
-    let rows = [
-        (b'x', 1u64, (0u32, read)),
-        (b'x', 2, (0, read)),
-        // The first piece shows that the second row is too long.
-        (b'x', 3, (1, Some(LineFault::TooLong))),
-        // The last row is in the second piece, and the third one is the end.
-        (b'\n', 3, (1, read)),
-        (b'\n', 4, (2, read)),
-        (b'\n', 0, (2, None)),
-    ];
-    for (byte, call, wanted) in rows {
-        let found = count_far(alloc, byte, call)?;
-        assert_eq!(rt; found, wanted, "{byte}, {call}");
+/// Tells how far a file is read with a row, many bytes, which are the first one of the text, and another row, of which the call of
+/// this number fails. The opening is the first call, and each read one more.
+pub fn tell_far(alloc: Global, line: &mut String, text: &str) -> Result<(), Memory> {
+    let (byte, call) = text.split_once(' ').unwrap_or((text, ""));
+    let Ok(call) = call.parse::<u32>() else {
+        return Err(Memory);
+    };
+    if byte == "x" {
+        return tell(line, count_far(alloc, b'x', u64::from(call))?);
     }
-    let mut files = in_memory(alloc, b"\n\r\nfirst\r\nsecond", 0)?;
-    let line = first(alloc, &mut files)?;
-    assert_eq!(rt; line.as_slice(), b"first\r".as_slice());
-    Ok(())
+    if byte == "/" {
+        return tell(line, count_far(alloc, b'\n', u64::from(call))?);
+    }
+    Err(Memory)
+}
+
+/// Tells the first line of a file.
+pub fn tell_first(alloc: Global, line: &mut String, text: &[u8]) -> Result<(), Memory> {
+    let mut files = in_memory(alloc, text, 0)?;
+    let read = first(alloc, &mut files)?;
+    tell_bytes(line, read.as_slice())
 }
 
 // The rows of a file that has these bytes so many times, as `count` counts them.
@@ -99,16 +97,26 @@ fn count_same(alloc: Global, bytes: Vec<u8>, times: u64) -> Result<(u32, Option<
     count(alloc, &mut files)
 }
 
-// Empty lines are no rows, but the row behind them holds them.
-#[test]
-fn empty_lines_end_at_the_limit(rt: HostRuntime) -> Result<(), Fail> {
-    let alloc = rt.alloc();
-    // 1,073,741,824 bytes, and one more.
-    let at = count_same(alloc, vec![in alloc; b'\n'; 32_768]?, 32_768)?;
-    let past = count_same(alloc, vec![in alloc; b'\n'; 33_025]?, 32_513)?;
-    assert_eq!(rt; at, (0, None));
-    assert_eq!(rt; past, (0, Some(LineFault::Bytes)));
-    Ok(())
+/// Tells how far a file of empty lines is read, of 1,073,741,824 bytes or of one more. Such lines are no rows, but the row behind
+/// them holds them.
+pub fn tell_same(alloc: Global, line: &mut String, text: &str) -> Result<(), Memory> {
+    if text == "at" {
+        return tell_at(alloc, line);
+    }
+    if text == "past" {
+        return tell_past(alloc, line);
+    }
+    Err(Memory)
+}
+
+fn tell_at(alloc: Global, line: &mut String) -> Result<(), Memory> {
+    let bytes = vec![in alloc; b'\n'; 32_768]?;
+    tell(line, count_same(alloc, bytes, 32_768)?)
+}
+
+fn tell_past(alloc: Global, line: &mut String) -> Result<(), Memory> {
+    let bytes = vec![in alloc; b'\n'; 33_025]?;
+    tell(line, count_same(alloc, bytes, 32_513)?)
 }
 
 // Two nodes, with a data channel and an acknowledgement channel each way.
@@ -133,35 +141,24 @@ fn two_nodes(alloc: Global) -> Result<Shape, Memory>
     })
 }
 
-fn printed(alloc: Global, shape: &Shape, e: Event) -> Result<List<u8>, Memory>
-    requires { IsEventOf shape.now e }
-{
-    print_event(alloc, &e, shape)
+/// Tells the event that a row reads as, and the row that it is written as, or the fault.
+pub fn tell_event(alloc: Global, line: &mut String, text: &[u8]) -> Result<(), Memory> {
+    let shape = two_nodes(alloc)?;
+    match read_event(text, &shape) {
+        Ok(event) => tell_read(alloc, line, event, &shape),
+        Err(fault) => tell(line, fault),
+    }
 }
 
-#[test]
-fn rows_are_read_and_written(rt: HostRuntime) -> Result<(), Fail> {
-    let alloc = rt.alloc();
-    let shape = two_nodes(alloc)?;
-    let rows = [
-        ("007,act,b\r", Ok(Event::Act(1, 7))),
-        ("12,data,a>b", Ok(Event::Del(0, 12))),
-        (
-            "1000000000000000,end,",
-            Ok(Event::End(1_000_000_000_000_000)),
-        ),
-        ("1000000000000001,end,", Err(RowFault::Time)),
-        ("0,ack,a>b", Err(RowFault::UnknownPlace)),
-        ("0,end,,", Err(RowFault::NotCsv)),
-    ];
-    for (line, wanted) in rows {
-        let found = read_event(line.as_bytes(), &shape);
-        assert_eq!(rt; found, wanted, "{line}");
-    }
-    assert_eq!(rt; read_header(b"time,event,place\r"), Ok(()));
-    let act = printed(alloc, &shape, Event::Act(1, 10))?;
-    assert_eq!(rt; act.as_slice(), b"10,act,b\n".as_slice());
-    let ack = printed(alloc, &shape, Event::Del(1, 3))?;
-    assert_eq!(rt; ack.as_slice(), b"3,ack,b>a\n".as_slice());
-    Ok(())
+fn tell_read(alloc: Global, line: &mut String, event: Event, shape: &Shape) -> Result<(), Memory>
+    requires { IsEventOf shape.now event }
+{
+    tell(line, event)?;
+    let row = print_event(alloc, &event, shape)?;
+    tell_bytes(line, row.as_slice())
+}
+
+/// Tells whether a line is a header.
+pub fn tell_header(line: &mut String, text: &[u8]) -> Result<(), Memory> {
+    tell(line, read_header(text))
 }

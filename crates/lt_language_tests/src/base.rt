@@ -1,110 +1,85 @@
-// Copies, sizes and tables.
+// Copies, sizes, and what grows.
+ghost use Rattle.lt_base.specs.Calls.{NotRecursive};
 
-use crate::programs::program;
-use lt_base::{Clock, Inputs, List, Program, Sizes, Value, Whole, sizes};
-use std::alloc::{AllocError, Global};
-use std::test::Fail;
+use crate::texts::tell;
+use lt_base::{Clock, Func, Inputs, List, Memory, Or, Program, Value, Whole, sizes};
+use std::alloc::Global;
 
-// The functions of a program, after the program and each of its functions were copied, and its size.
-fn copied(alloc: Global, text: &str) -> Option<(usize, Sizes)> {
-    let p = program(alloc, text)?;
-    let Ok(sizes) = sizes(alloc, &p) else {
-        return None;
-    };
-    let Ok(copy) = p.copy() else {
-        return None;
-    };
-    Some((copies(alloc, &copy)?, sizes))
+/// Tells the functions of a program, after the program and each of its functions were copied, and its size.
+pub fn tell_copies(alloc: Global, line: &mut String, p: &Program) -> Result<(), Memory>
+    requires { NotRecursive p.now.funcs }
+{
+    let sizes = sizes(alloc, p)?;
+    tell(line, copies(alloc, p)?)?;
+    tell(line, sizes)
 }
 
-fn copies(alloc: Global, p: &Program) -> Option<usize> {
+fn copies(alloc: Global, p: &Program) -> Result<usize, Memory> {
+    let copy = p.copy()?;
     let mut count = 0usize;
-    for f in p.funcs.as_slice() {
-        let Ok(func) = f.copy() else {
-            return None;
-        };
-        let whole = Whole {
-            func,
-            origin: List::new(alloc),
-        };
-        let Ok(copy) = whole.copy() else {
-            return None;
-        };
-        if copy.func.eqs.len() == f.eqs.len() {
+    for f in copy.funcs.as_slice() {
+        if is_copied(alloc, f)? {
             count = count.saturating_add(1);
         }
     }
-    Some(count)
+    Ok(count)
 }
 
-// Functions of which each calls the one before it twice, so that the sizes double.
-fn chain(alloc: Global) -> Result<String, AllocError> {
-    let mut text = String::new(alloc);
-    text.push_str("node f0(a: int) returns (b: int) let b = 0 fby a; tel ")?;
-    for i in 1u32..63 {
-        let before = i - 1;
-        write!(
-            text,
-            "node f{i}(a: int) returns (b: int) let b = f{before}(a) + f{before}(a); tel "
-        )?;
+fn whole_of(alloc: Global, f: &Func) -> Result<Whole, Memory> {
+    let func = f.copy()?;
+    Ok(Whole {
+        func,
+        origin: List::new(alloc),
+    })
+}
+
+fn whole_again(alloc: Global, f: &Func) -> Result<Whole, Memory> {
+    let whole = whole_of(alloc, f)?;
+    whole.copy()
+}
+
+fn is_copied(alloc: Global, f: &Func) -> Result<bool, Memory> {
+    let copy = whole_again(alloc, f)?;
+    Ok(copy.func.eqs.len() == f.eqs.len())
+}
+
+/// Tells something that grew and was copied.
+pub fn tell_grown(alloc: Global, line: &mut String, what: &str) -> Result<(), Memory> {
+    if what == "clock" {
+        return tell_clock(alloc, line);
     }
-    text.push_str("node main(a: int) returns (b: int) let b = f62(a); tel")?;
-    Ok(text)
+    if what == "list" {
+        return tell_list(alloc, line);
+    }
+    if what == "bytes" {
+        return tell_extended(alloc, line);
+    }
+    if what == "table" {
+        return tell_table(alloc, line);
+    }
+    Err(Memory)
 }
 
-#[test]
-fn copies_and_sizes(rt: HostRuntime) -> Result<(), Fail> {
-    let alloc = rt.alloc();
-    let late =
-        "node f(a: int) returns (b: int) let b = 0 fby a; tel node main(a: int) returns (b: int) let b = f(a) + f(a); tel";
-    let late_sizes = Sizes {
-        weight: 8,
-        parts: 9,
-    };
-    assert_eq!(rt; copied(alloc, late), Some((2, late_sizes)));
-    // every form once; `fby` behind an expression and `->` are two delays and one
-    let forms =
-        "node main(a: int; c: bool) returns (b: int) var d: int when c; let b = a -> (a fby (if not c then max(a, 1) else -a)); d = (merge c (a when c) 1) when c; tel";
-    let forms_sizes = Sizes {
-        weight: 7,
-        parts: 17,
-    };
-    assert_eq!(rt; copied(alloc, forms), Some((1, forms_sizes)));
-    let most = Sizes {
-        weight: u64::MAX,
-        parts: u64::MAX,
-    };
-    assert_eq!(rt; copied(alloc, chain(alloc)?.as_str()), Some((64, most)));
-    Ok(())
+fn tell_clock(alloc: Global, line: &mut String) -> Result<(), Memory> {
+    let clock = Clock::base(alloc).deeper(3, true)?;
+    let copy = clock.copy()?;
+    tell(line, copy.steps.as_slice())
 }
 
-#[test]
-fn clocks_go_deeper(rt: HostRuntime) -> Result<(), Fail> {
-    let clock = Clock::base(rt.alloc()).deeper(3, true)?.copy()?;
-    assert_eq!(rt; clock.steps.as_slice(), [(3, true)].as_slice());
-    Ok(())
-}
-
-#[test]
-fn lists_grow(rt: HostRuntime) -> Result<(), Fail> {
-    let mut numbers = List::from_slice(rt.alloc(), &[1u32, 2])?;
+fn tell_list(alloc: Global, line: &mut String) -> Result<(), Memory> {
+    let mut numbers = List::from_slice(alloc, &[1u32, 2])?;
     numbers.push(3)?;
-    assert_eq!(rt; numbers.copy()?.as_slice(), [1, 2, 3].as_slice());
-    Ok(())
+    tell(line, numbers.copy()?.as_slice())
 }
 
-#[test]
-fn bytes_grow(rt: HostRuntime) -> Result<(), Fail> {
-    let mut bytes = List::new(rt.alloc());
+fn tell_extended(alloc: Global, line: &mut String) -> Result<(), Memory> {
+    let mut bytes = List::new(alloc);
     bytes.extend(b"ab")?;
-    assert_eq!(rt; bytes.as_slice(), b"ab".as_slice());
-    Ok(())
+    tell(line, bytes.as_slice())
 }
 
-#[test]
-fn tables_grow(rt: HostRuntime) -> Result<(), Fail> {
-    let mut inputs = Inputs::new(rt.alloc(), 1)?;
+fn tell_table(alloc: Global, line: &mut String) -> Result<(), Memory> {
+    let mut inputs = Inputs::new(alloc, 1)?;
     inputs.push(&[Value::Int(7)])?;
-    assert_eq!(rt; inputs.copy()?.value(0, 0), Value::Int(7));
-    Ok(())
+    tell(line, inputs.copy()?.value(0, 0))
 }

@@ -1,102 +1,42 @@
 // Faults of types and of clocks, and sizes.
+ghost use Rattle.std.specs.Prelude.{◌<◌, ◌^◌, length, All};
 
-use crate::programs::program;
-use lt_base::{Or, Sizes, Ty};
-use lt_check::{ClockFault, TypeFault, clocks, sizes, types};
+use crate::texts::{tell, tell_word};
+use lt_base::{Memory, Or, Program};
+use lt_check::{ClockFault, clocks, sizes, types};
 use std::alloc::Global;
 
-// The answer of the check of types, where the text is a program.
-fn typed(alloc: Global, text: &str) -> Option<Result<(), TypeFault>> {
-    let p = program(alloc, text)?;
-    Some(types(&p))
+/// Tells the answer of the check of types.
+pub fn tell_types(line: &mut String, p: &Program) -> Result<(), Memory>
+    requires functions { length p.now.funcs < 2 ^ 32 }
+    requires variables { All (λ f. length f.decls < 2 ^ 32) p.now.funcs }
+{
+    tell(line, types(p))
 }
 
-#[test]
-fn faults_of_types(rt: HostRuntime) {
-    let alloc = rt.alloc();
-    let compared = TypeFault {
-        func: 0,
-        var: 2,
-        want: Ty::Int,
-        got: Some(Ty::Bool),
-    };
-    let sampled = TypeFault {
-        func: 1,
-        var: 2,
-        want: Ty::Bool,
-        got: Some(Ty::Int),
-    };
-    let rows = [
-        (
-            "node main(x: int; c: bool) returns (y: int) let y = x < 1; tel",
-            Err(compared),
-        ),
-        (
-            "node f(x: int) returns (y: int) let y = x; tel node main(x: int; c: bool) returns (y: int when x) let y = x when x; tel",
-            Err(sampled),
-        ),
-        (
-            "node main(x: int; c: bool) returns (y: int when c) let y = x when c; tel",
-            Ok(()),
-        ),
-    ];
-    for (text, wanted) in rows {
-        assert_eq!(rt; typed(alloc, text), Some(wanted), "{text}");
+/// Tells the variable of the fault of clocks, the length of its clock and the number of its equation.
+pub fn tell_clocks(alloc: Global, line: &mut String, p: &Program) -> Result<(), Memory>
+    requires functions { length p.now.funcs < 2 ^ 32 }
+    requires variables { All (λ f. length f.decls < 2 ^ 32) p.now.funcs }
+    requires equations { All (λ f. length f.eqs < 2 ^ 32) p.now.funcs }
+{
+    match clocks(alloc, p) {
+        Ok(()) => tell_word(line, "no fault"),
+        Err(Or::Fault(fault)) => tell_fault(line, &fault),
+        Err(Or::Memory) => Err(Memory),
     }
 }
 
-// The variable of the fault, the length of its clock and the number of its equation; 9 for a program without a fault.
-fn clocked(alloc: Global, text: &str) -> Option<(u32, usize, Option<u32>)> {
-    let p = program(alloc, text)?;
-    match clocks(alloc, &p) {
-        Ok(()) => Some((9, 0, None)),
-        Err(Or::Fault(fault)) => Some(told(fault)),
-        Err(Or::Memory) => None,
+fn tell_fault(line: &mut String, fault: &ClockFault) -> Result<(), Memory> {
+    tell(line, fault.var)?;
+    tell(line, fault.want.steps.len())?;
+    tell(line, fault.at)
+}
+
+/// Tells the sizes that are checked.
+pub fn tell_sizes(alloc: Global, line: &mut String, p: &Program) -> Result<(), Memory> {
+    match sizes(alloc, p) {
+        Ok(sizes) => tell(line, sizes),
+        Err(_) => Err(Memory),
     }
-}
-
-fn told(fault: ClockFault) -> (u32, usize, Option<u32>) {
-    (fault.var, fault.want.steps.len(), fault.at)
-}
-
-#[test]
-fn faults_of_clocks(rt: HostRuntime) {
-    let alloc = rt.alloc();
-    let rows = [
-        (
-            "node main(x: int; c: bool) returns (y: int) let y = x when c; tel",
-            (2, 0, Some(0)),
-        ),
-        (
-            "node main(x: int; c: bool) returns (y: int when c) let y = x when c; tel",
-            (9, 0, None),
-        ),
-        // c is on the base clock, and not on x
-        (
-            "node main(x: bool; c: bool) returns (y: bool when x when c) let y = x when c; tel",
-            (2, 2, None),
-        ),
-    ];
-    for (text, wanted) in rows {
-        assert_eq!(rt; clocked(alloc, text), Some(wanted), "{text}");
-    }
-}
-
-fn measured(alloc: Global, text: &str) -> Option<Sizes> {
-    let p = program(alloc, text)?;
-    match sizes(alloc, &p) {
-        Ok(sizes) => Some(sizes),
-        Err(_) => None,
-    }
-}
-
-#[test]
-fn sizes_of_programs(rt: HostRuntime) {
-    // one delay for `0 fby`, one for `->` and two for the other `fby`; the 0 is no part
-    let text = "node main(x: int) returns (y: int) let y = (x -> 0 fby x) fby x; tel";
-    let wanted = Sizes {
-        weight: 6,
-        parts: 6,
-    };
-    assert_eq!(rt; measured(rt.alloc(), text), Some(wanted));
 }

@@ -1,42 +1,70 @@
 // Closed walks of edges, and components.
+ghost use Rattle.std.specs.Prelude.{◌<◌, ⊤, All, IfOk, MatchBool};
+ghost use Rattle.lt_graph.specs.Tables.{IsTable};
 
-use lt_base::List;
+use crate::texts::tell;
+use lt_base::{List, Memory};
 use lt_graph::{components, degrees, first_circular};
-use std::test::Fail;
+use std::alloc::Global;
 
-#[test]
-fn circular_edges(rt: HostRuntime) -> Result<(), Fail> {
-    let alloc = rt.alloc();
-    let rows = [
-        // 0 -> 1 -> 2 -> 0, and out to 3
-        ([(2, 3), (0, 1), (1, 2), (2, 0)].as_slice(), Some(1usize)),
-        // two ways from 0 to 3, and back from none
-        ([(0, 1), (0, 2), (1, 3), (2, 3)].as_slice(), None),
-        // a node that leads to itself, behind one that only leads there
-        ([(0, 1), (1, 1)].as_slice(), Some(1)),
-        // two rings, and an edge between them on neither
-        ([(1, 2), (0, 1), (1, 0), (2, 3), (3, 2)].as_slice(), Some(1)),
-    ];
-    for (edges, wanted) in rows {
-        assert_eq!(rt; first_circular(alloc, 4, edges)?, wanted);
-    }
-    Ok(())
+// More than the number of each node.
+const NODES: usize = 4;
+
+fn edge_of(text: &str) -> Option<(u32, u32)> {
+    let (from, to) = text.split_once('>')?;
+    Some((from.parse().ok()?, to.parse().ok()?))
 }
 
-// 0 -> 1 -> 0, and on to 2
-#[test]
-fn names_of_components(rt: HostRuntime) -> Result<(), Fail> {
-    let alloc = rt.alloc();
+fn edges_of(alloc: Global, text: &str) -> Result<Vec<(u32, u32)>, Memory> {
+    let mut edges = Vec::new(alloc);
+    for part in text.split(' ') {
+        match edge_of(part) {
+            Some(edge) => edges.push(edge)?,
+            None => return Err(Memory),
+        }
+    }
+    Ok(edges)
+}
+
+fn are_within(edges: &[(u32, u32)]) -> bool
+    ensures { MatchBool result (All (λ e. (e.0 < 4) × (e.1 < 4)) edges.now) ⊤ }
+{
+    edges.iter().all(|e| e.0 < 4 && e.1 < 4)
+}
+
+/// Tells which of these edges, written as `0>1`, is the first on a closed walk.
+pub fn tell_circular(alloc: Global, line: &mut String, text: &str) -> Result<(), Memory> {
+    let edges = edges_of(alloc, text)?;
+    if !are_within(edges.as_slice()) {
+        return Err(Memory);
+    }
+    tell(line, first_circular(alloc, NODES, edges.as_slice())?)
+}
+
+// 0 -> 1 -> 0, and on to 2.
+fn ring(alloc: Global) -> Result<List<List<u32>>, Memory>
+    ensures { IfOk result IsTable }
+{
     let mut first = List::new(alloc);
     first.push(1)?;
     let mut second = List::new(alloc);
     second.push(0)?;
     second.push(2)?;
-    let table = List::of(vec![in alloc; first, second, List::new(alloc)]?);
-    assert_eq!(rt; degrees(alloc, &table)?.as_slice(), [1, 2, 0].as_slice());
+    Ok(List::of(vec![in alloc; first, second, List::new(alloc)]?))
+}
+
+/// Tells how many edges leave each node of a ring with a way out, and the first node of each node's component.
+pub fn tell_ring(alloc: Global, line: &mut String) -> Result<(), Memory> {
+    let table = ring(alloc)?;
+    tell(line, degrees(alloc, &table)?.as_slice())?;
     let names = components(alloc, &table)?;
-    assert_eq!(rt; names.len(), 3);
-    assert_eq!(rt; names[0], names[1]);
-    assert_ne!(rt; names[0], names[2]);
+    tell_firsts(line, names.as_slice())
+}
+
+// Tells for each name the first place at which it stands.
+fn tell_firsts(line: &mut String, names: &[usize]) -> Result<(), Memory> {
+    for name in names {
+        tell(line, names.iter().position(|other| other == name))?;
+    }
     Ok(())
 }

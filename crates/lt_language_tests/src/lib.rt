@@ -1,6 +1,8 @@
-//! Tests of the crates that read, check and order programs.
+//! Tests of the crates that read, check and order programs: scripts of questions.
 #![tactic(auto)]
 
+#[cfg(test)]
+mod answers;
 #[cfg(test)]
 mod base;
 #[cfg(test)]
@@ -16,6 +18,12 @@ mod print;
 #[cfg(test)]
 mod programs;
 #[cfg(test)]
+mod script;
+#[cfg(test)]
 mod syntax;
+#[cfg(test)]
+mod tests;
+#[cfg(test)]
+mod texts;
 #[cfg(test)]
 mod tokens;

@@ -23,13 +23,13 @@ fn few_equations(funcs: &[Func]) -> bool
 }
 
 /// The program of a text, if it is one.
-pub fn program(alloc: Global, text: &str) -> Option<Program>
+pub fn program(alloc: Global, text: &[u8]) -> Option<Program>
     ensures calls { IfSome result (λ p. NotRecursive p.funcs) }
     ensures functions { IfSome result (λ p. length p.funcs < 2 ^ 32) }
     ensures variables { IfSome result (λ p. All (λ f. length f.decls < 2 ^ 32) p.funcs) }
     ensures equations { IfSome result (λ p. All (λ f. length f.eqs < 2 ^ 32) p.funcs) }
 {
-    let Ok(tree) = parse(alloc, text.as_bytes()) else {
+    let Ok(tree) = parse(alloc, text) else {
         return None;
     };
     if tree.nodes.len() >= TOO_MANY {

@@ -3,5 +3,5 @@ use Rattle.lt_norm.specs.Flat.{Originated}
 use Rattle.lt_step.specs.Compile.{CodeOf}
 use Rattle.lt_compiler_tests.proofs.machines.run_code.Goals as goal
 
-pub gives-requires-clause-stands : goal.gives-requires-clause-stands
-gives-requires-clause-stands c = c.in_ok-machine.ensures.stands c.flat.inside.func (subst (λ (f : Originated). CodeOf f.func c.args.code) (sym c.flat.view_is) c.requires)
+pub tell_rows-requires-clause-stands : goal.tell_rows-requires-clause-stands
+tell_rows-requires-clause-stands c = c.in_ok-machine.ensures.stands c.flat.inside.func (subst (λ (f : Originated). CodeOf f.func c.args.code) (sym c.flat.view_is) c.requires.code)

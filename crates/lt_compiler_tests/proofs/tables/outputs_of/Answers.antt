@@ -1,11 +1,5 @@
 use Rattle.lt_compiler_tests.proofs.Sizes.{kept_at, has_room}
-use Rattle.lt_compiler_tests.proofs.tables.both.Goals as goal
-
-pub streams-requires-clause-checked : goal.streams-requires-clause-checked
-streams-requires-clause-checked c = (kept_at _ _ c.checked.view_is c.kept.ensures).examined.checked
-
-pub streams-requires-clause-room : goal.streams-requires-clause-room
-streams-requires-clause-room c = has_room _ ((kept_at _ _ c.checked.view_is c.kept.ensures).examined)
+use Rattle.lt_compiler_tests.proofs.tables.outputs_of.Goals as goal
 
 pub output_streams-requires-clause-checked : goal.output_streams-requires-clause-checked
 output_streams-requires-clause-checked c = (kept_at _ _ c.checked.view_is c.kept.ensures).examined.checked

@@ -1,6 +1,5 @@
-use Rattle.std.proofs.Common.{sym, subst}
 use Rattle.lt_compiler_tests.proofs.Sizes.{kept_at, few_variables, few_equations}
-use Rattle.lt_compiler_tests.proofs.machines.table_gives.Goals as goal
+use Rattle.lt_compiler_tests.proofs.machines.tell_table.Goals as goal
 
 pub start-requires-clause-causal : goal.start-requires-clause-causal
 start-requires-clause-causal c = (kept_at _ _ c.checked.view_is c.kept.ensures).keeps.causal

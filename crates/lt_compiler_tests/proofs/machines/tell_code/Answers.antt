@@ -1,5 +1,5 @@
 use Rattle.lt_compiler_tests.proofs.Sizes.{kept_at, few_variables, few_equations, few_slots, small_step}
-use Rattle.lt_compiler_tests.proofs.machines.code_gives.Goals as goal
+use Rattle.lt_compiler_tests.proofs.machines.tell_code.Goals as goal
 
 pub code_of-requires-clause-typed : goal.code_of-requires-clause-typed
 code_of-requires-clause-typed c = (kept_at _ _ c.checked.view_is c.kept.ensures).keeps.typed

@@ -1,6 +1,5 @@
-use Rattle.std.proofs.Common.{◌∙◌, [], length, sym, ap, arith}
-use Rattle.lt_base.specs.Program.{Function}
-use Rattle.lt_compiler_tests.proofs.machines.gives.Goals as goal
+use Rattle.std.proofs.Common.{◌∙◌, [], arith}
+use Rattle.lt_compiler_tests.proofs.machines.tell_rows.Goals as goal
 
 pub loop-x-init : goal.loop-x-init
 loop-x-init g c =

@@ -1,0 +1,86 @@
+// The answers to questions.
+
+use crate::flat_forms::{tell_flat, tell_whole};
+use crate::layouts::tell_layout;
+use crate::machines::{tell_code, tell_table};
+use crate::programs::checked;
+use crate::script::Question;
+use crate::tables::{tell_outputs, tell_streams};
+use lt_base::{Cell, Memory, Value};
+use lt_front::Checked;
+use std::alloc::Global;
+use std::fmt::Debug;
+
+/// The line with the answer. An error stands for a text that is refused, and for want of memory.
+pub fn answer(alloc: Global, question: Question) -> Result<String, Memory> {
+    let checked = checked(alloc, question.program)?;
+    let mut line = String::from_str(alloc, "=")?;
+    tell(alloc, &mut line, &checked, question)?;
+    Ok(line)
+}
+
+fn tell(
+    alloc: Global,
+    line: &mut String,
+    checked: &Checked,
+    question: Question,
+) -> Result<(), Memory> {
+    let (what, rest) = question
+        .words
+        .split_once(' ')
+        .unwrap_or((question.words, ""));
+    if what == "whole" {
+        return tell_whole(alloc, line, checked, rest);
+    }
+    if what == "flat" {
+        return tell_flat(line, &checked.flat, rest);
+    }
+    if what == "copy" {
+        return tell_flat(line, &checked.flat.copy()?, rest);
+    }
+    if what == "layout" {
+        return tell_layout(alloc, line, checked, rest);
+    }
+    if what == "code" {
+        return tell_code(alloc, line, checked, rest);
+    }
+    if what == "table" {
+        return tell_table(alloc, line, checked, rest);
+    }
+    if what == "streams" {
+        return tell_streams(alloc, line, checked, question.inputs);
+    }
+    if what == "outputs" {
+        return tell_outputs(alloc, line, checked, question.inputs);
+    }
+    Err(Memory)
+}
+
+/// Appends a value as it is shown.
+pub fn tell_value<T: Debug + Drop>(line: &mut String, value: T) -> Result<(), Memory> {
+    write!(line, " {value:?}")?;
+    Ok(())
+}
+
+/// Appends a text.
+pub fn tell_text(line: &mut String, text: &str) -> Result<(), Memory> {
+    line.push_str(text)?;
+    Ok(())
+}
+
+/// Appends what a cell has; `.` is an absence.
+pub fn tell_cell(line: &mut String, cell: Cell) -> Result<(), Memory> {
+    match cell {
+        Cell::Absent => tell_text(line, " ."),
+        Cell::Here(Value::Int(n)) => tell_value(line, n),
+        Cell::Here(Value::Bool(b)) => tell_value(line, b),
+    }
+}
+
+/// Appends cells, and a semicolon behind them.
+pub fn tell_cells(line: &mut String, cells: &[Cell]) -> Result<(), Memory> {
+    for cell in cells {
+        tell_cell(line, *cell)?;
+    }
+    tell_text(line, ";")
+}
