@@ -3,7 +3,7 @@ mod Scening
 mod Regional
 mod Outcome
 mod Carried
-mod ToldFirst
+pub mod ToldFirst
 mod Noting
 mod Told
 mod Finished
