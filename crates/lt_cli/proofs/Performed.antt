@@ -111,9 +111,9 @@ module _ (asked : List (List ℕ)) (old new : Objects) (ends : Status) (did : As
       audit_shown old.files.named program inputs schedule config old new told.0 told.2 told.1
 
   clean_audit : (program inputs schedule config : List ℕ) → command_of asked ≡ Some (audit program inputs schedule config) → Tells old → IsQuiet old new → ends ≢ status.Memory
-      → (plan : Plan) (scene : Scene) (events : List Event) → HoldSchedule old.files.named program inputs schedule config plan scene events → Accepts plan.setup.timing → (ends ≡ status.Ok) × TookClean scene events old new
-  clean_audit program inputs schedule config is tells quiet enough plan scene events held accepts =
-      audit_clean old.files.named program inputs schedule config plan scene events held old new ends (audit_exact program inputs schedule config is tells quiet enough) accepts
+      → (p : Plan) (scene : Scene) (events : List Event) → HoldSchedule old.files.named program inputs schedule config p scene events → Accepts p.setup.timing → (ends ≡ status.Ok) × TookClean scene events old new
+  clean_audit program inputs schedule config is tells quiet enough p scene events held accepts =
+      audit_clean old.files.named program inputs schedule config p scene events held old new ends (audit_exact program inputs schedule config is tells quiet enough) accepts
 
   trace_exact : (program inputs schedule config : List ℕ) (node : Option (List ℕ)) (from to : ℕ) → command_of asked ≡ Some (trace program inputs schedule config node from to) → Tells old → IsQuiet old new → ends ≢ status.Memory
       → IsExact (λ text. text) (trace_verdict old.files.named program inputs schedule config node from to) old new ends
