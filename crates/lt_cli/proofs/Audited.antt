@@ -1,26 +1,20 @@
 -- What an audit shows, from its verdict.
 use Rattle.std.proofs.Common.{◌≡◌, ◌∙◌, ℕ, List, length, Option, Some, None, Result, Ok, Err, refl, sym, subst, inl, inr}
 use Rattle.lt_arch.specs.declared.event.Event.{Event}
-use Rattle.lt_arch.specs.declared.event.Offence as arch
-use Rattle.lt_arch.specs.declared.limits.TheConstants.{GREATEST_TIME}
 use Rattle.lt_arch.specs.declared.shape.Shape.{Shape}
 use Rattle.lt_arch.specs.declared.timing.Timing.{Timing}
-use Rattle.lt_arch.specs.Schedule.{first_offence, IsAdmissible, AreUpTo}
 use Rattle.lt_arch.proofs.Schedules.{offence_free}
 use Rattle.lt_timing.specs.Accepts.{Accepts}
 use Rattle.lt_audit.specs.Misses.{HasNoMiss}
 use Rattle.lt_judge.specs.declared.fault.ScheduleFault.{ScheduleFault}
-use Rattle.lt_judge.specs.Settled.{settled}
 use Rattle.lt_judge.specs.Verdict.{verdict}
-use Rattle.lt_judge.proofs.Settling.{settles_rows, accepted_reads}
-use Rattle.lt_judge.proofs.Placing.{all_of_shape, up_to}
-use Rattle.lt_rows.specs.Rows.{rows_of}
 use Rattle.lt_load.specs.Plan.{Plan}
 use Rattle.lt_inspect.specs.declared.scene.Scene.{Scene}
 use Rattle.lt_inspect.specs.declared.audited.Audited.{Audited}
 use Rattle.lt_inspect.specs.Placed.{IsOfShape}
 use Rattle.lt_inspect.specs.Scenes.{IsSceneOf, scene_verdict}
 use Rattle.lt_inspect.specs.Inspected.{EndsWith, IsAudited, file_verdict, along_verdict, audit_verdict}
+use Rattle.lt_inspect.proofs.ToldFirst.{admissible, in_time}
 use Rattle.lt_cli.specs.declared.status.Status.{Status}
 use Rattle.lt_cli.specs.declared.status.Status.TheVariants as status
 use Rattle.lt_cli.specs.AuditShown.{HoldSchedule, TookClean, IsAuditShown}
@@ -47,19 +41,6 @@ file_read end s t rows (Some bytes) x is = let e = ends_with end x (verdict s t 
 read_file : {T : Type 0} (end : List Event → T → Type 0) (s : Shape) (t : Timing) (rows : ℕ) (bytes : List ℕ) (events : List Event) (x : T) → verdict s t rows bytes ≡ Ok events → end events x → file_verdict end s t rows (Some bytes) (Ok x)
 unfolding file_verdict
 read_file end s t rows bytes events x reads ended = subst (λ (r : Result (List Event) ScheduleFault). EndsWith end r (Ok x)) (sym reads) ended
-
--- events that a schedule file reads as are admissible, and in the range of times
-
-settled_none : (events es : List Event) (found : Option (ℕ × arch.Offence)) → settled events found ≡ Ok es → found ≡ None
-settled_none events es None ok = refl
-settled_none events es (Some found) ok = cc
-
-module _ (s : Shape) (t : Timing) (rows : ℕ) (bytes : List ℕ) (es : List Event) (reads : verdict s t rows bytes ≡ Ok es) where
-  admissible : IsAdmissible s t rows es
-  admissible = settled_none es es (first_offence s t rows es) (sym (settles_rows s t rows (length bytes) (rows_of bytes) es (accepted_reads s t rows (length bytes) (rows_of bytes) es reads)) ∙ reads)
-
-  in_time : AreUpTo GREATEST_TIME es
-  in_time = let read = accepted_reads s t rows (length bytes) (rows_of bytes) es reads in up_to s es (all_of_shape s read.later es read.events_read)
 
 -- no miss names a node or a channel
 none_placed : (s : Shape) → IsOfShape s None
