@@ -51,7 +51,7 @@ fn two_files(alloc: Global) -> Result<List<MemFile>, Memory> {
 }
 
 /// Tells how a file is read of which a call fails, with a limit: the words are the number of the call, counted from 1, and the limit.
-/// The calls are an open, a read of all bytes, and a read at the end. Without words, a file that repeats a line is read.
+/// The calls are an open, a read of all bytes, and a read at the end. With the word `repeated`, a file that repeats a line is read.
 pub fn tell_file(alloc: Global, line: &mut String, text: &str) -> Result<(), Memory> {
     let (call, limit) = text.split_once(' ').unwrap_or((text, ""));
     if text == "repeated" {
