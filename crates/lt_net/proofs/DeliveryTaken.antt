@@ -17,7 +17,10 @@ use Rattle.lt_arch.specs.Times.{Times, HasTimes, in_transit}
 use Rattle.lt_arch.proofs.Facts.{clear}
 use Rattle.lt_io.specs.declared.message.Message.{Message}
 use Rattle.lt_io.specs.FabricState.{FabricState}
-use Rattle.lt_net.specs.Net.{NetState, Lists, state_of}
+use Rattle.lt_plant.specs.Room.{HasSizes}
+use Rattle.lt_plant.proofs.SizesStay.{sizes_delivered}
+use Rattle.lt_net.proofs.Plants.{sizes_of, sized_by}
+use Rattle.lt_net.specs.Net.{NetState, Lists, state_of, plant_of}
 use Rattle.lt_link.specs.Inbox.{InboxState, no_inbox}
 use Rattle.lt_net.specs.Stands.{Stands}
 use Rattle.lt_net.specs.Event.{GoesOn, Happens, Holds, HeldBy, HasKinds, IsTaken}
@@ -80,29 +83,16 @@ module _ {C M : Type 0} (phase : C → Phase) (stands : M → Function → List 
         (subst (λ z. Stands phase stands made left (record net { inboxes = set net.inboxes ch (record box { payload = received.message.payload; bit = received.message.bit }); watch = z }) next) (sym watch)
         (delivered_stands phase stands made left net ch at kept.fixed.whole kept.fixed.laid kept.fixed.channels kept.fixed.one_place ls next s (clear_of ls s) received.message.payload row goes box at_box below received.message.bit held.0 kept.sized.machines))
 
-    types_after : (c : ℕ) → c < chan_count net.shape → map ty_of (slice_index_or ibs c no_inbox).payload ≡ types_for net.layout net.shape c
-    types_after c h = ap (λ bs. map ty_of (slice_index_or bs c no_inbox).payload) received.inboxes ∙ elim (eqb_tells c ch) [
-      | inl e ↦ subst (λ c. map ty_of (slice_index_or (set net.inboxes ch (record box { payload = received.message.payload; bit = received.message.bit })) c no_inbox).payload ≡ types_for net.layout net.shape c) (sym e.1)
-          (ap (λ (z : InboxState). map ty_of z.payload) (get_or-set_same net.inboxes ch _ no_inbox (omega (arith, below, kept.sized.inboxes))) ∙ received.delivers.typed ∙ kinds.each ch below)
-      | inr e ↦ ap (λ (z : InboxState). map ty_of z.payload) (get_or-set_other net.inboxes ch c _ no_inbox e.1) ∙ kept.sized.inbox_types c h
-    ]
+    sizes_after : HasSizes (record (plant_of net) { inboxes = ibs })
+    sizes_after = subst (λ z. HasSizes (record (plant_of net) { inboxes = z })) (sym received.inboxes)
+        (sizes_delivered (plant_of net) (sizes_of net kept.sized) ch below (record box { payload = received.message.payload; bit = received.message.bit }) (received.delivers.typed ∙ kinds.each ch below))
 
     pub kept_arrival : Kept phase stands made left after_net
     kept_arrival =
         let z = kept.sized in
         record {
           fixed = kept.fixed;
-          sized = record {
-            machines = z.machines;
-            controllers = z.controllers;
-            executed = z.executed;
-            buffers = z.buffers;
-            buffer_types = z.buffer_types;
-            lasts = ap (λ (z : Times). length z.lasts) watch ∙ z.lasts;
-            inboxes = ap length received.inboxes ∙ length-set net.inboxes ch _ ∙ z.inboxes;
-            sends = ap (λ (z : Times). length z.sends) watch ∙ length-set net.watch.sends ch None ∙ z.sends;
-            inbox_types = types_after;
-          };
+          sized = sized_by after_net sizes_after (ap (λ (z : Times). length z.lasts) watch ∙ z.lasts) (ap (λ (z : Times). length z.sends) watch ∙ length-set net.watch.sends ch None ∙ z.sends);
           standing =
               let found = kept.standing in
               let ls = found.0 in

@@ -27,8 +27,9 @@ use Rattle.lt_plant.specs.Sends.{is_from}
 use Rattle.lt_plant.specs.Wakes.{Wakes, AreConfigured}
 use Rattle.lt_plant.specs.Executes.{CanExecute, Executes}
 use Rattle.lt_net.specs.Ran.{SameRest, Acknowledges}
-use Rattle.lt_plant.proofs.Filling.{tracked-size, tracked-room}
-use Rattle.lt_net.proofs.IdleActivation.{free_now, empty_now, configured_still}
+use Rattle.lt_plant.proofs.SizesStay.{space_ran}
+use Rattle.lt_net.proofs.Plants.{sizes_of, space_of, room_by}
+use Rattle.lt_net.proofs.IdleActivation.{free_now, empty_now, configured_still, controls_length}
 use Rattle.lt_net.proofs.ExecuteTaken.{acks_are, run_halted, run_sized, execute_kept, execute_happens, execute_holds}
 use Rattle.lt_net.specs.Halts.{HasHalted}
 use Rattle.lt_net.specs.Stands.{Stands}
@@ -106,17 +107,9 @@ module _ {C M : Type 0} (phase : C → Phase) (protocol : C → Protocol) (send 
 
         pub ran_room : HasRoom new
         ran_room =
-            let z = b.4 in
-            subst (λ z. HasRoom z) (sym new_is) (record {
-              messages = z.messages;
-              inputs = z.inputs;
-              outputs = z.outputs;
-              tracks = ap length ex.tracks ∙ tracked-size net.exits n ex.outs (length net.exits) net.tracks ∙ z.tracks;
-              cells = λ y h. subst (λ k. net.rows ≤ k) (sym (ap (λ ts. (track_at ts y).room) ex.tracks ∙ tracked-room net.exits n ex.outs (length net.exits) net.tracks (let e = z.exits.size in let t = z.tracks in omega (arith, e, t)) y)) (z.cells y h);
-              routes = z.routes;
-              exits = z.exits;
-              ports = z.ports;
-            })
+            subst (λ z. HasRoom z) (sym new_is)
+            (room_by (record net { watch = new.watch; controllers = cs; machines = set net.machines n ex.after; executed = new.executed; inboxes = new.inboxes; tracks = new.tracks; buffers = new.buffers })
+            (space_ran (plant_of net) (sizes_of net b.0.sized) cs (controls_length phase protocol send execute stands made left net b.0 b.1 n at timely b.2 b.3 cs d wakes) stands made left n r (plant_of new) ex (space_of net b.4)))
 
         pub ran_taken : (old fabric : FabricState) → Holds now old → Acknowledges (record net { controllers = cs }) new n at old fabric → IsTaken phase stands made left now new (Act n at) row old fabric
         ran_taken old fabric holds acks =

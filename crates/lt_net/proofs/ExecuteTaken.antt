@@ -38,10 +38,11 @@ use Rattle.lt_plant.specs.Payloads.{types_for}
 use Rattle.lt_plant.specs.Changes.{Takes}
 use Rattle.lt_plant.specs.Given.{FitsPart}
 use Rattle.lt_plant.specs.Executes.{Executes}
-use Rattle.lt_plant.proofs.Filling.{filled-size}
 use Rattle.lt_net.proofs.InstantStands.{instant_ran, instant_stands, buffers_typed}
 use Rattle.lt_net.proofs.NextLists.{next_lists}
-use Rattle.lt_plant.proofs.Activated.{marked_bit, marked_payload}
+use Rattle.lt_plant.proofs.Activated.{marked_bit}
+use Rattle.lt_plant.proofs.SizesStay.{sizes_ran}
+use Rattle.lt_net.proofs.Plants.{sizes_of, sized_by}
 use Rattle.lt_plant.proofs.Entries.{true_false}
 use Rattle.lt_net.proofs.IdleActivation.{deed_by_bits, clear_of, woke_is, control_within, controls_length, sent_holds, carried_on}
 
@@ -106,17 +107,9 @@ module _ {C M : Type 0} (phase : C → Phase) (protocol : C → Protocol) (send 
       IsSized (record net { watch = w; controllers = cs; machines = set net.machines n ex.after; executed = mid.executed; inboxes = mid.inboxes; tracks = mid.tracks; buffers = mid.buffers })
   run_sized w lasts sends =
       let z = kept.sized in
-      record {
-        machines = length-set net.machines n ex.after ∙ z.machines;
-        controllers = controls_length phase protocol send execute stands made left net kept configured n at timely nb passes cs d wakes ∙ z.controllers;
-        executed = ap length ex.executed ∙ length-set net.executed n _ ∙ z.executed;
-        lasts = lasts ∙ z.lasts;
-        sends = sends ∙ z.sends;
-        inboxes = ex.taken.same_length ∙ z.inboxes;
-        buffers = ap length ex.buffers ∙ filled-size net.layout.cross net.routes n ex.outs (length net.layout.cross) net.buffers ∙ z.buffers;
-        inbox_types = λ c h. ap (λ (b : InboxState). map ty_of b.payload) (box_is c) ∙ ap (map ty_of) (marked_payload _ (slice_index_or net.inboxes c no_inbox)) ∙ z.inbox_types c h;
-        buffer_types = typed_next found.0 then.0 found.1 then.1;
-      }
+      sized_by (record net { watch = w; controllers = cs; machines = set net.machines n ex.after; executed = mid.executed; inboxes = mid.inboxes; tracks = mid.tracks; buffers = mid.buffers })
+      (sizes_ran (plant_of net) (sizes_of net z) cs (controls_length phase protocol send execute stands made left net kept configured n at timely nb passes cs d wakes) stands made left n row (plant_of mid) ex (typed_next found.0 then.0 found.1 then.1))
+      (lasts ∙ z.lasts) (sends ∙ z.sends)
 
   module _ (old new : FabricState) (holds : Holds net old) (w1 : Times) (upto : SendsUpTo (length net.shape.channels) (is_from net.shape.channels n false) (message_on mid.buffers mid.inboxes) at old new net.watch w1)
       (w : Times) (watch : w ≡ record w1 { lasts = set w1.lasts n (Some at); latest = Some at }) where

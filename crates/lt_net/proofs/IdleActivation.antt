@@ -33,7 +33,9 @@ use Rattle.lt_plant.specs.Sends.{is_from}
 use Rattle.lt_net.specs.Sends.{SendsUpTo, message_on, with_message}
 use Rattle.lt_plant.specs.Wakes.{Wakes, AreConfigured}
 use Rattle.lt_net.proofs.Uncounted.{uncounted, uncounted_same, either_protocol}
-use Rattle.lt_plant.proofs.Activated.{marked_bit, marked_payload}
+use Rattle.lt_plant.proofs.Activated.{marked_bit}
+use Rattle.lt_plant.proofs.SizesStay.{sizes_read}
+use Rattle.lt_net.proofs.Plants.{sizes_of, sized_by}
 use Rattle.lt_plant.proofs.Entries.{got_entry, or_false, true_false}
 use Rattle.lt_arch.specs.declared.timing.Protocol.{Protocol}
 use Rattle.lt_plant.proofs.Below.{lt_yes}
@@ -149,25 +151,13 @@ module _ {C M : Type 0} (phase : C → Phase) (protocol : C → Protocol) (send 
     pub bit_still : (c : ℕ) → c < chan_count net.shape → (slice_index_or ibs c no_inbox).bit ≡ (slice_index_or net.inboxes c no_inbox).bit
     bit_still c h = ap (λ (z : InboxState). z.bit) (entry_marked c h) ∙ marked_bit _ (slice_index_or net.inboxes c no_inbox)
 
-    payload_still : (c : ℕ) → c < chan_count net.shape → (slice_index_or ibs c no_inbox).payload ≡ (slice_index_or net.inboxes c no_inbox).payload
-    payload_still c h = ap (λ (z : InboxState). z.payload) (entry_marked c h) ∙ marked_payload _ (slice_index_or net.inboxes c no_inbox)
-
     pub kept_idle : Kept phase stands made left idle_net
     kept_idle =
         let z = kept.sized in
         record {
           fixed = kept.fixed;
-          sized = record {
-            machines = z.machines;
-            controllers = controls_length ∙ z.controllers;
-            executed = z.executed;
-            buffers = z.buffers;
-            buffer_types = z.buffer_types;
-            inboxes = marks.same_length ∙ z.inboxes;
-            lasts = ap (λ (z : Times). length z.lasts) watch ∙ length-set net.watch.lasts n (Some at) ∙ z.lasts;
-            sends = ap (λ (z : Times). length z.sends) watch ∙ on.same_length ∙ z.sends;
-            inbox_types = λ c h. ap (map ty_of) (payload_still c h) ∙ z.inbox_types c h;
-          };
+          sized = sized_by idle_net (sizes_read (plant_of net) (sizes_of net z) cs controls_length (takes_on net.shape n d) ibs marks) (ap (λ (z : Times). length z.lasts) watch ∙ length-set net.watch.lasts n (Some at) ∙ z.lasts)
+              (ap (λ (z : Times). length z.sends) watch ∙ on.same_length ∙ z.sends);
           standing =
               let found = kept.standing in
               let ls = found.0 in

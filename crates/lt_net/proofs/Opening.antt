@@ -19,7 +19,7 @@ use Rattle.lt_place.specs.declared.layout.Layout.{Layout}
 use Rattle.lt_plant.specs.Starts.{types_on, kinds_for}
 use Rattle.lt_net.specs.Starts.{no_lists, IsMadeOf, IsFresh}
 use Rattle.lt_plant.proofs.FirstTables.{types_are, on_channel}
-use Rattle.lt_net.proofs.StartedNet.{none_sent}
+use Rattle.lt_plant.proofs.Begun.{none_sent}
 
 nothing_held : (v : Option ℕ) (last : Rattle.std.specs.Prelude.Bool) → [] ≡ in_transit v → HeldBy v last []
 nothing_held None last h = refl

@@ -15,7 +15,6 @@ use Rattle.lt_arch.specs.State.{Phase, start, unsent, first_phase}
 use Rattle.lt_arch.specs.Readers.{node_count, chan_count, chan_of, from_of, to_of}
 use Rattle.lt_arch.specs.Schedule.{OnePlace}
 use Rattle.lt_arch.specs.Times.{Times, HasTimes}
-use Rattle.lt_arch.proofs.Ranges.{greatest-above}
 use Rattle.lt_link.specs.Bits.{bit_of}
 use Rattle.lt_link.specs.Inbox.{InboxState, no_inbox}
 use Rattle.lt_norm.specs.Flat.{Originated}
@@ -35,16 +34,9 @@ use Rattle.lt_net.specs.Stands.{Stands}
 use Rattle.lt_net.specs.Kept.{Kept, IsSized, HasRoom}
 use Rattle.lt_plant.specs.Starts.{literals_on, first_inbox, route_to, exit_for, most_fed, most_given, IsBlank, AreReady, AreAtStart}
 use Rattle.lt_net.specs.Starts.{no_lists, IsFresh}
-use Rattle.lt_plant.proofs.FirstTables.{are_routes, are_exits, types_are, few_types, first_box, on_channel}
+use Rattle.lt_plant.proofs.Begun.{begun_at, none_executed, blank_at, sized_at, space_at}
+use Rattle.lt_net.proofs.Plants.{sized_by, room_by}
 use Rattle.lt_net.proofs.FixedParts.{fixed}
-use Rattle.lt_plant.proofs.Firsts.{length-firsts, get-firsts}
-
-pub none_sent : (p : Protocol) → 0 - unsent (first_phase p) ≡ 0
-none_sent BackPressure = refl
-none_sent TimeBased = refl
-
-no_fewer : (k : ℕ) → zero ≡ suc k → ⊥
-no_fewer k e = absurd (omega (arith, e))
 
 module _ {C M : Type 0} (phase : C → Phase) (stands : M → Function → List (List Value) → Type 0) (made left : M → ℕ)
     (f : Originated) (l : Layout) (placed : IsPlaced f l) (s : Shape) (t : Timing) (rows : ℕ) (fits : FitsLayout l t.protocol s) (few : 2 * (node_count s + chan_count s) < 2 ^ 32) (one : OnePlace s t rows)
@@ -73,73 +65,26 @@ module _ {C M : Type 0} (phase : C → Phase) (stands : M → Function → List 
     outs = outs;
   }
 
-  box : (c : ℕ) (b : InboxState) → slice_get boxes c ≡ Some b → b ≡ first_inbox l.cross (chan_of s c)
-  box = first_box l s boxes boxes_are
-
-  none_executed : (n : ℕ) → n < node_count s → slice_index_or executed n 0 ≡ 0
-  none_executed n lt = ap (λ xs. slice_index_or xs n 0) executed_are ∙ get_or-replicate (node_count s) n 0 0 lt
-
-  blank_at : (y : ℕ) → y < length l.outs → IsBlank rows (track_at tracks y)
-  blank_at y lt = blank y (record { cells = []; room = 0 }) (omega (arith, lt, tracks_count))
-
   begun : Stands phase stands made left net no_lists
   begun = record {
     timely = tt;
     clean = tt;
     times = times;
-    plant = record {
-      phases = at_start.phases;
-      rows = λ n lt. refl;
-      messages = λ c lt. refl;
-      fit = λ n lt. tt;
-      ran = record { executed = none_executed; machines = ready.stand; steps_made = ready.unmade; cells = λ y n x yb nb gives. (blank_at y yb).empty };
-      steps_left = λ n m h. let e = ready.enough n m h in omega (arith, e);
-      payloads = λ c b h carries. ap (λ (z : InboxState). z.payload) (box c b h) ∙ ap (λ x. if x then map (λ (cr : Crossing). cr.first) (filter (joins (from_of s c) (to_of s c)) l.cross) else []) carries;
-      bits = λ c b h. ap (λ (z : InboxState). z.bit) (box c b h);
-      data_reads = λ c b h carries. ap (λ (z : InboxState). z.read) (box c b h) ∙ carries;
-      ack_reads = λ c b h carries. ap (λ (z : InboxState). z.read) (box c b h) ∙ carries ∙ sym (ap bit_of (none_sent t.protocol));
-      buffers = λ c k lt carries long. absurd (no_fewer k long);
-    };
+    plant = begun_at phase stands made left f l placed s t rows fits ms ready cs at_start executed executed_are boxes boxes_are buffers buffers_are tracks tracks_count blank routes routes_are exits exits_are ports ports_are values outs values_are outs_are;
   }
 
   pub fresh : IsFresh phase stands made left net
-  fresh = record { stands_for = begun; counts = none_executed; cells = λ y lt. (blank_at y lt).empty }
+  fresh = record {
+    stands_for = begun;
+    counts = none_executed phase stands made left f l placed s t rows fits ms ready cs at_start executed executed_are boxes boxes_are buffers buffers_are tracks tracks_count blank routes routes_are exits exits_are ports ports_are values outs values_are outs_are;
+    cells = λ y lt. (blank_at phase stands made left f l placed s t rows fits ms ready cs at_start executed executed_are boxes boxes_are buffers buffers_are tracks tracks_count blank routes routes_are exits exits_are ports ports_are values outs values_are outs_are y lt).empty;
+  }
 
   sized : IsSized net
-  sized = record {
-    machines = ready.count;
-    controllers = at_start.count;
-    executed = ap length executed_are ∙ length-replicate (node_count s) 0;
-    lasts = times.node_count;
-    sends = times.chan_count;
-    inboxes = ap length boxes_are ∙ length-map s.channels (first_inbox l.cross);
-    buffers = ap length buffers_are ∙ length-map s.channels (literals_on l.cross);
-    inbox_types = λ c lt. ap (λ (b : InboxState). map ty_of b.payload) (on_channel (first_inbox l.cross) s boxes boxes_are c no_inbox lt) ∙ types_are l s c;
-    buffer_types = λ c lt. ap (map ty_of) (on_channel (literals_on l.cross) s buffers buffers_are c [] lt) ∙ types_are l s c;
-  }
+  sized = sized_by net (sized_at phase stands made left f l placed s t rows fits ms ready cs at_start executed executed_are boxes boxes_are buffers buffers_are tracks tracks_count blank routes routes_are exits exits_are ports ports_are values outs values_are outs_are) times.node_count times.chan_count
 
   pub kept : Kept phase stands made left net
   kept = record { fixed = fixed f l s t rows placed fits one (omega (arith, few)); sized = sized; standing = (no_lists, begun) }
 
-  fed : (n : ℕ) → n < length l.nodes → length (part_of l n).feeds ≤ values
-  unfolding part_of
-  fed n lt =
-      let a = greatest-above (λ n. length (slice_index_or l.nodes n no_part).feeds) (length l.nodes) n lt in
-      let b = le-max_right (length l.cross) (most_fed l.nodes) in
-      omega (arith, a, b, values_are)
-
-  given : (n : ℕ) → n < length l.nodes → length (part_of l n).outs ≤ outs
-  unfolding part_of
-  given n lt = let a = greatest-above (λ n. length (slice_index_or l.nodes n no_part).outs) (length l.nodes) n lt in omega (arith, a, outs_are)
-
   pub room : HasRoom net
-  room = record {
-    messages = λ c lt. let a = few_types l s c in let b = le-max_left (length l.cross) (most_fed l.nodes) in omega (arith, a, b, values_are);
-    inputs = fed;
-    outputs = given;
-    tracks = tracks_count;
-    cells = λ y lt. (blank_at y lt).room;
-    routes = are_routes f l placed s routes routes_are;
-    exits = are_exits f l placed exits exits_are;
-    ports = λ n lt. record { there = omega (arith, lt, ap length ports_are, length-firsts (ports_of s.channels) (node_count s)); are = ap (λ ps. slice_index_or ps n no_ports) ports_are ∙ get-firsts (ports_of s.channels) (node_count s) n no_ports lt };
-  }
+  room = room_by net (space_at phase stands made left f l placed s t rows fits ms ready cs at_start executed executed_are boxes boxes_are buffers buffers_are tracks tracks_count blank routes routes_are exits exits_are ports ports_are values outs values_are outs_are)

@@ -32,3 +32,5 @@ pub mod InstantRun
 pub mod Delivered
 pub mod Able
 pub mod OutputFronts
+pub mod Begun
+pub mod SizesStay
