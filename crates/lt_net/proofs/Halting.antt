@@ -34,12 +34,3 @@ module _ {C M : Type 0} (phase : C → Phase) (stands : M → Function → List 
 pub on_err_any : {T E P : Type 0} (r : Result T E) → P → OnErr r P
 on_err_any (Ok x) p = tt
 on_err_any (Err e) p = p
-
--- a machine that was replaced by one whose steps cost as much
-map_set : {A : Type 0} (f : A → ℕ) (xs : List A) (n : ℕ) (a b : A) → slice_get xs n ≡ Some b → f a ≡ f b → map f (set xs n a) ≡ map f xs
-map_set f [] n a b there same = refl
-map_set f (x ∷ xs) zero a b there same = ap (λ v. v ∷ map f xs) (same ∙ ap f (let e : Some x ≡ Some b = there in cc))
-map_set f (x ∷ xs) (suc n) a b there same = ap (λ r. f x ∷ r) (map_set f xs n a b there same)
-
-pub same_sizes : {C M : Type 0} (size : M → ℕ) (net now : NetState C M) → net ≡ now → (n : ℕ) (before after : M) → slice_get net.machines n ≡ Some before → size after ≡ size before → map size (set net.machines n after) ≡ map size now.machines
-same_sizes size net now is n before after there same = map_set size net.machines n after before there same ∙ ap (λ (z : NetState _ _). map size z.machines) is

@@ -317,9 +317,6 @@ upto_of cs cs' ps ps' bs bs' a p b n at kind old new w w1 u =
     (subst (λ ps. SendsUpTo (length cs') (is_from cs' n kind) (message_on ps bs) at old new w w1) p
     (subst (λ bs. SendsUpTo (length cs') (is_from cs' n kind) (message_on ps' bs) at old new w w1) b u))
 
-pub taken_of : (cs cs' : List Chan) → cs' ≡ cs → (n : ℕ) (kind : Bool) (old new : List InboxState) → TakenUpTo (length cs') (is_to cs' n kind) old new → TakenUpTo (length cs) (is_to cs n kind) old new
-taken_of cs cs' a n kind old new t = subst (λ cs. TakenUpTo (length cs) (is_to cs n kind) old new) a t
-
 -- what code has of an activation: the parts of the net before it
 module _ {C M : Type 0} (phase : C → Phase) (protocol : C → Protocol) (send execute : C → ℕ) (stands : M → Function → List (List Value) → Type 0) (made left : M → ℕ) (net now : NetState C M) (is : net ≡ now) where
   abbrev Ready : (n at : ℕ) → NetState C M → Type 0

@@ -34,3 +34,4 @@ pub mod Able
 pub mod OutputFronts
 pub mod Begun
 pub mod SizesStay
+pub mod RunByCode

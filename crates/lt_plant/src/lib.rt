@@ -2,6 +2,7 @@
 //! a step of its machine, which inboxes are fresh, and what its controller answers. Also the channels of a layout.
 #![tactic(auto)]
 
+mod bench;
 pub mod freshness;
 pub mod laws;
 pub mod listing;
@@ -16,6 +17,7 @@ pub mod tables;
 mod track;
 mod waking;
 
+pub use bench::Bench;
 pub use payload::Payload;
 pub use ports::Ports;
 pub use route::{Exit, Route};
