@@ -32,7 +32,7 @@ use Rattle.lt_lossy_net.specs.Stands.{StandsLossy}
 use Rattle.lt_lossy_net.specs.Event.{PassesLossy, LossyGoesOn, RowsGo}
 use Rattle.lt_lossy_net.specs.Kept.{IsFixedLossy, HasLossySizes}
 use Rattle.lt_lossy_net.proofs.Reached.{acts_on, balanced, ahead, ahead_next, state_is, clean_next, timely_next}
-use Rattle.lt_lossy_net.proofs.Posted.{sent_next, posted_next}
+use Rattle.lt_lossy_net.proofs.SentAgain.{sent_next, posted_next}
 
 pub idle_rows : (d : Deed) (n : ℕ) (row : Option (List Value)) (old new : ℕ → List (List Value)) → is_execute d ≡ false → RowsGo n d row old new → Same old new
 idle_rows Nothing n row old new h go = go

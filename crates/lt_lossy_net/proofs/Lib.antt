@@ -1,5 +1,5 @@
 pub mod Reached
-pub mod Posted
+pub mod SentAgain
 pub mod Acted
 pub mod Arrived
 pub mod Transit

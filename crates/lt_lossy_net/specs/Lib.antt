@@ -5,3 +5,4 @@ pub mod Event
 pub mod Kept
 pub mod Changes
 pub mod Laws
+pub mod Receives
