@@ -5,3 +5,5 @@ pub mod Arrived
 pub mod Transit
 pub mod Keeps
 pub mod Fronts
+pub mod Oldest
+pub mod TakenByCode

@@ -6,3 +6,4 @@ pub mod Kept
 pub mod Changes
 pub mod Laws
 pub mod Receives
+pub mod Taken

@@ -72,3 +72,26 @@ pub record LossyLists : Type 0 where
 -- the state after its events
 abbrev pub lossy_state_of : {C M : Type 0} → LossyNetState C M → LossyLists → LossyState
 lossy_state_of net ls = lossy_reached net.shape net.timing net.rows ls.events
+
+-- a net of nodes and channels, with time and what is sent again
+abbrev pub net_of : {C M : Type 0} → PlantState C M → Timing → LossyTimes → (sent : List ℕ) → (posted : List (List Value)) → LossyNetState C M
+net_of p t watch sent posted = record {
+  layout = p.layout;
+  shape = p.shape;
+  timing = t;
+  rows = p.rows;
+  watch = watch;
+  machines = p.machines;
+  controllers = p.controllers;
+  executed = p.executed;
+  sent = sent;
+  inboxes = p.inboxes;
+  buffers = p.buffers;
+  posted = posted;
+  tracks = p.tracks;
+  routes = p.routes;
+  exits = p.exits;
+  ports = p.ports;
+  values = p.values;
+  outs = p.outs;
+}

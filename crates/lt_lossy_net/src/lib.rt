@@ -2,5 +2,6 @@
 #![tactic(auto)]
 
 pub mod laws;
+mod plant;
 mod posted;
 mod receiving;
