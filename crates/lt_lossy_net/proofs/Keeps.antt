@@ -1,0 +1,118 @@
+-- Every event without an offence leaves a net that stands, and a fabric that has in transit what its state says.
+use Rattle.std.proofs.Common.{◌≡◌, inl, inr, ℕ, suc, ◌<◌, true, false, not, Bool, List, [], ◌∷◌, ◌++◌, length, Option, refl, sym, ap, ◌∙◌, subst, arith}
+use Rattle.std.specs.Prelude.{slice_index_or}
+use Rattle.std.specs.List.{slice_get}
+use Rattle.lt_base.specs.declared.value.Value.{Value}
+use Rattle.lt_base.specs.Program.{Function}
+use Rattle.lt_arch.specs.declared.event.Deed.TheVariants.{Execute}
+use Rattle.lt_arch.specs.declared.event.Event.TheVariants.{Act, Del, End}
+use Rattle.lt_arch.specs.State.{Phase}
+use Rattle.lt_arch.specs.Readers.{node_count, chan_count, from_of, to_of}
+use Rattle.lt_io.specs.declared.message.Message.{Message}
+use Rattle.lt_io.specs.FabricState.{FabricState, Delivers}
+use Rattle.lt_link.specs.Bits.{bit_of, differ}
+use Rattle.lt_link.specs.Inbox.{InboxState}
+use Rattle.lt_lossy.specs.declared.event.LossyEvent.TheVariants.{Plain, Lose}
+use Rattle.lt_plant.specs.Changes.{Same}
+use Rattle.lt_plant.specs.Standing.{HasOwnValues}
+use Rattle.lt_plant.proofs.OwnValues.{own_taken}
+use Rattle.lt_lossy_net.specs.Net.{LossyNetState, LossyLists, lossy_state_of}
+use Rattle.lt_lossy_net.specs.Stands.{StandsLossy}
+use Rattle.lt_lossy_net.specs.Event.{PassesLossy, LossyGoesOn, lossy_deed_by, brings_new}
+use Rattle.lt_lossy_net.specs.Kept.{IsFixedLossy, HasLossySizes}
+use Rattle.lt_lossy_net.specs.Laws.{StandsWith, KeepsAct, KeepsDel, KeepsStanding, EventsKeep}
+use Rattle.lt_lossy_net.proofs.Acted.{idle_stands, instant_stands, idle_rows, took_row}
+use Rattle.lt_lossy_net.proofs.Arrived.{ended, lost, copied, arrived, own_still, got_copy}
+use Rattle.lt_lossy_net.proofs.Transit.{acted_holds, delivered_holds, lost_holds, ended_holds, bit_tells}
+
+-- bits differ exactly where one is the other's opposite
+differ_is : (a b : Bool) → differ a b ≡ true → a ≡ not b
+differ_is true true h = absurd (cc)
+differ_is true false h = refl
+differ_is false true h = refl
+differ_is false false h = absurd (cc)
+
+module _ {C M : Type 0} (phase : C → Phase) (stands : M → Function → List (List Value) → Type 0) (made left : M → ℕ) (net : LossyNetState C M) (ls next : LossyLists) (row : Option (List Value)) (payload : List Value) (fabric : FabricState)
+    (fixed : IsFixedLossy net.layout net.shape net.timing) (sized : HasLossySizes net) (with : StandsWith phase stands made left net ls fabric) where
+  -- where the lists are the same
+  same_own : next.inputs ≡ ls.inputs → next.got ≡ ls.got → (c k : ℕ) (p : List Value) → c < chan_count net.shape → k < length (ls.inputs (from_of net.shape c)) → HasOwnValues net.layout net.shape ls.inputs ls.got (from_of net.shape c) (to_of net.shape c) k p →
+      HasOwnValues net.layout net.shape next.inputs next.got (from_of net.shape c) (to_of net.shape c) k p
+  same_own inputs got c k p lt h own = subst (λ rs. HasOwnValues net.layout net.shape rs next.got (from_of net.shape c) (to_of net.shape c) k p) (sym inputs)
+      (subst (λ g. HasOwnValues net.layout net.shape ls.inputs g (from_of net.shape c) (to_of net.shape c) k p) (sym got) own)
+
+  acts : (n at : ℕ) (fabric' : FabricState) → PassesLossy net ls (Plain (Act n at)) → n < node_count net.shape → LossyGoesOn net ls next (Plain (Act n at)) row payload → KeepsAct phase stands made left net ls next row fabric fabric' n at
+  acts n at fabric' passes nb goes = record {
+    idle = λ idle w notes cs controls ibs marks posted posts sends.
+        let stood = idle_stands phase stands made left net fixed sized ls next with.standing n at passes nb row payload goes w notes cs controls idle ibs marks posted posts in
+        record {
+          standing = stood;
+          holds = record {
+            transit = (acted_holds phase stands made left net ls next with.standing fixed fabric with.holds
+                (same_own (λ i m. idle_rows (lossy_deed_by net ls (Plain (Act n at))) n row ls.inputs next.inputs idle goes.inputs m i) (λ i c. goes.got c i)) n at passes goes.events posted stood.posted fabric' sends).transit;
+          };
+        };
+    instant = λ executes w notes cs controls input is_row fits room mid ex sends.
+        let stood = instant_stands phase stands made left net fixed sized ls next with.standing n at passes nb row payload goes w notes cs controls executes input is_row fits room mid ex in
+        record {
+          standing = stood;
+          holds = record { transit = (acted_holds phase stands made left net ls next with.standing fixed fabric with.holds (own_on executes input is_row goes) n at passes goes.events net.posted stood.posted fabric' sends).transit };
+        };
+  }
+    where
+      own_on : lossy_deed_by net ls (Plain (Act n at)) ≡ Execute → (input : List Value) → row ≡ Rattle.std.proofs.Common.Some input → LossyGoesOn net ls next (Plain (Act n at)) row payload → (c k : ℕ) (p : List Value) → c < chan_count net.shape → k < length (ls.inputs (from_of net.shape c)) →
+          HasOwnValues net.layout net.shape ls.inputs ls.got (from_of net.shape c) (to_of net.shape c) k p → HasOwnValues net.layout net.shape next.inputs next.got (from_of net.shape c) (to_of net.shape c) k p
+      own_on executes input is_row goes c k p lt h own =
+          let takes = took_row (lossy_deed_by net ls (Plain (Act n at))) n input ls.inputs next.inputs executes (subst (λ r. Rattle.lt_lossy_net.specs.Event.RowsGo n (lossy_deed_by net ls (Plain (Act n at))) r ls.inputs next.inputs) is_row goes.inputs) in
+          let got : next.got ≡ ls.got = λ i c. goes.got c i in
+          subst (λ g. HasOwnValues net.layout net.shape next.inputs g (from_of net.shape c) (to_of net.shape c) k p) (sym got)
+          (own_taken net.layout net.shape ls.inputs next.inputs ls.got n input takes (from_of net.shape c) (to_of net.shape c) k p h own)
+
+  delivers : (ch at : ℕ) (m : Message) (fabric' : FabricState) (b : InboxState) → PassesLossy net ls (Plain (Del ch at)) → ch < chan_count net.shape → LossyGoesOn net ls next (Plain (Del ch at)) row payload → Delivers fabric fabric' ch m →
+      slice_get net.inboxes ch ≡ Rattle.std.proofs.Common.Some b → KeepsDel phase stands made left net ls next payload fabric' ch at m b
+  delivers ch at m fabric' b passes here goes from_fabric at_inbox = record {
+    told = tells;
+    arrival = λ new is. record {
+      standing = arrived phase stands made left net ls next with.standing sized row payload ch at here passes goes fixed new b at_inbox m.bit (opposite new);
+      holds = record {
+        transit = (delivered_holds phase stands made left net ls next with.standing fixed fabric with.holds
+            (λ c k p lt h own. own_still phase stands made left net ls next with.standing sized row payload ch at here passes goes fixed new b at_inbox m.bit (opposite new) (from_of net.shape c) (to_of net.shape c) k p (sender c lt) h own)
+            ch at m fabric' from_fabric passes goes.events).transit;
+      };
+    };
+    copy = λ old. record {
+      standing = copied phase stands made left net ls next with.standing sized row payload ch at here passes goes old;
+      holds = record {
+        transit = (delivered_holds phase stands made left net ls next with.standing fixed fabric with.holds (same_own (λ i n. goes.inputs n i) (λ i c. got_copy _ ls.got next.got ch payload old goes.got c i))
+            ch at m fabric' from_fabric passes goes.events).transit;
+      };
+    };
+  }
+    where
+      sender : (c : ℕ) → c < chan_count net.shape → from_of net.shape c < node_count net.shape
+      sender c lt = let e = fixed.channels.ends c lt in omega (arith, e, fixed.channels.nodes)
+
+      tells : brings_new (lossy_state_of net ls) ch ≡ differ m.bit b.bit
+      tells = bit_tells phase stands made left net ls next with.standing fixed fabric with.holds ch here from_fabric.oldest (fabric'.transit ch) from_fabric.taken
+          ∙ (λ i. differ (sym from_fabric.bit i) (sym (with.standing.plant.bits ch b at_inbox) i))
+
+      opposite : brings_new (lossy_state_of net ls) ch ≡ true → m.bit ≡ not b.bit
+      opposite new = differ_is m.bit b.bit (sym tells ∙ new)
+
+  pub events_keep : KeepsStanding phase stands made left net ls next row payload fabric
+  events_keep = record {
+    activation = acts;
+    delivery = delivers;
+    loss = λ ch at m fabric' passes here goes from_fabric. record {
+      standing = lost phase stands made left net ls next with.standing sized row payload ch at here passes goes;
+      holds = record {
+        transit = (lost_holds phase stands made left net ls next with.standing fixed fabric with.holds (same_own (λ i n. goes.inputs n i) (λ i c. goes.got c i)) ch at m fabric' from_fabric passes goes.events).transit;
+      };
+    };
+    ending = λ at passes goes. record {
+      standing = ended phase stands made left net ls next with.standing sized row payload at passes goes;
+      holds = record { transit = (ended_holds phase stands made left net ls next with.standing fixed fabric with.holds (same_own (λ i n. goes.inputs n i) (λ i c. goes.got c i)) at passes goes.events).transit };
+    };
+  }
+
+pub law-events_keep : {C M : Type 0} (phase : C → Phase) (stands : M → Function → List (List Value) → Type 0) (made left : M → ℕ) → EventsKeep phase stands made left
+law-events_keep phase stands made left net ls next row payload fabric fixed sized with = events_keep phase stands made left net ls next row payload fabric fixed sized with

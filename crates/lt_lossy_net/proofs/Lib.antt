@@ -1,0 +1,9 @@
+pub mod Reached
+pub mod SentAgain
+pub mod Acted
+pub mod Arrived
+pub mod Transit
+pub mod Keeps
+pub mod Fronts
+pub mod Oldest
+pub mod TakenByCode

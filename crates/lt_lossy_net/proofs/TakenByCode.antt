@@ -1,0 +1,229 @@
+-- A delivery and a loss, by what code has.
+use Rattle.std.proofs.Common.{◌≡◌, ◌≢◌, inl, inr, ℕ, ◌+◌, ◌<◌, ◌≤◌, Bool, true, false, not, List, [], ◌∷◌, length, map, set, Option, Some, None, refl, sym, ap, ◌∙◌, subst, arith, length-set, IsTrue}
+use Rattle.std.specs.Prelude.{slice_index_or, if◌then◌else◌}
+use Rattle.std.specs.List.{slice_get}
+use Rattle.std.proofs.lemmas.List.{set-get_or}
+use Rattle.std.proofs.lemmas.Option.{slice_get-get_or}
+use Rattle.lt_base.specs.declared.value.Value.{Value}
+use Rattle.lt_base.specs.Value.{ty_of}
+use Rattle.lt_base.specs.Program.{Function}
+use Rattle.lt_arch.specs.declared.limits.TheConstants.{GREATEST_TIME}
+use Rattle.lt_arch.specs.declared.event.Event.TheVariants.{Del, End}
+use Rattle.lt_arch.specs.declared.shape.Shape.{Shape}
+use Rattle.lt_arch.specs.declared.timing.Timing.{Timing}
+use Rattle.lt_arch.specs.State.{Phase}
+use Rattle.lt_arch.specs.Readers.{chan_count}
+use Rattle.lt_io.specs.FabricState.{FabricState, Delivers, kind_of}
+use Rattle.lt_link.specs.Bits.{differ}
+use Rattle.lt_link.specs.Inbox.{InboxState, no_inbox}
+use Rattle.lt_lossy.specs.declared.event.LossyEvent.{LossyEvent}
+use Rattle.lt_lossy.specs.declared.event.LossyEvent.TheVariants.{Plain, Lose}
+use Rattle.lt_lossy.specs.State.{LossyState}
+use Rattle.lt_lossy.specs.Step.{lossy_offence}
+use Rattle.lt_lossy.specs.Times.{LossyTimes, HasLossyTimes, losses_at, without_oldest, with_losses, with_end, lossy_time_of}
+use Rattle.lt_lossy.proofs.Changes.{loss_clear}
+use Rattle.lt_plant.specs.Own.{AreOwn}
+use Rattle.lt_plant.specs.Plant.{PlantState}
+use Rattle.lt_plant.specs.Payloads.{types_for}
+use Rattle.lt_plant.specs.Room.{HasSizes, HasSpace}
+use Rattle.lt_plant.proofs.SizesStay.{sizes_delivered}
+use Rattle.lt_plant.proofs.Entries.{either_way}
+use Rattle.lt_lossy_net.specs.Net.{LossyNetState, LossyLists, plant_of, net_of, lossy_state_of}
+use Rattle.lt_lossy_net.specs.Event.{PassesLossy, LossyGoesOn, brings_new}
+use Rattle.lt_lossy_net.specs.Kept.{IsFixedLossy, HasLossySizes}
+use Rattle.lt_lossy_net.specs.Laws.{StandsWith, KeepsDel, KeepsStanding}
+use Rattle.lt_lossy_net.specs.Receives.{with_new, ReceivesLossy, DropsOldest}
+use Rattle.lt_lossy_net.specs.Taken.{Held, HasLossyKinds, IsKeptLossy, IsTakenLossy}
+use Rattle.lt_lossy_net.proofs.Fronts.{law-own}
+use Rattle.lt_lossy_net.proofs.Keeps.{law-events_keep}
+use Rattle.lt_lossy_net.proofs.Oldest.{delivery_some, loss_some, some_held}
+use Rattle.lt_lossy_net.proofs.Reached.{balanced}
+
+with_new-is : (b : InboxState) (payload : List Value) (bit : Bool) → differ bit b.bit ≡ true → with_new b payload bit ≡ record b { payload = payload; bit = bit }
+with_new-is b payload bit h = ap (λ x. if x then record b { payload = payload; bit = bit } else b) h
+
+with_new-old : (b : InboxState) (payload : List Value) (bit : Bool) → differ bit b.bit ≡ false → with_new b payload bit ≡ b
+with_new-old b payload bit h = ap (λ x. if x then record b { payload = payload; bit = bit } else b) h
+
+with_new-typed : (b : InboxState) (payload : List Value) (bit x : Bool) → map ty_of payload ≡ map ty_of b.payload → map ty_of (if x then record b { payload = payload; bit = bit } else b).payload ≡ map ty_of b.payload
+with_new-typed b payload bit true h = h
+with_new-typed b payload bit false h = refl
+
+-- where every event of the net's times passes, one passes for all lists for which the net stands
+abbrev pub PassesBy : {C M : Type 0} → LossyNetState C M → LossyEvent → Type 0
+PassesBy net e = (s : Shape) (t : Timing) (allowed : ℕ) (st : LossyState) → HasLossyTimes net.watch s t allowed st → lossy_offence s t allowed st e ≡ None
+
+module _ {C M : Type 0} (phase : C → Phase) (stands : M → Function → List (List Value) → Type 0) (made left : M → ℕ) where
+  pub passes_for : (net : LossyNetState C M) (e : LossyEvent) → lossy_time_of e ≤ GREATEST_TIME → PassesBy net e → (ls : LossyLists) (fabric : FabricState) → StandsWith phase stands made left net ls fabric → PassesLossy net ls e
+  passes_for net e timely passes ls fabric with = record { timely = timely; clear = passes net.shape net.timing net.watch.limit (lossy_state_of net ls) with.standing.times }
+
+  -- the channel has a message in transit
+  pub delivers_some : (net : LossyNetState C M) (ch at : ℕ) (fabric : FabricState) → ch < chan_count net.shape → PassesBy net (Plain (Del ch at)) → Held phase stands made left net fabric → fabric.transit ch ≢ []
+  delivers_some net ch at fabric here passes held =
+      let st = lossy_state_of net held.0 in
+      some_held _ (st.link ch).transit (fabric.transit ch) (held.1.holds.transit ch here) (delivery_some net.shape net.timing net.watch.limit st ch at (passes net.shape net.timing net.watch.limit st held.1.standing.times))
+
+  pub loses_some : (net : LossyNetState C M) (ch at : ℕ) (fabric : FabricState) → ch < chan_count net.shape → PassesBy net (Lose ch at) → Held phase stands made left net fabric → fabric.transit ch ≢ []
+  loses_some net ch at fabric here passes held =
+      let st = lossy_state_of net held.0 in
+      some_held _ (st.link ch).transit (fabric.transit ch) (held.1.holds.transit ch here) (loss_some net.shape net.timing net.watch.limit st ch at (passes net.shape net.timing net.watch.limit st held.1.standing.times))
+
+  -- and has lost fewer in a row than are allowed
+  pub loses_few : (net : LossyNetState C M) (ch at : ℕ) (fabric : FabricState) → ch < chan_count net.shape → PassesBy net (Lose ch at) → Held phase stands made left net fabric → losses_at net.watch ch < net.watch.limit
+  loses_few net ch at fabric here passes held =
+      let s = held.1.standing in
+      let st = lossy_state_of net held.0 in
+      let most = (balanced phase stands made left net held.0 s).ordered.losses ch here in
+      let is = s.times.losses ch here in
+      let other = loss_clear net.shape net.timing net.watch.limit st ch at (passes net.shape net.timing net.watch.limit st s.times) in
+      omega (arith, most, is, other)
+
+  pub loses_few_by : (net now : LossyNetState C M) → net ≡ now → (ch at : ℕ) (fabric : FabricState) → ch < chan_count now.shape → PassesBy now (Lose ch at) → Held phase stands made left now fabric → losses_at net.watch ch < net.watch.limit
+  loses_few_by net now is ch at fabric here passes held = subst (λ (z : LossyNetState C M). losses_at z.watch ch < z.watch.limit) (sym is) (loses_few now ch at fabric here passes held)
+
+  module _ (p : PlantState C M) (t : Timing) (w0 : LossyTimes) (sent : List ℕ) (posted : List (List Value)) (kept : IsKeptLossy (net_of p t w0 sent posted)) (ch at : ℕ) (timely : at ≤ GREATEST_TIME) (here : ch < chan_count p.shape)
+      (old new : FabricState) (kinds : HasLossyKinds (net_of p t w0 sent posted) old) (v : ℕ) (v_is : v ≡ p.values) where
+    abbrev net : LossyNetState C M
+    net = net_of p t w0 sent posted
+
+    space_with : (ibs : List InboxState) → HasSpace (record p { inboxes = ibs; values = v })
+    space_with ibs =
+        let room = kept.space in
+        record {
+          messages = λ c h. subst (λ k. length (types_for p.layout p.shape c) ≤ k) (sym v_is) (room.messages c h);
+          inputs = λ n h. subst (λ k. length (Rattle.lt_place.specs.Layout.part_of p.layout n).feeds ≤ k) (sym v_is) (room.inputs n h);
+          outputs = room.outputs;
+          tracks = room.tracks;
+          cells = room.cells;
+          routes = room.routes;
+          exits = room.exits;
+          ports = room.ports;
+        }
+
+    sized_with : (ibs : List InboxState) → HasSizes (record p { inboxes = ibs }) → (w : LossyTimes) → (losses : ℕ) → w ≡ with_losses (without_oldest w0 ch at) ch losses → HasLossySizes (net_of (record p { inboxes = ibs; values = v }) t w sent posted)
+    sized_with ibs z w losses is =
+        let sized = kept.sized in
+        record {
+          plant = record { machines = z.machines; controllers = z.controllers; executed = z.executed; inboxes = z.inboxes; buffers = z.buffers; inbox_types = z.inbox_types; buffer_types = z.buffer_types };
+          lasts = ap (λ (w : LossyTimes). length w.lasts) is ∙ sized.lasts;
+          queues = ap (λ (w : LossyTimes). length w.queues) is ∙ length-set w0.queues ch _ ∙ sized.queues;
+          losses = ap (λ (w : LossyTimes). length w.losses) is ∙ length-set w0.losses ch _ ∙ sized.losses;
+          sent = sized.sent;
+          posted = sized.posted;
+          posted_types = sized.posted_types;
+        }
+
+    -- a delivery
+    module _ (passes : PassesBy net (Plain (Del ch at))) (ibs : List InboxState) (received : ReceivesLossy p.inboxes ibs old new ch) (w : LossyTimes) (watch : w ≡ with_losses (without_oldest w0 ch at) ch 0) (row : Option (List Value)) where
+      b : InboxState
+      b = slice_index_or p.inboxes ch no_inbox
+
+      at_inbox : slice_get p.inboxes ch ≡ Some (slice_index_or p.inboxes ch no_inbox)
+      at_inbox = slice_get-get_or p.inboxes ch no_inbox (omega (arith, here, kept.sized.plant.inboxes))
+
+      abbrev payload : List Value
+      payload = received.message.payload
+
+      typed : map ty_of (with_new (slice_index_or p.inboxes ch no_inbox) received.message.payload received.message.bit).payload ≡ types_for p.layout p.shape ch
+      typed =
+          let types = kept.sized.plant.inbox_types ch here in
+          with_new-typed (slice_index_or p.inboxes ch no_inbox) received.message.payload received.message.bit (differ received.message.bit (slice_index_or p.inboxes ch no_inbox).bit) (received.delivers.typed ∙ kinds.each ch here ∙ sym types) ∙ types
+
+      sizes : HasSizes (record p { inboxes = ibs })
+      sizes = subst (λ ibs. HasSizes (record p { inboxes = ibs })) (sym received.inboxes) (sizes_delivered p kept.sized.plant ch here (with_new (slice_index_or p.inboxes ch no_inbox) received.message.payload received.message.bit) typed)
+
+      keeps : (ls next : LossyLists) → StandsWith phase stands made left net ls old → LossyGoesOn net ls next (Plain (Del ch at)) row payload → KeepsDel phase stands made left net ls next payload new ch at received.message (slice_index_or p.inboxes ch no_inbox)
+      keeps ls next with goes = (law-events_keep phase stands made left net ls next row payload old kept.fixed kept.sized with).delivery ch at received.message new (slice_index_or p.inboxes ch no_inbox)
+          (passes_for net (Plain (Del ch at)) timely passes ls old with) here goes received.delivers at_inbox
+
+      goes_on : (ls next : LossyLists) → StandsWith phase stands made left net ls old → LossyGoesOn net ls next (Plain (Del ch at)) row payload → StandsWith phase stands made left (net_of (record p { inboxes = ibs; values = v }) t w sent posted) next new
+      goes_on ls next with goes = elim (either_way (brings_new (lossy_state_of net ls) ch)) [
+        | inl yes_new ↦
+            let k = keeps ls next with goes in
+            let boxes : ibs ≡ set p.inboxes ch (record (slice_index_or p.inboxes ch no_inbox) { payload = received.message.payload; bit = received.message.bit }) =
+            received.inboxes ∙ ap (set p.inboxes ch) (with_new-is (slice_index_or p.inboxes ch no_inbox) received.message.payload received.message.bit (sym k.told ∙ yes_new)) in
+            let path : net_of (record p { inboxes = ibs; values = v }) t w sent posted ≡ net_of (record p { inboxes = set p.inboxes ch (record (slice_index_or p.inboxes ch no_inbox) { payload = received.message.payload; bit = received.message.bit }) }) t (with_losses (without_oldest w0 ch at) ch 0) sent posted =
+            λ i. net_of (record p { inboxes = boxes i; values = v_is i }) t (watch i) sent posted in
+            subst (λ z. StandsWith phase stands made left z next new) (sym path) (k.arrival yes_new refl)
+        | inr no_new ↦
+            let k = keeps ls next with goes in
+            let boxes : ibs ≡ p.inboxes =
+            received.inboxes ∙ ap (set p.inboxes ch) (with_new-old (slice_index_or p.inboxes ch no_inbox) received.message.payload received.message.bit (sym k.told ∙ no_new)) ∙ set-get_or p.inboxes ch no_inbox in
+            let path : net_of (record p { inboxes = ibs; values = v }) t w sent posted ≡ net_of p t (with_losses (without_oldest w0 ch at) ch 0) sent posted =
+            λ i. net_of (record p { inboxes = boxes i; values = v_is i }) t (watch i) sent posted in
+            subst (λ z. StandsWith phase stands made left z next new) (sym path) (k.copy no_new)
+      ]
+
+      pub delivery_taken : IsTakenLossy phase stands made left net (net_of (record p { inboxes = ibs; values = v }) t w sent posted) (Plain (Del ch at)) row old new
+      delivery_taken = record {
+        payload = payload;
+        goes = goes_on;
+        own = λ faithful ls next with goes own. law-own phase stands made left net ls next row payload old (Plain (Del ch at)) kept.fixed with own here goes (received.delivers.oldest, new.transit ch, received.delivers.taken, received.delivers.values faithful);
+        kept = record { fixed = kept.fixed; sized = sized_with ibs sizes w 0 watch; space = space_with ibs };
+        static = record { layout = refl; shape = refl; timing = refl; rows = refl; limit = ap (λ (w : LossyTimes). w.limit) watch };
+        kinds = received.delivers.kinds;
+      }
+
+    -- a loss
+    module _ (passes : PassesBy net (Lose ch at)) (dropped : DropsOldest old new ch) (w : LossyTimes) (watch : w ≡ with_losses (without_oldest w0 ch at) ch (losses_at w0 ch + 1)) (row : Option (List Value)) where
+      lost_on : (ls next : LossyLists) → StandsWith phase stands made left net ls old → LossyGoesOn net ls next (Lose ch at) row [] → StandsWith phase stands made left (net_of (record p { values = v }) t w sent posted) next new
+      lost_on ls next with goes =
+          let path : net_of (record p { values = v }) t w sent posted ≡ net_of p t (with_losses (without_oldest w0 ch at) ch (losses_at w0 ch + 1)) sent posted = λ i. net_of (record p { values = v_is i }) t (watch i) sent posted in
+          subst (λ z. StandsWith phase stands made left z next new) (sym path)
+          ((law-events_keep phase stands made left net ls next row [] old kept.fixed kept.sized with).loss ch at dropped.message new (passes_for net (Lose ch at) timely passes ls old with) here goes dropped.delivers)
+
+      pub loss_taken : IsTakenLossy phase stands made left net (net_of (record p { values = v }) t w sent posted) (Lose ch at) row old new
+      loss_taken = record {
+        payload = [];
+        goes = lost_on;
+        own = λ faithful ls next with goes own. law-own phase stands made left net ls next row [] old (Lose ch at) kept.fixed with own here goes tt;
+        kept = record { fixed = kept.fixed; sized = sized_with p.inboxes kept.sized.plant w (losses_at w0 ch + 1) watch; space = space_with p.inboxes };
+        static = record { layout = refl; shape = refl; timing = refl; rows = refl; limit = ap (λ (w : LossyTimes). w.limit) watch };
+        kinds = dropped.delivers.kinds;
+      }
+
+  -- an end
+  pub end_taken : (net now : LossyNetState C M) → net ≡ now → IsKeptLossy now → (at : ℕ) → at ≤ GREATEST_TIME → PassesBy now (Plain (End at)) → (w : LossyTimes) → w ≡ with_end net.watch at → (row : Option (List Value)) (fabric : FabricState) →
+      IsTakenLossy phase stands made left now (record net { watch = w }) (Plain (End at)) row fabric fabric
+  end_taken net now is kept at timely passes w watch row fabric =
+      subst (λ (z : LossyNetState C M). IsKeptLossy z → PassesBy z (Plain (End at)) → IsTakenLossy phase stands made left z (record net { watch = w }) (Plain (End at)) row fabric fabric) is (λ kept passes.
+      record {
+        payload = [];
+        goes = λ ls next with goes. subst (λ w. StandsWith phase stands made left (record net { watch = w }) next fabric) (sym watch)
+            ((law-events_keep phase stands made left net ls next row [] fabric kept.fixed kept.sized with).ending at (passes_for net (Plain (End at)) timely passes ls fabric with) goes);
+        own = λ faithful ls next with goes own. law-own phase stands made left net ls next row [] fabric (Plain (End at)) kept.fixed with own tt goes tt;
+        kept = record {
+          fixed = kept.fixed;
+          sized =
+              let z = kept.sized in
+              record {
+                plant = z.plant;
+                lasts = ap (λ (w : LossyTimes). length w.lasts) watch ∙ z.lasts;
+                queues = ap (λ (w : LossyTimes). length w.queues) watch ∙ z.queues;
+                losses = ap (λ (w : LossyTimes). length w.losses) watch ∙ z.losses;
+                sent = z.sent;
+                posted = z.posted;
+                posted_types = z.posted_types;
+              };
+          space = kept.space;
+        };
+        static = record { layout = refl; shape = refl; timing = refl; rows = refl; limit = ap (λ (w : LossyTimes). w.limit) watch };
+        kinds = refl;
+      }) kept passes
+
+  -- the same, by the parts that code has: a bench, and the net that it is in
+  module _ (p q : PlantState C M) (t : Timing) (w0 : LossyTimes) (sent : List ℕ) (posted : List (List Value)) (now : LossyNetState C M) (bench : p ≡ q) (is : net_of q t w0 sent posted ≡ now) where
+    pub net_is : net_of p t w0 sent posted ≡ now
+    net_is = ap (λ b. net_of b t w0 sent posted) bench ∙ is
+
+    pub delivered_taken : IsKeptLossy now → (ch at : ℕ) → at ≤ GREATEST_TIME → ch < chan_count now.shape → (old new : FabricState) → HasLossyKinds now old → PassesBy now (Plain (Del ch at)) → (ibs : List InboxState) → ReceivesLossy p.inboxes ibs old new ch →
+        (w : LossyTimes) → w ≡ with_losses (without_oldest w0 ch at) ch 0 → (v : ℕ) → v ≡ p.values → (row : Option (List Value)) → IsTakenLossy phase stands made left now (net_of (record p { inboxes = ibs; values = v }) t w sent posted) (Plain (Del ch at)) row old new
+    delivered_taken kept ch at timely here old new kinds passes ibs received w watch v v_is row =
+        subst (λ (z : LossyNetState C M). IsKeptLossy z → ch < chan_count z.shape → HasLossyKinds z old → PassesBy z (Plain (Del ch at)) → IsTakenLossy phase stands made left z (net_of (record p { inboxes = ibs; values = v }) t w sent posted) (Plain (Del ch at)) row old new) net_is
+        (λ kept here kinds passes. delivery_taken p t w0 sent posted kept ch at timely here old new kinds v v_is passes ibs received w watch row) kept here kinds passes
+
+    pub lost_taken : IsKeptLossy now → (ch at : ℕ) → at ≤ GREATEST_TIME → ch < chan_count now.shape → (old new : FabricState) → HasLossyKinds now old → PassesBy now (Lose ch at) → DropsOldest old new ch →
+        (w : LossyTimes) → w ≡ with_losses (without_oldest w0 ch at) ch (losses_at w0 ch + 1) → (v : ℕ) → v ≡ p.values → (row : Option (List Value)) → IsTakenLossy phase stands made left now (net_of (record p { values = v }) t w sent posted) (Lose ch at) row old new
+    lost_taken kept ch at timely here old new kinds passes dropped w watch v v_is row =
+        subst (λ (z : LossyNetState C M). IsKeptLossy z → ch < chan_count z.shape → HasLossyKinds z old → PassesBy z (Lose ch at) → IsTakenLossy phase stands made left z (net_of (record p { values = v }) t w sent posted) (Lose ch at) row old new) net_is
+        (λ kept here kinds passes. loss_taken p t w0 sent posted kept ch at timely here old new kinds v v_is passes dropped w watch row) kept here kinds passes
