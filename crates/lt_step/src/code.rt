@@ -1,10 +1,14 @@
 // Step code.
 
-ghost use Rattle.std.specs.Prelude.{◌≡◌, ◌<◌, ◌^◌};
+ghost use Rattle.std.specs.Prelude.{◌≡◌, ◌<◌, ◌-◌, ◌^◌, min};
+ghost use Rattle.std.specs.List.{sum_by};
+ghost use Rattle.lt_base.specs.Sizes.{cut};
+ghost use Rattle.lt_step.specs.Size.{let_size};
 ghost use Rattle.lt_step.specs.Operand.{expression};
 ghost use Rattle.lt_step.specs.Code.{GoodCode};
 
 use crate::operand::Operand;
+use crate::size::lets_size;
 use lt_base::{Clock, List, Value};
 use std::marker::Model;
 
@@ -93,6 +97,13 @@ impl Code {
             slots,
             size,
         }
+    }
+
+    /// The number of slot reads and writes that the lets can make, cut at the greatest number.
+    pub fn lets_size(&self) -> u64
+        ensures { result ≡ cut (sum_by let_size self.now.lets) }
+    {
+        lets_size(self.lets.as_slice())
     }
 
     /// What the type keeps, for callers.
