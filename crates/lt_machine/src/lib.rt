@@ -1,10 +1,14 @@
 //! Machines, which run a function one instant at a time.
 #![tactic(auto)]
 
+mod checking;
 mod evaluation;
 mod import;
+mod instruction;
 mod machine;
 mod operands;
+mod planning;
+mod preparing;
 mod step_machine;
 mod stepping;
 mod table_machine;
