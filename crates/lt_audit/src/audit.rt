@@ -91,7 +91,8 @@ impl Audit {
     pub fn judge<L: Ledger>(&self, e: &Event, steps: &mut Steps<L>) -> Option<Offence>
         requires kept { IsKept self.now }
         requires event { IsEventOf self.now.shape e.now }
-        ensures { (s : OfShape) (t : OfTiming) (st : State) → HasTimes self.now.watch s t st → result ≡ offence_of s t st e.now }
+        ensures offence { (s : OfShape) (t : OfTiming) (st : State) → HasTimes self.now.watch s t st → result ≡ offence_of s t st e.now }
+        ensures cost { steps.new ≤ steps.old + 4 }
     {
         self.watch.judge(e, steps)
     }

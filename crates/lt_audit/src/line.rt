@@ -1,5 +1,5 @@
 // A channel and what is in transit on it.
-ghost use Rattle.std.specs.Prelude.{◌≡◌, ◌<◌, ◌≤◌, ◌+◌, ◌^◌, ◌++◌, ◌∷◌, [], length, OnOk};
+ghost use Rattle.std.specs.Prelude.{◌≡◌, ◌<◌, ◌≤◌, ◌+◌, ◌^◌, ◌++◌, ◌∷◌, [], length, OnOk, OnErr};
 ghost use Rattle.lt_arch.specs.Step.{with_delivered};
 ghost use Rattle.lt_audit.specs.Audit.{kept_of, oldest};
 
@@ -57,6 +57,7 @@ impl Line {
         ensures same { kept_of self.new ≡ kept_of self.old }
         ensures grows { self.old.room ≤ self.new.room }
         ensures room { OnOk result (0 < self.new.room) }
+        ensures full { OnErr result (self.old.room ≡ 0) }
     {
         Ok(self.transit.reserve(1)?)
     }

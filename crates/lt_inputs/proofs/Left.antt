@@ -1,11 +1,15 @@
 -- The records that are left after one is read.
 use Rattle.std.proofs.Common.{◌≡◌, ◌≢◌, ℕ, zero, suc, ◌+◌, ◌-◌, ◌≤◌, ◌<◌, Bool, true, false, if◌then◌else◌, ◌==◌, ◌||◌, List, [], ◌∷◌, ◌++◌, length, Option, Some, None, refl, sym, ap, subst, ◌∙◌, arith, add-one}
-use Rattle.std.specs.Prelude.{IfSome, MatchOption, unwrap_or}
+use Rattle.std.specs.Prelude.{IfSome, IfOk, OnOk, MatchOption, unwrap_or, Result, Ok, Err}
 use Rattle.std.proofs.lemmas.Bool.{false≢true}
 use Rattle.csv.specs.Machine.{Read, next_record, step, is_end, ends_at_end, fields_after, field_after, in_field, start_field, start_record}
 use Rattle.std.proofs.Common.{Bor, inl}
-use Rattle.csv.specs.Reading.{NextIs, ReadsNext, ReadRecord, Reached, TookRecord, default_config, records_from, records_next, reader_state, is_flexible, took_first, expected_len}
+use Rattle.csv.specs.Reading.{Ready, NextIs, ReadsNext, ReadRecord, Reached, TookRecord, NotLengths, ExplainsRead, default_config, records_from, records_next, reader_state, is_flexible, took_first, expected_len}
 use Rattle.csv.specs.declared.reader.Reader.{Reader}
+use Rattle.csv.specs.declared.error.ErrorKind.{ErrorKind}
+use Rattle.csv.specs.declared.error.ErrorKind.TheVariants as kind
+use Rattle.lt_base.specs.declared.memory.Memory.{Memory}
+use Rattle.lt_inputs.specs.declared.records.Next.{Next}
 use Rattle.csv.proofs.ReadFacts.{rows-end, rows-more}
 use Rattle.csv.specs.declared.parser.State.{State}
 use Rattle.csv.specs.declared.parser.State.TheVariants as st
@@ -189,3 +193,18 @@ module _ (old new : Reader (Bor (List ℕ))) (width : Option ℕ) (fields : List
         ap (rest_from (reader_state old)) source ∙ more,
         subst W (sym was ∙ s.expected) (λ h. differs (sym h ∙ ap length (sym f_is) ∙ len)),
       )
+
+  -- an error of lengths tells of a record of another length
+  other_at : (k : ErrorKind) → ¬ NotLengths k → Stands old width → ExplainsRead (λ (s : Bor (List ℕ)). Some s.now) old new false k → Advances old width OtherLength new fields
+  other_at (kind.UnequalLengths pos e n) lengths s (flexible, was, differs, f, took, len) = other e n s was differs f took len
+  other_at (kind.Io e) lengths s why = absurd (lengths tt)
+  other_at (kind.Utf8 pos e) lengths s why = absurd (lengths tt)
+  other_at kind.OutOfMemory lengths s why = absurd (lengths tt)
+  other_at (kind.Serialize text) lengths s why = absurd (lengths tt)
+  other_at (kind.Deserialize pos e) lengths s why = absurd (lengths tt)
+
+pub refused : (old new : Reader (Bor (List ℕ))) (fields : List (List ℕ)) (k : ErrorKind) (r : Result Next Memory) → IfOk r (λ next. next ≡ OtherLength) → OnOk r (¬ NotLengths k)
+    → (Ready old → ExplainsRead (λ (s : Bor (List ℕ)). Some s.now) old new false k)
+    → IfOk r (λ next. (width : Option ℕ) → Stands old width → Advances old width next new fields)
+refused old new fields k (Ok next) is lengths why = λ width s. subst (λ x. Advances old width x new fields) (sym is) (other_at old new width fields k lengths s (why s.ready))
+refused old new fields k (Err e) is lengths why = tt

@@ -1,12 +1,12 @@
 // The records of a CSV text, one at a time.
-ghost use Rattle.std.specs.Prelude.{◌≡◌, ◌<◌, ℕ, [], Option, None, IfOk, length, slice_index_or};
+ghost use Rattle.std.specs.Prelude.{◌≡◌, ◌<◌, ℕ, [], Option, None, IfOk, OnOk, OnErr, length, slice_index_or};
 ghost use Rattle.std.specs.Str.{is_utf8};
-ghost use Rattle.csv.specs.Reading.{records, default_config, strip_bom};
+ghost use Rattle.csv.specs.Reading.{records, default_config, strip_bom, error_kind, NotLengths};
 ghost use Rattle.csv.specs.Records.{fields_of};
 ghost use Rattle.lt_inputs.specs.Inputs.{is_text};
 ghost use Rattle.lt_inputs.specs.Records.{rest_of, Stands, Advances};
 
-use csv::{ByteRecord, ErrorKind, Reader, ReaderBuilder};
+use csv::{ByteRecord, Error, ErrorKind, Reader, ReaderBuilder};
 use lt_base::Memory;
 use std::alloc::Global;
 
@@ -38,10 +38,19 @@ pub fn advance<'a>(reader: &mut Reader<&'a [u8]>, row: &mut ByteRecord) -> Resul
     match reader.read_byte_record(row) {
         Ok(true) => Ok(Next::Found),
         Ok(false) => Ok(Next::End),
-        Err(e) => match e.kind() {
-            ErrorKind::UnequalLengths { .. } => Ok(Next::OtherLength),
-            _ => Err(Memory),
-        },
+        Err(error) => refused(&error),
+    }
+}
+
+// What an error says of a record: it has another length, or no memory was found.
+fn refused(error: &Error) -> Result<Next, Memory>
+    ensures other { IfOk result (λ next. next ≡ Next.OtherLength) }
+    ensures lengths { OnOk result (¬ NotLengths (error_kind error.now)) }
+    ensures memory { OnErr result (NotLengths (error_kind error.now)) }
+{
+    match error.kind() {
+        ErrorKind::UnequalLengths { .. } => Ok(Next::OtherLength),
+        _ => Err(Memory),
     }
 }
 

@@ -1,5 +1,5 @@
 // The part of a file that is not written yet.
-ghost use Rattle.std.specs.Prelude.{◌≡◌, ◌<◌, ◌-◌, ◌^◌, ◌++◌, ◌∷◌, [], IsTrue, IfOk, OnOk};
+ghost use Rattle.std.specs.Prelude.{◌≡◌, ◌<◌, ◌-◌, ◌^◌, ◌++◌, ◌∷◌, [], IsTrue, IfOk, OnOk, length};
 ghost use Rattle.lt_arch.specs.Schedule.{IsEventOf};
 ghost use Rattle.lt_rows.specs.Texts.{event_text};
 ghost use Rattle.lt_io.specs.SinkState.{KeepsSink};
@@ -71,6 +71,7 @@ pub fn put_row<O: Sink>(
     requires event { IsEventOf shape.now e.now }
     requires count { (O.state sink.old).faults < 2 ^ 64 - 1 }
     ensures written { WritesPart (event_text shape.now e.now ++ 10 ∷ []) page.old page.new (O.state sink.old) (O.state sink.new) result }
+    ensures short { OnOk result (length page.new < 65280) }
     ensures keeps { KeepsSink (O.state sink.old) (O.state sink.new) }
     ensures sound { IsTrue (O.state sink.old).sound → (O.state sink.new).faults ≡ (O.state sink.old).faults }
 {

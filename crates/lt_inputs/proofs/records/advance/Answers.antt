@@ -1,5 +1,5 @@
 use Rattle.csv.specs.Records.{fields_of}
-use Rattle.lt_inputs.proofs.Left.{found, ended, other}
+use Rattle.lt_inputs.proofs.Left.{found, ended, refused}
 use Rattle.lt_inputs.proofs.records.advance.Goals as goal
 
 pub returns-in-Ok-true : goal.returns-in-Ok-true
@@ -14,7 +14,5 @@ returns-in-Ok-false c = λ width stands.
     let r = rw c.in-Ok-false.field-0-test at (h.reads stands.trim stands.ready) in
     ended c.args.reader.now c.read_byte_record.new.self width (fields_of c.read_byte_record.new.row) stands r
 
-pub returns-in-UnequalLengths : goal.returns-in-UnequalLengths
-returns-in-UnequalLengths c = λ width stands.
-    let (flexible, was, differs, f, took, len) = rw (← c.kind.ensures, c.in-UnequalLengths.is) at (c.in-Err.ensures.why stands.ready) in
-    other c.args.reader.now c.read_byte_record.new.self width (fields_of c.read_byte_record.new.row) _ _ stands was differs f took len
+pub returns-in-Err : goal.returns-in-Err
+returns-in-Err c = refused c.args.reader.now c.read_byte_record.new.self (fields_of c.read_byte_record.new.row) _ c.refused.result c.refused.ensures.other c.refused.ensures.lengths c.in-Err.ensures.why

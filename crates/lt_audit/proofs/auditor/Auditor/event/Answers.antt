@@ -19,14 +19,14 @@ returns-in-Some-clause-judges g c s t rows es stands =
     let st = reached s t rows es in
     let watch = ap (λ (a : AuditState). a.watch) c.self.view_is in
     let times = subst (λ (w : Times). HasTimes w s t (oldest_only st)) (sym watch) stands.state.times in
-    sym (offence_same s t st c.args.e) ∙ sym (c.judge.ensures s t (oldest_only st) times) ∙ c.in-Some.is
+    sym (offence_same s t st c.args.e) ∙ sym (c.judge.ensures.offence s t (oldest_only st) times) ∙ c.in-Some.is
 
 pub returns-clause-judges : goal.returns-clause-judges
 returns-clause-judges g c s t rows es stands =
     let st = reached s t rows es in
     let watch = ap (λ (a : AuditState). a.watch) c.self.view_is in
     let times = subst (λ (w : Times). HasTimes w s t (oldest_only st)) (sym watch) stands.state.times in
-    let none : offence_of s t st c.args.e ≡ None = sym (offence_same s t st c.args.e) ∙ sym (c.judge.ensures s t (oldest_only st) times) ∙ c.in_default.is in
+    let none : offence_of s t st c.args.e ≡ None = sym (offence_same s t st c.args.e) ∙ sym (c.judge.ensures.offence s t (oldest_only st) times) ∙ c.in_default.is in
     elim c.match-take.branch [
       | in-Ok w ↦ subst (λ (r : Result (Unit {0}) AuditFault). Judges (offence_of s t st c.args.e) r) (sym w.result-is) none
       | in-Err w ↦ subst (λ (r : Result (Unit {0}) AuditFault). Judges (offence_of s t st c.args.e) r) (sym w.result-is) none
@@ -41,7 +41,7 @@ returns-clause-takes g c =
           let st = reached s t rows es in
           let watch = ap (λ (a : AuditState). a.watch) c.self.view_is in
           let times = subst (λ (v : Times). HasTimes v s t (oldest_only st)) (sym watch) stands.state.times in
-          let none : offence_of s t st c.args.e ≡ None = sym (offence_same s t st c.args.e) ∙ sym (c.judge.ensures s t (oldest_only st) times) ∙ c.in_default.is in
+          let none : offence_of s t st c.args.e ≡ None = sym (offence_same s t st c.args.e) ∙ sym (c.judge.ensures.offence s t (oldest_only st) times) ∙ c.in_default.is in
           let here = subst (λ (a : AuditState). Stands a s t rows es) (sym c.self.view_is) stands in
           stands_on c.self.inside.audit c.take.new.self s t rows es c.args.e c.self.invariant here (subst (λ (a : AuditState). IsPlacedIn a.shape c.args.e) (sym c.self.view_is) c.requires.placed) none w.in-Ok.ensures.takes w.in-Ok.ensures.number)
       | in-Err w ↦
