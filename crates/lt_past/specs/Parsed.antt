@@ -47,6 +47,12 @@ Steps (Ok p) r = r ≡ Ok (state_of p)
 Steps (Err (or.Fault k)) r = r ≡ Err k
 Steps (Err or.Memory) r = Unit {0}
 
+-- the answer never is that memory ran out
+abbrev pub NeedsNoMemory : {T E : Type 0} → Result T (Or E) → Type 0
+NeedsNoMemory (Ok x) = Unit {0}
+NeedsNoMemory (Err (or.Fault k)) = Unit {0}
+NeedsNoMemory (Err or.Memory) = ⊥
+
 -- the formula of the whole text, where it may end
 abbrev pub Finds : Result (Option Obs) Memory → Option Formula → Type 0
 Finds (Ok None) r = r ≡ None

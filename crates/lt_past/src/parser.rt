@@ -3,7 +3,7 @@ ghost use Rattle.std.specs.Prelude.{◌≡◌, ◌≤◌, ◌<◌, ◌+◌, ◌^
 ghost use Rattle.lt_past.specs.Levels as levels;
 ghost use Rattle.lt_past.specs.Machine as machine;
 ghost use Rattle.lt_past.specs.Views.{formula_of};
-ghost use Rattle.lt_past.specs.Parsed.{Finds, Steps, frame_of, operand_of, stack_of, state_of, top_ends};
+ghost use Rattle.lt_past.specs.Parsed.{Finds, NeedsNoMemory, Steps, frame_of, operand_of, stack_of, state_of, top_ends};
 
 use crate::words::{Infix, Prefix};
 use crate::{Obs, ObserverKind};
@@ -167,7 +167,8 @@ fn close(alloc: Global, l: u8, frames: &mut Vec<Frame>, first: Operand) -> Resul
 
 /// A form is begun, and an operand must come.
 fn waiting(frames: Vec<Frame>) -> Result<Parser, Or<ObserverKind>>
-    ensures { Steps result (machine.fitting LIMIT (stack_of frames.items)) }
+    ensures steps { Steps result (machine.fitting LIMIT (stack_of frames.items)) }
+    ensures memory { NeedsNoMemory result }
 {
     if fits(&frames) {
         Ok(Parser {
@@ -181,7 +182,8 @@ fn waiting(frames: Vec<Frame>) -> Result<Parser, Or<ObserverKind>>
 
 /// An operand that is whole by itself.
 pub fn leaf(parser: Parser, formula: Obs) -> Result<Parser, Or<ObserverKind>>
-    ensures { Steps result (machine.leaf (formula_of formula) (state_of parser).frames (state_of parser).whole) }
+    ensures steps { Steps result (machine.leaf (formula_of formula) (state_of parser).frames (state_of parser).whole) }
+    ensures memory { NeedsNoMemory result }
 {
     if parser.whole.is_some() {
         return Err(Or::Fault(ObserverKind::Unexpected));
@@ -223,7 +225,8 @@ pub fn join(alloc: Global, parser: Parser, word: Infix) -> Result<Parser, Or<Obs
 /// What ) makes of the newest form and its operand.
 fn shut_on(frames: Vec<Frame>, b: Operand) -> Result<Parser, Or<ObserverKind>>
     requires { b.height + 1 < 2 ^ 32 }
-    ensures { Steps result (machine.shut_on (stack_of frames.items) (operand_of b)) }
+    ensures steps { Steps result (machine.shut_on (stack_of frames.items) (operand_of b)) }
+    ensures memory { NeedsNoMemory result }
 {
     let mut frames = frames;
     match pop(&mut frames) {

@@ -3,7 +3,7 @@ ghost use Rattle.std.specs.Prelude.{◌≡◌, ◌<◌, ◌^◌, List, ℕ, leng
 ghost use Rattle.lt_past.specs.Tokens as text;
 ghost use Rattle.lt_past.specs.Machine as machine;
 ghost use Rattle.lt_past.specs.Naming.{number_of};
-ghost use Rattle.lt_past.specs.Parsed.{Parses, Steps, StepsAt, EndsAt, state_of};
+ghost use Rattle.lt_past.specs.Parsed.{NeedsNoMemory, Parses, Steps, StepsAt, EndsAt, state_of};
 
 use crate::names::number_of;
 use crate::parser::{Frame, LIMIT, Parser, begin, end, join, leaf, shut};
@@ -21,7 +21,8 @@ fn step_name(
     name: &[u8],
 ) -> Result<Parser, Or<ObserverKind>>
     requires { length outs.now < 2 ^ 32 }
-    ensures { Steps result (machine.step LIMIT (number_of main.now outs.now) (state_of parser) (text.name name.now)) }
+    ensures steps { Steps result (machine.step LIMIT (number_of main.now outs.now) (state_of parser) (text.name name.now)) }
+    ensures memory { NeedsNoMemory result }
 {
     leaf(parser, Obs::Out(number_of(main, outs, name)))
 }

@@ -13,7 +13,7 @@ returns-in-Err c =
     let e = found c.read_front.result (front.Name n) here c.text.rest.now c.skip-here.ensures.value c.read_front.ensures.value c.in-Name.is in
     let h : length here ≤ length c.args.bytes.now = omega (arith, c.skip-here.ensures.length, c.text.invariant.within) in
     refused 200 (omega arith) (number_of c.args.main.now c.args.outs.now) c.args.bytes.now c.text.rest.now (state_of c.text.parser) c.text.invariant.so_far (length c.args.bytes.now - length here) (name (take n here)) (drop n here) c.step_name.result c.in-Err.e e
-    (place c.args.bytes.now c.text.rest.now here c.skip-here.ensures.value h) c.step_name.ensures c.in-Err.ensures
+    (place c.args.bytes.now c.text.rest.now here c.skip-here.ensures.value h) c.step_name.ensures.steps c.in-Err.ensures
 
 pub text-preserved-in-Name : goal.text-preserved-in-Name
 text-preserved-in-Name c =
@@ -22,7 +22,7 @@ text-preserved-in-Name c =
     let number = number_of c.args.main.now c.args.outs.now in
     let e = found c.read_front.result (front.Name n) here c.text.rest.now c.skip-here.ensures.value c.read_front.ensures.value c.in-Name.is in
     let a = all_of n here in
-    let g = made 200 (omega arith) number c.args.bytes.now c.text.rest.now (state_of c.text.parser) c.text.invariant.so_far (length c.args.bytes.now - length here) (name (take n here)) (drop n here) c.step_name.result c.in-Ok.next e c.step_name.ensures c.in-Ok.ensures in
+    let g = made 200 (omega arith) number c.args.bytes.now c.text.rest.now (state_of c.text.parser) c.text.invariant.so_far (length c.args.bytes.now - length here) (name (take n here)) (drop n here) c.step_name.result c.in-Ok.next e c.step_name.ensures.steps c.in-Ok.ensures in
     record {
       within = omega (arith, ap length a, shorter n here, c.skip-here.ensures.length, c.text.invariant.within);
       so_far = subst (λ z. SoFar 200 number c.args.bytes.now z (state_of c.in-Ok.next)) (sym a) g;
