@@ -1,18 +1,16 @@
 -- The node that leads, and the countdowns of those that follow it.
-use Rattle.std.proofs.Common.{◌≡◌, ◌≢◌, ℕ, ◌<◌, ◌≤◌, Bool, true, false, not, ◌&&◌, ◌||◌, if◌then◌else◌, nat_lt, List, [], length, map, Option, Some, None, AllPairs, get_or, refl, sym, ap, ◌∙◌, subst, arith, ltb-true, lt-ltb}
-use Rattle.std.specs.Prelude.{option_and_then, position}
+use Rattle.std.proofs.Common.{◌≡◌, ◌≢◌, ℕ, ◌<◌, ◌≤◌, Bool, true, false, not, ◌&&◌, if◌then◌else◌, nat_lt, List, [], length, map, Option, Some, None, AllPairs, get_or, refl, sym, ap, ◌∙◌, subst, arith, ltb-true, lt-ltb}
+use Rattle.std.specs.Prelude.{option_and_then}
 use Rattle.std.specs.List.{position_or_len}
 use Rattle.std.specs.Option.{option_map_or, unwrap_or}
 use Rattle.std.specs.Str.{bytes_eq}
-use Rattle.std.proofs.lemmas.Bool.{cases_Bool, or_right, false_from_ne_true}
+use Rattle.std.proofs.lemmas.Bool.{or_right, false_from_ne_true}
 use Rattle.std.proofs.lemmas.List.{get_or-map, length-map}
 use Rattle.std.proofs.lemmas.List.Sums.{position_or_len_is}
 use Rattle.std.proofs.lemmas.Slice.Eq.{bytes_eq-Decides}
 use Rattle.toml.specs.Data.{Members, as_str}
 use Rattle.lt_arch.specs.declared.limits.TheConstants.{GREATEST_COUNTDOWN}
 use Rattle.lt_arch.specs.declared.timing.Timing.{Timing}
-use Rattle.lt_arch.specs.declared.times.NodeTime.{NodeTime}
-use Rattle.lt_arch.specs.declared.timing.Protocol.{Protocol}
 use Rattle.lt_arch.specs.declared.timing.Protocol.TheVariants.{BackPressure, TimeBased}
 use Rattle.lt_arch.specs.Readers.{no_time, time_at}
 use Rattle.lt_arch.specs.Readers as reader
@@ -20,12 +18,14 @@ use Rattle.lt_place.specs.declared.named.NamedNode.{NamedNode}
 use Rattle.lt_place.specs.Names.{names_of}
 use Rattle.lt_config.specs.declared.keys.Key.TheVariants.{Protocol as ProtocolKey}
 use Rattle.lt_config.specs.declared.pace.Pace.{Pace}
-use Rattle.lt_config.specs.declared.pace.Pace.TheVariants.{Plain, Leader}
+use Rattle.lt_config.specs.declared.pace.Pace.TheVariants.{Plain, Lossy, Leader}
 use Rattle.lt_config.specs.Keys.{value_at}
-use Rattle.lt_config.specs.Paced.{IsLed, FitsPace, leader_of}
-use Rattle.lt_config.specs.Faults.{says_leader, says_time, is_led, is_time_based}
-use Rattle.lt_config.specs.Setup.{NodeNumbers, leader_name, has_name, follows, paced_send, send_of, node_numbers, number_of, nodes_of, pace_of, protocol_of}
+use Rattle.lt_config.specs.Paced.{IsLed, IsLossy, FitsPace, leader_of, allowed_of}
+use Rattle.lt_config.specs.Faults.{says_leader, says_time, is_led, is_lossy}
+use Rattle.lt_config.specs.Setup.{NodeNumbers, leader_name, has_name, follows, paced_send, send_of, node_numbers, number_of, nodes_of, losses_of, pace_of, protocol_of}
 use Rattle.lt_config.specs.Reading.{numbers_of}
+use Rattle.lt_config.proofs.NoFault.{NoFault}
+use Rattle.lt_config.proofs.Losses.{lossy_acknowledges, few_losses}
 
 abbrev no_node : NamedNode
 no_node = record { name = []; vars = [] }
@@ -86,10 +86,14 @@ module _ (t : Members) (led : is_led t ≡ true) where
       let follower : follows t node ≡ true = ap (λ b. b && not (option_map_or (λ name. bytes_eq node name) (leader_name t) false)) led ∙ follows_by (leader_name t) node other in
       ap (λ b. if b then GREATEST_COUNTDOWN else send_of t node) follower
 
--- what the timing of a setup without a fault has where a node leads
+-- what the timing of a setup without a fault has for its pace
 
-module _ (t : Members) (timing : Timing) (nodes : List NamedNode) (same : nodes ≡ nodes_of t) (differ : AllPairs (λ a b. a ≢ b) (names_of nodes)) (some : 1 ≤ length nodes)
+module _ (t : Members) (good : NoFault t) (timing : Timing) (nodes : List NamedNode) (same : nodes ≡ nodes_of t) (differ : AllPairs (λ a b. a ≢ b) (names_of nodes)) (some : 1 ≤ length nodes)
     (times : map numbers_of timing.nodes ≡ map (node_numbers t) (names_of (nodes_of t))) (protocol : timing.protocol ≡ protocol_of t) where
+  -- the pace by what the protocol's text says
+  abbrev pace_by : (led lossy : Bool) → Pace
+  pace_by led lossy = if led then Leader (option_map_or (number_of (nodes_of t)) (leader_name t) 0) else (if lossy then Lossy (losses_of t) else Plain)
+
   time_count : length timing.nodes ≡ length nodes
   time_count =
       sym (length-map timing.nodes numbers_of) ∙ ap length times ∙ length-map (names_of (nodes_of t)) (node_numbers t) ∙ length-map (nodes_of t) (λ (node : NamedNode). node.name)
@@ -127,9 +131,20 @@ module _ (t : Members) (timing : Timing) (nodes : List NamedNode) (same : nodes 
         other (sym (ap (λ ns. number_of ns name) (sym same) ∙ number_is nodes differ n no_node there name (named ∙ sym one))));
   }
 
-  pace_by : (b : Bool) → is_led t ≡ b → (leader : ℕ) → leader_of (if b then Leader (option_map_or (number_of (nodes_of t)) (leader_name t) 0) else Plain) ≡ Some leader → IsLed timing leader
-  pace_by true led leader is = let one : option_map_or (number_of (nodes_of t)) (leader_name t) 0 ≡ leader = cc in subst (IsLed timing) one (is_led_by (leader_name t) refl led)
-  pace_by false led leader is = cc
+  leader_by : (led : Bool) → is_led t ≡ led → (leader : ℕ) → leader_of (pace_by led (is_lossy t)) ≡ Some leader → IsLed timing leader
+  leader_by true led leader is = let one : option_map_or (number_of (nodes_of t)) (leader_name t) 0 ≡ leader = cc in subst (IsLed timing) one (is_led_by (leader_name t) refl led)
+  leader_by false led leader is = absurd (no_leader (is_lossy t) is)
+    where
+      no_leader : (lossy : Bool) → leader_of (pace_by false lossy) ≡ Some leader → ⊥
+      no_leader true is = cc
+      no_leader false is = cc
+
+  losses_by : (led lossy : Bool) → is_lossy t ≡ lossy → (losses : ℕ) → allowed_of (pace_by led lossy) ≡ Some losses → IsLossy timing losses
+  losses_by true lossy at losses is = cc
+  losses_by false true at losses is =
+      let one : losses_of t ≡ losses = cc in
+      subst (IsLossy timing) one (record { acknowledges = protocol ∙ lossy_acknowledges t at; few = few_losses t good })
+  losses_by false false at losses is = cc
 
   pub fits_pace : FitsPace (pace_of t) timing
-  fits_pace leader is = pace_by (is_led t) refl leader is
+  fits_pace = record { led = leader_by (is_led t) refl; lossy = losses_by (is_led t) (is_lossy t) refl }

@@ -3,6 +3,7 @@ pub mod Tables
 pub mod Below
 pub mod Strays
 pub mod NoFault
+pub mod Losses
 pub mod Ranges
 pub mod GoodNodes
 pub mod Ascending

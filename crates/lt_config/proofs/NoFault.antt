@@ -7,7 +7,7 @@ use Rattle.toml.specs.Data.{Data, Members}
 use Rattle.lt_config.specs.Keys.{keys, key_text}
 use Rattle.lt_config.specs.Faults.{fault, first_fault, first_key, first_unknown, or_else, is_missing, is_wrong, is_outside, bad_name}
 use Rattle.lt_config.specs.declared.keys.Key.{Key}
-use Rattle.lt_config.specs.declared.keys.Key.TheVariants.{Protocol, Period, Delay, Send, Execute, Leader, Nodes, Periods, Delays, Sends, Executes}
+use Rattle.lt_config.specs.declared.keys.Key.TheVariants.{Protocol, Period, Delay, Send, Execute, Losses, Leader, Nodes, Periods, Delays, Sends, Executes}
 use Rattle.lt_config.specs.declared.fault.ConfigFault.{ConfigFault}
 use Rattle.lt_config.specs.declared.fault.ConfigKind.{ConfigKind}
 use Rattle.lt_config.specs.declared.fault.ConfigKind.TheVariants.{Missing, WrongKind, UnknownKey, OutOfRange, BadName}
@@ -33,12 +33,13 @@ find_more p k ks e = by (p k) refl e
 
 each_key : (p : Key → Bool) → find p keys ≡ None → (k : Key) → p k ≡ false
 each_key p e k =
-    let a = find_more p Protocol (Period ∷ Delay ∷ Send ∷ Execute ∷ Leader ∷ Nodes ∷ Periods ∷ Delays ∷ Sends ∷ Executes ∷ []) e in
-    let b = find_more p Period (Delay ∷ Send ∷ Execute ∷ Leader ∷ Nodes ∷ Periods ∷ Delays ∷ Sends ∷ Executes ∷ []) a.1 in
-    let d = find_more p Delay (Send ∷ Execute ∷ Leader ∷ Nodes ∷ Periods ∷ Delays ∷ Sends ∷ Executes ∷ []) b.1 in
-    let f = find_more p Send (Execute ∷ Leader ∷ Nodes ∷ Periods ∷ Delays ∷ Sends ∷ Executes ∷ []) d.1 in
-    let g = find_more p Execute (Leader ∷ Nodes ∷ Periods ∷ Delays ∷ Sends ∷ Executes ∷ []) f.1 in
-    let n = find_more p Leader (Nodes ∷ Periods ∷ Delays ∷ Sends ∷ Executes ∷ []) g.1 in
+    let a = find_more p Protocol (Period ∷ Delay ∷ Send ∷ Execute ∷ Losses ∷ Leader ∷ Nodes ∷ Periods ∷ Delays ∷ Sends ∷ Executes ∷ []) e in
+    let b = find_more p Period (Delay ∷ Send ∷ Execute ∷ Losses ∷ Leader ∷ Nodes ∷ Periods ∷ Delays ∷ Sends ∷ Executes ∷ []) a.1 in
+    let d = find_more p Delay (Send ∷ Execute ∷ Losses ∷ Leader ∷ Nodes ∷ Periods ∷ Delays ∷ Sends ∷ Executes ∷ []) b.1 in
+    let f = find_more p Send (Execute ∷ Losses ∷ Leader ∷ Nodes ∷ Periods ∷ Delays ∷ Sends ∷ Executes ∷ []) d.1 in
+    let g = find_more p Execute (Losses ∷ Leader ∷ Nodes ∷ Periods ∷ Delays ∷ Sends ∷ Executes ∷ []) f.1 in
+    let o = find_more p Losses (Leader ∷ Nodes ∷ Periods ∷ Delays ∷ Sends ∷ Executes ∷ []) g.1 in
+    let n = find_more p Leader (Nodes ∷ Periods ∷ Delays ∷ Sends ∷ Executes ∷ []) o.1 in
     let h = find_more p Nodes (Periods ∷ Delays ∷ Sends ∷ Executes ∷ []) n.1 in
     let i = find_more p Periods (Delays ∷ Sends ∷ Executes ∷ []) h.1 in
     let j = find_more p Delays (Sends ∷ Executes ∷ []) i.1 in
@@ -50,6 +51,7 @@ each_key p e k =
       | Delay ↦ d.0
       | Send ↦ f.0
       | Execute ↦ g.0
+      | Losses ↦ o.0
       | Leader ↦ n.0
       | Nodes ↦ h.0
       | Periods ↦ i.0

@@ -1,5 +1,5 @@
 -- A setup's value is the only one that says what it says.
-use Rattle.std.proofs.Common.{◌≡◌, ◌≤◌, ◌<◌, ◌^◌, ℕ, List, [], ◌∷◌, length, map, Option, Some, None, refl, ap, subst, Bool}
+use Rattle.std.proofs.Common.{◌≡◌, ◌≤◌, ◌<◌, ◌^◌, ℕ, List, [], ◌∷◌, length, map, refl, ap, subst, Bool}
 use Rattle.std.specs.List.{AllPass}
 use Rattle.std.specs.List.Sorted.{IsStrictlySortedBy, IsStrictlySortedBy-prop}
 use Rattle.lt_arch.specs.declared.limits.TheConstants.{GREATEST_BOUND, GREATEST_COUNTDOWN}

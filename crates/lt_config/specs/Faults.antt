@@ -6,11 +6,11 @@ use Rattle.std.specs.Str.{bytes_eq}
 use Rattle.toml.specs.Data.{Members, no_members, member, as_str}
 use Rattle.lt_arch.specs.Names.{is_identifier}
 use Rattle.lt_config.specs.declared.keys.Key.{Key}
-use Rattle.lt_config.specs.declared.keys.Key.TheVariants.{Protocol, Period, Delay, Send, Execute, Leader, Nodes, Periods, Delays, Sends, Executes}
+use Rattle.lt_config.specs.declared.keys.Key.TheVariants.{Protocol, Period, Delay, Send, Execute, Losses, Leader, Nodes, Periods, Delays, Sends, Executes}
 use Rattle.lt_config.specs.declared.fault.ConfigKind.{ConfigKind}
 use Rattle.lt_config.specs.declared.fault.ConfigKind.TheVariants.{Missing, WrongKind, UnknownKey, OutOfRange, BadName}
 use Rattle.lt_config.specs.declared.fault.ConfigFault.{ConfigFault}
-use Rattle.lt_config.specs.Keys.{keys, tables, key_text, value_at, table_at, entry_at}
+use Rattle.lt_config.specs.Keys.{keys, tables, key_text, value_at, table_at}
 use Rattle.lt_config.specs.Values.{has_kind, is_node, in_range}
 
 -- ---- a key with a fault
@@ -22,6 +22,13 @@ says_leader text = bytes_eq text (codes "leader")
 abbrev pub is_led : Members → Bool
 is_led t = option_map_or says_leader (option_and_then as_str (value_at t Protocol)) false
 
+-- or one over links that lose messages
+abbrev pub says_lossy : List ℕ → Bool
+says_lossy text = bytes_eq text (codes "lossy")
+
+abbrev pub is_lossy : Members → Bool
+is_lossy t = option_map_or says_lossy (option_and_then as_str (value_at t Protocol)) false
+
 -- or one in which all nodes count their activations alike
 abbrev pub says_time : List ℕ → Bool
 says_time text = bytes_eq text (codes "timebased") || says_leader text
@@ -29,13 +36,15 @@ says_time text = bytes_eq text (codes "timebased") || says_leader text
 abbrev pub is_time_based : Members → Bool
 is_time_based t = option_map_or says_time (option_and_then as_str (value_at t Protocol)) false
 
--- the plain keys are needed, the countdowns where nodes count their activations, and the leader where one leads
+-- the plain keys are needed, the countdowns where nodes count their activations, the losses where links lose messages, and the leader where
+-- one leads
 abbrev pub is_needed : Members → Key → Bool
 is_needed t Protocol = true
 is_needed t Period = true
 is_needed t Delay = true
 is_needed t Send = is_time_based t
 is_needed t Execute = is_time_based t
+is_needed t Losses = is_lossy t
 is_needed t Leader = is_led t
 is_needed t Nodes = true
 is_needed t Periods = false

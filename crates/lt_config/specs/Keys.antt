@@ -2,11 +2,11 @@
 use Rattle.std.specs.Prelude.{ℕ, List, [], ◌∷◌, Option, option_and_then, codes}
 use Rattle.toml.specs.Data.{Data, Members, get_member, as_table}
 use Rattle.lt_config.specs.declared.keys.Key.{Key}
-use Rattle.lt_config.specs.declared.keys.Key.TheVariants.{Protocol, Period, Delay, Send, Execute, Leader, Nodes, Periods, Delays, Sends, Executes}
+use Rattle.lt_config.specs.declared.keys.Key.TheVariants.{Protocol, Period, Delay, Send, Execute, Losses, Leader, Nodes, Periods, Delays, Sends, Executes}
 
 -- the keys, in the order in which they are tried
 abbrev pub keys : List Key
-keys = Protocol ∷ Period ∷ Delay ∷ Send ∷ Execute ∷ Leader ∷ Nodes ∷ Periods ∷ Delays ∷ Sends ∷ Executes ∷ []
+keys = Protocol ∷ Period ∷ Delay ∷ Send ∷ Execute ∷ Losses ∷ Leader ∷ Nodes ∷ Periods ∷ Delays ∷ Sends ∷ Executes ∷ []
 
 -- the tables by which nodes and pairs of nodes differ from the plain keys, in that order
 abbrev pub tables : List Key
@@ -18,6 +18,7 @@ key_text Period = codes "period"
 key_text Delay = codes "delay"
 key_text Send = codes "send"
 key_text Execute = codes "execute"
+key_text Losses = codes "losses"
 key_text Leader = codes "leader"
 key_text Nodes = codes "nodes"
 key_text Periods = codes "periods"

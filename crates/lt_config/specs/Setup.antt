@@ -9,13 +9,13 @@ use Rattle.lt_arch.specs.declared.timing.Protocol.TheVariants.{BackPressure, Tim
 use Rattle.lt_arch.specs.Pairs.{ordered_pairs}
 use Rattle.lt_place.specs.declared.named.NamedNode.{NamedNode}
 use Rattle.lt_config.specs.declared.pace.Pace.{Pace}
-use Rattle.lt_config.specs.declared.pace.Pace.TheVariants.{Plain, Leader as Led}
+use Rattle.lt_config.specs.declared.pace.Pace.TheVariants.{Plain, Lossy, Leader as Led}
 use Rattle.lt_config.specs.declared.keys.Key.{Key}
-use Rattle.lt_config.specs.declared.keys.Key.TheVariants.{Period, Delay, Send, Execute, Leader, Nodes, Periods, Delays, Sends, Executes}
+use Rattle.lt_config.specs.declared.keys.Key.TheVariants.{Period, Delay, Send, Execute, Losses, Leader, Nodes, Periods, Delays, Sends, Executes}
 use Rattle.lt_config.specs.Limits.{greatest_countdown}
 use Rattle.lt_config.specs.Keys.{tables, value_at, table_at, entry_at}
 use Rattle.lt_config.specs.Values.{pair_of}
-use Rattle.lt_config.specs.Faults.{or_else, is_led, is_time_based}
+use Rattle.lt_config.specs.Faults.{or_else, is_led, is_lossy, is_time_based}
 
 -- the numbers of a node, and of an ordered pair of nodes
 pub record NodeNumbers : Type 0 where
@@ -60,6 +60,10 @@ bounds_of d = option_map_or naturals (option_and_then pair_of d) (0, 0)
 -- the countdown that a value is, which is 1 where there is none
 abbrev pub countdown_of : Option Data → ℕ
 countdown_of d = option_map_or natural (option_and_then as_integer d) 1
+
+-- how many losses in a row are allowed on a channel, which is none where the setup doesn't say
+abbrev pub losses_of : Members → ℕ
+losses_of t = option_map_or natural (option_and_then as_integer (value_at t Losses)) 0
 
 -- the value of a name in a table, or else the plain one
 abbrev pub own_or_plain : Members → (table plain : Key) → (name : List ℕ) → Option Data
@@ -145,9 +149,9 @@ protocol_of t = if is_time_based t then TimeBased else BackPressure
 abbrev pub number_of : List NamedNode → (name : List ℕ) → ℕ
 number_of nodes name = unwrap_or (position (has_name name) nodes) 0
 
--- who paces the rounds
+-- what the protocol does beside its timing
 abbrev pub pace_of : Members → Pace
-pace_of t = if is_led t then Led (option_map_or (number_of (nodes_of t)) (leader_name t) 0) else Plain
+pace_of t = if is_led t then Led (option_map_or (number_of (nodes_of t)) (leader_name t) 0) else (if is_lossy t then Lossy (losses_of t) else Plain)
 
 abbrev pub is_mixed : Members → Bool
 is_mixed t = list_any (λ key. is_some (value_at t key)) tables

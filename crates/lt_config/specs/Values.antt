@@ -3,10 +3,10 @@ use Rattle.std.specs.Prelude.{ℕ, ◌+◌, ◌&&◌, ◌||◌, Bool, true, fals
 use Rattle.std.specs.Option.{option_map_or}
 use Rattle.std.specs.Str.{bytes_eq}
 use Rattle.toml.specs.Data.{Data, Items, no_items, item, Members, no_members, member, as_str, as_integer, as_array, as_table}
-use Rattle.lt_config.specs.Limits.{greatest_bound, greatest_countdown, most_nodes}
+use Rattle.lt_config.specs.Limits.{greatest_bound, greatest_countdown, most_losses, most_nodes}
 use Rattle.lt_config.specs.declared.keys.Key.{Key}
 use Rattle.lt_config.specs.Keys.{entry_at}
-use Rattle.lt_config.specs.declared.keys.Key.TheVariants.{Protocol, Period, Delay, Send, Execute, Leader, Nodes, Periods, Delays, Sends, Executes}
+use Rattle.lt_config.specs.declared.keys.Key.TheVariants.{Protocol, Period, Delay, Send, Execute, Losses, Leader, Nodes, Periods, Delays, Sends, Executes}
 
 -- ---- the kinds of values
 
@@ -55,6 +55,7 @@ has_kind Period d = is_pair d
 has_kind Delay d = is_pair d
 has_kind Send d = is_integer d
 has_kind Execute d = is_integer d
+has_kind Losses d = is_integer d
 has_kind Leader d = is_some (as_str d)
 has_kind Nodes d = is_table_of is_texts d
 has_kind Periods d = is_table_of is_pair d
@@ -89,8 +90,11 @@ is_delay d = is_bounds 0 (pair_of d)
 abbrev pub is_countdown : Data → Bool
 is_countdown d = option_map_or (is_between 1 greatest_countdown) (as_integer d) false
 
+abbrev pub is_losses : Data → Bool
+is_losses d = option_map_or (is_between 0 most_losses) (as_integer d) false
+
 abbrev pub names_protocol : List ℕ → Bool
-names_protocol text = bytes_eq text (codes "backpressure") || (bytes_eq text (codes "timebased") || bytes_eq text (codes "leader"))
+names_protocol text = bytes_eq text (codes "backpressure") || (bytes_eq text (codes "timebased") || (bytes_eq text (codes "leader") || bytes_eq text (codes "lossy")))
 
 abbrev pub count_members : Members → ℕ
 count_members no_members = 0
@@ -111,6 +115,7 @@ in_range t Period d = is_period d
 in_range t Delay d = is_delay d
 in_range t Send d = is_countdown d
 in_range t Execute d = is_countdown d
+in_range t Losses d = is_losses d
 in_range t Leader d = option_map_or (is_node t) (as_str d) false
 in_range t Nodes d = option_map_or (λ nodes. is_count_of_nodes (count_members nodes)) (as_table d) false
 in_range t Periods d = is_table_of is_period d

@@ -4,7 +4,7 @@ ghost use Rattle.toml.specs.Data.{as_str};
 ghost use Rattle.toml.specs.View.{table_view};
 ghost use Rattle.lt_config.specs.Keys.{keys, value_at};
 ghost use Rattle.lt_config.specs.declared.keys.Key.TheVariants.{Protocol};
-ghost use Rattle.lt_config.specs.Faults.{says_time, is_led, is_time_based, is_needed, is_missing, is_wrong, is_outside, first_fault};
+ghost use Rattle.lt_config.specs.Faults.{says_time, is_led, is_lossy, is_time_based, is_needed, is_missing, is_wrong, is_outside, first_fault};
 ghost use Rattle.lt_config.specs.Judged.{Judged, IsFault};
 
 use crate::keys::{KEYS, Key, key_text, value_at};
@@ -34,6 +34,16 @@ pub fn is_led(table: &Table) -> bool
     }
 }
 
+/// Whether the protocol is the one over links that lose messages.
+pub fn is_lossy(table: &Table) -> bool
+    ensures { result ≡ is_lossy (table_view table.now) }
+{
+    match protocol_text(table) {
+        Some(text) => text == "lossy",
+        None => false,
+    }
+}
+
 fn says_time(text: &str) -> bool
     ensures { result ≡ says_time text.now }
 {
@@ -56,6 +66,7 @@ fn is_needed(table: &Table, key: Key) -> bool
     match key {
         Key::Protocol | Key::Period | Key::Delay | Key::Nodes => true,
         Key::Send | Key::Execute => is_time_based(table),
+        Key::Losses => is_lossy(table),
         Key::Leader => is_led(table),
         Key::Periods | Key::Delays | Key::Sends | Key::Executes => false,
     }

@@ -14,6 +14,7 @@ pub enum Key {
     Delay,
     Send,
     Execute,
+    Losses,
     Leader,
     Nodes,
     Periods,
@@ -23,12 +24,13 @@ pub enum Key {
 }
 
 /// The keys, in the order in which they are tried.
-pub const KEYS: [Key; 11] = [
+pub const KEYS: [Key; 12] = [
     Key::Protocol,
     Key::Period,
     Key::Delay,
     Key::Send,
     Key::Execute,
+    Key::Losses,
     Key::Leader,
     Key::Nodes,
     Key::Periods,
@@ -49,6 +51,7 @@ pub fn key_text(key: Key) -> &'static str
         Key::Delay => "delay",
         Key::Send => "send",
         Key::Execute => "execute",
+        Key::Losses => "losses",
         Key::Leader => "leader",
         Key::Nodes => "nodes",
         Key::Periods => "periods",

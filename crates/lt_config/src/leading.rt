@@ -1,4 +1,4 @@
-// Who paces the rounds of a setup without a fault, and how long the nodes that follow count.
+// What the protocol of a setup without a fault does beside its timing, and how long the nodes that follow a leader count.
 ghost use Rattle.std.specs.Prelude.{◌≡◌, ◌≤◌, length, option_map, position, false};
 ghost use Rattle.std.specs.Option.{option_map_or};
 ghost use Rattle.std.specs.Str.{bytes_eq};
@@ -6,9 +6,9 @@ ghost use Rattle.toml.specs.View.{table_view};
 ghost use Rattle.lt_config.specs.Setup.{leader_name, has_name, follows, paced_send, number_of, nodes_of, pace_of};
 
 use crate::Pace;
-use crate::judge::is_led;
+use crate::judge::{is_led, is_lossy};
 use crate::keys::{Key, value_at};
-use crate::numbers::{countdown_of, own_or_plain};
+use crate::numbers::{countdown_of, losses_of, own_or_plain};
 use lt_arch::GREATEST_COUNTDOWN;
 use lt_place::NamedNode;
 use toml::Table;
@@ -77,7 +77,7 @@ fn leader_of(table: &Table, nodes: &[NamedNode]) -> u32
     }
 }
 
-/// Who paces the rounds.
+/// What the protocol does beside its timing.
 pub fn pace_of(table: &Table, nodes: &[NamedNode]) -> Pace
     requires nodes { nodes.now ≡ nodes_of (table_view table.now) }
     requires few { length nodes.now ≤ 32 }
@@ -85,6 +85,8 @@ pub fn pace_of(table: &Table, nodes: &[NamedNode]) -> Pace
 {
     if is_led(table) {
         Pace::Leader(leader_of(table, nodes))
+    } else if is_lossy(table) {
+        Pace::Lossy(losses_of(table))
     } else {
         Pace::Plain
     }

@@ -18,6 +18,6 @@ mod values;
 
 pub use config::Config;
 pub use fault::{ConfigFault, ConfigKind};
-pub use limits::MOST_NODES;
+pub use limits::{MOST_LOSSES, MOST_NODES};
 pub use pace::Pace;
 pub use reading::read_config;

@@ -4,7 +4,7 @@ ghost use Rattle.std.specs.Option.{option_map_or};
 ghost use Rattle.toml.specs.View.{view, table_view};
 ghost use Rattle.lt_config.specs.declared.keys.Key.TheVariants.{Delays};
 ghost use Rattle.lt_config.specs.Keys.{table_at};
-ghost use Rattle.lt_config.specs.Setup.{natural, naturals, bounds_of, countdown_of, own_or_plain, greatest_upper, most_delay};
+ghost use Rattle.lt_config.specs.Setup.{natural, naturals, bounds_of, countdown_of, own_or_plain, losses_of, greatest_upper, most_delay};
 
 use crate::keys::{Key, entry_at, table_at, value_at};
 use crate::values::pair_of;
@@ -52,6 +52,25 @@ fn integer_countdown(number: Option<i64>) -> u64
     match number {
         Some(number) => natural(number),
         None => 1,
+    }
+}
+
+/// How many losses in a row a setup allows on a channel, which is none where it doesn't say.
+pub fn losses_of(table: &Table) -> u64
+    ensures { result ≡ losses_of (table_view table.now) }
+{
+    match value_at(table, Key::Losses) {
+        Some(value) => integer_losses(value.as_integer()),
+        None => 0,
+    }
+}
+
+fn integer_losses(number: Option<i64>) -> u64
+    ensures { result ≡ option_map_or natural number 0 }
+{
+    match number {
+        Some(number) => natural(number),
+        None => 0,
     }
 }
 

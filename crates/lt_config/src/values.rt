@@ -4,10 +4,10 @@ ghost use Rattle.std.specs.Option.{option_map_or};
 ghost use Rattle.toml.specs.View.{view, items_view, table_view};
 ghost use Rattle.toml.specs.Data.{as_str, as_table};
 ghost use Rattle.lt_config.specs.Wanted.{is_wanted};
-ghost use Rattle.lt_config.specs.Values.{pair_items, pair_of, all_texts, is_texts, all_values, is_table_of, is_pair, is_integer, has_kind, is_node, is_between, is_bounds, is_period, is_delay, is_countdown, names_protocol, is_count_of_nodes, in_range, count_members};
+ghost use Rattle.lt_config.specs.Values.{pair_items, pair_of, all_texts, is_texts, all_values, is_table_of, is_pair, is_integer, has_kind, is_node, is_between, is_bounds, is_period, is_delay, is_countdown, is_losses, names_protocol, is_count_of_nodes, in_range, count_members};
 
 use crate::keys::{Key, entry_at};
-use crate::limits::MOST_NODES;
+use crate::limits::{MOST_LOSSES, MOST_NODES};
 use lt_arch::{GREATEST_BOUND, GREATEST_COUNTDOWN};
 use toml::{Table, Value};
 
@@ -72,7 +72,7 @@ pub fn has_kind(key: Key, value: &Value) -> bool
     match key {
         Key::Protocol | Key::Leader => value.as_str().is_some(),
         Key::Period | Key::Delay => is_pair(value),
-        Key::Send | Key::Execute => is_integer(value),
+        Key::Send | Key::Execute | Key::Losses => is_integer(value),
         Key::Nodes => is_table_of(value, Wanted::Texts),
         Key::Periods | Key::Delays => is_table_of(value, Wanted::Pair),
         Key::Sends | Key::Executes => is_table_of(value, Wanted::Integer),
@@ -119,6 +119,15 @@ fn is_countdown(value: &Value) -> bool
     }
 }
 
+fn is_losses(value: &Value) -> bool
+    ensures { result ≡ is_losses (view value.now) }
+{
+    match value.as_integer() {
+        Some(number) => is_between(0, MOST_LOSSES, number),
+        None => false,
+    }
+}
+
 fn is_protocol(value: &Value) -> bool
     ensures { result ≡ option_map_or names_protocol (as_str (view value.now)) false }
 {
@@ -131,7 +140,7 @@ fn is_protocol(value: &Value) -> bool
 fn names_protocol(text: &str) -> bool
     ensures { result ≡ names_protocol text.now }
 {
-    text == "backpressure" || text == "timebased" || text == "leader"
+    text == "backpressure" || text == "timebased" || text == "leader" || text == "lossy"
 }
 
 #[tactic(auto, using(crate::proofs::Tables::count_view))]
@@ -169,6 +178,7 @@ pub fn in_range(table: &Table, key: Key, value: &Value) -> bool
         Key::Period => is_period(value),
         Key::Delay => is_delay(value),
         Key::Send | Key::Execute => is_countdown(value),
+        Key::Losses => is_losses(value),
         Key::Leader => names_node(table, value),
         Key::Nodes => has_some_nodes(value),
         Key::Periods => is_table_of(value, Wanted::Period),

@@ -8,5 +8,5 @@ use Rattle.lt_config.proofs.judge.first_wrong.Goals as goal
 
 pub loop-key-preserved : goal.loop-key-preserved
 loop-key-preserved c =
-    let there : c.loop-key.key-index < 11 = omega (arith, c.loop-key-test.true) in
+    let there : c.loop-key.key-index < 12 = omega (arith, c.loop-key-test.true) in
     (c.loop-key.invariant.0 ∙ find-skip (is_wrong (table_view c.args.table.now)) keys c.loop-key.key-index Protocol there (sym c.is_wrong.ensures ∙ c.if-is_wrong.false), refl)

@@ -25,7 +25,7 @@ invariant_of-result c =
       few = omega (arith, count, names, few);
       paced =
           subst (λ pace. FitsPace pace c.in_ok-timing.timing) (sym c.pace_of-pace.ensures)
-          (fits_pace t c.in_ok-timing.timing named same (c.names_differ.ensures c.in_ok-named.named) c.in_ok-named.named.inhabited c.in_ok-timing.ensures.times c.in_ok-timing.ensures.protocol);
+          (fits_pace t (no_fault t c.requires) c.in_ok-timing.timing named same (c.names_differ.ensures c.in_ok-named.named) c.in_ok-named.named.inhabited c.in_ok-timing.ensures.times c.in_ok-timing.ensures.protocol);
     }
 
 pub pace_of-pace-requires-clause-few : goal.pace_of-pace-requires-clause-few
