@@ -12,7 +12,7 @@ const TEXTS: &str = "\
 = Missing \"send\"
 > fault protocol = 'backpressure'/period = [0, 11]/delay = true/nodes = {a = []}/
 = WrongKind \"delay\"
-> fault zz = 1/Zz = 1/protocol = 'lossy'/period = [0, 11]/delay = [1, 4]/nodes = {a = [], b = []}/
+> fault zz = 1/Zz = 1/protocol = 'ring'/period = [0, 11]/delay = [1, 4]/nodes = {a = [], b = []}/
 = UnknownKey \"Zz\"
 > fault protocol = 'backpressure'/period = [9, 11]/delay = [1, 4]/nodes = {a = [], b = []}/delays = {'a>b' = [1, 2], 'a>a' = [1, 2]}/
 = UnknownKey \"a>a\"
@@ -28,17 +28,25 @@ const TEXTS: &str = "\
 = WrongKind \"leader\"
 > fault protocol = 'backpressure'/period = [9, 11]/delay = [1, 4]/leader = 'c'/nodes = {a = []}/sends = {a = 0}/
 = OutOfRange \"leader\"
+> fault protocol = 'lossy'/period = [9, 11]/delay = [1, 4]/leader = 'a'/nodes = {a = []}/
+= Missing \"losses\"
+> fault protocol = 'backpressure'/period = [9, 11]/delay = [1, 4]/losses = 1001/leader = 'c'/nodes = {a = []}/
+= OutOfRange \"losses\"
 - good setups: of each node the times between its activations and its countdowns, the delays, and the greatest of both
 > setup protocol = 'timebased'/period = [9, 11]/delay = [1, 4]/send = 3/execute = 4/nodes = {a = ['x', 'u'], b = ['v']}/periods = {b = [20, 22]}/sends = {b = 2}/executes = {b = 1}/
 = [9, 11, 3, 4] [20, 22, 2, 1] [1, 4, 1, 4] (4, 22) TimeBased true Plain
 > setup protocol = 'leader'/leader = 'b'/period = [9, 11]/delay = [1, 4]/send = 5/execute = 3/nodes = {a = ['x', 'u'], b = ['v']}/sends = {a = 7}/
 = [9, 11, 4000000000000000000, 3] [9, 11, 5, 3] [1, 4, 1, 4] (4, 11) TimeBased true Leader(1)
+> setup protocol = 'lossy'/losses = 1000/period = [9, 11]/delay = [1, 4]/nodes = {a = ['x', 'u'], b = ['v']}/
+= [9, 11, 1, 1] [9, 11, 1, 1] [1, 4, 1, 4] (4, 11) BackPressure false Lossy(1000)
 > lead protocol = 'leader'/leader = 'b'/period = [9, 11]/delay = [1, 4]/send = 5/execute = 3/nodes = {a = ['x', 'u'], b = ['v']}/sends = {a = 7}/
 = 12 12
 > plain
 = all (1000, 1)
 - worked plans
 > plan protocol = 'backpressure'/period = [9, 11]/delay = [1, 4]/nodes = {a = ['x', 'u'], b = ['v']}/
+= \"least execute 3/least send 3/timebased cycle 66/backpressure cycle 30/\"
+> plan protocol = 'lossy'/losses = 2/period = [9, 11]/delay = [1, 4]/nodes = {a = ['x', 'u'], b = ['v']}/
 = \"least execute 3/least send 3/timebased cycle 66/backpressure cycle 30/\"
 > plan-to 1000 protocol = 'backpressure'/period = [9, 11]/delay = [1, 4]/nodes = {a = ['x', 'u'], b = ['v']}/
 = \"least execute 3/least send 3/timebased cycle 66/backpressure cycle 30/timebased bound 15/backpressure bound 33/\"

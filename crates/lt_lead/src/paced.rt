@@ -1,7 +1,9 @@
-// The shape of a network by who paces its rounds.
+// The shape of a network by the pace of its protocol.
 ghost use Rattle.std.specs.Prelude.{◌≡◌, ◌<◌, ◌^◌, length, IfOk};
+ghost use Rattle.lt_arch.specs.declared.timing.Protocol.TheVariants.{BackPressure};
 ghost use Rattle.lt_norm.specs.Flat.{Originated};
 ghost use Rattle.lt_place.specs.Layout.{IsPlaced};
+ghost use Rattle.lt_plant.specs.Channels.{IsShapeOf};
 ghost use Rattle.lt_config.specs.Paced.{FitsPace};
 ghost use Rattle.lt_lead.specs.Paced.{IsShapeBy};
 
@@ -13,7 +15,8 @@ use lt_place::Layout;
 use lt_plant::shape_of;
 use std::alloc::Global;
 
-/// The nodes of a placed layout and the channels between them, by who paces the rounds.
+/// The nodes of a placed layout and the channels between them: those of the timing's protocol, also where links lose messages, or those of
+/// rounds that a node leads.
 pub fn shape_by(
     alloc: Global,
     layout: &Layout,
@@ -28,6 +31,17 @@ pub fn shape_by(
 {
     match pace {
         Pace::Plain => shape_of(alloc, layout, timing),
+        Pace::Lossy(_) => answered_shape(alloc, layout, timing),
         Pace::Leader(leader) => lead_shape(alloc, layout, leader),
     }
+}
+
+// The same where nodes acknowledge what they get.
+fn answered_shape(alloc: Global, layout: &Layout, timing: &Timing) -> Result<Shape, Memory>
+    requires placed { (f : Originated) × IsPlaced f layout.now }
+    requires numbered { length layout.now.names < 2 ^ 32 }
+    requires acknowledges { timing.now.protocol ≡ BackPressure }
+    ensures { IfOk result (IsShapeOf layout.now BackPressure) }
+{
+    shape_of(alloc, layout, timing)
 }

@@ -13,6 +13,7 @@ is_loaded checked kept good s sited table fit = record {
   placed = sited.placed;
   paced = sited.paced;
   accepted = sited.accepted;
+  windowed = sited.windowed;
   timed = sited.timed;
   few = sited.few;
   fit = fit;

@@ -8,15 +8,19 @@ use Rattle.lt_front.specs.Examined.{ExaminedText}
 use Rattle.lt_front.specs.Flattened.{flat_of}
 use Rattle.lt_place.specs.declared.fault.PlaceFault.{PlaceFault}
 use Rattle.lt_place.specs.Legal.{Legal}
+use Rattle.lt_place.specs.Placement.{node_names}
 use Rattle.lt_timing.specs.declared.fault.TimingFault.{TimingFault}
 use Rattle.lt_timing.specs.Accepts.{Accepts}
+use Rattle.lt_lossy.specs.declared.room.WindowFault.{WindowFault}
+use Rattle.lt_lossy.specs.Window.{IsWindowFault}
 use Rattle.lt_verdict.specs.Rules.{Exactly}
 use Rattle.lt_verdict.proofs.Decided.{HasOneKind, HasOneOutcome, exactly, and_then, and_then_one, raised_one}
 use Rattle.lt_load.specs.declared.fault.What.TheVariants.{ConfigBytes}
 use Rattle.lt_load.specs.declared.fault.CommandFault.{CommandFault}
 use Rattle.lt_load.specs.declared.fault.CommandFault.TheVariants as fault
 use Rattle.lt_load.specs.Loaded.{whole_verdict, setup_verdict, program_verdict, config_verdict}
-use Rattle.lt_load.specs.Setups.{Passes, IsPlaceFault, IsTimingFault, placed_verdict, accepted_verdict, fitting_verdict, fitted_verdict, with_setup_verdict, check_verdict}
+use Rattle.lt_load.specs.Setups.{Passes, HasWindowBy, IsPlaceFault, IsTimingFault, IsOutsideWindow, placed_verdict, timed_verdict, windowed_verdict, accepted_verdict, fitting_verdict, fitted_verdict, with_setup_verdict, check_verdict}
+use Rattle.lt_load.proofs.Windows.{one_window_fault}
 use Rattle.lt_load.proofs.OneLoad.{TellsLimits, whole_decided, program_decided, setup_decided}
 
 one_config : (bytes : List ℕ) (x y : Config) → setup_verdict bytes (Ok x) → setup_verdict bytes (Ok y) → x ≡ y
@@ -33,10 +37,12 @@ place_fault checked setup (fault.Program f) is = absurd is
 place_fault checked setup (fault.Config f) is = absurd is
 place_fault checked setup (fault.Place f main) is = (f, main, refl)
 place_fault checked setup (fault.Timing f names mixed) is = absurd is
+place_fault checked setup (fault.Window f names) is = absurd is
 place_fault checked setup (fault.Inputs f) is = absurd is
 place_fault checked setup fault.TooManyCells is = absurd is
 place_fault checked setup (fault.Row n f) is = absurd is
 place_fault checked setup (fault.Offence event offence shape) is = absurd is
+place_fault checked setup (fault.Lossy event offence shape) is = absurd is
 place_fault checked setup (fault.Limit what) is = absurd is
 place_fault checked setup fault.Read is = absurd is
 place_fault checked setup fault.Link is = absurd is
@@ -46,13 +52,30 @@ timing_fault setup (fault.Program f) is = absurd is
 timing_fault setup (fault.Config f) is = absurd is
 timing_fault setup (fault.Place f main) is = absurd is
 timing_fault setup (fault.Timing f names mixed) is = (f, names, mixed, refl)
+timing_fault setup (fault.Window f names) is = absurd is
 timing_fault setup (fault.Inputs f) is = absurd is
 timing_fault setup fault.TooManyCells is = absurd is
 timing_fault setup (fault.Row n f) is = absurd is
 timing_fault setup (fault.Offence event offence shape) is = absurd is
+timing_fault setup (fault.Lossy event offence shape) is = absurd is
 timing_fault setup (fault.Limit what) is = absurd is
 timing_fault setup fault.Read is = absurd is
 timing_fault setup fault.Link is = absurd is
+
+pub window_fault : (setup : Config) (e : CommandFault) → IsOutsideWindow setup e → (f : WindowFault) × (names : List (List ℕ)) × (e ≡ fault.Window f names) × IsWindowFault setup.timing f × (names ≡ node_names setup.placement)
+window_fault setup (fault.Program f) is = absurd is
+window_fault setup (fault.Config f) is = absurd is
+window_fault setup (fault.Place f main) is = absurd is
+window_fault setup (fault.Timing f names mixed) is = absurd is
+window_fault setup (fault.Window f names) is = (f, names, refl, is.0, is.1)
+window_fault setup (fault.Inputs f) is = absurd is
+window_fault setup fault.TooManyCells is = absurd is
+window_fault setup (fault.Row n f) is = absurd is
+window_fault setup (fault.Offence event offence shape) is = absurd is
+window_fault setup (fault.Lossy event offence shape) is = absurd is
+window_fault setup (fault.Limit what) is = absurd is
+window_fault setup fault.Read is = absurd is
+window_fault setup fault.Link is = absurd is
 
 -- a kind that tells no two faults of a placement apart, and no two of a timing
 abbrev pub MergesPlaces : {K : Type 0} → (CommandFault → K) → Type 0
@@ -78,13 +101,30 @@ module _ {K : Type 0} (kind : CommandFault → K) (places : MergesPlaces kind) w
       ap kind a.2 ∙ places a.0 b.0 a.1 b.1 ∙ sym (ap kind b.2))
 
 module _ {K : Type 0} (kind : CommandFault → K) (timings : MergesTimings kind) where
-  pub accepted_decided : (setup : Config) → HasOneOutcome kind (accepted_verdict setup)
-  unfolding accepted_verdict
-  accepted_decided setup =
+  timed_decided : (setup : Config) → HasOneOutcome kind (timed_verdict setup)
+  unfolding timed_verdict
+  timed_decided setup =
       passes_decided kind setup (Accepts setup.timing) (IsTimingFault setup) (λ e f p q.
       let a = timing_fault setup e p in
       let b = timing_fault setup f q in
       ap kind a.3 ∙ timings a.0 b.0 a.1 b.1 a.2 b.2 ∙ sym (ap kind b.3))
+
+  -- a setup has only one fault of its window
+  one_window : (setup : Config) (e f : CommandFault) → IsOutsideWindow setup e → IsOutsideWindow setup f → e ≡ f
+  one_window setup e f p q =
+      let a = window_fault setup e p in
+      let b = window_fault setup f q in
+      let fault_is : a.0 ≡ b.0 = one_window_fault setup.timing a.0 b.0 a.3 b.3 in
+      let names_are : a.1 ≡ b.1 = a.4 ∙ sym b.4 in
+      a.2 ∙ (λ i. fault.Window (fault_is i) (names_are i)) ∙ sym b.2
+
+  windowed_decided : (setup : Config) → HasOneOutcome kind (windowed_verdict setup)
+  unfolding windowed_verdict
+  windowed_decided setup = passes_decided kind setup (HasWindowBy setup.pace setup.timing) (IsOutsideWindow setup) (λ e f p q. ap kind (one_window setup e f p q))
+
+  pub accepted_decided : (setup : Config) → HasOneOutcome kind (accepted_verdict setup)
+  unfolding accepted_verdict
+  accepted_decided setup = and_then_one kind (timed_verdict setup) (λ timed. windowed_verdict timed) (timed_decided setup) (λ timed. windowed_decided timed)
 
 module _ {K : Type 0} (kind : CommandFault → K) (along : TellsLimits kind) (places : MergesPlaces kind) (timings : MergesTimings kind) where
   pub fitting_decided : (checked : ExaminedText) (setup : Config) → HasOneOutcome kind (fitting_verdict checked setup)

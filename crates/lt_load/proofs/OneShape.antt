@@ -24,7 +24,7 @@ use Rattle.lt_place.specs.Nodes.{node_of}
 use Rattle.lt_plant.specs.Layout.{joins}
 use Rattle.lt_plant.specs.Channels.{has_channel, all_chans, channels_of, IsShapeOf}
 use Rattle.lt_config.specs.declared.pace.Pace.{Pace}
-use Rattle.lt_config.specs.declared.pace.Pace.TheVariants.{Plain, Leader}
+use Rattle.lt_config.specs.declared.pace.Pace.TheVariants.{Plain, Lossy, Leader}
 use Rattle.lt_lead.specs.Channels.{leads_to, lead_channels}
 use Rattle.lt_lead.specs.Paced.{IsShapeBy}
 use Rattle.lt_arch.specs.declared.timing.Timing.{Timing}
@@ -122,4 +122,5 @@ module _ (f : Originated) (p : Placement) where
     -- so the shapes are equal
     pub one_shape : (pace : Pace) (t : Timing) (s z : Shape) → IsShapeBy l pace t s → IsShapeBy m pace t z → s ≡ z
     one_shape Plain t s z is it = one_drawn s z (is.nodes ∙ names_same ∙ sym it.nodes) (is.channels ∙ channels_same t.protocol ∙ sym it.channels)
+    one_shape (Lossy losses) t s z is it = one_drawn s z (is.nodes ∙ names_same ∙ sym it.nodes) (is.channels ∙ channels_same BackPressure ∙ sym it.channels)
     one_shape (Leader leader) t s z is it = one_drawn s z (is.nodes ∙ names_same ∙ sym it.nodes) (is.channels ∙ lead_channels_same leader ∙ sym it.channels)

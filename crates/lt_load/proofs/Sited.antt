@@ -17,9 +17,16 @@ use Rattle.lt_config.specs.declared.pace.Pace.{Pace}
 use Rattle.lt_config.specs.Paced.{FitsPace}
 use Rattle.lt_load.specs.declared.fault.CommandFault.{CommandFault}
 use Rattle.lt_load.specs.declared.sites.Site.{Site}
-use Rattle.lt_load.specs.Setups.{placed_verdict, accepted_verdict, fitting_verdict}
+use Rattle.lt_load.specs.Setups.{HasWindowBy, placed_verdict, timed_verdict, windowed_verdict, accepted_verdict, fitting_verdict}
 use Rattle.lt_load.specs.Sites.{IsSiteOf, IsSited, layout_verdict, site_verdict}
 use Rattle.lt_load.proofs.Steps.{err_settled}
+
+-- a setup that is accepted passes both steps
+passed_both : (setup accepted : Config) → accepted_verdict setup (Ok accepted) → Accepts setup.timing × HasWindowBy setup.pace setup.timing × (accepted ≡ setup)
+unfolding accepted_verdict timed_verdict windowed_verdict
+passed_both setup accepted (inl wrong) = absurd wrong
+passed_both setup accepted (inr (timed, first, second)) =
+    (first.0, subst (λ (c : Config). HasWindowBy c.pace c.timing) first.1 second.0, second.1 ∙ first.1)
 
 module _ (checked : ExaminedText) (setup : Config) where
   -- the placement is not legal
@@ -52,13 +59,11 @@ module _ (checked : ExaminedText) (setup : Config) where
     not_timed e r is refused = err_settled (site_verdict checked setup) e r is (untimed e refused)
 
     module _ (timed : Config) (right : accepted_verdict setup (Ok timed)) where
-      same_setup : timed ≡ setup
-      unfolding accepted_verdict
-      same_setup = right.1
+      passed : Accepts setup.timing × HasWindowBy setup.pace setup.timing × (timed ≡ setup)
+      passed = passed_both setup timed right
 
-      accepted_here : Accepts setup.timing
-      unfolding accepted_verdict
-      accepted_here = right.0
+      same_setup : timed ≡ setup
+      same_setup = passed.2
 
       pub names_are : l.names ≡ node_names timed.placement
       names_are = layout_here.names ∙ ap (λ (c : Config). node_names c.placement) (sym same_setup)
@@ -84,7 +89,8 @@ module _ (checked : ExaminedText) (setup : Config) where
                 shaped = site_here.shape;
                 fits = subst (λ (p : Pace). FitsPace p s.timing) (sym site_here.pace) (subst (λ (t : Timing). FitsPace setup.pace t) (sym site_here.timing) setup.paced);
               };
-              accepted = subst Accepts (sym site_here.timing) accepted_here;
+              accepted = subst Accepts (sym site_here.timing) passed.0;
+              windowed = subst (λ (p : Pace). HasWindowBy p s.timing) (sym site_here.pace) (subst (λ (t : Timing). HasWindowBy setup.pace t) (sym site_here.timing) passed.1);
               timed = nodes ∙ same ∙ sym names;
               few = omega (arith, names, same, few);
             }

@@ -1,4 +1,5 @@
--- What is right of a setup, and of what a command is of, where no node may lead.
+-- What is right of a setup, and of what a command is of, where a protocol may be no more than its timing: no link loses messages, and no node
+-- leads.
 use Rattle.std.specs.Prelude.{◌≡◌, ℕ, List, Option, codes}
 use Rattle.lt_config.specs.declared.config.Config.{Config}
 use Rattle.lt_config.specs.declared.fault.ConfigKind.TheVariants.{OutOfRange}
@@ -11,11 +12,11 @@ use Rattle.lt_load.specs.Loaded.{program_verdict, config_verdict}
 use Rattle.lt_load.specs.Setups.{Passes}
 use Rattle.lt_load.specs.Plan.{Plan, fitting_plan_verdict}
 
--- the protocol of a setup is outside the range of those in which no node leads
+-- the protocol of a setup is outside the range of those that are no more than their timing
 abbrev pub pace_fault : CommandFault
 pace_fault = fault.Config (record { kind = OutOfRange; key = codes "protocol" })
 
--- a setup in which no node leads
+-- a setup with such a protocol
 unfoldable pub unpaced_verdict : Config → Verdict Config CommandFault
 unpaced_verdict setup = Passes setup (setup.pace ≡ Plain) (λ e. e ≡ pace_fault)
 

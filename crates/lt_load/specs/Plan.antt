@@ -29,7 +29,7 @@ use Rattle.lt_answer.specs.Answered.{Verdict, AndThen}
 use Rattle.lt_verdict.specs.Rules.{Exactly}
 use Rattle.lt_load.specs.declared.fault.CommandFault.{CommandFault}
 use Rattle.lt_load.specs.Loaded.{program_verdict, config_verdict, inputs_verdict}
-use Rattle.lt_load.specs.Setups.{fitting_verdict}
+use Rattle.lt_load.specs.Setups.{HasWindowBy, fitting_verdict}
 
 -- the program, the setup and the rows of inputs
 pub record Plan : Type 0 where
@@ -37,8 +37,8 @@ pub record Plan : Type 0 where
   pub setup : Config
   pub inputs : InputTable
 
--- the program with its flat form, that form on the nodes, the channels between them, the bounds of time, the rows of inputs and who paces the
--- rounds
+-- the program with its flat form, that form on the nodes, the channels between them, the bounds of time, the rows of inputs and the pace of the
+-- protocol
 pub record LoadedPlan : Type 0 where
   pub checked : CheckedText
   pub layout : Layout
@@ -62,6 +62,7 @@ pub record IsLoaded (k : LoadedPlan) : Type 0 where
   pub placed : IsPlaced k.checked.flat k.layout
   pub paced : KeepsPace k.layout k.shape k.timing k.pace
   pub accepted : Accepts k.timing
+  pub windowed : HasWindowBy k.pace k.timing
   pub timed : length k.timing.nodes ≡ length k.layout.names
   pub few : length k.layout.names ≤ 32
   -- the inputs are those of `main`, and so of its flat form

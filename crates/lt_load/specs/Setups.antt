@@ -1,4 +1,4 @@
--- A program with a setup: its placement is legal, and its timing is accepted.
+-- A program with a setup: its placement is legal, its timing is accepted, and it has the window that its pace asks for.
 use Rattle.std.specs.Prelude.{◌≡◌, ℕ, List, Option, Some, None, Ok, Err}
 use Rattle.lt_front.specs.Examined.{ExaminedText}
 use Rattle.lt_front.specs.Flattened.{flat_of}
@@ -7,7 +7,11 @@ use Rattle.lt_place.specs.Faults as placement
 use Rattle.lt_place.specs.Placement.{node_names}
 use Rattle.lt_timing.specs.Accepts.{Accepts}
 use Rattle.lt_timing.specs.Accepts as timing
+use Rattle.lt_arch.specs.declared.timing.Timing.{Timing}
+use Rattle.lt_lossy.specs.Window.{HasWindow, IsWindowFault}
 use Rattle.lt_config.specs.declared.config.Config.{Config}
+use Rattle.lt_config.specs.declared.pace.Pace.{Pace}
+use Rattle.lt_config.specs.declared.pace.Pace.TheVariants.{Plain, Lossy, Leader}
 use Rattle.lt_answer.specs.Answered.{Verdict, AndThen}
 use Rattle.lt_verdict.specs.Rules.{Exactly}
 use Rattle.lt_load.specs.declared.fault.CommandFault.{CommandFault}
@@ -30,13 +34,32 @@ abbrev pub IsTimingFault : Config → CommandFault → Type 0
 IsTimingFault setup (fault.Timing f names mixed) = timing.IsFirstFault setup.timing f × (names ≡ node_names setup.placement) × (mixed ≡ setup.mixed)
 IsTimingFault setup _ = ⊥
 
+-- where links lose messages, a channel has room for all that are in transit: the window
+abbrev pub HasWindowBy : Pace → Timing → Type 0
+HasWindowBy Plain t = Unit {0}
+HasWindowBy (Lossy losses) t = HasWindow t
+HasWindowBy (Leader leader) t = Unit {0}
+
+-- the first pair of nodes that is not in the window, beside the names of the nodes
+abbrev pub IsOutsideWindow : Config → CommandFault → Type 0
+IsOutsideWindow setup (fault.Window f names) = IsWindowFault setup.timing f × (names ≡ node_names setup.placement)
+IsOutsideWindow setup _ = ⊥
+
 -- a setup by which the placement of a program's flat form is legal
 unfoldable pub placed_verdict : ExaminedText → Config → Verdict Config CommandFault
 placed_verdict checked setup = Passes setup (Legal (flat_of checked.program) setup.placement) (IsPlaceFault checked setup)
 
 -- a setup whose timing is accepted
+unfoldable pub timed_verdict : Config → Verdict Config CommandFault
+timed_verdict setup = Passes setup (Accepts setup.timing) (IsTimingFault setup)
+
+-- a setup that has the window which its pace asks for
+unfoldable pub windowed_verdict : Config → Verdict Config CommandFault
+windowed_verdict setup = Passes setup (HasWindowBy setup.pace setup.timing) (IsOutsideWindow setup)
+
+-- a setup whose timing is accepted and which has its window, in this order
 unfoldable pub accepted_verdict : Config → Verdict Config CommandFault
-accepted_verdict setup = Passes setup (Accepts setup.timing) (IsTimingFault setup)
+accepted_verdict setup = AndThen (timed_verdict setup) (λ timed. windowed_verdict timed)
 
 -- a setup for a program: the placement and the timing, in this order
 unfoldable pub fitting_verdict : ExaminedText → Config → Verdict Config CommandFault

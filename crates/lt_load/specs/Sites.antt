@@ -16,7 +16,7 @@ use Rattle.lt_verdict.specs.Rules.{Exactly}
 use Rattle.lt_load.specs.declared.fault.CommandFault.{CommandFault}
 use Rattle.lt_load.specs.declared.sites.Site.{Site}
 use Rattle.lt_load.specs.Loaded.{inputs_verdict}
-use Rattle.lt_load.specs.Setups.{IsPlaceFault, fitting_verdict}
+use Rattle.lt_load.specs.Setups.{HasWindowBy, IsPlaceFault, fitting_verdict}
 use Rattle.lt_load.specs.Plan.{LoadedPlan}
 
 -- the layout of a legal placement, or a fault of it
@@ -41,6 +41,7 @@ pub record IsSited (f : Originated) (s : Site) : Type 0 where
   pub placed : IsPlaced f s.layout
   pub paced : KeepsPace s.layout s.shape s.timing s.pace
   pub accepted : Accepts s.timing
+  pub windowed : HasWindowBy s.pace s.timing
   pub timed : length s.timing.nodes ≡ length s.layout.names
   pub few : length s.layout.names ≤ 32
 

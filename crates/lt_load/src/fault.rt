@@ -5,6 +5,7 @@ use lt_base::{Func, List, Name};
 use lt_config::ConfigFault;
 use lt_front::ProgramFault;
 use lt_inputs::InputFault;
+use lt_lossy::{LossyOffence, WindowFault};
 use lt_place::PlaceFault;
 use lt_rows::RowFault;
 use lt_timing::TimingFault;
@@ -37,6 +38,11 @@ pub enum CommandFault {
         names: List<Name>,
         mixed: bool,
     },
+    /// Too many messages of a channel could be in transit, where links lose messages; beside the fault the names of the nodes.
+    Window {
+        fault: WindowFault,
+        names: List<Name>,
+    },
     /// The inputs are at fault, or they have too many rows.
     Inputs(InputFault),
     /// The weight of `main` times the number of rows of inputs is above the limit on cells.
@@ -51,6 +57,12 @@ pub enum CommandFault {
     Offence {
         event: u32,
         offence: Offence,
+        shape: Shape,
+    },
+    /// The schedule's event is refused, where links lose messages; the rest is as in `Offence`.
+    Lossy {
+        event: u32,
+        offence: LossyOffence,
         shape: Shape,
     },
     /// A file has more bytes than its limit.

@@ -8,8 +8,8 @@ use lt_front::Checked;
 use lt_place::Layout;
 use std::marker::Model;
 
-/// A program that passed all checks, on its nodes: the shape has the layout's nodes and the channels between them by who paces the
-/// rounds, the timing is accepted, and the inputs are those of the program's `main`.
+/// A program that passed all checks, on its nodes: the shape has the layout's nodes and the channels between them by the pace of the
+/// protocol, the timing is accepted, where links lose messages it has the window, and the inputs are those of the program's `main`.
 #[derive(Drop)]
 pub struct Loaded {
     pub checked: Checked,

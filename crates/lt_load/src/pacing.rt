@@ -1,4 +1,4 @@
-// What a command reads where no node may lead.
+// What a command reads where a protocol may be no more than its timing.
 ghost use Rattle.std.specs.Prelude.{◌≡◌, ◌++◌, ◌<◌, ◌-◌, ◌^◌, Some};
 ghost use Rattle.lt_answer.specs.World.{alone};
 ghost use Rattle.lt_answer.specs.Answered.{Answered, Settles};
@@ -17,7 +17,7 @@ use lt_front::Checked;
 use lt_io::Files;
 use std::alloc::Global;
 
-/// Loads what `load` does, with a setup in which no node leads. The files are read in the same order.
+/// Loads what `load` does, with a setup in which no link loses messages and no node leads. The files are read in the same order.
 pub fn load_plain<F: Files>(
     alloc: Global,
     files: &mut F,
@@ -49,7 +49,7 @@ fn load_plain_setup<F: Files>(
     load_fitting(alloc, files, checked, setup, inputs)
 }
 
-/// The setup of a file in which no node leads. One in which a node leads is refused as one whose protocol is outside the range.
+/// The setup of a file in which no link loses messages and no node leads. Any other is refused as one whose protocol is outside the range.
 pub fn load_plain_config<F: Files>(
     alloc: Global,
     files: &mut F,
@@ -62,14 +62,14 @@ pub fn load_plain_config<F: Files>(
     unpaced(alloc, setup)
 }
 
-// The setup, if no node leads in it.
+// The setup, if its protocol is no more than its timing.
 #[tactic(auto, unfolding(crate::specs::Pacing::unpaced_verdict))]
 fn unpaced(alloc: Global, setup: Config) -> Result<Config, Or<CommandFault>>
     ensures { Settles (unpaced_verdict setup) result }
 {
     match setup.pace {
         Pace::Plain => Ok(setup),
-        Pace::Leader(_) => {
+        Pace::Lossy(_) | Pace::Leader(_) => {
             let key = Name::from_str(alloc, "protocol")?;
             Err(Or::Fault(CommandFault::Config(ConfigFault {
                 kind: ConfigKind::OutOfRange,

@@ -18,8 +18,8 @@ use lt_front::Checked;
 use lt_io::Files;
 use std::alloc::Global;
 
-/// Loads what a run is of. The program passes all checks, its placement by the setup is legal, the setup's timing is accepted, and
-/// the inputs are those of `main`. Without a setup there is one node, under back-pressure. The files are read in this order: the
+/// Loads what a run is of. The program passes all checks, its placement by the setup is legal, the setup's timing is accepted, it has
+/// the window where links lose messages, and the inputs are those of `main`. Without a setup there is one node, under back-pressure. The files are read in this order: the
 /// program, the setup and the inputs.
 pub fn load<F: Files>(
     alloc: Global,

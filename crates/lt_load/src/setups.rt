@@ -5,20 +5,22 @@ ghost use Rattle.lt_answer.specs.World.{alone};
 ghost use Rattle.lt_answer.specs.Answered.{Answered, Settles};
 ghost use Rattle.lt_load.specs.Blamed.{command_blame};
 ghost use Rattle.lt_load.specs.Errands.{program_errand, config_errand, check_errands};
-ghost use Rattle.lt_load.specs.Setups.{accepted_verdict, check_verdict, fitted_verdict, fitting_verdict, placed_verdict, with_setup_verdict};
+ghost use Rattle.lt_load.specs.Setups.{IsOutsideWindow, Passes, accepted_verdict, check_verdict, fitted_verdict, fitting_verdict, placed_verdict, timed_verdict, windowed_verdict, with_setup_verdict};
+ghost use Rattle.lt_lossy.specs.Window.{HasWindow};
 
 use crate::loading::{load_flat, main_of};
 use crate::{CommandFault, load_config, load_program};
 use lt_base::Or;
-use lt_config::Config;
+use lt_config::{Config, Pace};
 use lt_front::{Checked, Examined};
 use lt_io::Files;
+use lt_lossy::window;
 use lt_place::legal_nodes;
 use lt_timing::accepts;
 use std::alloc::Global;
 
-/// A program that passes all checks; with the file of a setup, its placement is legal and its timing is accepted. The files are
-/// read in this order.
+/// A program that passes all checks; with the file of a setup, its placement is legal, its timing is accepted, and it has the window
+/// where links lose messages. The files are read in this order.
 pub fn check<F: Files>(
     alloc: Global,
     files: &mut F,
@@ -65,7 +67,7 @@ fn check_setup<F: Files>(
     fitting(alloc, checked, setup)
 }
 
-// The setup, if the program's placement by it is legal and its timing is accepted, in this order.
+// The setup, if the program's placement by it is legal, its timing is accepted and it has its window, in this order.
 fn fitting(alloc: Global, checked: &Checked, setup: Config) -> Result<Config, Or<CommandFault>>
     ensures { Settles (fitting_verdict (examined_part checked.now) setup) result }
 {
@@ -94,10 +96,18 @@ pub(crate) fn placed(
     }
 }
 
-/// The setup, if its timing is accepted.
-#[tactic(auto, unfolding(crate::specs::Setups::accepted_verdict))]
+/// The setup, if its timing is accepted, and if it has the window that its pace asks for, in this order.
 pub(crate) fn accepted(alloc: Global, setup: Config) -> Result<Config, Or<CommandFault>>
     ensures { Settles (accepted_verdict setup) result }
+{
+    let timed = timed(alloc, setup)?;
+    windowed(alloc, timed)
+}
+
+// The setup, if its timing is accepted.
+#[tactic(auto, unfolding(crate::specs::Setups::timed_verdict))]
+fn timed(alloc: Global, setup: Config) -> Result<Config, Or<CommandFault>>
+    ensures { Settles (timed_verdict setup) result }
 {
     match accepts(&setup.timing) {
         Ok(()) => Ok(setup),
@@ -110,4 +120,27 @@ pub(crate) fn accepted(alloc: Global, setup: Config) -> Result<Config, Or<Comman
             }))
         }
     }
+}
+
+// The setup, if it has the window that its pace asks for.
+#[tactic(auto, unfolding(crate::specs::Setups::windowed_verdict))]
+fn windowed(alloc: Global, setup: Config) -> Result<Config, Or<CommandFault>>
+    ensures { Settles (windowed_verdict setup) result }
+{
+    match setup.pace {
+        Pace::Lossy(_) => in_window(alloc, setup),
+        Pace::Plain | Pace::Leader(_) => Ok(setup),
+    }
+}
+
+// The setup, if a channel has room for all messages that are in transit.
+#[tactic(auto, using(crate::proofs::Windows::no_window))]
+fn in_window(alloc: Global, setup: Config) -> Result<Config, Or<CommandFault>>
+    ensures { Settles (Passes setup (HasWindow setup.timing) (IsOutsideWindow setup)) result }
+{
+    if let Err(fault) = window(&setup.timing) {
+        let names = setup.placement.names(alloc)?;
+        return Err(Or::Fault(CommandFault::Window { fault, names }));
+    }
+    Ok(setup)
 }

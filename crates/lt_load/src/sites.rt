@@ -18,7 +18,7 @@ use lt_lead::shape_by;
 use lt_place::{Layout, place};
 use std::alloc::Global;
 
-/// A program on its nodes, the channels between them, the bounds of time, and who paces the rounds.
+/// A program on its nodes, the channels between them, the bounds of time, and the pace of the protocol.
 #[derive(Drop)]
 pub(crate) struct Site {
     pub layout: Layout,
@@ -27,7 +27,7 @@ pub(crate) struct Site {
     pub pace: Pace,
 }
 
-/// The site of a program by a setup: the placement is legal and the timing is accepted, in this order.
+/// The site of a program by a setup: the placement is legal, the timing is accepted, and the setup has its window, in this order.
 pub(crate) fn find_site(
     alloc: Global,
     checked: &Checked,

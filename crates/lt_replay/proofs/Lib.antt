@@ -1,4 +1,5 @@
 pub mod Members
+pub mod LossyBound
 pub mod SoundNetworks
 pub mod PartRead
 pub mod ReadySoFar

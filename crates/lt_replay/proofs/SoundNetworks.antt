@@ -15,12 +15,13 @@ use Rattle.lt_timing.specs.Accepts.{Accepts}
 use Rattle.lt_timing.specs.Bounds.{time_based_bound, back_pressure_bound}
 use Rattle.lt_bp.specs.Laws as pressure
 use Rattle.lt_tb.specs.Laws as counting
+use Rattle.lt_lossy.specs.Laws.{lossy_bound}
 use Rattle.lt_place.specs.declared.layout.Layout.{Layout}
 use Rattle.lt_place.specs.Layout.{IsPlaced}
-use Rattle.lt_plant.specs.Channels.{FitsLayout, ShapesFit}
+use Rattle.lt_plant.specs.Channels.{FitsLayout, IsShapeOf, ShapesFit}
 use Rattle.lt_norm.specs.Flat.{Originated}
 use Rattle.lt_config.specs.declared.pace.Pace.{Pace}
-use Rattle.lt_config.specs.declared.pace.Pace.TheVariants.{Plain, Leader}
+use Rattle.lt_config.specs.declared.pace.Pace.TheVariants.{Plain, Lossy, Leader}
 use Rattle.lt_config.specs.Paced.{IsLed}
 use Rattle.lt_lead.specs.Shapes.{IsLeaderShape}
 use Rattle.lt_lead.specs.Channels.{LeadShapesFit}
@@ -29,6 +30,7 @@ use Rattle.lt_lead.specs.Laws as leading
 use Rattle.lt_lead.proofs.ByPace.{nodes_are}
 use Rattle.lt_play.specs.Played.{IsLeast}
 use Rattle.lt_replay.specs.Sound.{IsSound, AreSound}
+use Rattle.lt_replay.proofs.LossyBound.{lossy_at_most}
 
 either : (p : Protocol) → (p ≡ BackPressure) ⊎ (p ≡ TimeBased)
 either BackPressure = inl refl
@@ -39,12 +41,16 @@ few_channels n c names same few low =
     let square : names * names ≤ 32 * 32 = mul-le names names 32 32 low low in
     omega (arith, same, few, low, square)
 
+-- a smaller bound is met too
+fewer : (small bound rows count : ℕ) → small ≤ bound → min bound rows ≤ count → min small rows ≤ count
+fewer small bound rows count less met = omega (arith, less, met)
+
 module _ (shapes_fit : ShapesFit) (lead_shapes_fit : LeadShapesFit) (f : Originated) (l : Layout) (s : Shape) (t : Timing) (rows : ℕ) (placed : IsPlaced f l) (same : length t.nodes ≡ length l.names) (accepted : Accepts t) where
   -- where a node leads
 
   module _ (leader : ℕ) (k : KeepsPace l s t (Leader leader)) where
     led : IsLed t leader
-    led = k.fits leader refl
+    led = k.fits.led leader refl
 
     fits_led : FitsLayout l TimeBased s × IsLeaderShape s leader
     fits_led = lead_shapes_fit f l leader s placed (subst (λ n. leader < n) same led.leader_in) k.shaped
@@ -52,10 +58,20 @@ module _ (shapes_fit : ShapesFit) (lead_shapes_fit : LeadShapesFit) (f : Origina
     same_led : HaveSameNodes s t
     same_led = fits_led.0.timed t same
 
+  -- where links lose messages, the shape and the protocol are those of back-pressure
+
+  module _ (losses : ℕ) (k : KeepsPace l s t (Lossy losses)) where
+    acknowledges : t.protocol ≡ BackPressure
+    acknowledges = (k.fits.lossy losses refl).acknowledges
+
+    plain_of : KeepsPace l s t Plain
+    plain_of = record { shaped = subst (λ p. IsShapeOf l p s) (sym acknowledges) k.shaped; fits = record { led = λ leader is. cc; lossy = λ losses is. cc } }
+
   -- by each pace
 
   fits_by : (pace : Pace) → KeepsPace l s t pace → FitsLayout l t.protocol s
   fits_by Plain k = (shapes_fit f l t.protocol s placed k.shaped).0
+  fits_by (Lossy losses) k = (shapes_fit f l t.protocol s placed (plain_of losses k).shaped).0
   fits_by (Leader leader) k = subst (λ p. FitsLayout l p s) (sym (led leader k).counts) (fits_led leader k).0
 
   one_by : pressure.KeepsOnePlace → counting.KeepsOnePlace → leading.KeepsOnePlace → (pace : Pace) → KeepsPace l s t pace → OnePlace s t rows
@@ -65,6 +81,9 @@ module _ (shapes_fit : ShapesFit) (lead_shapes_fit : LeadShapesFit) (f : Origina
         | inl p ↦ by_pressure s t rows p (fit.0.back_pressure p)
         | inr p ↦ by_counting s t rows p (fit.1 p) (fit.0.timed t same) accepted
       ]
+  one_by by_pressure by_counting by_leading (Lossy losses) k =
+      let fit = shapes_fit f l t.protocol s placed (plain_of losses k).shaped in
+      by_pressure s t rows (acknowledges losses k) (fit.0.back_pressure (acknowledges losses k))
   one_by by_pressure by_counting by_leading (Leader leader) k = by_leading s t rows leader (fits_led leader k).1 (same_led leader k) (led leader k) accepted
 
   least_by : pressure.ReachesBound → counting.ReachesBound → leading.ReachesBound → (pace : Pace) → KeepsPace l s t pace → IsLeast (bound_by pace) s t rows
@@ -78,6 +97,11 @@ module _ (shapes_fit : ShapesFit) (lead_shapes_fit : LeadShapesFit) (f : Origina
             subst (λ m. min m rows ≤ executed_of (reached s t rows es) n) (sym (ap (λ q. if is_back_pressure q then back_pressure_bound t n h else time_based_bound t n h) p))
             (by_counting s t rows es h n p admissible ends b)
       ]
+  least_by by_pressure by_counting by_leading (Lossy losses) k es h n timely admissible ends b =
+      let fit = shapes_fit f l t.protocol s placed (plain_of losses k).shaped in
+      let nodes : length t.nodes ≡ node_count s = fit.0.timed t same in
+      fewer (lossy_bound t losses n h) (back_pressure_bound t n h) rows (executed_of (reached s t rows es) n) (lossy_at_most t losses n h (omega (arith, nodes, b)))
+      (by_pressure s t rows es h n (acknowledges losses k) (fit.0.back_pressure (acknowledges losses k)) (fit.0.timed t same) admissible ends b)
   least_by by_pressure by_counting by_leading (Leader leader) k es h n timely admissible ends b =
       by_leading s t rows leader (fits_led leader k).1 (same_led leader k) (led leader k) accepted es h n timely admissible ends b
 

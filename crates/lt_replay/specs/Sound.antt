@@ -28,6 +28,6 @@ pub record IsSound (l : Layout) (s : Shape) (t : Timing) (rows : ℕ) : Type 0 w
   -- with few nodes there are few channels
   pub numbered : length l.names ≤ 32 → 2 * (node_count s + chan_count s) < 2 ^ 32
 
--- so it is wherever a placed layout has its shape by who paces the rounds, and a timing of its nodes is accepted
+-- so it is wherever a placed layout has its shape by the pace, and a timing of its nodes is accepted
 abbrev pub AreSound : Type 0
 AreSound = (f : Originated) (l : Layout) (s : Shape) (t : Timing) (rows : ℕ) → IsPlaced f l → IsPaced l s t → length t.nodes ≡ length l.names → Accepts t → IsSound l s t rows

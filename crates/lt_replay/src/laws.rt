@@ -4,7 +4,7 @@ ghost use Rattle.lt_replay.specs.Sound.{AreSound};
 use lt_lead::laws::lead_shapes_fit;
 use lt_plant::laws::shapes_fit;
 
-/// A network with the shape of its placed layout, by who paces the rounds, and an accepted timing of its nodes keeps at most one message
+/// A network with the shape of its placed layout, by the pace of its protocol, and an accepted timing of its nodes keeps at most one message
 /// in each channel, and its nodes execute as many instants as the bound of that pace.
 pub fn networks_are_sound()
     ensures { AreSound }

@@ -1,0 +1,11 @@
+use Rattle.lt_load.specs.Setups.{timed_verdict, windowed_verdict, accepted_verdict}
+use Rattle.lt_load.proofs.Steps.{stop_settled, then_settled}
+use Rattle.lt_load.proofs.setups.accepted.Goals as goal
+
+pub returns-in_err-timed : goal.returns-in_err-timed
+unfolding accepted_verdict
+returns-in_err-timed c = stop_settled (timed_verdict c.args.setup) (λ timed. windowed_verdict timed) _ _ c.from_residual.ensures.1 c.in_err-timed.ensures
+
+pub returns : goal.returns
+unfolding accepted_verdict
+returns c = then_settled (timed_verdict c.args.setup) (λ timed. windowed_verdict timed) c.in_ok-timed.timed c.windowed.result c.in_ok-timed.ensures c.windowed.ensures
