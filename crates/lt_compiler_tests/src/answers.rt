@@ -2,7 +2,7 @@
 
 use crate::flat_forms::{tell_flat, tell_whole};
 use crate::layouts::tell_layout;
-use crate::machines::{tell_code, tell_table};
+use crate::machines::{tell_code, tell_table, tell_ways};
 use crate::programs::checked;
 use crate::script::Question;
 use crate::tables::{tell_outputs, tell_streams};
@@ -43,6 +43,9 @@ fn tell(
     }
     if what == "code" {
         return tell_code(alloc, line, checked, rest);
+    }
+    if what == "ways" {
+        return tell_ways(alloc, line, checked);
     }
     if what == "table" {
         return tell_table(alloc, line, checked, rest);

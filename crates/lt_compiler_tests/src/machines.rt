@@ -7,7 +7,7 @@ ghost use Rattle.lt_base.specs.Sizes.{weight_with};
 ghost use Rattle.lt_step.specs.Compile.{CodeOf};
 ghost use Rattle.lt_step.specs.Size.{extent};
 
-use crate::answers::tell_cells;
+use crate::answers::{tell_cells, tell_value};
 use lt_base::tables::imp;
 use lt_base::{Cell, Func, Memory, Or, Steps, Value};
 use lt_cause::causal;
@@ -24,6 +24,11 @@ type Row = (i64, bool);
 
 // The steps that a machine can make.
 const STEPS: u32 = 3;
+
+// So few steps are made by trees, and these are enough for flat code.
+const FEW: u32 = 15;
+
+const ENOUGH: u32 = 16;
 
 fn row_of(text: &str) -> Option<Row> {
     let (int, truth) = text.split_once(' ')?;
@@ -159,4 +164,28 @@ pub fn tell_table(
         rows.as_slice(),
         Blank::new(1),
     )
+}
+
+// Tells whether the machine of this code that is to make so many steps takes flat code.
+fn tell_way(
+    alloc: Global,
+    line: &mut String,
+    flat: &Flat,
+    code: Code,
+    rows: u32,
+) -> Result<(), Memory>
+    requires { CodeOf flat.now.func code }
+{
+    let machine = StepMachine::start(alloc, code, Import::new(imp), rows)?;
+    tell_value(line, machine.is_flat())
+}
+
+/// Tells whether the machine of a program's step code takes flat code: one for few steps, and one for enough of them.
+pub fn tell_ways(alloc: Global, line: &mut String, checked: &Checked) -> Result<(), Memory> {
+    checked.kept();
+    let flat = &checked.flat;
+    let code = code_of(alloc, flat)?;
+    tell_way(alloc, line, flat, code, FEW)?;
+    let code = code_of(alloc, flat)?;
+    tell_way(alloc, line, flat, code, ENOUGH)
 }
