@@ -16,7 +16,7 @@ use Rattle.lt_io.specs.FabricState.{FabricState}
 use Rattle.lt_place.specs.declared.layout.Layout.{Layout}
 use Rattle.lt_config.specs.declared.pace.Pace.{Pace}
 use Rattle.lt_lead.specs.Paced.{IsShapeBy}
-use Rattle.lt_answer.specs.World.{Blames, alone}
+use Rattle.lt_answer.specs.World.{Blames, alone, Content}
 use Rattle.lt_answer.specs.Answered.{Answered, AndThen}
 use Rattle.lt_answer.proofs.Stages.{beside, goes_on, renamed, runs_short, stops, widened}
 use Rattle.lt_front.specs.Examined.{ExaminedText}
@@ -36,7 +36,7 @@ use Rattle.lt_run.specs.declared.outputs.Outputs.{Outputs}
 use Rattle.lt_run.specs.declared.printed.Printed.{Printed}
 use Rattle.lt_run.specs.Errands.{run_errands}
 use Rattle.lt_run.specs.Printed.{HasPrinted, ReplayShows, ShowsAt}
-use Rattle.lt_run.specs.Run.{AsCommand, HasOutputs, IsLaidOutBy, Shows, along_loaded, along_verdict, command_fault, placed_run_verdict, ordered_verdict}
+use Rattle.lt_run.specs.Run.{AsCommand, KeepsShape, HasOutputs, IsLaidOutBy, Shows, along_loaded, along_verdict, command_fault, placed_run_verdict, ordered_verdict}
 use Rattle.lt_run.proofs.Replays.{answered_value, answered_fault}
 
 same_blame : (s : Shape) (e : PlayFault) → command_blame (command_fault s e) ≡ play_blame e
@@ -113,6 +113,13 @@ module _ (k : LoadedPlan) (name : List ℕ) (files files' : FilesState) (fabric 
   raised : (e : Or PlayFault) (g : Or CommandFault) → MapsFault e g (λ f h. h ≡ command_fault k.shape f) → Answered play_blame (schedule_errand name) right (world files fabric) (world files' fabric') (Err e) → Runs (Err g)
   raised e g is first = raised_fault (command_fault k.shape) play_blame command_blame (same_blame k.shape) right (world files fabric) (world files' fabric') e g is first
 
+  content : (f : PlayFault) → KeepsShape f → play_blame f ≡ Content
+  content (Schedule (schedule.Row row f)) keeps = absurd keeps
+  content (Schedule (schedule.Offence event offence)) keeps = refl
+  content (Schedule schedule.Bytes) keeps = absurd keeps
+  content (Schedule schedule.Read) keeps = absurd keeps
+  content Link keeps = absurd keeps
+
   pub fault_of : (e : Or PlayFault) (g : Or CommandFault) → AsCommand k.shape e g → HasOutputs k name files files' fabric fabric' (Err e) → Runs (Err g)
   fault_of (Fault f) (Fault g) is has = raised (Fault f) (Fault g) is has.answered
   fault_of (Fault f) Memory is has =
@@ -120,7 +127,7 @@ module _ (k : LoadedPlan) (name : List ℕ) (files files' : FilesState) (fabric 
       let short : Answered play_blame (schedule_errand name) right (world files fabric) (world files' fabric') (Err Memory) = record {
         keeps = first.keeps;
         visits = first.visits;
-        cause = subst (Blames (world files fabric) (world files' fabric')) is first.cause;
+        cause = subst (Blames (world files fabric) (world files' fabric')) (content f is) first.cause;
         exact = λ told calm. tt;
         sound = first.sound;
       } in

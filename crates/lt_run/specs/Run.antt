@@ -14,7 +14,7 @@ use Rattle.lt_front.specs.Flattened.{flat_of}
 use Rattle.lt_judge.specs.declared.fault.ScheduleFault.TheVariants as schedule
 use Rattle.lt_base.specs.declared.memory.Or.{Or}
 use Rattle.lt_base.specs.declared.memory.Or.TheVariants.{Fault, Memory}
-use Rattle.lt_answer.specs.World.{World, Content}
+use Rattle.lt_answer.specs.World.{World}
 use Rattle.lt_answer.specs.Answered.{Answered, Verdict, AndThen}
 use Rattle.lt_verdict.specs.Rules.{Raised}
 use Rattle.lt_judge.specs.Errand.{schedule_errand}
@@ -39,10 +39,18 @@ command_fault s (Schedule schedule.Bytes) = fault.Limit ScheduleBytes
 command_fault s (Schedule schedule.Read) = fault.Read
 command_fault s Link = fault.Link
 
--- a replay's fault as the command's; memory may be wanting where no count rose
+-- a fault that names an event keeps a copy of the shape
+abbrev pub KeepsShape : PlayFault → Type 0
+KeepsShape (Schedule (schedule.Row row f)) = ⊥
+KeepsShape (Schedule (schedule.Offence event offence)) = Unit {0}
+KeepsShape (Schedule schedule.Bytes) = ⊥
+KeepsShape (Schedule schedule.Read) = ⊥
+KeepsShape Link = ⊥
+
+-- a replay's fault as the command's; memory may be wanting for a copy of the shape alone
 abbrev pub AsCommand : Shape → Or PlayFault → Or CommandFault → Type 0
 AsCommand s (Fault f) (Fault g) = g ≡ command_fault s f
-AsCommand s (Fault f) Memory = play_blame f ≡ Content
+AsCommand s (Fault f) Memory = KeepsShape f
 AsCommand s Memory (Fault g) = ⊥
 AsCommand s Memory Memory = Unit {0}
 

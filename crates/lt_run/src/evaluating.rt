@@ -1,9 +1,9 @@
 // The streams of a program's outputs on its inputs.
-ghost use Rattle.std.specs.Prelude.{◌≤◌, IfOk, IfErr, OnOk};
+ghost use Rattle.std.specs.Prelude.{◌≡◌, ◌≤◌, IfOk, IfErr, OnOk};
 ghost use Rattle.lt_base.specs.Checked.{CheckedProgram};
 ghost use Rattle.lt_answer.specs.Answered.{Refuses};
 ghost use Rattle.lt_meaning.specs.Streams.{HasOutputStreams, HasRoom, InputsFitMain, cell_count, most_cells};
-ghost use Rattle.lt_run.specs.Main.{cells_verdict};
+ghost use Rattle.lt_run.specs.Main.{cells_verdict, streams_fault};
 
 use lt_base::{Cell, Inputs, List, Or, Program};
 use lt_load::CommandFault;
@@ -25,7 +25,14 @@ pub(crate) fn evaluate(
 {
     match output_streams(alloc, program, inputs) {
         Ok(streams) => Ok(streams),
-        Err(Or::Fault(StreamsFault::TooMany)) => Err(Or::Fault(CommandFault::TooManyCells)),
-        Err(Or::Memory) => Err(Or::Memory),
+        Err(fault) => Err(fault.map(streams_fault)),
+    }
+}
+
+fn streams_fault(fault: StreamsFault) -> CommandFault
+    ensures { result ≡ streams_fault fault }
+{
+    match fault {
+        StreamsFault::TooMany => CommandFault::TooManyCells,
     }
 }
