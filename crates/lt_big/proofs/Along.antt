@@ -11,21 +11,23 @@ use Rattle.lt_answer.specs.World.{Blames}
 use Rattle.lt_answer.specs.Answered.{Refuses, Settles}
 use Rattle.lt_answer.proofs.Stages.{calm_itself, refuses, runs_short, settles, widened}
 use Rattle.lt_config.specs.declared.pace.Pace.{Pace}
+use Rattle.lt_config.specs.declared.pace.Pace.TheVariants.{Plain}
 use Rattle.lt_lead.specs.Paced.{IsShapeBy}
 use Rattle.lt_front.specs.Examined.{ExaminedText}
 use Rattle.lt_judge.specs.declared.fault.ScheduleFault.{ScheduleFault}
 use Rattle.lt_play.specs.Played.{world}
-use Rattle.lt_replay.specs.Replays.{EndsWith, replay_verdict}
 use Rattle.lt_load.specs.declared.fault.CommandFault.{CommandFault}
 use Rattle.lt_load.specs.Blamed.{command_blame}
 use Rattle.lt_load.specs.Plan.{Plan, LoadedPlan, IsLoadedFrom, Loads}
 use Rattle.lt_load.proofs.Onward.{not_loaded, then_loaded}
 use Rattle.lt_load.proofs.Steps.{untouched}
 use Rattle.lt_run.specs.declared.outputs.Outputs.{Outputs}
-use Rattle.lt_run.specs.Run.{IsLaidOutBy, Shows}
+use Rattle.lt_run.specs.Fault.{of_schedule}
+use Rattle.lt_run.specs.Kinds.{EndsBy, file_verdict}
+use Rattle.lt_run.specs.Run.{IsLaidOutBy, Shows, placed_run_verdict}
 use Rattle.lt_big.specs.Texts.{horizon_of}
 use Rattle.lt_big.specs.Big.{events_of, played_verdict, loaded_verdict, along_verdict, big_verdict}
-use Rattle.lt_big.specs.Stage.{AnsweredAlone, ReadsAsList, file_verdict, along_list, along_bytes}
+use Rattle.lt_big.specs.Stage.{AnsweredAlone, ReadsAsList, drawn_verdict, along_list, along_bytes}
 use Rattle.lt_big.proofs.Contents.{loaded_content}
 
 one_horizon : (h g : ℕ) → Some h ≡ Some g → h ≡ g
@@ -36,25 +38,28 @@ module _ (instants : ℕ) (k : LoadedPlan) where
   events = events_of instants k.shape k.timing (length k.inputs.rows)
 
   abbrev shows : FabricState → List Event → Outputs → Type 0
-  shows fabric es outputs = Shows k.checked.program k.layout k.shape k.timing k.inputs.rows fabric es outputs
+  shows fabric es outputs = Shows k.checked.program k.layout k.shape k.timing Plain k.inputs.rows fabric es outputs
 
   -- the bytes read as the list
-  wider : (fabric : FabricState) (bytes : List ℕ) → ReadsAsList instants k bytes → (o : Result Outputs CommandFault) → along_bytes bytes fabric k o → along_list instants fabric k o
-  unfolding replay_verdict
-  wider fabric bytes is (Ok x) right =
-      let shown : shows fabric events x = subst (λ (v : Result (List Event) ScheduleFault). EndsWith (shows fabric) v (Ok x)) is.reads right in
+  wider_plain : (fabric : FabricState) (bytes : List ℕ) → ReadsAsList instants k bytes → (o : Result Outputs CommandFault) → placed_run_verdict k.checked.program k.layout k.shape k.timing Plain k.inputs.rows fabric (Some bytes) o → along_list instants fabric k o
+  unfolding file_verdict
+  wider_plain fabric bytes is (Ok x) right =
+      let shown : shows fabric events x = subst (λ (v : Result (List Event) ScheduleFault). EndsBy of_schedule (shows fabric) v (Ok x)) is.reads right in
       record { few = is.few; shows = shown; at_horizon = one_horizon shown.horizon (horizon_of instants) (sym shown.told.run.ends ∙ is.ends) }
-  wider fabric bytes is (Err e) (f, right, raised) = absurd (subst (λ (v : Result (List Event) ScheduleFault). EndsWith (shows fabric) v (Err f)) is.reads right)
+  wider_plain fabric bytes is (Err e) (f, right, raised) = absurd (subst (λ (v : Result (List Event) ScheduleFault). EndsBy of_schedule (shows fabric) v (Err f)) is.reads right)
 
-  pub drawn_along : (bytes : List ℕ) (w w' : FabricState) (r : Result Outputs (Or CommandFault)) → file_verdict instants k (Ok bytes) → AnsweredAlone (along_bytes bytes w' k) w w' r → AnsweredAlone (along_list instants w' k) w w' r
-  drawn_along bytes w w' r is answered files = widened (along_bytes bytes w' k) (along_list instants w' k) (world files w) (world files w') r (wider w' bytes is) (answered files)
+  wider : k.pace ≡ Plain → (fabric : FabricState) (bytes : List ℕ) → ReadsAsList instants k bytes → (o : Result Outputs CommandFault) → along_bytes bytes fabric k o → along_list instants fabric k o
+  wider plain fabric bytes is o right = wider_plain fabric bytes is o (subst (λ (p : Pace). placed_run_verdict k.checked.program k.layout k.shape k.timing p k.inputs.rows fabric (Some bytes) o) plain right)
+
+  pub drawn_along : k.pace ≡ Plain → (bytes : List ℕ) (w w' : FabricState) (r : Result Outputs (Or CommandFault)) → drawn_verdict instants k (Ok bytes) → AnsweredAlone (along_bytes bytes w' k) w w' r → AnsweredAlone (along_list instants w' k) w w' r
+  drawn_along plain bytes w w' r is answered files = widened (along_bytes bytes w' k) (along_list instants w' k) (world files w) (world files w') r (wider plain w' bytes is) (answered files)
 
   -- the list is refused, or no memory was found for it
-  refused_along : (w : FabricState) (e : Or CommandFault) → Refuses (file_verdict instants k) e → AnsweredAlone (along_list instants w k) w w (Err e)
+  refused_along : (w : FabricState) (e : Or CommandFault) → Refuses (drawn_verdict instants k) e → AnsweredAlone (along_list instants w k) w w (Err e)
   refused_along w (Fault f) (many, is) files = refuses (world files w) f (subst (Blames (world files w) (world files w)) (sym (ap command_blame is)) (calm_itself (world files w))) (many, is)
   refused_along w Memory right files = runs_short (world files w)
 
-  pub not_drawn : (w : FabricState) (e : Or CommandFault) (r : Result Outputs (Or CommandFault)) → IsErrAnd r (λ f. f ≡ e) → Refuses (file_verdict instants k) e → AnsweredAlone (along_list instants w k) w w r
+  pub not_drawn : (w : FabricState) (e : Or CommandFault) (r : Result Outputs (Or CommandFault)) → IsErrAnd r (λ f. f ≡ e) → Refuses (drawn_verdict instants k) e → AnsweredAlone (along_list instants w k) w w r
   not_drawn w e (Ok x) is right = absurd is
   not_drawn w e (Err f) is right = subst (λ (g : Or CommandFault). AnsweredAlone (along_list instants w k) w w (Err g)) (sym is) (refused_along w e right)
 

@@ -1,10 +1,11 @@
 -- Where all files are there, what is right of them blames what was read.
-use Rattle.std.proofs.Common.{◌≡◌, ◌∙◌, ℕ, List, Option, Some, Result, Ok, Err, refl, sym, ap, subst}
+use Rattle.std.proofs.Common.{◌≡◌, ◌∙◌, ℕ, List, length, Option, Some, Result, Ok, Err, refl, sym, ap, subst}
 use Rattle.std.specs.Prelude.{codes}
 use Rattle.lt_base.specs.Program.{WholeProgram}
 use Rattle.lt_arch.specs.declared.event.Event.{Event}
 use Rattle.lt_arch.specs.declared.event.Offence.{Offence}
 use Rattle.lt_arch.specs.declared.shape.Shape.{Shape}
+use Rattle.lt_arch.specs.declared.timing.Timing.{Timing}
 use Rattle.lt_io.specs.FabricState.{FabricState}
 use Rattle.lt_answer.specs.World.{Content}
 use Rattle.lt_verdict.specs.Rules.{Exactly, Raised}
@@ -12,13 +13,11 @@ use Rattle.lt_front.specs.Examined.{ExaminedText}
 use Rattle.lt_front.specs.Front.{examine_verdict}
 use Rattle.lt_inputs.specs.Inputs.{inputs_of}
 use Rattle.lt_config.specs.declared.config.Config.{Config}
+use Rattle.lt_config.specs.declared.pace.Pace.{Pace}
+use Rattle.lt_config.specs.declared.pace.Pace.TheVariants.{Plain, Leader}
 use Rattle.lt_judge.specs.declared.halt.Refusal.{Refusal}
 use Rattle.lt_judge.specs.declared.halt.Refusal.TheVariants as refusal
-use Rattle.lt_judge.specs.declared.fault.ScheduleFault.TheVariants as schedule
 use Rattle.lt_judge.specs.Verdict.{or_fault}
-use Rattle.lt_play.specs.declared.fault.PlayFault.{PlayFault}
-use Rattle.lt_play.specs.declared.fault.PlayFault.TheVariants.{Schedule}
-use Rattle.lt_replay.specs.Replays.{EndsWith, replay_verdict}
 use Rattle.lt_load.specs.declared.fault.What.{What}
 use Rattle.lt_load.specs.declared.fault.What.TheVariants.{ProgramBytes, ConfigBytes, InputsBytes}
 use Rattle.lt_load.specs.declared.fault.CommandFault.TheVariants as fault
@@ -30,6 +29,10 @@ use Rattle.lt_load.specs.Plan.{LoadedPlan, Loads, fitting_plan_verdict, inputs_p
 use Rattle.lt_load.specs.Pacing.{unpaced_verdict, plain_config_verdict, plain_setup_plan_verdict, plain_load_verdict}
 use Rattle.lt_load.proofs.Contents.{fitting_content}
 use Rattle.lt_load.proofs.Steps.{IsContent, content_then, content_raised}
+use Rattle.lt_run.specs.declared.fault.RunFault.{RunFault}
+use Rattle.lt_run.specs.declared.fault.RunFault.TheVariants as run
+use Rattle.lt_run.specs.Fault.{of_schedule}
+use Rattle.lt_run.specs.Kinds.{EventsBy, EndsBy, fault_by, file_verdict, verdict_by}
 use Rattle.lt_run.specs.Run.{command_fault}
 use Rattle.lt_big.specs.Big.{named_of, loaded_verdict}
 use Rattle.lt_big.specs.Texts.{program_text, setup_text, inputs_text}
@@ -102,12 +105,16 @@ loaded_content instants e right =
 
 -- the bytes of a schedule file
 
-ends_content : {T : Type 0} (end : List Event → T → Type 0) (s : Shape) (judged : Result (List Event) (Refusal Offence)) (f : PlayFault) → EndsWith end (or_fault judged) (Err f) → command_blame (command_fault s f) ≡ Content
+ends_content : {T : Type 0} (end : List Event → T → Type 0) (s : Shape) (judged : Result (List Event) (Refusal Offence)) (f : RunFault) → EndsBy of_schedule end (or_fault judged) (Err f) → command_blame (command_fault s f) ≡ Content
 ends_content end s (Ok events) f is = absurd is
-ends_content end s (Err (refusal.Row row e)) f is = let same : f ≡ Schedule (schedule.Row row e) = cc is in ap (λ (g : PlayFault). command_blame (command_fault s g)) same
-ends_content end s (Err (refusal.Offence event e)) f is = let same : f ≡ Schedule (schedule.Offence event e) = cc is in ap (λ (g : PlayFault). command_blame (command_fault s g)) same
-ends_content end s (Err refusal.Bytes) f is = let same : f ≡ Schedule schedule.Bytes = cc is in ap (λ (g : PlayFault). command_blame (command_fault s g)) same
+ends_content end s (Err (refusal.Row row e)) f is = let same : f ≡ run.Row row e = cc is in ap (λ (g : RunFault). command_blame (command_fault s g)) same
+ends_content end s (Err (refusal.Offence event e)) f is = let same : f ≡ run.Offence event e = cc is in ap (λ (g : RunFault). command_blame (command_fault s g)) same
+ends_content end s (Err refusal.Bytes) f is = let same : f ≡ run.Bytes = cc is in ap (λ (g : RunFault). command_blame (command_fault s g)) same
+
+paced_content : {T : Type 0} (pace : Pace) (end : EventsBy pace → T → Type 0) (s : Shape) (t : Timing) (rows : ℕ) (bytes : List ℕ) (f : RunFault) → EndsBy (fault_by pace) end (verdict_by pace s t rows bytes) (Err f) → command_blame (command_fault s f) ≡ Content
+paced_content Plain end s t rows bytes f is = ends_content end s _ f is
+paced_content (Leader leader) end s t rows bytes f is = ends_content end s _ f is
 
 pub bytes_content : (bytes : List ℕ) (fabric : FabricState) (k : LoadedPlan) → IsContent command_blame (along_bytes bytes fabric k)
-unfolding replay_verdict
-bytes_content bytes fabric k e (f, right, is) = ap command_blame is ∙ ends_content _ k.shape _ f right
+unfolding file_verdict
+bytes_content bytes fabric k e (f, right, is) = ap command_blame is ∙ paced_content k.pace _ k.shape k.timing (length k.inputs.rows) bytes f right

@@ -14,7 +14,7 @@ use Rattle.lt_sim.specs.Laws.{DrawsSound, ReadsBack}
 use Rattle.lt_sim.specs.Recorded.{IsRecorded, IsBroken, IsTooMany}
 use Rattle.lt_big.specs.Texts.{horizon_of}
 use Rattle.lt_big.specs.Big.{events_of, too_many}
-use Rattle.lt_big.specs.Stage.{file_verdict}
+use Rattle.lt_big.specs.Stage.{drawn_verdict}
 
 -- a loaded program's nodes can be drawn for
 pub loaded_sound : (k : LoadedPlan) → IsLoaded k → AreSound → IsSound k.layout k.shape k.timing (length k.inputs.rows)
@@ -30,7 +30,7 @@ module _ (k j : LoadedPlan) (view : k ≡ j) (instants rows horizon : ℕ) (coun
 
   -- it was written, and reads back
   pub drawn_file : IsLoaded k → AreSound → DrawsSound → ReadsBack → horizon ≤ GREATEST_TIME → (old new : SinkState) → IsTrue old.told → old.taken ≡ [] → (count : ℕ) → IsRecorded k.shape (list rows horizon) old new count → (bytes : List ℕ) → bytes ≡ new.taken
-      → file_verdict instants j (Ok bytes)
+      → drawn_verdict instants j (Ok bytes)
   drawn_file kept sound draws back within old new told empty count is bytes taken =
       let text : bytes ≡ file_text k.shape (list rows horizon) = taken ∙ is.written.taken told ∙ ap (λ (t : List ℕ). t ++ file_text k.shape (list rows horizon)) empty in
       let one_place = (loaded_sound k kept sound).one_place in
@@ -38,7 +38,7 @@ module _ (k j : LoadedPlan) (view : k ≡ j) (instants rows horizon : ℕ) (coun
       let few : length (events_of instants k.shape k.timing (length k.inputs.rows)) ≤ most_events = same (λ es. length es ≤ most_events) is.few in
       let low : horizon_of instants ≤ GREATEST_TIME = subst (λ (h : ℕ). h ≤ GREATEST_TIME) until within in
       let reads = back k.shape k.timing (length k.inputs.rows) instants (horizon_of instants) one_place low few in
-      subst (λ (p : LoadedPlan). file_verdict instants p (Ok bytes)) view
+      subst (λ (p : LoadedPlan). drawn_verdict instants p (Ok bytes)) view
       (record {
         few = few;
         ends = (draws k.shape k.timing (length k.inputs.rows) instants (horizon_of instants) one_place low).ends;
@@ -46,9 +46,9 @@ module _ (k j : LoadedPlan) (view : k ≡ j) (instants rows horizon : ℕ) (coun
       })
 
   -- it has too many events
-  pub drawn_too_many : (old new : SinkState) → IsTooMany (list rows horizon) old new → (fault : CommandFault) → fault ≡ too_many → file_verdict instants j (Err fault)
+  pub drawn_too_many : (old new : SinkState) → IsTooMany (list rows horizon) old new → (fault : CommandFault) → fault ≡ too_many → drawn_verdict instants j (Err fault)
   drawn_too_many old new is fault same_fault =
-      subst (λ (p : LoadedPlan). file_verdict instants p (Err fault)) view (same (λ es. most_events < length es) is.many, same_fault)
+      subst (λ (p : LoadedPlan). drawn_verdict instants p (Err fault)) view (same (λ es. most_events < length es) is.many, same_fault)
 
 -- a sink that fails nowhere is not broken
 pub unbroken : (k : LoadedPlan) (es : List Event) (old new : SinkState) → new.faults ≡ old.faults → IsBroken k.shape es old new → ⊥

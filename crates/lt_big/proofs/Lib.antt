@@ -1,5 +1,6 @@
 pub mod Contents
 pub mod Alone
 pub mod Along
+pub mod Plainly
 pub mod Held
 pub mod Drawn

@@ -9,6 +9,7 @@ use Rattle.lt_io.specs.FabricState.{FabricState}
 use Rattle.lt_io.specs.MemFiles.{lookup}
 use Rattle.lt_io.specs.declared.mem_files.MemFile.{MemFile}
 use Rattle.lt_place.specs.declared.layout.Layout.{Layout}
+use Rattle.lt_config.specs.declared.pace.Pace.TheVariants.{Plain}
 use Rattle.lt_rows.specs.declared.fault.RowFault.TheVariants as row
 use Rattle.lt_rows.specs.Limits.{most_events}
 use Rattle.lt_answer.specs.Answered.{Verdict, AndThen}
@@ -48,7 +49,7 @@ too_many = fault.Row 5000001 row.TooMany
 -- what the outputs of a program on these nodes show of the list, which is no longer than a schedule may be and ends at the horizon
 pub record ShowsList (instants : ℕ) (fabric : FabricState) (p : WholeProgram) (l : Layout) (s : Shape) (t : Timing) (inputs : List (List Value)) (outputs : Outputs) : Type 0 where
   pub few : length (events_of instants s t (length inputs)) ≤ most_events
-  pub shows : Shows p l s t inputs fabric (events_of instants s t (length inputs)) outputs
+  pub shows : Shows p l s t Plain inputs fabric (events_of instants s t (length inputs)) outputs
   pub at_horizon : shows.horizon ≡ horizon_of instants
 
 -- a program on these nodes along the list: what its outputs show of it, unless it has more events than a schedule may have

@@ -36,9 +36,9 @@ pub record ReadsAsList (instants : ℕ) (k : LoadedPlan) (bytes : List ℕ) : Ty
   pub reads : verdict k.shape k.timing (length k.inputs.rows) bytes ≡ Ok (events_of instants k.shape k.timing (length k.inputs.rows))
 
 -- a schedule file of that list, unless it has too many events
-abbrev pub file_verdict : (instants : ℕ) → LoadedPlan → Verdict (List ℕ) CommandFault
-file_verdict instants k (Ok bytes) = ReadsAsList instants k bytes
-file_verdict instants k (Err e) = (most_events < length (events_of instants k.shape k.timing (length k.inputs.rows))) × (e ≡ too_many)
+abbrev pub drawn_verdict : (instants : ℕ) → LoadedPlan → Verdict (List ℕ) CommandFault
+drawn_verdict instants k (Ok bytes) = ReadsAsList instants k bytes
+drawn_verdict instants k (Err e) = (most_events < length (events_of instants k.shape k.timing (length k.inputs.rows))) × (e ≡ too_many)
 
 -- what was loaded, along the list
 abbrev pub along_list : (instants : ℕ) → FabricState → LoadedPlan → Verdict Outputs CommandFault

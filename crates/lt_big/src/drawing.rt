@@ -3,7 +3,7 @@ ghost use Rattle.std.specs.Prelude.{◌≡◌, ◌<◌, IsTrue, [], true};
 ghost use Rattle.lt_io.specs.MemSink.{mem_sink_state};
 ghost use Rattle.lt_answer.specs.Answered.{Settles};
 ghost use Rattle.lt_big.specs.Big.{too_many};
-ghost use Rattle.lt_big.specs.Stage.{file_verdict};
+ghost use Rattle.lt_big.specs.Stage.{drawn_verdict};
 
 use crate::texts::horizon;
 use lt_base::{List, Or};
@@ -22,7 +22,7 @@ pub(crate) fn draw(
     loaded: &Loaded,
     instants: u32,
 ) -> Result<List<u8>, Or<CommandFault>>
-    ensures { Settles (file_verdict instants loaded.now) result }
+    ensures { Settles (drawn_verdict instants loaded.now) result }
 {
     loaded.kept();
     networks_are_sound();

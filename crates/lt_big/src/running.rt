@@ -1,5 +1,6 @@
 // A run of the large input.
 ghost use Rattle.std.specs.Prelude.{◌≡◌, ◌<◌, ◌-◌, ◌^◌, []};
+ghost use Rattle.lt_config.specs.declared.pace.Pace.TheVariants.{Plain};
 ghost use Rattle.lt_big.specs.Big.{big_verdict};
 ghost use Rattle.lt_big.specs.Stage.{AnsweredAlone, along_list};
 
@@ -40,6 +41,7 @@ fn run<W: Fabric>(
 ) -> Result<Outputs, Or<CommandFault>>
     requires count { (W.state fabric.old).faults < 2 ^ 64 - 1 }
     requires empty { (W.state fabric.old).kinds ≡ [] }
+    requires plain { loaded.now.pace ≡ Plain }
     ensures { AnsweredAlone (along_list instants (W.state fabric.new) loaded.now) (W.state fabric.old) (W.state fabric.new) result }
 {
     let schedule = draw(alloc, loaded, instants)?;

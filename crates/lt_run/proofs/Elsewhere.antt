@@ -14,10 +14,6 @@ use Rattle.lt_front.specs.Front.{examine_verdict}
 use Rattle.lt_inputs.specs.Inputs.{inputs_of}
 use Rattle.lt_config.specs.declared.config.Config.{Config}
 use Rattle.lt_verdict.specs.Rules.{Exactly, Raised}
-use Rattle.lt_judge.specs.declared.fault.ScheduleFault.TheVariants as schedule
-use Rattle.lt_play.specs.declared.fault.PlayFault.{PlayFault}
-use Rattle.lt_play.specs.declared.fault.PlayFault.TheVariants.{Schedule, Link}
-use Rattle.lt_play.specs.Played.{IsNearPlay}
 use Rattle.lt_load.specs.declared.fault.What.{What}
 use Rattle.lt_load.specs.declared.fault.What.TheVariants.{ProgramBytes, ConfigBytes, InputsBytes, ObserverBytes, ScheduleBytes}
 use Rattle.lt_load.specs.declared.fault.CommandFault.{CommandFault}
@@ -29,6 +25,9 @@ use Rattle.lt_load.specs.Setups.{placed_verdict, accepted_verdict, fitting_verdi
 use Rattle.lt_load.specs.Plan.{Loads, chosen_setup_verdict, fitting_plan_verdict, inputs_plan_verdict, load_verdict, setup_plan_verdict}
 use Rattle.lt_load.proofs.OneCheck.{place_fault, timing_fault}
 use Rattle.lt_load.proofs.Steps.{IsContent, content_then, content_raised}
+use Rattle.lt_run.specs.declared.fault.RunFault.{RunFault}
+use Rattle.lt_run.specs.declared.fault.RunFault.TheVariants as run
+use Rattle.lt_run.specs.Fault.{IsNearRun}
 use Rattle.lt_run.specs.Near.{IsNearCommand, IsNearFault, ReadNear}
 use Rattle.lt_run.specs.Run.{AsCommand, command_fault}
 
@@ -160,16 +159,16 @@ pub near_error : {T : Type 0} (file : Option (List ℕ)) (place : ℕ) (e : Or C
 near_error file place e (Ok x) is near = absurd is
 near_error file place e (Err f) is near = subst (IsNearCommand file place) (sym is) near
 
--- a replay's refusal
+-- a run's refusal
 
-near_fault : (s : Shape) (file : Option (List ℕ)) (place : ℕ) (f : PlayFault) → IsNearPlay file place (Fault f) → IsNearFault file place (command_fault s f)
-near_fault s file place (Schedule (schedule.Row row f)) near = near
-near_fault s file place (Schedule (schedule.Offence event offence)) near = near
-near_fault s file place (Schedule schedule.Bytes) near = near
-near_fault s file place (Schedule schedule.Read) near = tt
-near_fault s file place Link near = tt
+near_fault : (s : Shape) (file : Option (List ℕ)) (place : ℕ) (f : RunFault) → IsNearRun file place (Fault f) → IsNearFault file place (command_fault s f)
+near_fault s file place (run.Row row f) near = near
+near_fault s file place (run.Offence event offence) near = near
+near_fault s file place run.Bytes near = near
+near_fault s file place run.Read near = tt
+near_fault s file place run.Link near = tt
 
-pub near_as_command : (s : Shape) (file : Option (List ℕ)) (place : ℕ) (e : Or PlayFault) (g : Or CommandFault) → AsCommand s e g → IsNearPlay file place e → IsNearCommand file place g
+pub near_as_command : (s : Shape) (file : Option (List ℕ)) (place : ℕ) (e : Or RunFault) (g : Or CommandFault) → AsCommand s e g → IsNearRun file place e → IsNearCommand file place g
 near_as_command s file place (Fault f) (Fault g) is near = subst (IsNearFault file place) (sym is) (near_fault s file place f near)
 near_as_command s file place (Fault f) Memory is near = tt
 near_as_command s file place Memory (Fault g) is near = absurd is

@@ -4,22 +4,16 @@ use Rattle.lt_base.specs.declared.value.Value.{Value}
 use Rattle.lt_base.specs.declared.value.Cell.{Cell}
 use Rattle.lt_base.specs.Program.{WholeProgram}
 use Rattle.lt_base.specs.Inputs.{InputTable}
-use Rattle.lt_arch.specs.declared.event.Event.{Event}
 use Rattle.lt_arch.specs.declared.shape.Shape.{Shape}
 use Rattle.lt_arch.specs.declared.timing.Timing.{Timing}
 use Rattle.lt_io.specs.FabricState.{FabricState}
 use Rattle.lt_place.specs.declared.layout.Layout.{Layout}
+use Rattle.lt_config.specs.declared.pace.Pace.{Pace}
 use Rattle.lt_answer.specs.World.{World}
 use Rattle.lt_front.specs.Examined.{ExaminedText}
 use Rattle.lt_front.specs.Flattened.{flat_of}
 use Rattle.lt_meaning.specs.Streams.{cell_count, most_cells}
-use Rattle.lt_judge.specs.declared.fault.ScheduleFault.{ScheduleFault}
-use Rattle.lt_judge.specs.declared.fault.ScheduleFault.TheVariants.{Read}
-use Rattle.lt_judge.specs.Verdict.{verdict}
 use Rattle.lt_verdict.proofs.Decided.{HasOneKind, HasOneOutcome, of_rule, and_then}
-use Rattle.lt_play.specs.declared.fault.PlayFault.{PlayFault}
-use Rattle.lt_play.specs.declared.fault.PlayFault.TheVariants.{Schedule}
-use Rattle.lt_replay.specs.Replays.{EndsWith, replay_verdict}
 use Rattle.lt_load.specs.declared.fault.CommandFault.{CommandFault}
 use Rattle.lt_load.specs.declared.fault.CommandFault.TheVariants as fault
 use Rattle.lt_load.specs.Loaded.{program_verdict, inputs_verdict}
@@ -28,7 +22,10 @@ use Rattle.lt_load.proofs.OneLoad.{TellsLimits, program_decided}
 use Rattle.lt_load.proofs.OneCheck.{MergesPlaces, MergesTimings}
 use Rattle.lt_load.proofs.OnePlan.{inputs_decided, load_decided}
 use Rattle.lt_load.proofs.OneShape.{one_shape}
+use Rattle.lt_run.specs.declared.fault.RunFault.{RunFault}
+use Rattle.lt_run.specs.declared.fault.RunFault.TheVariants.{Read}
 use Rattle.lt_run.specs.declared.outputs.Outputs.{Outputs}
+use Rattle.lt_run.specs.Kinds.{EventsBy, EndsBy, fault_by, file_verdict, verdict_by}
 use Rattle.lt_run.specs.Main.{cells_verdict, output_streams}
 use Rattle.lt_run.specs.Meaning.{printed_verdict, streams_verdict, inputs_streams_verdict, meaning_verdict}
 use Rattle.lt_run.specs.Run.{IsLaidOutBy, along_verdict, command_fault, ordered_verdict, placed_run_verdict, run_verdict}
@@ -58,26 +55,27 @@ meaning_decided kind along named program inputs =
 
 -- a schedule file along which something is replayed
 
-module _ {T U : Type 0} (end : List Event → T → Type 0) (end' : List Event → U → Type 0) (s : Shape) (t : Timing) (rows : ℕ) where
-  one_end : (v : Result (List Event) ScheduleFault) (d e : PlayFault) → EndsWith end v (Err d) → EndsWith end' v (Err e) → d ≡ e
+module _ {E F T U : Type 0} (raise : F → RunFault) (end : E → T → Type 0) (end' : E → U → Type 0) where
+  one_end : (v : Result E F) (d e : RunFault) → EndsBy raise end v (Err d) → EndsBy raise end' v (Err e) → d ≡ e
   one_end (Ok events) d e p q = absurd p
-  one_end (Err f) d e p q = let here : d ≡ Schedule f = cc p in let there : e ≡ Schedule f = cc q in here ∙ sym there
+  one_end (Err f) d e p q = let here : d ≡ raise f = cc p in let there : e ≡ raise f = cc q in here ∙ sym there
 
-  no_end : (v : Result (List Event) ScheduleFault) (d : PlayFault) (x : U) → EndsWith end v (Err d) → EndsWith end' v (Ok x) → ⊥
+  no_end : (v : Result E F) (d : RunFault) (x : U) → EndsBy raise end v (Err d) → EndsBy raise end' v (Ok x) → ⊥
   no_end (Ok events) d x p q = p
   no_end (Err f) d x p q = cc
 
+module _ {T U : Type 0} (pace : Pace) (end : EventsBy pace → T → Type 0) (end' : EventsBy pace → U → Type 0) (s : Shape) (t : Timing) (rows : ℕ) where
   -- one refusal is right
-  one_refusal : (file : Option (List ℕ)) (d e : PlayFault) → replay_verdict end s t rows file (Err d) → replay_verdict end' s t rows file (Err e) → d ≡ e
-  unfolding replay_verdict
-  one_refusal None d e p q = let here : d ≡ Schedule Read = cc p in let there : e ≡ Schedule Read = cc q in here ∙ sym there
-  one_refusal (Some bytes) d e p q = one_end (verdict s t rows bytes) d e p q
+  one_refusal : (file : Option (List ℕ)) (d e : RunFault) → file_verdict pace end s t rows file (Err d) → file_verdict pace end' s t rows file (Err e) → d ≡ e
+  unfolding file_verdict
+  one_refusal None d e p q = let here : d ≡ Read = cc p in let there : e ≡ Read = cc q in here ∙ sym there
+  one_refusal (Some bytes) d e p q = one_end (fault_by pace) end end' (verdict_by pace s t rows bytes) d e p q
 
   -- and then no value is
-  no_value : (file : Option (List ℕ)) (d : PlayFault) (x : U) → replay_verdict end s t rows file (Err d) → replay_verdict end' s t rows file (Ok x) → ⊥
-  unfolding replay_verdict
+  no_value : (file : Option (List ℕ)) (d : RunFault) (x : U) → file_verdict pace end s t rows file (Err d) → file_verdict pace end' s t rows file (Ok x) → ⊥
+  unfolding file_verdict
   no_value None d x p q = cc
-  no_value (Some bytes) d x p q = no_end (verdict s t rows bytes) d x p q
+  no_value (Some bytes) d x p q = no_end (fault_by pace) end end' (verdict_by pace s t rows bytes) d x p q
 
 -- layouts of one program under one placement have one shape
 module _ (plan : Plan) (l m : Layout) (s z : Shape) (laid : IsLaidOutBy plan l s) (other : IsLaidOutBy plan m z) where
@@ -86,10 +84,10 @@ module _ (plan : Plan) (l m : Layout) (s z : Shape) (laid : IsLaidOutBy plan l s
 
 module _ {K : Type 0} (kind : CommandFault → K) (fabric : FabricState) (file : Option (List ℕ)) (plan : Plan) where
   abbrev runs : Layout → Shape → Result Outputs CommandFault → Type 0
-  runs l s = placed_run_verdict plan.checked.program l s plan.setup.timing plan.inputs.rows fabric file
+  runs l s = placed_run_verdict plan.checked.program l s plan.setup.timing plan.setup.pace plan.inputs.rows fabric file
 
   one_fault : (l m : Layout) (s : Shape) (e f : CommandFault) → runs l s (Err e) → runs m s (Err f) → e ≡ f
-  one_fault l m s e f p q = p.2 ∙ ap (command_fault s) (one_refusal _ _ s plan.setup.timing (length plan.inputs.rows) file p.0 q.0 p.1 q.1) ∙ sym q.2
+  one_fault l m s e f p q = p.2 ∙ ap (command_fault s) (one_refusal plan.setup.pace _ _ s plan.setup.timing (length plan.inputs.rows) file p.0 q.0 p.1 q.1) ∙ sym q.2
 
   along_kind : (e f : CommandFault) → along_verdict fabric file plan (Err e) → along_verdict fabric file plan (Err f) → kind e ≡ kind f
   unfolding along_verdict
@@ -99,7 +97,7 @@ module _ {K : Type 0} (kind : CommandFault → K) (fabric : FabricState) (file :
   along_both : (e : CommandFault) (x : Outputs) → along_verdict fabric file plan (Err e) → along_verdict fabric file plan (Ok x) → ⊥
   unfolding along_verdict
   along_both e x p q =
-      no_value _ _ p.1 plan.setup.timing (length plan.inputs.rows) file p.3.0 x p.3.1 (subst (λ (z : Shape). runs q.0 z (Ok x)) (same_shape plan p.0 q.0 p.1 q.1 p.2 q.2) q.3)
+      no_value plan.setup.pace _ _ p.1 plan.setup.timing (length plan.inputs.rows) file p.3.0 x p.3.1 (subst (λ (z : Shape). runs q.0 z (Ok x)) (same_shape plan p.0 q.0 p.1 q.1 p.2 q.2) q.3)
 
   pub along_decided : HasOneKind kind (along_verdict fabric file plan)
   along_decided = record { one_kind = along_kind; not_both = along_both }

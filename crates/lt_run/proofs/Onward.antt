@@ -8,7 +8,6 @@ use Rattle.lt_base.specs.declared.value.Value.{Value}
 use Rattle.lt_base.specs.declared.value.Cell.{Cell}
 use Rattle.lt_base.specs.Inputs.{InputTable}
 use Rattle.lt_base.specs.Program.{Function, WholeProgram}
-use Rattle.lt_arch.specs.declared.event.Event.{Event}
 use Rattle.lt_arch.specs.declared.shape.Shape.{Shape}
 use Rattle.lt_arch.specs.declared.timing.Timing.{Timing}
 use Rattle.lt_io.specs.FilesState.{FilesState}
@@ -21,110 +20,109 @@ use Rattle.lt_answer.specs.Answered.{Answered, AndThen}
 use Rattle.lt_answer.proofs.Stages.{beside, goes_on, renamed, runs_short, stops, widened}
 use Rattle.lt_front.specs.Examined.{ExaminedText}
 use Rattle.lt_judge.specs.Errand.{schedule_errand}
-use Rattle.lt_judge.specs.declared.fault.ScheduleFault.TheVariants as schedule
-use Rattle.lt_play.specs.declared.fault.PlayFault.{PlayFault}
-use Rattle.lt_play.specs.declared.fault.PlayFault.TheVariants.{Schedule, Link}
-use Rattle.lt_play.specs.Blamed.{play_blame}
 use Rattle.lt_play.specs.Played.{world}
-use Rattle.lt_replay.specs.Replays.{replay_verdict}
 use Rattle.lt_load.specs.declared.fault.CommandFault.{CommandFault}
 use Rattle.lt_load.specs.Errands.{load_errands}
 use Rattle.lt_load.specs.Blamed.{command_blame}
 use Rattle.lt_load.specs.Plan.{Plan, LoadedPlan, IsLoadedFrom, Loads, load_verdict}
 use Rattle.lt_load.proofs.Raising.{raised_value, raised_fault}
+use Rattle.lt_run.specs.declared.fault.RunFault.{RunFault}
+use Rattle.lt_run.specs.declared.fault.RunFault.TheVariants as run
 use Rattle.lt_run.specs.declared.outputs.Outputs.{Outputs}
 use Rattle.lt_run.specs.declared.printed.Printed.{Printed}
 use Rattle.lt_run.specs.Errands.{run_errands}
-use Rattle.lt_run.specs.Printed.{HasPrinted, ReplayShows, ShowsAt}
+use Rattle.lt_run.specs.Fault.{run_blame}
+use Rattle.lt_run.specs.Kinds.{EventsBy}
+use Rattle.lt_run.specs.Printed.{HasPrinted, ReplayShows, ShowsAt, loaded_verdict}
 use Rattle.lt_run.specs.Run.{AsCommand, KeepsShape, HasOutputs, IsLaidOutBy, Shows, along_loaded, along_verdict, command_fault, placed_run_verdict, ordered_verdict}
 use Rattle.lt_run.proofs.Replays.{answered_value, answered_fault}
 
-same_blame : (s : Shape) (e : PlayFault) → command_blame (command_fault s e) ≡ play_blame e
-same_blame s (Schedule (schedule.Row row f)) = refl
-same_blame s (Schedule (schedule.Offence event offence)) = refl
-same_blame s (Schedule schedule.Bytes) = refl
-same_blame s (Schedule schedule.Read) = refl
-same_blame s Link = refl
+same_blame : (s : Shape) (e : RunFault) → command_blame (command_fault s e) ≡ run_blame e
+same_blame s (run.Row row f) = refl
+same_blame s (run.Offence event offence) = refl
+same_blame s run.Bytes = refl
+same_blame s run.Read = refl
+same_blame s run.Link = refl
 
 -- the outputs of what a replay answers show the same
-outputs_show : {M : Type 0} (stands : M → Function → List (List Value) → Type 0) (made : M → ℕ) (p : WholeProgram) (l : Layout) (s : Shape) (t : Timing) (inputs : List (List Value)) (fabric : FabricState) (printed : Printed M) (outputs : Outputs)
-    → outputs.names ≡ printed.names → outputs.cells ≡ printed.cells → (events : List Event) → ReplayShows stands made p l s t inputs fabric events printed → Shows p l s t inputs fabric events outputs
-outputs_show stands made p l s t inputs fabric printed outputs names cells events shown = record {
+outputs_show : {M : Type 0} (stands : M → Function → List (List Value) → Type 0) (made : M → ℕ) (p : WholeProgram) (l : Layout) (s : Shape) (t : Timing) (pace : Pace) (inputs : List (List Value)) (fabric : FabricState) (printed : Printed M) (outputs : Outputs)
+    → outputs.names ≡ printed.names → outputs.cells ≡ printed.cells → (events : EventsBy pace) → ReplayShows stands made p l s t pace inputs fabric events printed → Shows p l s t pace inputs fabric events outputs
+outputs_show stands made p l s t pace inputs fabric printed outputs names cells events shown = record {
   horizon = printed.horizon;
   told =
-      subst (λ (ns : List (List ℕ)). ShowsAt p l s t inputs fabric events ns outputs.cells printed.horizon) (sym names)
-      (subst (λ (cs : List (List Cell)). ShowsAt p l s t inputs fabric events printed.names cs printed.horizon) (sym cells) shown.shows);
+      subst (λ (ns : List (List ℕ)). ShowsAt p l s t pace inputs fabric events ns outputs.cells printed.horizon) (sym names)
+      (subst (λ (cs : List (List Cell)). ShowsAt p l s t pace inputs fabric events printed.names cs printed.horizon) (sym cells) shown.shows);
 }
 
 module _ {M : Type 0} (stands : M → Function → List (List Value) → Type 0) (made : M → ℕ) (k : LoadedPlan) (name : List ℕ) (files files' : FilesState) (fabric fabric' : FabricState) where
   abbrev file : Option (List ℕ)
   file = files.named name
 
-  abbrev printed_end : List Event → Printed M → Type 0
-  printed_end = ReplayShows stands made k.checked.program k.layout k.shape k.timing k.inputs.rows fabric'
+  abbrev printed_end : EventsBy k.pace → Printed M → Type 0
+  printed_end = ReplayShows stands made k.checked.program k.layout k.shape k.timing k.pace k.inputs.rows fabric'
 
-  abbrev outputs_end : List Event → Outputs → Type 0
-  outputs_end = Shows k.checked.program k.layout k.shape k.timing k.inputs.rows fabric'
+  abbrev outputs_end : EventsBy k.pace → Outputs → Type 0
+  outputs_end = Shows k.checked.program k.layout k.shape k.timing k.pace k.inputs.rows fabric'
 
-  abbrev Outs : Result Outputs (Or PlayFault) → Type 0
+  abbrev Outs : Result Outputs (Or RunFault) → Type 0
   Outs r = HasOutputs k name files files' fabric fabric' r
 
   -- the outputs of what a replay answers
   pub outputs_of : (printed : Printed M) (outputs : Outputs) → outputs.names ≡ printed.names → outputs.cells ≡ printed.cells → HasPrinted stands made k name files files' fabric fabric' (Ok printed) → Outs (Ok outputs)
   outputs_of printed outputs names cells has = record {
     answered =
-        answered_value printed_end outputs_end k.shape k.timing (length k.inputs.rows) file (world files fabric) (world files' fabric') printed outputs
-        (outputs_show stands made k.checked.program k.layout k.shape k.timing k.inputs.rows fabric' printed outputs names cells) has.answered;
+        answered_value k.pace printed_end outputs_end k.shape k.timing (length k.inputs.rows) file (world files fabric) (world files' fabric') printed outputs
+        (outputs_show stands made k.checked.program k.layout k.shape k.timing k.pace k.inputs.rows fabric' printed outputs names cells) has.answered;
     near = λ told. tt;
   }
 
   -- its refusal
-  pub not_printed : (e : Or PlayFault) (r : Result Outputs (Or PlayFault)) → IsErrAnd r (λ f. f ≡ e) → HasPrinted stands made k name files files' fabric fabric' (Err e) → Outs r
+  pub not_printed : (e : Or RunFault) (r : Result Outputs (Or RunFault)) → IsErrAnd r (λ f. f ≡ e) → HasPrinted stands made k name files files' fabric fabric' (Err e) → Outs r
   not_printed e (Ok x) is has = absurd is
   not_printed e (Err f) is has =
       let told : Outs (Err e) = record {
-        answered = answered_fault printed_end outputs_end k.shape k.timing (length k.inputs.rows) file (world files fabric) (world files' fabric') e has.answered;
+        answered = answered_fault k.pace printed_end outputs_end k.shape k.timing (length k.inputs.rows) file (world files fabric) (world files' fabric') e has.answered;
         near = has.near;
       } in
-      subst (λ (g : Or PlayFault). Outs (Err g)) (sym is) told
+      subst (λ (g : Or RunFault). Outs (Err g)) (sym is) told
 
 -- no memory was found before the replay
-pub not_begun : (k : LoadedPlan) (name : List ℕ) (files : FilesState) (fabric : FabricState) (r : Result Outputs (Or PlayFault)) → IsErrAnd r (λ f. f ≡ Memory) → HasOutputs k name files files fabric fabric r
+pub not_begun : (k : LoadedPlan) (name : List ℕ) (files : FilesState) (fabric : FabricState) (r : Result Outputs (Or RunFault)) → IsErrAnd r (λ f. f ≡ Memory) → HasOutputs k name files files fabric fabric r
 not_begun k name files fabric (Ok x) is = absurd is
 not_begun k name files fabric (Err f) is =
-    subst (λ (g : Or PlayFault). HasOutputs k name files files fabric fabric (Err g)) (sym is) (record { answered = runs_short (world files fabric); near = λ told. tt })
+    subst (λ (g : Or RunFault). HasOutputs k name files files fabric fabric (Err g)) (sym is) (record { answered = runs_short (world files fabric); near = λ told. tt })
 
 -- the same of an equal plan
-pub outputs_at : (k l : LoadedPlan) → k ≡ l → (name : List ℕ) (files files' : FilesState) (fabric fabric' : FabricState) (r : Result Outputs (Or PlayFault)) → HasOutputs k name files files' fabric fabric' r → HasOutputs l name files files' fabric fabric' r
+pub outputs_at : (k l : LoadedPlan) → k ≡ l → (name : List ℕ) (files files' : FilesState) (fabric fabric' : FabricState) (r : Result Outputs (Or RunFault)) → HasOutputs k name files files' fabric fabric' r → HasOutputs l name files files' fabric fabric' r
 outputs_at k l is name files files' fabric fabric' r has = subst (λ (m : LoadedPlan). HasOutputs m name files files' fabric fabric' r) is has
 
 -- what was replayed, as the command's
 
 module _ (k : LoadedPlan) (name : List ℕ) (files files' : FilesState) (fabric fabric' : FabricState) where
-  abbrev right : Result Outputs PlayFault → Type 0
-  right = replay_verdict (Shows k.checked.program k.layout k.shape k.timing k.inputs.rows fabric') k.shape k.timing (length k.inputs.rows) (files.named name)
+  abbrev right : Result Outputs RunFault → Type 0
+  right = loaded_verdict k (Shows k.checked.program k.layout k.shape k.timing k.pace k.inputs.rows fabric') (files.named name)
 
   abbrev Runs : Result Outputs (Or CommandFault) → Type 0
   Runs r = Answered command_blame (schedule_errand name) (along_loaded fabric' k (files.named name)) (world files fabric) (world files' fabric') r
 
   pub shown_by : (outputs : Outputs) → HasOutputs k name files files' fabric fabric' (Ok outputs) → Runs (Ok outputs)
-  shown_by outputs has = raised_value (command_fault k.shape) play_blame command_blame (same_blame k.shape) right (world files fabric) (world files' fabric') outputs has.answered
+  shown_by outputs has = raised_value (command_fault k.shape) run_blame command_blame (same_blame k.shape) right (world files fabric) (world files' fabric') outputs has.answered
 
-  raised : (e : Or PlayFault) (g : Or CommandFault) → MapsFault e g (λ f h. h ≡ command_fault k.shape f) → Answered play_blame (schedule_errand name) right (world files fabric) (world files' fabric') (Err e) → Runs (Err g)
-  raised e g is first = raised_fault (command_fault k.shape) play_blame command_blame (same_blame k.shape) right (world files fabric) (world files' fabric') e g is first
+  raised : (e : Or RunFault) (g : Or CommandFault) → MapsFault e g (λ f h. h ≡ command_fault k.shape f) → Answered run_blame (schedule_errand name) right (world files fabric) (world files' fabric') (Err e) → Runs (Err g)
+  raised e g is first = raised_fault (command_fault k.shape) run_blame command_blame (same_blame k.shape) right (world files fabric) (world files' fabric') e g is first
 
-  content : (f : PlayFault) → KeepsShape f → play_blame f ≡ Content
-  content (Schedule (schedule.Row row f)) keeps = absurd keeps
-  content (Schedule (schedule.Offence event offence)) keeps = refl
-  content (Schedule schedule.Bytes) keeps = absurd keeps
-  content (Schedule schedule.Read) keeps = absurd keeps
-  content Link keeps = absurd keeps
+  content : (f : RunFault) → KeepsShape f → run_blame f ≡ Content
+  content (run.Row row f) keeps = absurd keeps
+  content (run.Offence event offence) keeps = refl
+  content run.Bytes keeps = absurd keeps
+  content run.Read keeps = absurd keeps
+  content run.Link keeps = absurd keeps
 
-  pub fault_of : (e : Or PlayFault) (g : Or CommandFault) → AsCommand k.shape e g → HasOutputs k name files files' fabric fabric' (Err e) → Runs (Err g)
+  pub fault_of : (e : Or RunFault) (g : Or CommandFault) → AsCommand k.shape e g → HasOutputs k name files files' fabric fabric' (Err e) → Runs (Err g)
   fault_of (Fault f) (Fault g) is has = raised (Fault f) (Fault g) is has.answered
   fault_of (Fault f) Memory is has =
       let first = has.answered in
-      let short : Answered play_blame (schedule_errand name) right (world files fabric) (world files' fabric') (Err Memory) = record {
+      let short : Answered run_blame (schedule_errand name) right (world files fabric) (world files' fabric') (Err Memory) = record {
         keeps = first.keeps;
         visits = first.visits;
         cause = subst (Blames (world files fabric) (world files' fabric')) (content f is) first.cause;
@@ -147,9 +145,10 @@ module _ (program inputs schedule : List ℕ) (config : Option (List ℕ)) (a : 
       let plan : Plan = q.1.0 in
       let from : IsLoadedFrom plan k = q.1.2 in
       let laid : IsLaidOutBy plan k.layout k.shape = record { layout = from.layout; shape = subst (λ (p : Pace). IsShapeBy k.layout p plan.setup.timing k.shape) from.pace (subst (λ (t : Timing). IsShapeBy k.layout k.pace t k.shape) from.timing from.shape) } in
-      let timed = subst (λ (t : Timing). placed_run_verdict k.checked.program k.layout k.shape t k.inputs.rows fabric (a.named schedule) o) from.timing q.2 in
-      let fed = subst (λ (t : InputTable). placed_run_verdict k.checked.program k.layout k.shape plan.setup.timing t.rows fabric (a.named schedule) o) from.inputs timed in
-      let told = subst (λ (x : ExaminedText). placed_run_verdict x.program k.layout k.shape plan.setup.timing plan.inputs.rows fabric (a.named schedule) o) from.checked fed in
+      let timed = subst (λ (t : Timing). placed_run_verdict k.checked.program k.layout k.shape t k.pace k.inputs.rows fabric (a.named schedule) o) from.timing q.2 in
+      let paced = subst (λ (p : Pace). placed_run_verdict k.checked.program k.layout k.shape plan.setup.timing p k.inputs.rows fabric (a.named schedule) o) from.pace timed in
+      let fed = subst (λ (t : InputTable). placed_run_verdict k.checked.program k.layout k.shape plan.setup.timing plan.setup.pace t.rows fabric (a.named schedule) o) from.inputs paced in
+      let told = subst (λ (x : ExaminedText). placed_run_verdict x.program k.layout k.shape plan.setup.timing plan.setup.pace plan.inputs.rows fabric (a.named schedule) o) from.checked fed in
       inr (plan, q.1.1, (k.layout, k.shape, laid, told))
 
   module _ (b : FilesState) (fabric : FabricState) where

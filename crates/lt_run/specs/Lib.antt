@@ -1,5 +1,7 @@
 pub mod Main
 pub mod Meaning
+pub mod Fault
+pub mod Kinds
 pub mod Printed
 pub mod Run
 pub mod Near

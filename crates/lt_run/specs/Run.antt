@@ -2,77 +2,76 @@
 use Rattle.std.specs.Prelude.{◌≡◌, ℕ, IsTrue, List, length, Option, Result, IfErr}
 use Rattle.lt_base.specs.declared.value.Value.{Value}
 use Rattle.lt_base.specs.Program.{WholeProgram}
-use Rattle.lt_arch.specs.declared.event.Event.{Event}
 use Rattle.lt_arch.specs.declared.shape.Shape.{Shape}
 use Rattle.lt_arch.specs.declared.timing.Timing.{Timing}
 use Rattle.lt_io.specs.FilesState.{FilesState}
 use Rattle.lt_io.specs.FabricState.{FabricState}
 use Rattle.lt_place.specs.declared.layout.Layout.{Layout}
 use Rattle.lt_place.specs.Layout.{IsLayoutOf}
+use Rattle.lt_config.specs.declared.pace.Pace.{Pace}
 use Rattle.lt_lead.specs.Paced.{IsShapeBy}
 use Rattle.lt_front.specs.Flattened.{flat_of}
-use Rattle.lt_judge.specs.declared.fault.ScheduleFault.TheVariants as schedule
 use Rattle.lt_base.specs.declared.memory.Or.{Or}
 use Rattle.lt_base.specs.declared.memory.Or.TheVariants.{Fault, Memory}
 use Rattle.lt_answer.specs.World.{World}
 use Rattle.lt_answer.specs.Answered.{Answered, Verdict, AndThen}
 use Rattle.lt_verdict.specs.Rules.{Raised}
 use Rattle.lt_judge.specs.Errand.{schedule_errand}
-use Rattle.lt_play.specs.declared.fault.PlayFault.{PlayFault}
-use Rattle.lt_play.specs.declared.fault.PlayFault.TheVariants.{Schedule, Link}
-use Rattle.lt_play.specs.Blamed.{play_blame}
-use Rattle.lt_play.specs.Played.{world, IsNearPlay}
-use Rattle.lt_replay.specs.Replays.{replay_verdict}
+use Rattle.lt_play.specs.Played.{world}
 use Rattle.lt_load.specs.declared.fault.What.TheVariants.{ScheduleBytes}
 use Rattle.lt_load.specs.declared.fault.CommandFault.{CommandFault}
 use Rattle.lt_load.specs.declared.fault.CommandFault.TheVariants as fault
 use Rattle.lt_load.specs.Plan.{Plan, LoadedPlan, load_verdict}
+use Rattle.lt_run.specs.declared.fault.RunFault.{RunFault}
+use Rattle.lt_run.specs.declared.fault.RunFault.TheVariants as run
 use Rattle.lt_run.specs.declared.outputs.Outputs.{Outputs}
+use Rattle.lt_run.specs.Fault.{run_blame, IsNearRun}
+use Rattle.lt_run.specs.Kinds.{EventsBy, file_verdict}
 use Rattle.lt_run.specs.Near.{ReadNear}
 use Rattle.lt_run.specs.Printed.{ShowsAt, loaded_verdict}
 
--- a replay's fault as a command's, beside the shape whose nodes it names
-abbrev pub command_fault : Shape → PlayFault → CommandFault
-command_fault s (Schedule (schedule.Row row f)) = fault.Row row f
-command_fault s (Schedule (schedule.Offence event offence)) = fault.Offence event offence s
-command_fault s (Schedule schedule.Bytes) = fault.Limit ScheduleBytes
-command_fault s (Schedule schedule.Read) = fault.Read
-command_fault s Link = fault.Link
+-- a run's fault as a command's, beside the shape whose nodes it names
+abbrev pub command_fault : Shape → RunFault → CommandFault
+command_fault s (run.Row row f) = fault.Row row f
+command_fault s (run.Offence event offence) = fault.Offence event offence s
+command_fault s run.Bytes = fault.Limit ScheduleBytes
+command_fault s run.Read = fault.Read
+command_fault s run.Link = fault.Link
 
 -- a fault that names an event keeps a copy of the shape
-abbrev pub KeepsShape : PlayFault → Type 0
-KeepsShape (Schedule (schedule.Row row f)) = ⊥
-KeepsShape (Schedule (schedule.Offence event offence)) = Unit {0}
-KeepsShape (Schedule schedule.Bytes) = ⊥
-KeepsShape (Schedule schedule.Read) = ⊥
-KeepsShape Link = ⊥
+abbrev pub KeepsShape : RunFault → Type 0
+KeepsShape (run.Row row f) = ⊥
+KeepsShape (run.Offence event offence) = Unit {0}
+KeepsShape run.Bytes = ⊥
+KeepsShape run.Read = ⊥
+KeepsShape run.Link = ⊥
 
--- a replay's fault as the command's; memory may be wanting for a copy of the shape alone
-abbrev pub AsCommand : Shape → Or PlayFault → Or CommandFault → Type 0
+-- a run's fault as the command's; memory may be wanting for a copy of the shape alone
+abbrev pub AsCommand : Shape → Or RunFault → Or CommandFault → Type 0
 AsCommand s (Fault f) (Fault g) = g ≡ command_fault s f
 AsCommand s (Fault f) Memory = KeepsShape f
 AsCommand s Memory (Fault g) = ⊥
 AsCommand s Memory Memory = Unit {0}
 
 -- what the outputs show of a run that ends at some horizon
-pub record Shows (p : WholeProgram) (l : Layout) (s : Shape) (t : Timing) (inputs : List (List Value)) (fabric : FabricState) (events : List Event) (outputs : Outputs) : Type 0 where
+pub record Shows (p : WholeProgram) (l : Layout) (s : Shape) (t : Timing) (pace : Pace) (inputs : List (List Value)) (fabric : FabricState) (events : EventsBy pace) (outputs : Outputs) : Type 0 where
   pub horizon : ℕ
-  pub told : ShowsAt p l s t inputs fabric events outputs.names outputs.cells horizon
+  pub told : ShowsAt p l s t pace inputs fabric events outputs.names outputs.cells horizon
 
 -- a replay of a loaded program along the file of this name, by what its outputs show
-pub record HasOutputs (k : LoadedPlan) (name : List ℕ) (files files' : FilesState) (fabric fabric' : FabricState) (result : Result Outputs (Or PlayFault)) : Type 0 where
-  pub answered : Answered play_blame (schedule_errand name) (loaded_verdict (Shows k.checked.program k.layout k.shape k.timing k.inputs.rows fabric') k (files.named name)) (world files fabric) (world files' fabric') result
+pub record HasOutputs (k : LoadedPlan) (name : List ℕ) (files files' : FilesState) (fabric fabric' : FabricState) (result : Result Outputs (Or RunFault)) : Type 0 where
+  pub answered : Answered run_blame (schedule_errand name) (loaded_verdict k (Shows k.checked.program k.layout k.shape k.timing k.pace k.inputs.rows fabric') (files.named name)) (world files fabric) (world files' fabric') result
   -- a refused file was read to at most a piece past the row that is refused
-  pub near : IsTrue files.told → IfErr result (IsNearPlay (files.named name) files'.place)
+  pub near : IsTrue files.told → IfErr result (IsNearRun (files.named name) files'.place)
 
--- a program on these nodes, under these bounds of time and on these rows of inputs, along a schedule file: what the outputs show, or
--- the first row or event that is refused
-abbrev pub placed_run_verdict : WholeProgram → Layout → Shape → Timing → (inputs : List (List Value)) → FabricState → Option (List ℕ) → Verdict Outputs CommandFault
-placed_run_verdict p l s t inputs fabric file = Raised (command_fault s) (replay_verdict (Shows p l s t inputs fabric) s t (length inputs) file)
+-- a program on these nodes, under these bounds of time, by who paces the rounds, and on these rows of inputs, along a schedule file: what
+-- the outputs show, or the first row or event that is refused
+abbrev pub placed_run_verdict : WholeProgram → Layout → Shape → Timing → Pace → (inputs : List (List Value)) → FabricState → Option (List ℕ) → Verdict Outputs CommandFault
+placed_run_verdict p l s t pace inputs fabric file = Raised (command_fault s) (file_verdict pace (Shows p l s t pace inputs fabric) s t (length inputs) file)
 
 -- the same of what was loaded
 abbrev pub along_loaded : FabricState → LoadedPlan → Option (List ℕ) → Verdict Outputs CommandFault
-along_loaded fabric k file = placed_run_verdict k.checked.program k.layout k.shape k.timing k.inputs.rows fabric file
+along_loaded fabric k file = placed_run_verdict k.checked.program k.layout k.shape k.timing k.pace k.inputs.rows fabric file
 
 -- a layout of the program's flat form under the setup's placement, with its channels by the setup's pace
 pub record IsLaidOutBy (plan : Plan) (l : Layout) (s : Shape) : Type 0 where
@@ -82,7 +81,7 @@ pub record IsLaidOutBy (plan : Plan) (l : Layout) (s : Shape) : Type 0 where
 -- a plan along a schedule file, on its nodes
 unfoldable pub along_verdict : FabricState → Option (List ℕ) → Plan → Verdict Outputs CommandFault
 along_verdict fabric file plan outcome =
-    (l : Layout) × (s : Shape) × IsLaidOutBy plan l s × placed_run_verdict plan.checked.program l s plan.setup.timing plan.inputs.rows fabric file outcome
+    (l : Layout) × (s : Shape) × IsLaidOutBy plan l s × placed_run_verdict plan.checked.program l s plan.setup.timing plan.setup.pace plan.inputs.rows fabric file outcome
 
 -- the program, the setup, the placement, the timing, the inputs and the schedule, in this order
 unfoldable pub ordered_verdict : (named : List ℕ → Option (List ℕ)) (program inputs schedule : List ℕ) (config : Option (List ℕ)) → FabricState → Verdict Outputs CommandFault

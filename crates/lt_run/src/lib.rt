@@ -3,12 +3,14 @@
 
 mod commands;
 mod evaluating;
+mod fault;
 mod outputs;
 mod printed;
 mod replaying;
 mod running;
 
 pub use commands::meaning;
+pub use fault::RunFault;
 pub use outputs::Outputs;
 pub use printed::Printed;
 pub use replaying::replay;

@@ -1,19 +1,19 @@
 // A loaded program along a schedule.
 ghost use Rattle.std.specs.Prelude.{◌≡◌, ◌<◌, ◌-◌, ◌^◌, [], length};
 ghost use Rattle.lt_plant.specs.Starts.{AreReady};
-ghost use Rattle.lt_run.specs.Printed.{HasPrinted};
+ghost use Rattle.lt_run.specs.Printed.{HasPrinted, HasTaken};
 ghost use Rattle.lt_run.specs.Run.{HasOutputs};
 
+use crate::fault::of_play;
 use crate::printed::name_outputs;
-use crate::{Outputs, Printed};
+use crate::{Outputs, Printed, RunFault};
 use lt_base::Or;
 use lt_base::tables::imp;
 use lt_io::{Fabric, Files};
 use lt_load::{Loaded, main_of};
 use lt_machine::{Import, Machine};
 use lt_norm::Flat;
-use lt_play::PlayFault;
-use lt_replay::machines_of;
+use lt_replay::{Replayed, machines_of};
 use std::alloc::Global;
 
 /// Has the nodes of a loaded program take the events of a schedule file, row by row, over a fabric that has no channel yet. There is
@@ -27,7 +27,7 @@ pub fn replay<F: Files, W: Fabric, M: Machine>(
     schedule: &str,
     fabric: &mut W,
     machines: Vec<M>,
-) -> Result<Printed<M>, Or<PlayFault>>
+) -> Result<Printed<M>, Or<RunFault>>
     requires count { (F.state files.old).faults < 2 ^ 64 - 1 }
     requires link_count { (W.state fabric.old).faults < 2 ^ 64 - 1 }
     requires empty { (W.state fabric.old).kinds ≡ [] }
@@ -36,7 +36,27 @@ pub fn replay<F: Files, W: Fabric, M: Machine>(
 {
     let checked = &loaded.checked;
     checked.program.kept();
-    let replayed = lt_replay::replay(
+    let replayed = take(alloc, loaded, files, schedule, fabric, machines)?;
+    Ok(name_outputs(alloc, main_of(&checked.program), replayed)?)
+}
+
+// What the schedule comes to.
+fn take<F: Files, W: Fabric, M: Machine>(
+    alloc: Global,
+    loaded: &Loaded,
+    files: &mut F,
+    schedule: &str,
+    fabric: &mut W,
+    machines: Vec<M>,
+) -> Result<Replayed<M>, Or<RunFault>>
+    requires count { (F.state files.old).faults < 2 ^ 64 - 1 }
+    requires link_count { (W.state fabric.old).faults < 2 ^ 64 - 1 }
+    requires empty { (W.state fabric.old).kinds ≡ [] }
+    requires machines { AreReady M.stands M.made M.left loaded.now.layout (length loaded.now.inputs.rows) machines.items }
+    ensures { HasTaken M.stands M.made loaded.now.pace loaded.now.layout loaded.now.shape loaded.now.timing loaded.now.inputs.rows schedule.now (F.state files.old) (F.state files.new) (W.state fabric.old) (W.state fabric.new) result }
+{
+    let checked = &loaded.checked;
+    match lt_replay::replay(
         alloc,
         files,
         schedule,
@@ -47,8 +67,10 @@ pub fn replay<F: Files, W: Fabric, M: Machine>(
         &loaded.inputs,
         width_of(&checked.flat),
         machines,
-    )?;
-    Ok(name_outputs(alloc, main_of(&checked.program), replayed)?)
+    ) {
+        Ok(replayed) => Ok(replayed),
+        Err(fault) => Err(fault.map(of_play)),
+    }
 }
 
 // The number of inputs of a flat function.
@@ -66,7 +88,7 @@ pub(crate) fn replay_code<F: Files, W: Fabric>(
     files: &mut F,
     schedule: &str,
     fabric: &mut W,
-) -> Result<Outputs, Or<PlayFault>>
+) -> Result<Outputs, Or<RunFault>>
     requires count { (F.state files.old).faults < 2 ^ 64 - 1 }
     requires link_count { (W.state fabric.old).faults < 2 ^ 64 - 1 }
     requires empty { (W.state fabric.old).kinds ≡ [] }

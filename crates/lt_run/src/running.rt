@@ -8,14 +8,12 @@ ghost use Rattle.lt_run.specs.Errands.{run_errands};
 ghost use Rattle.lt_run.specs.Near.{IsNearCommand};
 ghost use Rattle.lt_run.specs.Run.{AsCommand, along_loaded, run_verdict};
 
-use crate::Outputs;
 use crate::replaying::replay_code;
+use crate::{Outputs, RunFault};
 use lt_arch::Shape;
 use lt_base::Or;
 use lt_io::{Fabric, Files};
-use lt_judge::ScheduleFault;
 use lt_load::{CommandFault, Loaded, What, load};
-use lt_play::PlayFault;
 use std::alloc::Global;
 
 /// Runs a program on the nodes of a setup, or on one node without a setup: each node's machine makes a step for each instant that
@@ -62,23 +60,22 @@ pub fn run_loaded<F: Files, W: Fabric>(
     }
 }
 
-// A replay's fault as the command's, with a copy of the shape whose nodes it names.
-fn as_command(shape: &Shape, fault: Or<PlayFault>) -> Or<CommandFault>
+// A run's fault as the command's, with a copy of the shape whose nodes it names.
+fn as_command(shape: &Shape, fault: Or<RunFault>) -> Or<CommandFault>
     ensures { AsCommand shape.now fault result }
 {
     match fault {
-        Or::Fault(PlayFault::Schedule(fault)) => of_schedule(shape, fault),
-        Or::Fault(PlayFault::Link) => Or::Fault(CommandFault::Link),
+        Or::Fault(fault) => of_run(shape, fault),
         Or::Memory => Or::Memory,
     }
 }
 
-fn of_schedule(shape: &Shape, fault: ScheduleFault) -> Or<CommandFault>
-    ensures { AsCommand shape.now (Or.Fault (PlayFault.Schedule fault)) result }
+fn of_run(shape: &Shape, fault: RunFault) -> Or<CommandFault>
+    ensures { AsCommand shape.now (Or.Fault fault) result }
 {
     match fault {
-        ScheduleFault::Row { row, fault } => Or::Fault(CommandFault::Row { row, fault }),
-        ScheduleFault::Offence { event, offence } => match shape.copy() {
+        RunFault::Row { row, fault } => Or::Fault(CommandFault::Row { row, fault }),
+        RunFault::Offence { event, offence } => match shape.copy() {
             Ok(shape) => Or::Fault(CommandFault::Offence {
                 event,
                 offence,
@@ -86,7 +83,8 @@ fn of_schedule(shape: &Shape, fault: ScheduleFault) -> Or<CommandFault>
             }),
             Err(_) => Or::Memory,
         },
-        ScheduleFault::Bytes => Or::Fault(CommandFault::Limit(What::ScheduleBytes)),
-        ScheduleFault::Read => Or::Fault(CommandFault::Read),
+        RunFault::Bytes => Or::Fault(CommandFault::Limit(What::ScheduleBytes)),
+        RunFault::Read => Or::Fault(CommandFault::Read),
+        RunFault::Link => Or::Fault(CommandFault::Link),
     }
 }

@@ -8,7 +8,6 @@ use Rattle.lt_base.specs.declared.value.Cell.{Cell}
 use Rattle.lt_base.specs.declared.value.Cell.TheVariants.{Absent}
 use Rattle.lt_base.specs.Program.{WholeProgram}
 use Rattle.lt_base.specs.Inputs.{InputTable}
-use Rattle.lt_arch.specs.declared.event.Event.{Event}
 use Rattle.lt_arch.specs.declared.shape.Shape.{Shape}
 use Rattle.lt_arch.specs.declared.timing.Timing.{Timing}
 use Rattle.lt_io.specs.Visits.{Errand}
@@ -22,10 +21,7 @@ use Rattle.lt_answer.specs.World.{World, Blame, alone}
 use Rattle.lt_answer.specs.Answered.{Answered, Verdict, AndThen}
 use Rattle.lt_answer.proofs.Stages.{beside, goes_on, renamed, stops, widened}
 use Rattle.lt_front.specs.Examined.{ExaminedText}
-use Rattle.lt_judge.specs.declared.fault.ScheduleFault.{ScheduleFault}
-use Rattle.lt_judge.specs.Verdict.{verdict}
 use Rattle.lt_play.specs.Played.{world}
-use Rattle.lt_replay.specs.Replays.{EndsWith, replay_verdict}
 use Rattle.lt_past.specs.Formula.{SignalsBelow}
 use Rattle.lt_past.specs.Satisfaction.{Sat}
 use Rattle.lt_past.specs.Observer.{Observing}
@@ -38,7 +34,9 @@ use Rattle.lt_load.specs.Plan.{Plan, LoadedPlan, IsLoadedFrom, Loads, load_verdi
 use Rattle.lt_run.specs.declared.outputs.Outputs.{Outputs}
 use Rattle.lt_run.specs.Main.{output_streams}
 use Rattle.lt_run.specs.Near.{ReadNear}
+use Rattle.lt_run.specs.Printed.{AreShown}
 use Rattle.lt_run.specs.Run.{Shows, IsLaidOutBy, along_loaded, along_verdict, placed_run_verdict}
+use Rattle.lt_run.proofs.Reading.{has_read}
 use Rattle.lt_watch.specs.declared.fault.WatchFault.{WatchFault}
 use Rattle.lt_watch.specs.declared.watched.Watched.{Watched}
 use Rattle.lt_watch.specs.Blamed.{watch_blame}
@@ -64,16 +62,6 @@ module _ {T U E : Type 0} (blame : E → Blame) (V : Verdict T E) (next : T → 
   short x (Ok y) is first = absurd is
   short {es} x (Err f) is first = subst (λ (g : Or E). Answered blame es (AndThen V next) a b (Err g)) (sym is) (record { keeps = first.keeps; visits = visited_any es a.files.visits b.files.visits false first.visits; cause = first.cause; exact = λ t calm. tt; sound = λ t s rose. absurd (omega (arith, first.cause.files, rose)) })
 
--- the events of a replay that came to its end
-shown_events : {T : Type 0} (end : List Event → T → Type 0) (s : Shape) (t : Timing) (rows : ℕ) (file : Option (List ℕ)) (x : T) → replay_verdict end s t rows file (Ok x) → (events : List Event) × end events x
-unfolding replay_verdict
-shown_events end s t rows None x right = absurd (cc)
-shown_events end s t rows (Some bytes) x right = by (verdict s t rows bytes) right
-  where
-    by : (v : Result (List Event) ScheduleFault) → EndsWith end v (Ok x) → (events : List Event) × end events x
-    by (Ok events) right = (events, right)
-    by (Err f) right = absurd (cc)
-
 taken : {A : Type 0} (m : ℕ) (xs : List A) (i : ℕ) (d : A) → i < length (take m xs) → get_or (take m xs) i d ≡ get_or xs i d
 taken zero xs i d h = absurd (omega (arith, h))
 taken (suc m) [] i d h = absurd (omega (arith, h))
@@ -90,39 +78,39 @@ beyond [] y h = refl
 beyond (c ∷ cs) zero h = absurd (omega (arith, h))
 beyond (c ∷ cs) (suc y) h = beyond cs y (omega (arith, h))
 
-module _ (p : WholeProgram) (l : Layout) (s : Shape) (t : Timing) (rows : List (List Value)) (fabric : FabricState) (outputs : Outputs) (events : List Event) (shows : Shows p l s t rows fabric events outputs) (faithful : IsTrue fabric.faithful) where
+module _ (p : WholeProgram) (l : Layout) (s : Shape) (rows : List (List Value)) (fabric : FabricState) (executed : ℕ → ℕ) (got : ℕ → List (List Value)) (least : ℕ → ℕ) (names : List (List ℕ)) (cells : List (List Cell))
+    (shown : AreShown p l s rows fabric executed got least names cells) (faithful : IsTrue fabric.faithful) where
   abbrev streams : List (List Cell)
   streams = output_streams p rows
 
   -- a cell is that of the stream
-  same_cell : (y i : ℕ) → i < length (column outputs.cells y) → get_or (column outputs.cells y) i Absent ≡ get_or (column streams y) i Absent
+  same_cell : (y i : ℕ) → i < length (column cells y) → get_or (column cells y) i Absent ≡ get_or (column streams y) i Absent
   same_cell y i h =
-      let told = shows.told in
-      elim (nat_lt y (length l.outs)) as (λ b. nat_lt y (length l.outs) ≡ b → get_or (column outputs.cells y) i Absent ≡ get_or (column streams y) i Absent) [
+      elim (nat_lt y (length l.outs)) as (λ b. nat_lt y (length l.outs) ≡ b → get_or (column cells y) i Absent ≡ get_or (column streams y) i Absent) [
         | true ↦ λ is.
             let low : y < length l.outs = ltb-true y (length l.outs) is in
-            let home = told.home y low in
-            let front = told.whole faithful y home.0 home.2 low home.1 home.3 in
+            let home = shown.home y low in
+            let front = shown.whole faithful y home.0 home.2 low home.1 home.3 in
             ap (λ z. get_or z i Absent) front ∙ taken _ (column streams y) i Absent (subst (λ z. i < length z) front h)
         | false ↦ λ is.
             let high : length l.outs ≤ y = ltb-false y (length l.outs) is in
-            let none = beyond outputs.cells y (omega (arith, high, told.run.columns)) in
+            let none = beyond cells y (omega (arith, high, shown.columns)) in
             absurd (omega (arith, h, none))
       ] refl
 
-  same_signals : (outs : List ℕ) (n : ℕ) → IsLeast (counted outs outputs.cells) n → (k i : ℕ) → k < length outs → i < n → signals_at outs outputs.cells k i ≡ signals_at outs streams k i
-  same_signals outs n least k i low before = ap is_true (same_cell (get_or outs k 0) i (omega (arith, before, enough outs outputs.cells n k least low)))
+  same_signals : (outs : List ℕ) (n : ℕ) → IsLeast (counted outs cells) n → (k i : ℕ) → k < length outs → i < n → signals_at outs cells k i ≡ signals_at outs streams k i
+  same_signals outs n shortest k i low before = ap is_true (same_cell (get_or outs k 0) i (omega (arith, before, enough outs cells n k shortest low)))
 
 -- what is told of a run is right where its outputs are
 pub told_right : (o : Observing) → SignalsBelow (length o.outs) o.formula → (schedule : Option (List ℕ)) (new : World) (k : LoadedPlan) (outputs : Outputs) (told : Watched) → Tells o outputs.cells told → InCommand (run_along schedule new k) (Ok outputs) → told_verdict k.checked.program k.inputs.rows new.fabric o outputs (Ok told)
 told_right o low schedule new k outputs told tells right =
     let p = k.checked.program in
-    let shown = shown_events (Shows p k.layout k.shape k.timing k.inputs.rows new.fabric) k.shape k.timing (length k.inputs.rows) schedule outputs right in
+    let read = has_read k.pace (Shows p k.layout k.shape k.timing k.pace k.inputs.rows new.fabric) k.shape k.timing (length k.inputs.rows) schedule outputs right in
     record {
       tells = tells;
       whole = λ faithful n i least before.
           sat_alike (λ k. k < length o.outs) n (signals_at o.outs outputs.cells) (signals_at o.outs (output_streams p k.inputs.rows))
-          (same_signals p k.layout k.shape k.timing k.inputs.rows new.fabric outputs shown.0 shown.1 faithful o.outs n least) o.formula (uses_below (length o.outs) o.formula low) i before;
+          (same_signals p k.layout k.shape k.inputs.rows new.fabric _ _ _ outputs.names outputs.cells read.at_end.told.shown faithful o.outs n least) o.formula (uses_below (length o.outs) o.formula low) i before;
     }
 
 -- what was loaded, and then its observer and its run
@@ -132,9 +120,10 @@ module _ (named : List ℕ → Option (List ℕ)) (program inputs schedule obser
   unfolding along_verdict
   along_of plan k from o along =
       let laid : IsLaidOutBy plan k.layout k.shape = record { layout = from.layout; shape = subst (λ (p : Pace × Timing). IsShapeBy k.layout p.0 p.1 k.shape) (λ i. (from.pace i, from.timing i)) from.shape } in
-      let timed = subst (λ (t : Timing). placed_run_verdict k.checked.program k.layout k.shape t k.inputs.rows new.fabric (named schedule) o) from.timing along in
-      let fed = subst (λ (t : InputTable). placed_run_verdict k.checked.program k.layout k.shape plan.setup.timing t.rows new.fabric (named schedule) o) from.inputs timed in
-      let told = subst (λ (x : ExaminedText). placed_run_verdict x.program k.layout k.shape plan.setup.timing plan.inputs.rows new.fabric (named schedule) o) from.checked fed in
+      let timed = subst (λ (t : Timing). placed_run_verdict k.checked.program k.layout k.shape t k.pace k.inputs.rows new.fabric (named schedule) o) from.timing along in
+      let paced = subst (λ (p : Pace). placed_run_verdict k.checked.program k.layout k.shape plan.setup.timing p k.inputs.rows new.fabric (named schedule) o) from.pace timed in
+      let fed = subst (λ (t : InputTable). placed_run_verdict k.checked.program k.layout k.shape plan.setup.timing plan.setup.pace t.rows new.fabric (named schedule) o) from.inputs paced in
+      let told = subst (λ (x : ExaminedText). placed_run_verdict x.program k.layout k.shape plan.setup.timing plan.setup.pace plan.inputs.rows new.fabric (named schedule) o) from.checked fed in
       (k.layout, k.shape, laid, told)
 
   near_of : (plan : Plan) (k : LoadedPlan) → IsLoadedFrom plan k → (o : Result Outputs WatchFault) → InCommand (run_along (named schedule) new k) o → InCommand (ReadNear (named schedule) new.files.place (along_verdict new.fabric (named schedule) plan)) o

@@ -1,0 +1,44 @@
+// Why a loaded program is not run to the end of a schedule.
+ghost use Rattle.std.specs.Prelude.{◌≡◌};
+ghost use Rattle.lt_run.specs.Fault.{of_play, of_schedule};
+
+use lt_arch::Offence;
+use lt_judge::ScheduleFault;
+use lt_play::PlayFault;
+use lt_rows::RowFault;
+
+/// Why the nodes of a loaded program do not take a schedule file to its end. Rows and events are counted from 1, and the header is row 0.
+#[derive(Clone, Copy)]
+pub enum RunFault {
+    /// The row is no event, the first line is no header, or there are too many rows.
+    Row { row: u32, fault: RowFault },
+    /// The event is refused. The missing end of a list is an offence one past its last event.
+    Offence { event: u32, offence: Offence },
+    /// The next row holds the first byte past the limit on the bytes of a schedule file.
+    Bytes,
+    /// A call on the files failed, and their count of faults rose.
+    Read,
+    /// A call on the fabric failed, and its count of faults rose.
+    Link,
+}
+
+/// The fault of a network's play as one of a run.
+pub(crate) fn of_play(fault: PlayFault) -> RunFault
+    ensures { result ≡ of_play fault }
+{
+    match fault {
+        PlayFault::Schedule(fault) => of_schedule(fault),
+        PlayFault::Link => RunFault::Link,
+    }
+}
+
+fn of_schedule(fault: ScheduleFault) -> RunFault
+    ensures { result ≡ of_schedule fault }
+{
+    match fault {
+        ScheduleFault::Row { row, fault } => RunFault::Row { row, fault },
+        ScheduleFault::Offence { event, offence } => RunFault::Offence { event, offence },
+        ScheduleFault::Bytes => RunFault::Bytes,
+        ScheduleFault::Read => RunFault::Read,
+    }
+}
