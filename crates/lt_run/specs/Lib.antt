@@ -1,5 +1,6 @@
 pub mod Main
 pub mod Meaning
+pub mod Columns
 pub mod Fault
 pub mod Kinds
 pub mod Printed

@@ -9,8 +9,6 @@ use Rattle.lt_verdict.specs.Rules.{OfRule}
 use Rattle.lt_meaning.specs.Streams.{cell_count, most_cells}
 use Rattle.lt_load.specs.Main.{main_in}
 use Rattle.lt_load.specs.declared.fault.CommandFault.{CommandFault}
-use Rattle.lt_meaning.specs.declared.program.StreamsFault.{StreamsFault}
-use Rattle.lt_meaning.specs.declared.program.StreamsFault.TheVariants.{TooMany}
 use Rattle.lt_load.specs.declared.fault.CommandFault.TheVariants as fault
 
 -- the name of a function's variable, as written
@@ -28,7 +26,3 @@ output_streams p rows = map (stream_of p.funcs (main_in p) rows) (main_in p).out
 -- not too many cells count, or they are too many
 abbrev pub cells_verdict : WholeProgram → List (List Value) → Verdict (Unit {0}) CommandFault
 cells_verdict p rows = OfRule (cell_count p rows ≤ most_cells) (λ e. e ≡ fault.TooManyCells)
-
--- a refusal of streams as a command's
-abbrev pub streams_fault : StreamsFault → CommandFault
-streams_fault TooMany = fault.TooManyCells

@@ -1,18 +1,19 @@
 // What a program means on its inputs.
-ghost use Rattle.std.specs.Prelude.{◌<◌, ◌-◌, ◌^◌};
+ghost use Rattle.std.specs.Prelude.{◌<◌, ◌-◌, ◌^◌, IfOk};
 ghost use Rattle.lt_answer.specs.World.{alone};
 ghost use Rattle.lt_answer.specs.Answered.{Answered, Settles};
 ghost use Rattle.lt_meaning.specs.Streams.{InputsFitMain};
 ghost use Rattle.lt_load.specs.Blamed.{command_blame};
 ghost use Rattle.lt_load.specs.Errands.{inputs_errand};
 ghost use Rattle.lt_run.specs.Errands.{meaning_errands};
-ghost use Rattle.lt_run.specs.Meaning.{inputs_streams_verdict, meaning_verdict, streams_verdict};
+ghost use Rattle.lt_run.specs.Main.{output_streams};
+ghost use Rattle.lt_run.specs.Meaning.{Prints, inputs_streams_verdict, meaning_verdict, streams_verdict};
 
 use crate::Outputs;
-use crate::evaluating::evaluate;
+use crate::evaluating::{evaluate, limit_cells};
 use crate::outputs::print;
-use lt_base::{Inputs, Or};
-use lt_front::Examined;
+use lt_base::{Inputs, Memory, Or};
+use lt_front::{Checked, Examined};
 use lt_io::Files;
 use lt_load::{CommandFault, load_inputs, load_program, main_of};
 use std::alloc::Global;
@@ -29,31 +30,41 @@ pub fn meaning<F: Files>(
         (alone (F.state files.old)) (alone (F.state files.new)) result }
 {
     let checked = load_program(alloc, files, program)?;
-    mean(alloc, files, &checked, inputs)
+    mean(alloc, files, checked, inputs)
 }
 
 // What a program means on the inputs of a file.
 fn mean<F: Files>(
     alloc: Global,
     files: &mut F,
-    checked: &Examined,
+    checked: Examined,
     inputs: &str,
 ) -> Result<Outputs, Or<CommandFault>>
     requires { (F.state files.old).faults < 2 ^ 64 - 1 }
-    ensures { Answered command_blame (inputs_errand inputs.now) (inputs_streams_verdict (F.state files.old).named inputs.now checked.now)
+    ensures { Answered command_blame (inputs_errand inputs.now) (inputs_streams_verdict (F.state files.old).named inputs.now checked)
         (alone (F.state files.old)) (alone (F.state files.new)) result }
 {
     let table = load_inputs(alloc, files, inputs, &checked.program)?;
     streams(alloc, checked, &table)
 }
 
-// The streams of a program's outputs on rows of inputs.
-fn streams(alloc: Global, checked: &Examined, table: &Inputs) -> Result<Outputs, Or<CommandFault>>
-    requires { InputsFitMain checked.now.program table.now }
-    ensures { Settles (streams_verdict checked.now table.now) result }
+// The streams of a program's outputs on rows of inputs: the limit on cells comes first.
+fn streams(alloc: Global, checked: Examined, table: &Inputs) -> Result<Outputs, Or<CommandFault>>
+    requires { InputsFitMain checked.program table.now }
+    ensures { Settles (streams_verdict checked table.now) result }
 {
     let program = &checked.program;
     program.kept();
-    let streams = evaluate(alloc, program, table)?;
-    Ok(print(alloc, main_of(program), streams)?)
+    limit_cells(alloc, program, table)?;
+    let flattened = checked.flatten(alloc)?;
+    Ok(show(alloc, &flattened, table)?)
+}
+
+// The outputs of a program with their streams on rows of inputs.
+fn show(alloc: Global, checked: &Checked, table: &Inputs) -> Result<Outputs, Memory>
+    requires { InputsFitMain checked.now.program table.now }
+    ensures { IfOk result (Prints checked.now.program (output_streams checked.now.program table.now.rows)) }
+{
+    let streams = evaluate(alloc, checked, table)?;
+    print(alloc, main_of(&checked.program), streams)
 }

@@ -1,6 +1,7 @@
 //! What a command does with what it loaded: the meaning of a program on inputs, and a run along a schedule.
 #![tactic(auto)]
 
+mod columns;
 mod commands;
 mod evaluating;
 mod fault;
@@ -8,6 +9,7 @@ mod outputs;
 mod printed;
 mod replaying;
 mod running;
+mod streaming;
 
 pub use commands::meaning;
 pub use fault::RunFault;
