@@ -1,15 +1,13 @@
 -- Streams of outputs with one more cell each, and rows that are taken one by one.
-use Rattle.std.proofs.Common.{◌≡◌, ◌∙◌, ◌<◌, ◌≤◌, ◌+◌, ℕ, zero, suc, pos, List, [], ◌∷◌, ◌++◌, length, map, take, get_or, replicate, Some, refl, sym, ap, subst, arith}
+use Rattle.std.proofs.Common.{◌≡◌, ◌∙◌, ◌<◌, ◌+◌, ℕ, List, [], ◌∷◌, ◌++◌, length, map, take, get_or, replicate, Some, refl, sym, ap, arith}
 use Rattle.std.specs.Prelude.{slice_get}
 use Rattle.std.proofs.lemmas.List.{get_or-map, ext_get_or, length-map, take_more}
 use Rattle.std.proofs.lemmas.Option.{slice_get-get_or, slice_get_within, get_or_from_slice_get}
 use Rattle.lt_base.specs.declared.value.Value.{Value}
-use Rattle.lt_base.specs.declared.value.Value.TheVariants.{Int}
 use Rattle.lt_base.specs.declared.value.Cell.{Cell}
 use Rattle.lt_base.specs.declared.value.Cell.TheVariants.{Absent}
 use Rattle.lt_base.specs.Program.{Function}
 use Rattle.lt_base.specs.Meaning.{stream_of}
-use Rattle.lt_step.specs.Run.{HasRowValues}
 use Rattle.lt_machine.specs.Follows.{Follows}
 use Rattle.lt_run.specs.Columns.{HasColumns}
 

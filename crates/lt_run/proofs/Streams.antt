@@ -1,5 +1,5 @@
 -- What is printed of the outputs' streams, and that they are those of the flat form.
-use Rattle.std.proofs.Common.{◌≡◌, ◌∙◌, ◌<◌, ℕ, List, [], Result, Ok, Err, length, map, get_or, sym, ap, arith}
+use Rattle.std.proofs.Common.{◌≡◌, ◌∙◌, ◌<◌, List, [], Result, Ok, Err, length, map, get_or, sym, ap, arith}
 use Rattle.std.specs.Prelude.{IfOk}
 use Rattle.std.proofs.lemmas.List.{ext_get_or, get_or-map, length-map}
 use Rattle.lt_base.specs.declared.value.Value.{Value}

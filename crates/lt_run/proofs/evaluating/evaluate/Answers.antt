@@ -1,9 +1,9 @@
-use Rattle.std.proofs.Common.{◌≡◌, sym, ap, subst}
+use Rattle.std.proofs.Common.{sym, ap, subst}
 use Rattle.std.specs.Prelude.{IfOk}
 use Rattle.lt_base.specs.Program.{WholeProgram}
 use Rattle.lt_front.specs.Checked.{CheckedText}
 use Rattle.lt_front.specs.Flattened.{KeepsMain}
-use Rattle.lt_meaning.specs.Streams.{HasOutputStreams, InputsFitMain}
+use Rattle.lt_meaning.specs.Streams.{HasOutputStreams}
 use Rattle.lt_load.proofs.Equals.{fit_at}
 use Rattle.lt_load.proofs.Flattens.{code_room, wide_rows, width_is}
 use Rattle.lt_run.proofs.Streams.{main_streams}

@@ -1,9 +1,7 @@
 use Rattle.std.proofs.Common.{◌≡◌, ◌∙◌, ◌++◌, ◌∷◌, ◌+◌, [], List, length, take, sym, ap, subst, arith}
-use Rattle.std.proofs.lemmas.List.{length-map, length-replicate}
-use Rattle.std.proofs.lemmas.Option.{get_or_from_slice_get, slice_get_within}
+use Rattle.std.proofs.lemmas.List.{length-replicate}
 use Rattle.lt_base.specs.declared.value.Value.{Value}
 use Rattle.lt_base.specs.Program.{Function}
-use Rattle.lt_base.specs.Meaning.{stream_of}
 use Rattle.lt_run.specs.Columns.{HasColumns}
 use Rattle.lt_run.proofs.Longer.{no_cells, next_rows}
 use Rattle.lt_run.proofs.streaming.streams_by.Goals as goal

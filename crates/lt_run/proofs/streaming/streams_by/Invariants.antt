@@ -1,4 +1,4 @@
-use Rattle.std.proofs.Common.{◌≡◌, ◌≤◌, ◌+◌, [], length, take}
+use Rattle.std.proofs.Common.{◌≡◌, ◌≤◌, ◌+◌, length, take}
 use Rattle.lt_run.specs.Columns.{HasColumns}
 use Rattle.lt_run.proofs.streaming.streams_by.Given as goal
 
