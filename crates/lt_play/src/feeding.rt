@@ -12,14 +12,14 @@ use lt_net::Net;
 use std::alloc::Global;
 
 /// Room for a row of so many values.
-pub(crate) fn room_for(alloc: Global, width: u32) -> Result<Vec<Value>, Memory>
+pub fn room_for(alloc: Global, width: u32) -> Result<Vec<Value>, Memory>
     ensures { IfOk result (λ row. length row.items ≡ width) }
 {
     Ok(vec![in alloc; Value::Bool(false); width as usize]?)
 }
 
-// Puts the row of an instant in place of another.
-fn read_row(inputs: &Inputs, instant: u32, width: u32, row: &mut Vec<Value>)
+/// Puts the row of an instant in place of another.
+pub fn read_row(inputs: &Inputs, instant: u32, width: u32, row: &mut Vec<Value>)
     requires instant { instant < length inputs.now.rows }
     requires width { inputs.now.width ≡ width }
     requires room { length row.old.items ≡ width }
@@ -64,7 +64,7 @@ pub(crate) fn read_next<C: Controller, M: Machine>(
 }
 
 /// The row, if there is one.
-pub(crate) fn given(has: bool, row: &[Value]) -> Option<&[Value]>
+pub fn given(has: bool, row: &[Value]) -> Option<&[Value]>
     ensures { given result ≡ (if has then Some row.now else None) }
 {
     if has { Some(row) } else { None }

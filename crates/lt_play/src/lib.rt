@@ -2,7 +2,7 @@
 #![tactic(auto)]
 
 mod fault;
-mod feeding;
+pub mod feeding;
 mod playback;
 mod playing;
 

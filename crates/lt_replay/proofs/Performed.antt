@@ -43,7 +43,7 @@ use Rattle.lt_replay.proofs.AtTheEnd.{is_replay}
 use Rattle.lt_replay.proofs.SoundNetworks.{sound_of_equals}
 
 -- an error that is handed on
-at_error : {T E : Type 0} (P : Result T E → Type 0) (r : Result T E) (e : E) → IsErrAnd r (λ f. f ≡ e) → P (Err e) → P r
+pub at_error : {T E : Type 0} (P : Result T E → Type 0) (r : Result T E) (e : E) → IsErrAnd r (λ f. f ≡ e) → P (Err e) → P r
 at_error P (Ok x) e is refused = absurd is
 at_error P (Err f) e is refused = subst (λ g. P (Err g)) (sym is) refused
 
@@ -131,11 +131,11 @@ module _ {T U E : Type 0} (blame : E → Blame) (es : List Errand) (V : Verdict 
   }
 
 -- a step after one that gave nothing but leave to go on
-abbrev Allowed : {E : Type 0} → Verdict (Unit {0}) E
+abbrev pub Allowed : {E : Type 0} → Verdict (Unit {0}) E
 Allowed (Ok x) = Unit {0}
 Allowed (Err e) = ⊥
 
-after_leave : {U E : Type 0} (W : Verdict U E) (o : Result U E) → AndThen Allowed (λ _. W) o → W o
+pub after_leave : {U E : Type 0} (W : Verdict U E) (o : Result U E) → AndThen Allowed (λ _. W) o → W o
 after_leave W (Ok x) (inl h) = absurd h
 after_leave W (Err e) (inl h) = absurd h
 after_leave W o (inr h) = h.2

@@ -7,7 +7,7 @@ pub mod laws;
 mod machines;
 mod replayed;
 mod replaying;
-mod setup;
+pub mod setup;
 mod taking;
 
 pub use machines::machines_of;

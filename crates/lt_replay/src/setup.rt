@@ -5,15 +5,16 @@ use lt_arch::{Shape, Timing};
 use lt_base::Memory;
 use lt_place::Layout;
 
+/// A layout, and a shape and a timing for it.
 #[derive(Drop)]
-pub(crate) struct Setup {
+pub struct Setup {
     pub layout: Layout,
     pub shape: Shape,
     pub timing: Timing,
 }
 
 /// Equal ones.
-pub(crate) fn copies(layout: &Layout, shape: &Shape, timing: &Timing) -> Result<Setup, Memory>
+pub fn copies(layout: &Layout, shape: &Shape, timing: &Timing) -> Result<Setup, Memory>
     ensures layout { IfOk result (λ setup. setup.layout ≡ layout.now) }
     ensures shape { IfOk result (λ setup. setup.shape ≡ shape.now) }
     ensures timing { IfOk result (λ setup. setup.timing ≡ timing.now) }
