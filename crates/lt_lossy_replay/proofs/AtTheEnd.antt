@@ -1,5 +1,5 @@
 -- What a net at the end of a schedule over links that lose messages has, in the architecture's words.
-use Rattle.std.proofs.Common.{◌≡◌, ℕ, zero, suc, ◌+◌, ◌<◌, ◌≤◌, List, [], ◌∷◌, length, map, min, take, Option, Some, None, IsTrue, refl, sym, ap, ◌∙◌, subst, arith}
+use Rattle.std.proofs.Common.{◌≡◌, ℕ, zero, suc, ◌+◌, ◌<◌, List, [], ◌∷◌, length, map, take, Option, Some, None, IsTrue, refl, sym, ap, ◌∙◌, subst, arith}
 use Rattle.std.specs.Prelude.{slice_get, slice_index_or, is_some, if◌then◌else◌}
 use Rattle.std.proofs.lemmas.List.{get_or-map, length-map}
 use Rattle.std.proofs.lemmas.Option.{slice_get_within}
@@ -11,7 +11,7 @@ use Rattle.lt_arch.specs.declared.event.Offence.TheVariants.{NoEnd}
 use Rattle.lt_arch.specs.declared.shape.Shape.{Shape}
 use Rattle.lt_arch.specs.declared.timing.Timing.{Timing}
 use Rattle.lt_arch.specs.State.{Phase}
-use Rattle.lt_arch.specs.Readers.{node_count, chan_count, from_of, to_of, carries_data}
+use Rattle.lt_arch.specs.Readers.{node_count, chan_count, from_of, to_of}
 use Rattle.lt_io.specs.declared.message.Message.{Message}
 use Rattle.lt_io.specs.FabricState.{FabricState}
 use Rattle.lt_place.specs.Layout.{part_of}
@@ -19,7 +19,7 @@ use Rattle.lt_lossy.specs.declared.event.LossyEvent.{LossyEvent}
 use Rattle.lt_lossy.specs.declared.event.LossyOffence.{LossyOffence}
 use Rattle.lt_lossy.specs.declared.event.LossyOffence.TheVariants.{Common}
 use Rattle.lt_lossy.specs.State.{Message as Numbered, LossyState, lossy_start}
-use Rattle.lt_lossy.specs.Step.{lossy_offence, lossy_after}
+use Rattle.lt_lossy.specs.Step.{lossy_after}
 use Rattle.lt_lossy.specs.Schedule.{lossy_reached, lossy_after_all, HasNoLossyOffence, IsLossyAdmissible, first_lossy_offence_from, numbered_lossy_or, missing_lossy_end}
 use Rattle.lt_lossy.proofs.Pace.{law as least_length}
 use Rattle.lt_plant.specs.Track.{TrackState, track_at}
@@ -38,7 +38,7 @@ use Rattle.lt_lossy_net.specs.Kept.{IsFixedLossy, HasLossySizes}
 use Rattle.lt_lossy_net.proofs.Fronts.{law-fronts}
 use Rattle.lt_replay.specs.declared.replayed.Replayed.{Replayed}
 use Rattle.lt_lossy_replay.specs.Rules.{lossy_unended}
-use Rattle.lt_lossy_replay.specs.Told.{fates_of, IsToldLossy}
+use Rattle.lt_lossy_replay.specs.Told.{IsToldLossy}
 use Rattle.lt_lossy_replay.specs.Run.{executed_in, rows_in, IsOwnOn, HasLossySteps}
 use Rattle.lt_lossy_replay.specs.Replays.{IsLossyReplay}
 use Rattle.lt_lossy_replay.specs.Plays.{KeepsLossy, IsTakenFrom}

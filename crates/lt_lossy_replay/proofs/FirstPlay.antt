@@ -21,7 +21,7 @@ use Rattle.lt_lossy_net.specs.Kept.{IsFixedLossy}
 use Rattle.lt_lossy_net.specs.Laws.{StandsWith}
 use Rattle.lt_lossy_net.specs.Starts.{no_lossy_lists, IsMadeOfLossy}
 use Rattle.lt_lossy_net.specs.Taken.{HasLossyKinds}
-use Rattle.lt_lossy_replay.specs.Plays.{IsFedLossy, PlaysLossy, TellsAt}
+use Rattle.lt_lossy_replay.specs.Plays.{PlaysLossy, TellsAt}
 
 fewer : (n c k : ℕ) → 2 * (n + c) < k → n < k
 fewer n c k h = omega (arith, h)

@@ -4,7 +4,7 @@ use Rattle.std.specs.Prelude.{slice_index_or}
 use Rattle.std.specs.List.{slice_get}
 use Rattle.std.proofs.Math.Seq.{take-suc}
 use Rattle.std.proofs.lemmas.Bool.Decides.{eqb_tells}
-use Rattle.std.proofs.lemmas.Option.{slice_get-get_or, get_or_from_slice_get}
+use Rattle.std.proofs.lemmas.Option.{slice_get-get_or}
 use Rattle.lt_base.specs.declared.value.Value.{Value}
 use Rattle.lt_base.specs.Program.{Function}
 use Rattle.lt_arch.specs.declared.event.Deed.{Deed}
@@ -25,7 +25,7 @@ use Rattle.lt_net.proofs.ReplayStep.{deed_more}
 use Rattle.lt_lossy_net.specs.Net.{LossyNetState, LossyLists, lossy_state_of}
 use Rattle.lt_lossy_net.specs.Event.{RowsGo, GetsIf, LossyGoesOn, lossy_deed_by, brings_new}
 use Rattle.lt_lossy_net.specs.Given.{IsLossyRowFor}
-use Rattle.lt_lossy_net.specs.Taken.{HasLossyKinds, SameLossyStatic, IsTakenLossy}
+use Rattle.lt_lossy_net.specs.Taken.{HasLossyKinds, IsTakenLossy}
 use Rattle.lt_lossy_replay.specs.Plays.{lossy_row_for, IsFedLossy, KeepsLossy, TellsAt}
 use Rattle.lt_lossy_replay.specs.Told.{fates_of}
 use Rattle.lt_lossy_replay.proofs.ToldOn.{tells_on}

@@ -1,15 +1,13 @@
 -- A net along a schedule that takes one event more over links that lose messages.
 use Rattle.std.proofs.Common.{◌≡◌, ℕ, ◌^◌, ◌<◌, List, [], ◌∷◌, ◌++◌, length, Option, Some, None, Result, Ok, Err, refl, sym, ap, ◌∙◌, subst}
-use Rattle.std.specs.Prelude.{◌↔◌, is_some, if◌then◌else◌}
+use Rattle.std.specs.Prelude.{◌↔◌}
 use Rattle.lt_base.specs.declared.value.Value.{Value}
 use Rattle.lt_base.specs.Program.{Function}
-use Rattle.lt_arch.specs.declared.event.Offence.TheVariants.{NoEnd}
 use Rattle.lt_arch.specs.State.{Phase}
 use Rattle.lt_arch.specs.Readers.{node_count, chan_count}
 use Rattle.lt_io.specs.FabricState.{FabricState, KeepsFabric}
 use Rattle.lt_lossy.specs.declared.event.LossyEvent.{LossyEvent}
 use Rattle.lt_lossy.specs.declared.event.LossyOffence.{LossyOffence}
-use Rattle.lt_lossy.specs.declared.event.LossyOffence.TheVariants.{Common}
 use Rattle.lt_lossy.specs.Events.{IsLossyPlacedIn}
 use Rattle.lt_lossy.specs.State.{LossyState}
 use Rattle.lt_lossy.specs.Step.{lossy_offence}
@@ -18,11 +16,10 @@ use Rattle.lt_plant.specs.Given.{FitsPart}
 use Rattle.lt_plant.specs.Payloads.{row_at}
 use Rattle.lt_lossy_net.specs.declared.fault.LossyFault.{LossyFault}
 use Rattle.lt_lossy_net.specs.declared.fault.LossyFault.TheVariants.{Offence as Refused}
-use Rattle.lt_lossy_net.specs.Net.{LossyNetState, LossyLists, lossy_state_of}
+use Rattle.lt_lossy_net.specs.Net.{LossyLists, lossy_state_of}
 use Rattle.lt_lossy_net.specs.NetModel.{StoppableLossy}
 use Rattle.lt_lossy_net.specs.Stands.{StandsLossy}
-use Rattle.lt_lossy_net.specs.Taken.{HasLossyKinds, SameLossyStatic, IsTakenLossy}
-use Rattle.lt_lossy_replay.specs.Rules.{lossy_unended}
+use Rattle.lt_lossy_net.specs.Taken.{HasLossyKinds, IsTakenLossy}
 use Rattle.lt_lossy_replay.specs.Plays.{lossy_row_for, IsFedLossy, PlaysLossy}
 use Rattle.lt_lossy_replay.proofs.NextLists.{one_more}
 
@@ -52,10 +49,6 @@ module _ {C M : Type 0} (phase : C → Phase) (stands : M → Function → List 
   free_of e r y is tells =
       ap (λ st. lossy_offence net.plant.shape net.plant.timing net.plant.watch.limit st e) (sym state_is)
       ∙ free_by (lossy_offence net.plant.shape net.plant.timing net.plant.watch.limit (lossy_state_of net.plant (p.kept).0) e) r y is (tells (p.kept).0 (p.kept).1.stood.standing)
-
-  -- the end is missing where the watch has no horizon
-  pub ended_by : (h : Option ℕ) → h ≡ net.plant.watch.horizon → (if is_some h then None else Some (Common NoEnd)) ≡ lossy_unended (lossy_reached net.plant.shape net.plant.timing net.plant.rows before)
-  ended_by h is = ap (λ (x : Option ℕ). if is_some x then None else Some (Common NoEnd)) (is ∙ (p.kept).1.stood.standing.times.horizon ∙ ap (λ (st : LossyState). st.horizon) state_is)
 
   module _ (next : StoppableLossy C M) (new : FabricState) (e : LossyEvent) (there : IsLossyPlacedIn net.plant.shape e) (row : Option (List Value)) (row_is : row ≡ lossy_row_for net.plant inputs e)
       (taken : IsTakenLossy phase stands made left net.plant next.plant e row old new) where

@@ -1,6 +1,6 @@
 -- What a play over links that lose messages answers.
-use Rattle.std.proofs.Common.{◌≡◌, ◌<◌, ℕ, Bool, true, false, List, length, Option, Some, None, Result, Ok, Err, IsTrue, refl, sym, ap, ◌∙◌, subst, arith}
-use Rattle.std.specs.Prelude.{IsSome, IsErrAnd, is_ok}
+use Rattle.std.proofs.Common.{◌≡◌, ◌<◌, ℕ, true, false, List, length, Option, Some, None, Result, Ok, Err, IsTrue, refl, sym, ap, ◌∙◌, subst, arith}
+use Rattle.std.specs.Prelude.{IsSome, IsErrAnd}
 use Rattle.lt_base.specs.declared.value.Value.{Value}
 use Rattle.lt_base.specs.declared.memory.Or.{Or}
 use Rattle.lt_base.specs.declared.memory.Or.TheVariants.{Fault, Memory}
@@ -11,7 +11,6 @@ use Rattle.lt_io.specs.Visits.{Visited}
 use Rattle.lt_io.specs.FabricState.{FabricState}
 use Rattle.lt_io.proofs.Keeps.{promises_kept}
 use Rattle.lt_io.proofs.Visiting.{visited_any}
-use Rattle.lt_rows.specs.Rows.{rows_of}
 use Rattle.lt_lossy.specs.declared.event.LossyEvent.{LossyEvent}
 use Rattle.lt_lossy.specs.declared.event.LossyOffence.{LossyOffence}
 use Rattle.lt_lossy.specs.Schedule.{lossy_reached}
@@ -22,7 +21,6 @@ use Rattle.lt_judge.specs.declared.halt.Halt.{Halt}
 use Rattle.lt_judge.specs.declared.halt.Halt.TheVariants as halt
 use Rattle.lt_judge.specs.Errand.{schedule_errand}
 use Rattle.lt_judge.specs.Halted.{UnlessFailed, ReadCountedBy, LinkCountedBy}
-use Rattle.lt_judge.specs.Near.{IsNearIn}
 use Rattle.lt_judge.specs.Rules.{Rules, file_judged_by}
 use Rattle.lt_judge.specs.Replayed.{TakesFile, RefusesFile}
 use Rattle.lt_lossy_net.specs.NetModel.{StoppableLossy}
@@ -36,7 +34,6 @@ use Rattle.lt_lossy_replay.specs.Rules.{lossy_rules_of, lossy_blame, lossy_fault
 use Rattle.lt_lossy_replay.specs.Replays.{IsLossyReplay, LossyEndsWith, lossy_replay_verdict, HasLossyReplayed}
 use Rattle.lt_lossy_replay.specs.Plays.{PlaysLossy, KeepsLossyPlay, IsTakenFrom}
 use Rattle.lt_lossy_replay.proofs.AtTheEnd.{is_replay, stopped_at}
-use Rattle.lt_lossy_replay.proofs.OneMore.{ended_by}
 
 module _ {C M : Type 0} (stands : M → Function → List (List Value) → Type 0) (made : M → ℕ) (old new : StoppableLossy C M) (inputs later : List (List Value)) (name : List ℕ) (files files' : FilesState) (fabric fabric' : FabricState)
     (rows_is : old.plant.rows ≡ length inputs) (keeps_files : KeepsNames files files') (keeps : KeepsLossyPlay old new inputs later fabric fabric') where

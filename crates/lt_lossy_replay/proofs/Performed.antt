@@ -1,5 +1,5 @@
 -- What a network along a schedule over links that lose messages answers, from what its play did.
-use Rattle.std.proofs.Common.{◌≡◌, ◌<◌, ℕ, List, [], length, Option, Result, Ok, Err, IsTrue, refl, sym, subst, arith}
+use Rattle.std.proofs.Common.{◌≡◌, ℕ, List, [], length, Result, Ok, Err, IsTrue, refl, subst, arith}
 use Rattle.std.specs.Prelude.{IsErrAnd}
 use Rattle.lt_base.specs.declared.value.Value.{Value}
 use Rattle.lt_base.specs.declared.memory.Or.{Or}

@@ -13,8 +13,7 @@ use Rattle.lt_lossy.specs.declared.event.LossyEvent.{LossyEvent}
 use Rattle.lt_lossy.specs.declared.event.LossyEvent.TheVariants.{Plain, Lose}
 use Rattle.lt_lossy.specs.Step.{sends_number}
 use Rattle.lt_lossy.specs.Events.{IsLossyPlacedIn}
-use Rattle.lt_plant.specs.Changes.{Gets, Same}
-use Rattle.lt_plant.proofs.Entries.{either_way}
+use Rattle.lt_plant.specs.Changes.{Same}
 use Rattle.lt_lossy_net.specs.Net.{LossyNetState, LossyLists, lossy_state_of}
 use Rattle.lt_lossy_net.specs.Event.{LossyGoesOn, GetsIf, brings_new}
 use Rattle.lt_lossy_net.specs.Kept.{IsFixedLossy}

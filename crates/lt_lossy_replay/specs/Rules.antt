@@ -1,5 +1,5 @@
 -- What the rows of a schedule file read as where links lose messages, and whose fault it is that it is not played to its end.
-use Rattle.std.specs.Prelude.{◌≤◌, ℕ, is_some, List, Option, Some, None, IfSome, if◌then◌else◌}
+use Rattle.std.specs.Prelude.{ℕ, is_some, List, Option, Some, None, IfSome, if◌then◌else◌}
 use Rattle.lt_base.specs.declared.memory.Or.{Or}
 use Rattle.lt_base.specs.declared.memory.Or.TheVariants as either
 use Rattle.lt_arch.specs.declared.event.Offence.TheVariants.{NoEnd}

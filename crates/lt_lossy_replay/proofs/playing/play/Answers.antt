@@ -1,4 +1,4 @@
-use Rattle.std.proofs.Common.{Ok, Err, sym, subst}
+use Rattle.std.proofs.Common.{Err, sym, subst}
 use Rattle.lt_base.specs.declared.memory.Or.{Or}
 use Rattle.lt_play.proofs.Outcomes.{stands_too}
 use Rattle.lt_lossy_replay.specs.declared.fault.LossyPlayFault.{LossyPlayFault}

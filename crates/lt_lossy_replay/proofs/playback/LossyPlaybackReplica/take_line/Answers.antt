@@ -1,6 +1,5 @@
 use Rattle.std.proofs.Common.{◌≡◌, List, if◌then◌else◌, Some, None, Ok, Err, sym, ◌∙◌, ap, subst}
 use Rattle.lt_base.specs.declared.value.Value.{Value}
-use Rattle.lt_bp.specs.declared.controller.BackPressure.{BackPressure}
 use Rattle.lt_lossy.specs.Events.{IsLossyPlacedIn, lossy_event_of}
 use Rattle.lt_net.specs.Event.{given}
 use Rattle.lt_lossy_replay.proofs.NextLists.{row_fits}
