@@ -8,7 +8,9 @@ use Rattle.lt_timing.specs.Accepts.{Accepts}
 use Rattle.lt_audit.specs.Misses.{HasNoMiss}
 use Rattle.lt_judge.specs.declared.fault.ScheduleFault.{ScheduleFault}
 use Rattle.lt_judge.specs.Verdict.{verdict}
+use Rattle.lt_config.specs.declared.pace.Pace.TheVariants.{Plain}
 use Rattle.lt_load.specs.Plan.{Plan}
+use Rattle.lt_run.proofs.Reading.{HasRead}
 use Rattle.lt_inspect.specs.declared.scene.Scene.{Scene}
 use Rattle.lt_inspect.specs.declared.audited.Audited.{Audited}
 use Rattle.lt_inspect.specs.Placed.{IsOfShape}
@@ -24,7 +26,6 @@ use Rattle.lt_cli.specs.Taken.{TookText}
 use Rattle.lt_cli.specs.Texts.{audit_text, audited_text}
 use Rattle.lt_cli.proofs.Decided.{scene_decided}
 use Rattle.lt_cli.proofs.Inspected.{AreAlike, alike}
-use Rattle.lt_cli.proofs.Shown.{HasRead}
 
 -- a schedule file that is judged to its end reads as events
 
@@ -32,7 +33,7 @@ ends_with : {T : Type 0} (end : List Event → T → Type 0) (x : T) (r : Result
 ends_with end x (Ok events) is = (events, refl, is)
 ends_with end x (Err fault) is = cc
 
-file_read : {T : Type 0} (end : List Event → T → Type 0) (s : Shape) (t : Timing) (rows : ℕ) (file : Option (List ℕ)) (x : T) → file_verdict end s t rows file (Ok x) → HasRead end s t rows file x
+file_read : {T : Type 0} (end : List Event → T → Type 0) (s : Shape) (t : Timing) (rows : ℕ) (file : Option (List ℕ)) (x : T) → file_verdict end s t rows file (Ok x) → HasRead Plain end s t rows file x
 unfolding file_verdict
 file_read end s t rows None x is = cc
 file_read end s t rows (Some bytes) x is = let e = ends_with end x (verdict s t rows bytes) is in record { bytes = bytes; file_is = refl; events = e.0; reads = e.1; at_end = e.2 }

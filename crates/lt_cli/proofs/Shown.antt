@@ -1,58 +1,41 @@
 -- What a reader has of a run that ended well, from its verdict.
-use Rattle.std.proofs.Common.{◌≡◌, ◌<◌, ◌≤◌, ℕ, min, List, [], length, take, Option, Some, None, Result, Ok, Err, refl, sym, ◌∙◌, ap, subst, inl, inr, arith}
+use Rattle.std.proofs.Common.{◌≡◌, ◌<◌, ◌≤◌, ℕ, min, List, [], length, take, Option, Ok, refl, sym, ◌∙◌, ap, subst, inl, inr, arith}
 use Rattle.std.specs.Prelude.{slice_index_or}
+use Rattle.lt_base.specs.declared.value.Value.{Value}
 use Rattle.lt_base.specs.declared.value.Cell.{Cell}
 use Rattle.lt_base.proofs.Streams.{stream_length}
-use Rattle.lt_arch.specs.declared.event.Event.{Event}
 use Rattle.lt_arch.specs.declared.shape.Shape.{Shape}
-use Rattle.lt_arch.specs.declared.timing.Timing.{Timing}
 use Rattle.lt_arch.specs.State.{executed_of}
 use Rattle.lt_arch.specs.Schedule.{reached}
 use Rattle.lt_io.specs.FabricState.{FabricState}
 use Rattle.lt_answer.specs.Answered.{AndThen}
-use Rattle.lt_judge.specs.declared.fault.ScheduleFault.{ScheduleFault}
-use Rattle.lt_judge.specs.Verdict.{verdict}
 use Rattle.lt_front.specs.Flattened.{flat_of}
 use Rattle.lt_place.specs.declared.layout.Layout.{Layout}
 use Rattle.lt_place.specs.Layout.{IsLayoutOf, Gives, part_of}
-use Rattle.lt_lead.specs.Paced.{IsShapeBy, bound_by}
+use Rattle.lt_timing.specs.Bounds.{bound_of}
+use Rattle.lt_lead.specs.Paced.{IsShapeBy}
 use Rattle.lt_lead.proofs.ByPace.{nodes_are}
 use Rattle.lt_plant.specs.Local.{local_stream, fed_row}
 use Rattle.lt_plant.specs.Payloads.{between, row_at}
 use Rattle.lt_plant.proofs.Firsts.{length-firsts}
-use Rattle.lt_replay.specs.Replays.{EndsWith, replay_verdict}
 use Rattle.lt_run.specs.Main.{output_streams}
 use Rattle.lt_load.specs.Plan.{Plan, load_verdict}
 use Rattle.lt_run.specs.declared.outputs.Outputs.{Outputs}
-use Rattle.lt_run.specs.Run.{Shows, along_verdict, ordered_verdict, run_verdict}
+use Rattle.lt_run.specs.Printed.{AreShown}
+use Rattle.lt_run.specs.Run.{IsLaidOutBy, Shows, along_verdict, ordered_verdict, run_verdict}
+use Rattle.lt_run.proofs.Reading.{has_read}
 use Rattle.lt_big.specs.Big as big
-use Rattle.lt_big.specs.Big.{big_verdict, loaded_verdict, events_of}
+use Rattle.lt_big.specs.Big.{ShowsList, big_verdict, loaded_verdict, events_of}
+use Rattle.lt_big.proofs.Plainly.{plain_plan}
 use Rattle.lt_cli.specs.Commands.{printed_text, summarized_text}
 use Rattle.lt_cli.specs.Objects.{Objects, world_of}
 use Rattle.lt_cli.specs.Taken.{TookText}
 use Rattle.lt_cli.specs.RunShown.{IsOutputShown, IsRunAlong, IsRunShown, IsBigShown}
 
--- a schedule file that is played to its end reads as events
-pub record HasRead {T : Type 0} (end : List Event → T → Type 0) (s : Shape) (t : Timing) (rows : ℕ) (file : Option (List ℕ)) (x : T) : Type 0 where
-  pub bytes : List ℕ
-  pub file_is : file ≡ Some bytes
-  pub events : List Event
-  pub reads : verdict s t rows bytes ≡ Ok events
-  pub at_end : end events x
-
-ends_with : {T : Type 0} (end : List Event → T → Type 0) (x : T) (r : Result (List Event) ScheduleFault) → EndsWith end r (Ok x) → (events : List Event) × (r ≡ Ok events) × end events x
-ends_with end x (Ok events) is = (events, refl, is)
-ends_with end x (Err fault) is = cc
-
-has_read : {T : Type 0} (end : List Event → T → Type 0) (s : Shape) (t : Timing) (rows : ℕ) (file : Option (List ℕ)) (x : T) → replay_verdict end s t rows file (Ok x) → HasRead end s t rows file x
-unfolding replay_verdict
-has_read end s t rows None x is = cc
-has_read end s t rows (Some bytes) x is = let e = ends_with end x (verdict s t rows bytes) is in record { bytes = bytes; file_is = refl; events = e.0; reads = e.1; at_end = e.2 }
-
 -- one output
 
-module _ (p : Plan) (l : Layout) (s : Shape) (fabric : FabricState) (events : List Event) (printed : Outputs) (shaped : IsShapeBy l p.setup.pace p.setup.timing s) (laid : IsLayoutOf (flat_of p.checked.program) p.setup.placement l)
-    (shows : Shows p.checked.program l s p.setup.timing p.inputs.rows fabric events printed) where
+module _ (p : Plan) (l : Layout) (s : Shape) (fabric : FabricState) (executed : ℕ → ℕ) (got : ℕ → List (List Value)) (least : ℕ → ℕ) (printed : Outputs) (shaped : IsShapeBy l p.setup.pace p.setup.timing s)
+    (laid : IsLayoutOf (flat_of p.checked.program) p.setup.placement l) (shown : AreShown p.checked.program l s p.inputs.rows fabric executed got least printed.names printed.cells) where
   -- a node of the layout is one of the shape
   in_shape : (n : ℕ) → n < length l.nodes → n < length s.nodes
   in_shape n within =
@@ -60,23 +43,21 @@ module _ (p : Plan) (l : Layout) (s : Shape) (fabric : FabricState) (events : Li
       let same : length l.names ≡ length l.nodes = ap (λ (ns : List (List ℕ)). length ns) laid.names ∙ sym laid.nodes in
       omega (arith, within, names, same)
 
-  output_shown : (y n x : ℕ) → y < length l.outs → n < length l.nodes → Gives (part_of l n) (slice_index_or l.outs y 0) x
-      → IsOutputShown p.checked.program l s p.setup.timing p.setup.pace p.inputs.rows fabric events shows.told.run.lists.got shows.horizon y n x (slice_index_or printed.cells y [])
+  output_shown : (y n x : ℕ) → y < length l.outs → n < length l.nodes → Gives (part_of l n) (slice_index_or l.outs y 0) x → IsOutputShown p.checked.program l s p.inputs.rows fabric got (executed n) (least n) y n x (slice_index_or printed.cells y [])
   output_shown y n x out within gives =
       let cells : List Cell = slice_index_or printed.cells y [] in
       let rows = p.inputs.rows in
-      let executed : ℕ = executed_of (reached s p.setup.timing (length rows) events) n in
-      let got = between s shows.told.run.lists.got in
-      let local : cells ≡ local_stream l got n (row_at rows) executed x = shows.told.run.local y n x out within gives in
-      let count : length cells ≡ executed =
+      let among = between s got in
+      let local : cells ≡ local_stream l among n (row_at rows) (executed n) x = shown.local y n x out within gives in
+      let count : length cells ≡ executed n =
       ap (λ (cs : List Cell). length cs) local
       ∙ stream_length [] (part_of l n).flat.func x _
-      ∙ length-firsts (λ k. fed_row l got n (row_at rows k) k) executed in
+      ∙ length-firsts (λ k. fed_row l among n (row_at rows k) k) (executed n) in
       record {
         count = count;
-        local = subst (λ (m : ℕ). cells ≡ local_stream l got n (row_at rows) m x) (sym count) local;
-        whole = λ faithful. subst (λ (m : ℕ). cells ≡ take m (slice_index_or (output_streams p.checked.program rows) y [])) (sym count) (shows.told.whole faithful y n x out within gives);
-        enough = subst (λ (m : ℕ). min (bound_by p.setup.pace p.setup.timing n shows.horizon) (length rows) ≤ m) (sym count) (shows.told.run.enough p.setup.pace (record { shaped = shaped; fits = p.setup.paced }) n (in_shape n within));
+        local = subst (λ (m : ℕ). cells ≡ local_stream l among n (row_at rows) m x) (sym count) local;
+        whole = λ faithful. subst (λ (m : ℕ). cells ≡ take m (slice_index_or (output_streams p.checked.program rows) y [])) (sym count) (shown.whole faithful y n x out within gives);
+        enough = subst (λ (m : ℕ). min (least n) (length rows) ≤ m) (sym count) (shown.enough n (in_shape n within));
       }
 
 module _ (named : List ℕ → Option (List ℕ)) (program inputs schedule : List ℕ) (config : Option (List ℕ)) (fabric : FabricState) (ran : Outputs) where
@@ -84,7 +65,7 @@ module _ (named : List ℕ → Option (List ℕ)) (program inputs schedule : Lis
   pub run_along : (p : Plan) → load_verdict named program inputs config (Ok p) → along_verdict fabric (named schedule) p (Ok ran) → (r : IsRunAlong named program inputs schedule config fabric ran) × (r.plan ≡ p)
   unfolding along_verdict
   run_along p loaded (l, s, site, played) =
-      let read = has_read (λ events x. Shows p.checked.program l s p.setup.timing p.inputs.rows fabric events x) s p.setup.timing (length p.inputs.rows) (named schedule) ran played in (
+      let read = has_read p.setup.pace (Shows p.checked.program l s p.setup.timing p.setup.pace p.inputs.rows fabric) s p.setup.timing (length p.inputs.rows) (named schedule) ran played in (
         record {
           plan = p;
           loaded = loaded;
@@ -97,7 +78,7 @@ module _ (named : List ℕ → Option (List ℕ)) (program inputs schedule : Lis
           events = read.events;
           reads = read.reads;
           shows = read.at_end;
-          outputs = output_shown p l s fabric read.events ran site.shape site.layout read.at_end;
+          outputs = output_shown p l s fabric _ read.at_end.told.got _ ran site.shape site.layout read.at_end.told.shown;
         },
         refl,
       )
@@ -114,11 +95,23 @@ module _ (named : List ℕ → Option (List ℕ)) (program inputs schedule : Lis
 -- the large input
 
 module _ (instants : ℕ) (old new : Objects) (printed : Outputs) (text : TookText (summarized_text instants printed) old new) where
+  -- each output, with what the run delivered
+  list_shown : (p : Plan) (l : Layout) (s : Shape) → IsLaidOutBy p l s → (list : ShowsList instants new.fabric p.checked.program l s p.setup.timing p.inputs.rows printed) → (y n x : ℕ) → y < length l.outs → n < length l.nodes → Gives (part_of l n) (slice_index_or l.outs y 0) x
+      → IsOutputShown p.checked.program l s p.inputs.rows new.fabric list.shows.told.run.lists.got (executed_of (reached s p.setup.timing (length p.inputs.rows) (events_of instants s p.setup.timing (length p.inputs.rows))) n) (bound_of p.setup.timing n list.shows.horizon) y n x (slice_index_or printed.cells y [])
+  list_shown p l s site list =
+      let told = list.shows.told in
+      let t = p.setup.timing in
+      let executed : ℕ → ℕ = executed_of (reached s t (length p.inputs.rows) (events_of instants s t (length p.inputs.rows))) in
+      let least : ℕ → ℕ = λ n. bound_of t n list.shows.horizon in
+      let shown = subst (λ (got : ℕ → List (List Value)). AreShown p.checked.program l s p.inputs.rows new.fabric executed got least printed.names printed.cells) told.got_is told.shown in
+      output_shown p l s new.fabric executed told.run.lists.got least printed site.shape site.layout shown
+
   big_along : (p : Plan) → loaded_verdict instants (Ok p) → big.along_verdict instants new.fabric p (Ok printed) → IsBigShown instants old new
   unfolding big.along_verdict
   big_along p loaded (l, s, site, list) = record {
     plan = p;
     loaded = loaded;
+    plain = plain_plan instants p loaded;
     layout = l;
     laid = site.layout;
     shape = s;
@@ -128,7 +121,7 @@ module _ (instants : ℕ) (old new : Objects) (printed : Outputs) (text : TookTe
     text = text;
     shows = list.shows;
     at_horizon = list.at_horizon;
-    outputs = output_shown p l s new.fabric (events_of instants s p.setup.timing (length p.inputs.rows)) printed site.shape site.layout list.shows;
+    outputs = list_shown p l s site list;
   }
 
   big_steps : AndThen (loaded_verdict instants) (λ plan. big.along_verdict instants new.fabric plan) (Ok printed) → IsBigShown instants old new

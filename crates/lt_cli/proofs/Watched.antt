@@ -2,8 +2,6 @@
 use Rattle.std.proofs.Common.{◌≡◌, ◌∙◌, ◌⊎◌, ◌<◌, ◌≤◌, ℕ, min, List, [], ◌∷◌, length, Option, Some, None, Ok, refl, sym, ap, subst, inl, inr, arith}
 use Rattle.std.specs.Prelude.{slice_index_or}
 use Rattle.lt_base.specs.declared.value.Cell.{Cell}
-use Rattle.lt_arch.specs.State.{executed_of}
-use Rattle.lt_arch.specs.Schedule.{reached}
 use Rattle.lt_lead.specs.Paced.{bound_by}
 use Rattle.lt_past.specs.Faults.{IsObserverOf}
 use Rattle.lt_past.specs.Observer.{Observing}
@@ -12,6 +10,7 @@ use Rattle.lt_load.specs.Loaded.{whole_verdict}
 use Rattle.lt_load.specs.Main.{main_in}
 use Rattle.lt_load.specs.Plan.{Plan, load_verdict}
 use Rattle.lt_run.specs.declared.outputs.Outputs.{Outputs}
+use Rattle.lt_run.specs.Kinds.{executed_by}
 use Rattle.lt_run.specs.Run.{along_verdict}
 use Rattle.lt_watch.specs.declared.watched.Watched.{Watched}
 use Rattle.lt_watch.specs.Judged.{counted, column, IsLeast, IsWatched}
@@ -40,17 +39,17 @@ module _ (named : List ℕ → Option (List ℕ)) (program inputs schedule obser
     -- an output that counts is one of the layout
     in_layout : (y : ℕ) → Counts o.outs (length run.layout.outs) y → y < length run.layout.outs
     in_layout y counts =
-        let same : length run.layout.outs ≡ length (main_in run.plan.checked.program).outs = ap (λ (outs : List ℕ). length outs) run.shows.told.outputs_are in
+        let same : length run.layout.outs ≡ length (main_in run.plan.checked.program).outs = ap (λ (outs : List ℕ). length outs) run.shows.told.shown.outputs_are in
         counts_low o.outs (length run.layout.outs) (λ k low. subst (λ (m : ℕ). slice_index_or o.outs k 0 < m) (sym same) (outputs_low 200 (main_in run.plan.checked.program) bytes o spelled k low)) y counts
 
     module _ (n : ℕ) (least : IsLeast (counted o.outs ran.cells) n) where
       abbrev executed : ℕ → ℕ
-      executed m = executed_of (reached run.shape run.plan.setup.timing (length run.plan.inputs.rows) run.events) m
+      executed m = executed_by run.plan.setup.pace run.shape run.plan.setup.timing (length run.plan.inputs.rows) run.events m
 
       no_more : (m : ℕ) → HasCounted run.layout o.outs m → n ≤ executed m
       no_more m (y, x, counts, within, gives) =
           let shown = run.outputs y m x (in_layout y counts) within gives in
-          let cells : Counts o.outs (length ran.cells) y = subst (λ (c : ℕ). Counts o.outs c y) (sym run.shows.told.run.columns) counts in
+          let cells : Counts o.outs (length ran.cells) y = subst (λ (c : ℕ). Counts o.outs c y) (sym run.shows.told.shown.columns) counts in
           subst (λ (c : ℕ). n ≤ c) shown.count (counts_below o.outs ran.cells n least y cells)
 
       abbrev Attained : Type 0
@@ -61,7 +60,7 @@ module _ (named : List ℕ → Option (List ℕ)) (program inputs schedule obser
       attained_at : (y : ℕ) → Counts o.outs (length run.layout.outs) y → length (column ran.cells y) ≡ n → Attained
       attained_at y counts is =
           let low = in_layout y counts in
-          let home = run.shows.told.home y low in
+          let home = run.shows.told.shown.home y low in
           let shown = run.outputs y home.0 home.2 low home.1 home.3 in
           inr (
             home.0,
@@ -71,10 +70,11 @@ module _ (named : List ℕ → Option (List ℕ)) (program inputs schedule obser
           )
 
       attained : ((ran.cells ≡ []) × (n ≡ 0)) ⊎ ((y : ℕ) × Counts o.outs (length ran.cells) y × (length (column ran.cells y) ≡ n)) → Attained
-      attained (inl none) = inl (none_of run.layout.outs (sym run.shows.told.run.columns ∙ ap (λ (cs : List (List Cell)). length cs) none.0), none.1)
-      attained (inr (y, counts, is)) = attained_at y (subst (λ (c : ℕ). Counts o.outs c y) run.shows.told.run.columns counts) is
+      attained (inl none) = inl (none_of run.layout.outs (sym run.shows.told.shown.columns ∙ ap (λ (cs : List (List Cell)). length cs) none.0), none.1)
+      attained (inr (y, counts, is)) = attained_at y (subst (λ (c : ℕ). Counts o.outs c y) run.shows.told.shown.columns counts) is
 
-      are_instants : AreInstants run.layout run.shape run.plan.setup.timing run.plan.setup.pace run.plan.inputs.rows run.events run.shows.horizon o.outs n
+      are_instants : AreInstants run.layout run.plan.inputs.rows (executed_by run.plan.setup.pace run.shape run.plan.setup.timing (length run.plan.inputs.rows) run.events)
+          (λ m. bound_by run.plan.setup.pace run.plan.setup.timing m run.shows.horizon) o.outs n
       are_instants = record { least = no_more; attained = attained (counts_reached o.outs ran.cells n least) }
 
     shown_by : named observer ≡ Some bytes → IsWatched run.plan.checked.program run.plan.inputs.rows new.fabric o ran.cells told → IsWatchShown named program inputs schedule observer config old new

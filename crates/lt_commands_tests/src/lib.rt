@@ -4,9 +4,13 @@
 #[cfg(test)]
 mod calls;
 #[cfg(test)]
+mod drawn;
+#[cfg(test)]
 mod fronts;
 #[cfg(test)]
 mod limits;
+#[cfg(test)]
+mod losses;
 #[cfg(test)]
 mod network;
 #[cfg(test)]

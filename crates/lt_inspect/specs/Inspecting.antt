@@ -4,6 +4,8 @@ use Rattle.lt_arch.specs.declared.event.Event.{Event}
 use Rattle.lt_arch.specs.declared.event.Offence as arch
 use Rattle.lt_arch.specs.declared.shape.Shape.{Shape}
 use Rattle.lt_rows.specs.Texts.{event_text}
+use Rattle.lt_judge.specs.declared.halt.Refusal.{Refusal}
+use Rattle.lt_judge.specs.declared.halt.Refusal.TheVariants as refusal
 use Rattle.lt_judge.specs.declared.halt.Halt.{Halt}
 use Rattle.lt_judge.specs.declared.halt.Halt.TheVariants as halt
 use Rattle.lt_judge.specs.Verdict.{fault_of}
@@ -28,10 +30,16 @@ pub record IsInspected (a : AuditState) (sel : Selection) (s : Shape) (text : Li
   pub text_is : text ≡ trace_text sel s events
   pub tapped : s ≡ a.shape
 
--- why rows are not all taken, as a command's fault; memory may be wanting for the names that it needs
+-- a refusal that names an event
+abbrev pub IsOffence : Refusal arch.Offence → Type 0
+IsOffence (refusal.Row row f) = ⊥
+IsOffence (refusal.Offence event offence) = Unit {0}
+IsOffence refusal.Bytes = ⊥
+
+-- why rows are not all taken, as a command's fault; memory may be wanting for the names that an offence needs
 abbrev pub AsFault : Shape → Halt arch.Offence → Or CommandFault → Type 0
-AsFault s (halt.Refused refusal) (Fault e) = e ≡ command_fault s (fault_of refusal)
-AsFault s (halt.Refused refusal) Memory = Unit {0}
+AsFault s (halt.Refused refused) (Fault e) = e ≡ command_fault s (fault_of refused)
+AsFault s (halt.Refused refused) Memory = IsOffence refused
 AsFault s halt.Read (Fault e) = e ≡ fault.Read
 AsFault s halt.Read Memory = ⊥
 AsFault s halt.Link e = Unit {0}

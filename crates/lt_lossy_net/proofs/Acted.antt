@@ -6,10 +6,10 @@ use Rattle.lt_base.specs.Program.{Function}
 use Rattle.lt_arch.specs.declared.event.Deed.{Deed}
 use Rattle.lt_arch.specs.declared.event.Deed.TheVariants.{Nothing, Execute, Send}
 use Rattle.lt_arch.specs.declared.event.Event.TheVariants.{Act}
-use Rattle.lt_arch.specs.State.{Phase, sent_of, unsent}
+use Rattle.lt_arch.specs.State.{Phase, sent_of}
 use Rattle.lt_arch.specs.Readers.{node_count, chan_count, from_of, to_of, carries_data}
 use Rattle.lt_arch.specs.Deeds.{deed_at, phase_at}
-use Rattle.lt_arch.specs.Step.{is_execute, is_send, woken}
+use Rattle.lt_arch.specs.Step.{is_execute, woken}
 use Rattle.lt_link.specs.Inbox.{InboxState}
 use Rattle.lt_lossy.specs.declared.event.LossyEvent.TheVariants.{Plain}
 use Rattle.lt_lossy.specs.State.{LossyState, plain_of, sent_by}

@@ -1,13 +1,13 @@
 -- A net after a delivery, a loss and an end.
-use Rattle.std.proofs.Common.{◌≡◌, ◌≢◌, ℕ, suc, ◌+◌, ◌<◌, ◌≤◌, Bool, true, false, not, List, [], ◌∷◌, ◌++◌, length, set, Option, Some, None, refl, sym, ap, ◌∙◌, subst, arith}
+use Rattle.std.proofs.Common.{◌≡◌, ℕ, ◌+◌, ◌<◌, ◌≤◌, Bool, true, false, not, List, [], ◌∷◌, ◌++◌, length, set, Option, Some, refl, sym, ap, ◌∙◌, subst, arith}
 use Rattle.std.specs.Prelude.{slice_index_or}
 use Rattle.std.specs.List.{slice_get}
 use Rattle.std.proofs.lemmas.Bool.{ltb-true, ltb-false}
 use Rattle.lt_base.specs.declared.value.Value.{Value}
 use Rattle.lt_base.specs.Program.{Function}
 use Rattle.lt_arch.specs.declared.event.Event.TheVariants.{Del, End}
-use Rattle.lt_arch.specs.State.{NodeState, Phase}
-use Rattle.lt_arch.specs.Readers.{node_count, chan_count, from_of, to_of, carries_data}
+use Rattle.lt_arch.specs.State.{Phase}
+use Rattle.lt_arch.specs.Readers.{node_count, chan_count, from_of, to_of}
 use Rattle.lt_link.specs.Inbox.{InboxState}
 use Rattle.lt_lossy.specs.declared.event.LossyEvent.{LossyEvent}
 use Rattle.lt_lossy.specs.declared.event.LossyEvent.TheVariants.{Plain, Lose}
@@ -15,7 +15,6 @@ use Rattle.lt_lossy.specs.State.{Message, LinkState, LossyState, plain_of, sent_
 use Rattle.lt_lossy.specs.Step.{lossy_after, link_delivered}
 use Rattle.lt_lossy.specs.Times.{LossyTimes, HasLossyTimes, losses_at, without_oldest, with_losses, with_end}
 use Rattle.lt_lossy.specs.Laws.{Ascends}
-use Rattle.lt_lossy.proofs.Balance.{IsBalanced}
 use Rattle.lt_lossy.proofs.Changes.{node-del, node-lose, node-end, link-end, link-del, link-lose}
 use Rattle.lt_lossy.proofs.Noted.{law-times}
 use Rattle.lt_lossy.proofs.Numbers.{ascends-ends, newest-lost}

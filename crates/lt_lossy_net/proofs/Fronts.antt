@@ -1,5 +1,5 @@
 -- Payloads that are their senders' own, and the cells that come of them.
-use Rattle.std.proofs.Common.{◌≡◌, inl, inr, ℕ, suc, ◌+◌, ◌-◌, ◌<◌, ◌≤◌, true, false, Bool, List, [], ◌∷◌, ◌++◌, length, Option, Some, None, refl, sym, ap, ◌∙◌, subst, arith, length-append}
+use Rattle.std.proofs.Common.{◌≡◌, inl, inr, ℕ, ◌<◌, ◌≤◌, List, [], ◌∷◌, length, Option, Some, None, refl, sym, ap, ◌∙◌, subst, arith, length-append}
 use Rattle.std.specs.Prelude.{slice_index_or}
 use Rattle.std.proofs.lemmas.Bool.Decides.{eqb_tells}
 use Rattle.lt_base.specs.declared.value.Value.{Value}
@@ -9,25 +9,20 @@ use Rattle.lt_arch.specs.declared.event.Deed.TheVariants.{Nothing, Execute, Send
 use Rattle.lt_arch.specs.declared.event.Event.TheVariants.{Act, Del, End}
 use Rattle.lt_arch.specs.declared.shape.Shape.{Shape}
 use Rattle.lt_arch.specs.State.{Phase}
-use Rattle.lt_arch.specs.Readers.{node_count, chan_count, from_of, to_of, carries_data}
-use Rattle.lt_io.specs.FabricState.{FabricState}
-use Rattle.lt_lossy.specs.declared.event.LossyEvent.{LossyEvent}
+use Rattle.lt_arch.specs.Readers.{node_count, from_of, to_of}
 use Rattle.lt_lossy.specs.declared.event.LossyEvent.TheVariants.{Plain, Lose}
-use Rattle.lt_lossy.specs.Events.{IsLossyPlacedIn}
 use Rattle.lt_lossy.specs.State.{plain_of}
 use Rattle.lt_place.specs.declared.layout.Layout.{Layout}
-use Rattle.lt_place.specs.Layout.{Gives, part_of}
-use Rattle.lt_plant.specs.Changes.{Takes, Gets, Same}
+use Rattle.lt_plant.specs.Changes.{Takes, Same}
 use Rattle.lt_plant.specs.Own.{AreOwn}
 use Rattle.lt_plant.specs.Standing.{HasOwnValues}
 use Rattle.lt_plant.proofs.Delivered.{enough_ahead}
 use Rattle.lt_plant.proofs.Entries.{either_way}
 use Rattle.lt_plant.proofs.OutputFronts.{output_front}
 use Rattle.lt_plant.proofs.OwnValues.{own_taken, owns_delivered}
-use Rattle.lt_lossy_net.specs.Net.{LossyNetState, LossyLists, plant_of, lossy_state_of}
-use Rattle.lt_lossy_net.specs.Event.{LossyGoesOn, RowsGo, brings_new, lossy_deed_by}
-use Rattle.lt_lossy_net.specs.Kept.{IsFixedLossy}
-use Rattle.lt_lossy_net.specs.Laws.{StandsWith, BringsFrom, EventsKeepOwn, LossyCellsAreFronts, LossyCellsAreLocal}
+use Rattle.lt_lossy_net.specs.Net.{plant_of, lossy_state_of}
+use Rattle.lt_lossy_net.specs.Event.{RowsGo, brings_new, lossy_deed_by}
+use Rattle.lt_lossy_net.specs.Laws.{EventsKeepOwn, LossyCellsAreFronts, LossyCellsAreLocal}
 use Rattle.lt_lossy_net.proofs.Arrived.{got_new, got_copy}
 use Rattle.lt_lossy_net.proofs.Reached.{ahead}
 use Rattle.lt_lossy_net.proofs.Transit.{brings_own, newest_most}

@@ -1,23 +1,20 @@
 -- Every event without an offence leaves a net that stands, and a fabric that has in transit what its state says.
 use Rattle.std.proofs.Common.{◌≡◌, inl, inr, ℕ, suc, ◌<◌, true, false, not, Bool, List, [], ◌∷◌, ◌++◌, length, Option, refl, sym, ap, ◌∙◌, subst, arith}
-use Rattle.std.specs.Prelude.{slice_index_or}
 use Rattle.std.specs.List.{slice_get}
 use Rattle.lt_base.specs.declared.value.Value.{Value}
 use Rattle.lt_base.specs.Program.{Function}
 use Rattle.lt_arch.specs.declared.event.Deed.TheVariants.{Execute}
-use Rattle.lt_arch.specs.declared.event.Event.TheVariants.{Act, Del, End}
+use Rattle.lt_arch.specs.declared.event.Event.TheVariants.{Act, Del}
 use Rattle.lt_arch.specs.State.{Phase}
 use Rattle.lt_arch.specs.Readers.{node_count, chan_count, from_of, to_of}
 use Rattle.lt_io.specs.declared.message.Message.{Message}
 use Rattle.lt_io.specs.FabricState.{FabricState, Delivers}
-use Rattle.lt_link.specs.Bits.{bit_of, differ}
+use Rattle.lt_link.specs.Bits.{differ}
 use Rattle.lt_link.specs.Inbox.{InboxState}
-use Rattle.lt_lossy.specs.declared.event.LossyEvent.TheVariants.{Plain, Lose}
-use Rattle.lt_plant.specs.Changes.{Same}
+use Rattle.lt_lossy.specs.declared.event.LossyEvent.TheVariants.{Plain}
 use Rattle.lt_plant.specs.Standing.{HasOwnValues}
 use Rattle.lt_plant.proofs.OwnValues.{own_taken}
 use Rattle.lt_lossy_net.specs.Net.{LossyNetState, LossyLists, lossy_state_of}
-use Rattle.lt_lossy_net.specs.Stands.{StandsLossy}
 use Rattle.lt_lossy_net.specs.Event.{PassesLossy, LossyGoesOn, lossy_deed_by, brings_new}
 use Rattle.lt_lossy_net.specs.Kept.{IsFixedLossy, HasLossySizes}
 use Rattle.lt_lossy_net.specs.Laws.{StandsWith, KeepsAct, KeepsDel, KeepsStanding, EventsKeep}

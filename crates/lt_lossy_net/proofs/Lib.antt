@@ -7,3 +7,12 @@ pub mod Keeps
 pub mod Fronts
 pub mod Oldest
 pub mod TakenByCode
+pub mod ResendLoop
+pub mod PostLoop
+pub mod SentTwice
+pub mod NextLossy
+pub mod DeedByCode
+pub mod InstantOf
+pub mod ActByCode
+pub mod StartedLossy
+pub mod OddBits

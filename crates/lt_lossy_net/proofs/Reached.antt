@@ -1,5 +1,5 @@
 -- Where one event more leads.
-use Rattle.std.proofs.Common.{◌≡◌, ◌≢◌, ℕ, ◌+◌, ◌-◌, ◌≤◌, Bool, true, false, List, [], ◌∷◌, ◌++◌, None, refl, sym, ap, ◌∙◌, subst, cond, arith}
+use Rattle.std.proofs.Common.{◌≡◌, ℕ, ◌+◌, ◌≤◌, Bool, true, false, List, [], ◌∷◌, ◌++◌, None, refl, sym, ap, ◌∙◌, subst, cond, arith}
 use Rattle.std.specs.Prelude.{◌==◌, ◌&&◌}
 use Rattle.lt_base.specs.declared.value.Value.{Value}
 use Rattle.lt_base.specs.Program.{Function}
@@ -7,7 +7,7 @@ use Rattle.lt_arch.specs.declared.limits.TheConstants.{GREATEST_TIME}
 use Rattle.lt_arch.specs.declared.event.Event.TheVariants.{Act}
 use Rattle.lt_arch.specs.declared.shape.Shape.{Shape}
 use Rattle.lt_arch.specs.declared.timing.Timing.{Timing}
-use Rattle.lt_arch.specs.State.{State, NodeState, Phase, Wait, Ready, First, Sending, Executing, executed_of, sent_of, unsent}
+use Rattle.lt_arch.specs.State.{NodeState, Phase, Wait, Ready, First, Sending, Executing, executed_of, sent_of, unsent}
 use Rattle.lt_arch.specs.Deeds.{deed_at, phase_at}
 use Rattle.lt_arch.specs.Step.{after, is_execute, is_send, updated, woken}
 use Rattle.lt_arch.proofs.Changes.{executed-act, one_if, grown_at}
@@ -15,7 +15,7 @@ use Rattle.lt_lossy.specs.declared.event.LossyEvent.{LossyEvent}
 use Rattle.lt_lossy.specs.declared.event.LossyEvent.TheVariants.{Plain}
 use Rattle.lt_lossy.specs.State.{LossyState, lossy_start, plain_of, sent_by}
 use Rattle.lt_lossy.specs.Step.{lossy_offence, lossy_after}
-use Rattle.lt_lossy.specs.Schedule.{lossy_after_all, lossy_reached, HasNoLossyOffence, IsLossyOffenceFree}
+use Rattle.lt_lossy.specs.Schedule.{lossy_after_all, HasNoLossyOffence, IsLossyOffenceFree}
 use Rattle.lt_lossy.specs.Times.{lossy_time_of}
 use Rattle.lt_lossy.specs.Laws.{IsOneAhead}
 use Rattle.lt_lossy.proofs.Changes.{node-act_here, node-act_other, newest-act}

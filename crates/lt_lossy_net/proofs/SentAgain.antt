@@ -1,5 +1,5 @@
 -- What is sent again, and how many instants were sent, after an activation.
-use Rattle.std.proofs.Common.{◌≡◌, ◌≢◌, ◌⊎◌, inl, inr, ℕ, suc, ◌+◌, ◌-◌, ◌<◌, ◌≤◌, Bool, true, false, List, [], length, set, refl, sym, ap, ◌∙◌, subst, cond, arith, add-zero}
+use Rattle.std.proofs.Common.{◌≡◌, ◌≢◌, inl, inr, ℕ, suc, ◌+◌, ◌-◌, ◌<◌, ◌≤◌, Bool, true, false, List, [], length, refl, sym, ap, ◌∙◌, subst, cond, arith, add-zero}
 use Rattle.std.specs.Prelude.{slice_index_or, ◌==◌, ◌&&◌, if◌then◌else◌}
 use Rattle.std.proofs.lemmas.Bool.Decides.{eqb_tells}
 use Rattle.std.proofs.lemmas.List.{get_or-set_same, get_or-set_other}
@@ -8,26 +8,25 @@ use Rattle.lt_base.specs.Program.{Function}
 use Rattle.lt_arch.specs.declared.event.Deed.{Deed}
 use Rattle.lt_arch.specs.declared.event.Deed.TheVariants.{Nothing, Execute, Send}
 use Rattle.lt_arch.specs.declared.event.Event.TheVariants.{Act}
-use Rattle.lt_arch.specs.declared.shape.Shape.{Shape}
-use Rattle.lt_arch.specs.State.{NodeState, Phase, executed_of, sent_of, unsent}
+use Rattle.lt_arch.specs.State.{Phase, executed_of, sent_of, unsent}
 use Rattle.lt_arch.specs.Readers.{node_count, chan_count, from_of, to_of, carries_data}
 use Rattle.lt_arch.specs.Deeds.{deed_at, phase_at, data_from}
 use Rattle.lt_arch.specs.Step.{is_execute, is_send, woken}
 use Rattle.lt_lossy.specs.declared.event.LossyEvent.TheVariants.{Plain}
 use Rattle.lt_lossy.specs.State.{LossyState, plain_of, sent_by}
 use Rattle.lt_lossy.specs.Step.{lossy_after}
-use Rattle.lt_lossy.proofs.Balance.{IsBalanced, woke-n, sent-woken}
-use Rattle.lt_lossy.proofs.Changes.{node-act_here, node-act_other}
+use Rattle.lt_lossy.proofs.Balance.{woke-n, sent-woken}
+use Rattle.lt_lossy.proofs.Changes.{node-act_here}
 use Rattle.lt_plant.specs.Changes.{ActsOn}
 use Rattle.lt_plant.specs.Standing.{HasOwnValues}
 use Rattle.lt_plant.proofs.Activated.{plus_none}
-use Rattle.lt_plant.proofs.Entries.{either_way, and_parts, same_number, other_number}
+use Rattle.lt_plant.proofs.Entries.{and_parts, same_number}
 use Rattle.lt_lossy_net.specs.Changes.{Posts, posts_on, sent_after}
 use Rattle.lt_lossy_net.specs.Net.{LossyNetState, LossyLists, lossy_state_of}
 use Rattle.lt_lossy_net.specs.Stands.{StandsLossy}
 use Rattle.lt_lossy_net.specs.Event.{PassesLossy}
 use Rattle.lt_lossy_net.specs.Kept.{HasLossySizes}
-use Rattle.lt_lossy_net.proofs.Reached.{acts_on, balanced, state_is, unsent_most}
+use Rattle.lt_lossy_net.proofs.Reached.{acts_on, balanced, unsent_most}
 
 pub sent_entry : (sent : List ℕ) (n i : ℕ) (deed : Deed) → n < length sent → slice_index_or (sent_after sent n deed) i 0 ≡ slice_index_or sent i 0 + cond ((i == n) && is_send deed) 1 0
 sent_entry sent n i deed lt = elim (eqb_tells i n) [

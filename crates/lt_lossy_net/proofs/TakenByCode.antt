@@ -1,5 +1,5 @@
 -- A delivery and a loss, by what code has.
-use Rattle.std.proofs.Common.{◌≡◌, ◌≢◌, inl, inr, ℕ, ◌+◌, ◌<◌, ◌≤◌, Bool, true, false, not, List, [], ◌∷◌, length, map, set, Option, Some, None, refl, sym, ap, ◌∙◌, subst, arith, length-set, IsTrue}
+use Rattle.std.proofs.Common.{◌≡◌, ◌≢◌, inl, inr, ℕ, ◌+◌, ◌<◌, ◌≤◌, Bool, true, false, List, [], length, map, set, Option, Some, None, refl, sym, ap, ◌∙◌, subst, arith, length-set}
 use Rattle.std.specs.Prelude.{slice_index_or, if◌then◌else◌}
 use Rattle.std.specs.List.{slice_get}
 use Rattle.std.proofs.lemmas.List.{set-get_or}
@@ -13,7 +13,7 @@ use Rattle.lt_arch.specs.declared.shape.Shape.{Shape}
 use Rattle.lt_arch.specs.declared.timing.Timing.{Timing}
 use Rattle.lt_arch.specs.State.{Phase}
 use Rattle.lt_arch.specs.Readers.{chan_count}
-use Rattle.lt_io.specs.FabricState.{FabricState, Delivers, kind_of}
+use Rattle.lt_io.specs.FabricState.{FabricState}
 use Rattle.lt_link.specs.Bits.{differ}
 use Rattle.lt_link.specs.Inbox.{InboxState, no_inbox}
 use Rattle.lt_lossy.specs.declared.event.LossyEvent.{LossyEvent}
@@ -22,18 +22,17 @@ use Rattle.lt_lossy.specs.State.{LossyState}
 use Rattle.lt_lossy.specs.Step.{lossy_offence}
 use Rattle.lt_lossy.specs.Times.{LossyTimes, HasLossyTimes, losses_at, without_oldest, with_losses, with_end, lossy_time_of}
 use Rattle.lt_lossy.proofs.Changes.{loss_clear}
-use Rattle.lt_plant.specs.Own.{AreOwn}
 use Rattle.lt_plant.specs.Plant.{PlantState}
 use Rattle.lt_plant.specs.Payloads.{types_for}
 use Rattle.lt_plant.specs.Room.{HasSizes, HasSpace}
 use Rattle.lt_plant.proofs.SizesStay.{sizes_delivered}
 use Rattle.lt_plant.proofs.Entries.{either_way}
-use Rattle.lt_lossy_net.specs.Net.{LossyNetState, LossyLists, plant_of, net_of, lossy_state_of}
+use Rattle.lt_lossy_net.specs.Net.{LossyNetState, LossyLists, net_of, lossy_state_of}
 use Rattle.lt_lossy_net.specs.Event.{PassesLossy, LossyGoesOn, brings_new}
-use Rattle.lt_lossy_net.specs.Kept.{IsFixedLossy, HasLossySizes}
-use Rattle.lt_lossy_net.specs.Laws.{StandsWith, KeepsDel, KeepsStanding}
+use Rattle.lt_lossy_net.specs.Kept.{HasLossySizes}
+use Rattle.lt_lossy_net.specs.Laws.{StandsWith, KeepsDel}
 use Rattle.lt_lossy_net.specs.Receives.{with_new, ReceivesLossy, DropsOldest}
-use Rattle.lt_lossy_net.specs.Taken.{Held, HasLossyKinds, IsKeptLossy, IsTakenLossy}
+use Rattle.lt_lossy_net.specs.Taken.{Held, HasLossyKinds, SameLossyStatic, IsKeptLossy, IsTakenLossy}
 use Rattle.lt_lossy_net.proofs.Fronts.{law-own}
 use Rattle.lt_lossy_net.proofs.Keeps.{law-events_keep}
 use Rattle.lt_lossy_net.proofs.Oldest.{delivery_some, loss_some, some_held}
@@ -158,6 +157,7 @@ module _ {C M : Type 0} (phase : C → Phase) (stands : M → Function → List 
       delivery_taken = record {
         payload = payload;
         goes = goes_on;
+        carried = λ ls next with goes. (received.message, refl, received.delivers);
         own = λ faithful ls next with goes own. law-own phase stands made left net ls next row payload old (Plain (Del ch at)) kept.fixed with own here goes (received.delivers.oldest, new.transit ch, received.delivers.taken, received.delivers.values faithful);
         kept = record { fixed = kept.fixed; sized = sized_with ibs sizes w 0 watch; space = space_with ibs };
         static = record { layout = refl; shape = refl; timing = refl; rows = refl; limit = ap (λ (w : LossyTimes). w.limit) watch };
@@ -176,6 +176,7 @@ module _ {C M : Type 0} (phase : C → Phase) (stands : M → Function → List 
       loss_taken = record {
         payload = [];
         goes = lost_on;
+        carried = λ ls next with goes. (dropped.message, dropped.delivers);
         own = λ faithful ls next with goes own. law-own phase stands made left net ls next row [] old (Lose ch at) kept.fixed with own here goes tt;
         kept = record { fixed = kept.fixed; sized = sized_with p.inboxes kept.sized.plant w (losses_at w0 ch + 1) watch; space = space_with p.inboxes };
         static = record { layout = refl; shape = refl; timing = refl; rows = refl; limit = ap (λ (w : LossyTimes). w.limit) watch };
@@ -191,6 +192,7 @@ module _ {C M : Type 0} (phase : C → Phase) (stands : M → Function → List 
         payload = [];
         goes = λ ls next with goes. subst (λ w. StandsWith phase stands made left (record net { watch = w }) next fabric) (sym watch)
             ((law-events_keep phase stands made left net ls next row [] fabric kept.fixed kept.sized with).ending at (passes_for net (Plain (End at)) timely passes ls fabric with) goes);
+        carried = λ ls next with goes. record { kinds = refl; transit = λ c. refl; sent = λ told c. refl; delivered = λ told c. refl };
         own = λ faithful ls next with goes own. law-own phase stands made left net ls next row [] fabric (Plain (End at)) kept.fixed with own tt goes tt;
         kept = record {
           fixed = kept.fixed;
@@ -227,3 +229,25 @@ module _ {C M : Type 0} (phase : C → Phase) (stands : M → Function → List 
     lost_taken kept ch at timely here old new kinds passes dropped w watch v v_is row =
         subst (λ (z : LossyNetState C M). IsKeptLossy z → ch < chan_count z.shape → HasLossyKinds z old → PassesBy z (Lose ch at) → IsTakenLossy phase stands made left z (net_of (record p { values = v }) t w sent posted) (Lose ch at) row old new) net_is
         (λ kept here kinds passes. loss_taken p t w0 sent posted kept ch at timely here old new kinds v v_is passes dropped w watch row) kept here kinds passes
+
+-- what an end keeps
+pub end_kept : {C M : Type 0} (net now : LossyNetState C M) → net ≡ now → IsKeptLossy now → (at : ℕ) (w : LossyTimes) → w ≡ with_end net.watch at → IsKeptLossy (record net { watch = w })
+end_kept net now is kept at w watch =
+    let k : IsKeptLossy net = subst (λ z. IsKeptLossy z) (sym is) kept in
+    let z = k.sized in
+    record {
+      fixed = k.fixed;
+      sized = record {
+        plant = z.plant;
+        lasts = ap (λ (w : LossyTimes). length w.lasts) watch ∙ z.lasts;
+        queues = ap (λ (w : LossyTimes). length w.queues) watch ∙ z.queues;
+        losses = ap (λ (w : LossyTimes). length w.losses) watch ∙ z.losses;
+        sent = z.sent;
+        posted = z.posted;
+        posted_types = z.posted_types;
+      };
+      space = k.space;
+    }
+
+pub end_static : {C M : Type 0} (net now : LossyNetState C M) → net ≡ now → (at : ℕ) (w : LossyTimes) → w ≡ with_end net.watch at → SameLossyStatic now (record net { watch = w })
+end_static net now is at w watch = subst (λ z. SameLossyStatic z (record net { watch = w })) is (record { layout = refl; shape = refl; timing = refl; rows = refl; limit = ap (λ (w : LossyTimes). w.limit) watch })

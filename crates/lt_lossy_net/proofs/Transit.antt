@@ -1,21 +1,20 @@
 -- What is in transit after one event more.
-use Rattle.std.proofs.Common.{◌≡◌, ◌≢◌, inl, inr, ℕ, zero, suc, ◌+◌, ◌-◌, ◌<◌, ◌≤◌, Bool, true, false, not, List, [], ◌∷◌, ◌++◌, length, Option, Some, refl, sym, ap, ◌∙◌, subst, cond, arith, IsTrue, add-one}
-use Rattle.std.specs.Prelude.{slice_index_or, ◌==◌, ◌&&◌, nat_lt, if◌then◌else◌}
+use Rattle.std.proofs.Common.{◌≡◌, ◌≢◌, inl, inr, ℕ, zero, suc, ◌+◌, ◌<◌, ◌≤◌, Bool, true, false, not, List, [], ◌∷◌, ◌++◌, length, refl, sym, ap, ◌∙◌, subst, arith}
+use Rattle.std.specs.Prelude.{slice_index_or, ◌==◌, nat_lt, if◌then◌else◌}
 use Rattle.std.proofs.lemmas.Bool.{cases_lt, lt-ltb, le-ltb, ltb-true}
 use Rattle.std.proofs.lemmas.Bool.Decides.{eqb_tells}
 use Rattle.lt_base.specs.declared.value.Value.{Value}
 use Rattle.lt_base.specs.Program.{Function}
 use Rattle.lt_arch.specs.declared.event.Event.TheVariants.{Act, Del, End}
-use Rattle.lt_arch.specs.State.{NodeState, Phase, unsent}
+use Rattle.lt_arch.specs.State.{NodeState, Phase}
 use Rattle.lt_arch.specs.Readers.{node_count, chan_count, from_of, to_of, carries_data}
 use Rattle.lt_arch.specs.Step.{woken}
 use Rattle.lt_io.specs.declared.message.Message.{Message}
 use Rattle.lt_io.specs.FabricState.{FabricState, Delivers}
 use Rattle.lt_link.specs.Bits.{bit_of, differ}
-use Rattle.lt_lossy.specs.declared.event.LossyEvent.{LossyEvent}
 use Rattle.lt_lossy.specs.declared.event.LossyEvent.TheVariants.{Plain, Lose}
 use Rattle.lt_lossy.specs.State.{Message as Numbered, LinkState, LossyState, plain_of, sent_by, number_on}
-use Rattle.lt_lossy.specs.Step.{lossy_after, with_message, sends_number, link_woken, link_delivered, link_lost}
+use Rattle.lt_lossy.specs.Step.{lossy_after, with_message, sends_number, link_delivered, link_lost}
 use Rattle.lt_lossy.specs.Laws.{Ascends}
 use Rattle.lt_lossy.proofs.Changes.{link-del, link-lose, link-end, node-act_here}
 use Rattle.lt_lossy.proofs.Numbers.{ascends-ends}

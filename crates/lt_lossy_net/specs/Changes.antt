@@ -1,12 +1,11 @@
 -- What a net over links that lose messages records of an event.
-use Rattle.std.specs.Prelude.{◌≡◌, ℕ, ◌+◌, ◌<◌, ◌&&◌, Bool, List, [], length, slice_index_or, slice_set, if◌then◌else◌}
+use Rattle.std.specs.Prelude.{◌≡◌, ℕ, ◌+◌, ◌<◌, ◌&&◌, nat_lt, Bool, List, [], length, slice_index_or, slice_set, if◌then◌else◌}
 use Rattle.lt_base.specs.declared.value.Value.{Value}
 use Rattle.lt_arch.specs.declared.event.Deed.{Deed}
 use Rattle.lt_arch.specs.declared.shape.Shape.{Shape}
 use Rattle.lt_arch.specs.State.{NodeState, Phase}
 use Rattle.lt_arch.specs.Deeds.{data_from}
 use Rattle.lt_arch.specs.Step.{is_send}
-use Rattle.lt_link.specs.Inbox.{InboxState}
 use Rattle.lt_lossy.specs.Step.{sends_number}
 use Rattle.lt_lossy.specs.Times.{LossyTimes, AreQueued, with_last}
 
@@ -14,6 +13,11 @@ use Rattle.lt_lossy.specs.Times.{LossyTimes, AreQueued, with_last}
 pub record Posts (on : ℕ → Bool) (buffers before after : List (List Value)) : Type 0 where
   pub same_length : length after ≡ length before
   pub each : (c : ℕ) → c < length before → slice_index_or after c [] ≡ (if on c then slice_index_or buffers c [] else slice_index_or before c [])
+
+-- the same after the channels below i
+pub record PostedUpTo (i : ℕ) (on : ℕ → Bool) (buffers before after : List (List Value)) : Type 0 where
+  pub same_length : length after ≡ length before
+  pub each : (c : ℕ) → slice_index_or after c [] ≡ (if nat_lt c i && on c then slice_index_or buffers c [] else slice_index_or before c [])
 
 -- the channels whose payloads change with a deed of node n: those that carry its data, where it sends an instant
 abbrev pub posts_on : Shape → (n : ℕ) → Deed → (c : ℕ) → Bool

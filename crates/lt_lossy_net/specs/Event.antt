@@ -8,7 +8,7 @@ use Rattle.lt_arch.specs.declared.limits.TheConstants.{GREATEST_TIME}
 use Rattle.lt_arch.specs.Deeds.{deed_at}
 use Rattle.lt_lossy.specs.declared.event.LossyEvent.{LossyEvent}
 use Rattle.lt_lossy.specs.declared.event.LossyEvent.TheVariants.{Plain, Lose}
-use Rattle.lt_lossy.specs.State.{Message, LinkState, LossyState, plain_of}
+use Rattle.lt_lossy.specs.State.{Message, LossyState, plain_of}
 use Rattle.lt_lossy.specs.Step.{lossy_offence}
 use Rattle.lt_lossy.specs.Times.{lossy_time_of}
 use Rattle.lt_plant.specs.Changes.{Takes, Gets, Same}

@@ -7,3 +7,9 @@ pub mod Changes
 pub mod Laws
 pub mod Receives
 pub mod Taken
+pub mod Given
+pub mod Starts
+pub mod Halts
+pub mod NetModel
+pub mod Sends
+pub mod Deeds

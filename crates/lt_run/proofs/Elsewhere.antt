@@ -23,7 +23,7 @@ use Rattle.lt_load.specs.Main.{main_in}
 use Rattle.lt_load.specs.Loaded.{setup_verdict, whole_verdict, program_verdict, config_verdict, inputs_verdict}
 use Rattle.lt_load.specs.Setups.{placed_verdict, accepted_verdict, fitting_verdict}
 use Rattle.lt_load.specs.Plan.{Loads, chosen_setup_verdict, fitting_plan_verdict, inputs_plan_verdict, load_verdict, setup_plan_verdict}
-use Rattle.lt_load.proofs.OneCheck.{place_fault, timing_fault}
+use Rattle.lt_load.proofs.Contents.{fitting_blames}
 use Rattle.lt_load.proofs.Steps.{IsContent, content_then, content_raised}
 use Rattle.lt_run.specs.declared.fault.RunFault.{RunFault}
 use Rattle.lt_run.specs.declared.fault.RunFault.TheVariants as run
@@ -45,10 +45,12 @@ of_fault (fault.Program f) = Content
 of_fault (fault.Config f) = Content
 of_fault (fault.Place f main) = Content
 of_fault (fault.Timing f names mixed) = Content
+of_fault (fault.Window f names) = Content
 of_fault (fault.Inputs f) = Content
 of_fault fault.TooManyCells = Content
 of_fault (fault.Row row f) = Linking
 of_fault (fault.Offence event offence s) = Linking
+of_fault (fault.Lossy event offence s) = Linking
 of_fault (fault.Limit what) = of_limit what
 of_fault fault.Read = Content
 of_fault fault.Link = Content
@@ -66,10 +68,12 @@ elsewhere file place (fault.Program f) is = tt
 elsewhere file place (fault.Config f) is = tt
 elsewhere file place (fault.Place f main) is = tt
 elsewhere file place (fault.Timing f names mixed) is = tt
+elsewhere file place (fault.Window f names) is = tt
 elsewhere file place (fault.Inputs f) is = tt
 elsewhere file place fault.TooManyCells is = tt
 elsewhere file place (fault.Row row f) is = absurd (cc)
 elsewhere file place (fault.Offence event offence s) is = absurd (cc)
+elsewhere file place (fault.Lossy event offence s) is = absurd (cc)
 elsewhere file place (fault.Limit what) is = near_limit file place what is
 elsewhere file place fault.Read is = tt
 elsewhere file place fault.Link is = tt
@@ -97,17 +101,8 @@ inputs_content p file =
     content_then of_fault (whole_verdict InputsBytes file) (λ bytes. Raised (λ e. fault.Inputs e) (Exactly (inputs_of (main_in p) bytes))) (whole_content InputsBytes file refl)
     (λ bytes. content_raised of_fault (λ e. fault.Inputs e) (Exactly (inputs_of (main_in p) bytes)) (λ e. refl))
 
-placed_content : (checked : ExaminedText) (setup : Config) → IsContent of_fault (placed_verdict checked setup)
-unfolding placed_verdict
-placed_content checked setup e right = ap of_fault (place_fault checked setup e right.1).2
-
-accepted_content : (setup : Config) → IsContent of_fault (accepted_verdict setup)
-unfolding accepted_verdict
-accepted_content setup e right = ap of_fault (timing_fault setup e right.1).3
-
 fitting_content : (checked : ExaminedText) (setup : Config) → IsContent of_fault (fitting_verdict checked setup)
-unfolding fitting_verdict
-fitting_content checked setup = content_then of_fault (placed_verdict checked setup) (λ legal. accepted_verdict legal) (placed_content checked setup) (λ legal. accepted_content legal)
+fitting_content = fitting_blames of_fault (λ f main. refl) (λ f names mixed. refl) (λ f names. refl)
 
 module _ (named : List ℕ → Option (List ℕ)) (inputs : List ℕ) where
   chosen_content : (config : Option (List ℕ)) → IsContent of_fault (chosen_setup_verdict named config)
@@ -136,10 +131,12 @@ one_of (fault.Program f) = inl refl
 one_of (fault.Config f) = inl refl
 one_of (fault.Place f main) = inl refl
 one_of (fault.Timing f names mixed) = inl refl
+one_of (fault.Window f names) = inl refl
 one_of (fault.Inputs f) = inl refl
 one_of fault.TooManyCells = inl refl
 one_of (fault.Row row f) = inl refl
 one_of (fault.Offence event offence s) = inl refl
+one_of (fault.Lossy event offence s) = inl refl
 one_of (fault.Limit what) = inl refl
 one_of fault.Read = inr refl
 one_of fault.Link = inr refl
@@ -164,6 +161,7 @@ near_error file place e (Err f) is near = subst (IsNearCommand file place) (sym 
 near_fault : (s : Shape) (file : Option (List ℕ)) (place : ℕ) (f : RunFault) → IsNearRun file place (Fault f) → IsNearFault file place (command_fault s f)
 near_fault s file place (run.Row row f) near = near
 near_fault s file place (run.Offence event offence) near = near
+near_fault s file place (run.Lossy event offence) near = near
 near_fault s file place run.Bytes near = near
 near_fault s file place run.Read near = tt
 near_fault s file place run.Link near = tt
@@ -185,10 +183,12 @@ by_read file place (fault.Program f) is = absurd (cc)
 by_read file place (fault.Config f) is = absurd (cc)
 by_read file place (fault.Place f main) is = absurd (cc)
 by_read file place (fault.Timing f names mixed) is = absurd (cc)
+by_read file place (fault.Window f names) is = absurd (cc)
 by_read file place (fault.Inputs f) is = absurd (cc)
 by_read file place fault.TooManyCells is = absurd (cc)
 by_read file place (fault.Row row f) is = absurd (cc)
 by_read file place (fault.Offence event offence s) is = absurd (cc)
+by_read file place (fault.Lossy event offence s) is = absurd (cc)
 by_read file place (fault.Limit what) is = absurd (cc)
 by_read file place fault.Read is = tt
 by_read file place fault.Link is = absurd (cc)

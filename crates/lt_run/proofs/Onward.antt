@@ -40,6 +40,7 @@ use Rattle.lt_run.proofs.Replays.{answered_value, answered_fault}
 same_blame : (s : Shape) (e : RunFault) → command_blame (command_fault s e) ≡ run_blame e
 same_blame s (run.Row row f) = refl
 same_blame s (run.Offence event offence) = refl
+same_blame s (run.Lossy event offence) = refl
 same_blame s run.Bytes = refl
 same_blame s run.Read = refl
 same_blame s run.Link = refl
@@ -114,6 +115,7 @@ module _ (k : LoadedPlan) (name : List ℕ) (files files' : FilesState) (fabric 
   content : (f : RunFault) → KeepsShape f → run_blame f ≡ Content
   content (run.Row row f) keeps = absurd keeps
   content (run.Offence event offence) keeps = refl
+  content (run.Lossy event offence) keeps = refl
   content run.Bytes keeps = absurd keeps
   content run.Read keeps = absurd keeps
   content run.Link keeps = absurd keeps

@@ -25,10 +25,14 @@ use Rattle.lt_plant.proofs.Named.{node_below}
 use Rattle.lt_plant.specs.Local.{local_stream}
 use Rattle.lt_plant.specs.Payloads.{between, row_at}
 use Rattle.lt_config.specs.declared.pace.Pace.{Pace}
-use Rattle.lt_config.specs.declared.pace.Pace.TheVariants.{Plain, Leader}
+use Rattle.lt_config.specs.declared.pace.Pace.TheVariants.{Plain, Lossy, Leader}
 use Rattle.lt_lead.specs.Paced.{KeepsPace, bound_by}
 use Rattle.lt_front.specs.Flattened.{KeepsMain}
 use Rattle.lt_replay.specs.Run.{IsRun}
+use Rattle.lt_lossy.specs.declared.event.LossyEvent.{LossyEvent}
+use Rattle.lt_lossy.specs.Schedule.{lossy_reached}
+use Rattle.lt_lossy.specs.Laws.{lossy_bound}
+use Rattle.lt_lossy_replay.specs.Run.{IsLossyRun, executed_in}
 use Rattle.lt_load.specs.Main.{main_in}
 use Rattle.lt_load.proofs.Flattens.{main_good, flat_stream, outputs_same}
 use Rattle.lt_run.specs.Main.{output_names, output_streams}
@@ -100,13 +104,21 @@ module _ (p : WholeProgram) (good : GoodProgram p) (f : Originated) (keeps : Kee
     plain_shown pace paced events cells horizon run names are =
         shown s inputs fabric (λ n. executed_of (reached s t (length inputs) events) n) run.lists.got (λ n. bound_by pace t n horizon) cells run.columns run.local (λ faithful. run.fronts f placed fit faithful) (run.enough pace paced) names are
 
+    -- and over links that lose messages
+    lossy_shown : (losses : ℕ) (events : List LossyEvent) (cells : List (List Cell)) (horizon : ℕ) (run : IsLossyRun l s t losses inputs fabric events cells horizon) (names : List (List ℕ)) → names ≡ output_names p
+        → AreShown p l s inputs fabric (λ n. executed_in (lossy_reached s t (length inputs) events) n) run.got (λ n. lossy_bound t losses n horizon) names cells
+    lossy_shown losses events cells horizon run names are =
+        shown s inputs fabric (λ n. executed_in (lossy_reached s t (length inputs) events) n) run.got (λ n. lossy_bound t losses n horizon) cells run.columns run.local (λ faithful. run.fronts f placed fit faithful) run.enough names are
+
     -- whoever paces the rounds
     pub shows : (pace : Pace) → KeepsPace l s t pace → (events : EventsBy pace) (cells : List (List Cell)) (horizon : ℕ) (run : IsRunBy pace l s t inputs fabric events cells horizon) (names : List (List ℕ)) → names ≡ output_names p
         → AreShown p l s inputs fabric (executed_by pace s t (length inputs) events) (got_by pace l s t inputs fabric events cells horizon run) (λ n. bound_by pace t n horizon) names cells
     shows Plain paced events cells horizon run names are = plain_shown Plain paced events cells horizon run names are
+    shows (Lossy losses) paced events cells horizon run names are = lossy_shown losses events cells horizon run names are
     shows (Leader leader) paced events cells horizon run names are = plain_shown (Leader leader) paced events cells horizon run names are
 
     -- there is a column for each output
     pub columns : (pace : Pace) (events : EventsBy pace) (cells : List (List Cell)) (horizon : ℕ) → IsRunBy pace l s t inputs fabric events cells horizon → length cells ≡ length (main_in p).outs
     columns Plain events cells horizon run = run.columns ∙ ap length layout_outs
+    columns (Lossy losses) events cells horizon run = run.columns ∙ ap length layout_outs
     columns (Leader leader) events cells horizon run = run.columns ∙ ap length layout_outs

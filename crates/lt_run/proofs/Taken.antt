@@ -13,7 +13,8 @@ use Rattle.lt_io.specs.FilesState.{FilesState}
 use Rattle.lt_io.specs.FabricState.{FabricState}
 use Rattle.lt_place.specs.declared.layout.Layout.{Layout}
 use Rattle.lt_config.specs.declared.pace.Pace.{Pace}
-use Rattle.lt_config.specs.declared.pace.Pace.TheVariants.{Plain, Leader}
+use Rattle.lt_config.specs.declared.pace.Pace.TheVariants.{Plain, Lossy, Leader}
+use Rattle.lt_config.specs.Paced.{allowed_of}
 use Rattle.lt_answer.specs.Answered.{Answered, OfFile, Verdict}
 use Rattle.lt_answer.proofs.Stages.{widened}
 use Rattle.lt_verdict.specs.Rules.{Raised}
@@ -101,28 +102,30 @@ module _ {M : Type 0} (stands : M → Function → List (List Value) → Type 0)
   abbrev Takes : Pace → Result (Replayed M) (Or RunFault) → Type 0
   Takes pace r = HasTaken stands made pace l s t inputs name files files' fabric fabric' r
 
-  wider : (pace : Pace) (o : Result (Replayed M) RunFault) → Raised of_play Right o → file_verdict pace (IsReplayBy stands made pace l s t inputs fabric') s t (length inputs) file o
+  wider : (pace : Pace) → allowed_of pace ≡ None → (o : Result (Replayed M) RunFault) → Raised of_play Right o → file_verdict pace (IsReplayBy stands made pace l s t inputs fabric') s t (length inputs) file o
   unfolding file_verdict
-  wider Plain o right = plainly end (IsReplayBy stands made Plain l s t inputs fabric') (λ events x is. record { run = is.run; steps = is.steps }) s t (length inputs) file o right
-  wider (Leader leader) o right = plainly end (IsReplayBy stands made (Leader leader) l s t inputs fabric') (λ events x is. record { run = is.run; steps = is.steps }) s t (length inputs) file o right
+  wider Plain none o right = plainly end (IsReplayBy stands made Plain l s t inputs fabric') (λ events x is. record { run = is.run; steps = is.steps }) s t (length inputs) file o right
+  wider (Lossy losses) none o right = absurd (cc)
+  wider (Leader leader) none o right = plainly end (IsReplayBy stands made (Leader leader) l s t inputs fabric') (λ events x is. record { run = is.run; steps = is.steps }) s t (length inputs) file o right
 
-  ended_by : (pace : Pace) (x : Replayed M) → ((events : List Event) × end events x) → (events : EventsBy pace) × IsReplayBy stands made pace l s t inputs fabric' events x
-  ended_by Plain x ended = (ended.0, record { run = ended.1.run; steps = ended.1.steps })
-  ended_by (Leader leader) x ended = (ended.0, record { run = ended.1.run; steps = ended.1.steps })
+  ended_by : (pace : Pace) → allowed_of pace ≡ None → (x : Replayed M) → ((events : List Event) × end events x) → (events : EventsBy pace) × IsReplayBy stands made pace l s t inputs fabric' events x
+  ended_by Plain none x ended = (ended.0, record { run = ended.1.run; steps = ended.1.steps })
+  ended_by (Lossy losses) none x ended = absurd (cc)
+  ended_by (Leader leader) none x ended = (ended.0, record { run = ended.1.run; steps = ended.1.steps })
 
-  pub taken : (pace : Pace) (x : Replayed M) → Replays (Ok x) → Takes pace (Ok x)
-  taken pace x replays = record {
+  pub taken : (pace : Pace) → allowed_of pace ≡ None → (x : Replayed M) → Replays (Ok x) → Takes pace (Ok x)
+  taken pace none x replays = record {
     answered =
-        widened (Raised of_play Right) (file_verdict pace (IsReplayBy stands made pace l s t inputs fabric') s t (length inputs) file) (world files fabric) (world files' fabric') (Ok x) (wider pace)
+        widened (Raised of_play Right) (file_verdict pace (IsReplayBy stands made pace l s t inputs fabric') s t (length inputs) file) (world files fabric) (world files' fabric') (Ok x) (wider pace none)
         (raised_value of_play play_blame run_blame same_blame Right (world files fabric) (world files' fabric') x replays.answered);
-    ended = ended_by pace x replays.ended;
+    ended = ended_by pace none x replays.ended;
     near = λ told. tt;
   }
 
-  pub not_taken : (pace : Pace) (e : Or PlayFault) (g : Or RunFault) → MapsFault e g (λ f h. h ≡ of_play f) → Replays (Err e) → Takes pace (Err g)
-  not_taken pace e g is replays = record {
+  pub not_taken : (pace : Pace) → allowed_of pace ≡ None → (e : Or PlayFault) (g : Or RunFault) → MapsFault e g (λ f h. h ≡ of_play f) → Replays (Err e) → Takes pace (Err g)
+  not_taken pace none e g is replays = record {
     answered =
-        widened (Raised of_play Right) (file_verdict pace (IsReplayBy stands made pace l s t inputs fabric') s t (length inputs) file) (world files fabric) (world files' fabric') (Err g) (wider pace)
+        widened (Raised of_play Right) (file_verdict pace (IsReplayBy stands made pace l s t inputs fabric') s t (length inputs) file) (world files fabric) (world files' fabric') (Err g) (wider pace none)
         (raised_fault of_play play_blame run_blame same_blame Right (world files fabric) (world files' fabric') e g is replays.answered);
     ended = tt;
     near = λ told. near_run file files'.place e g is (replays.near told);

@@ -11,53 +11,68 @@ use Rattle.lt_arch.specs.Schedule.{reached}
 use Rattle.lt_io.specs.FabricState.{FabricState}
 use Rattle.lt_place.specs.declared.layout.Layout.{Layout}
 use Rattle.lt_config.specs.declared.pace.Pace.{Pace}
-use Rattle.lt_config.specs.declared.pace.Pace.TheVariants.{Plain, Leader}
+use Rattle.lt_config.specs.declared.pace.Pace.TheVariants.{Plain, Lossy, Leader}
 use Rattle.lt_answer.specs.Answered.{OfFile, Verdict}
 use Rattle.lt_judge.specs.declared.fault.ScheduleFault.{ScheduleFault}
+use Rattle.lt_judge.specs.declared.halt.Refusal.{Refusal}
+use Rattle.lt_judge.specs.Rules.{file_judged_by}
 use Rattle.lt_judge.specs.Verdict.{verdict}
+use Rattle.lt_lossy.specs.declared.event.LossyEvent.{LossyEvent}
+use Rattle.lt_lossy.specs.declared.event.LossyOffence.{LossyOffence}
+use Rattle.lt_lossy.specs.Schedule.{lossy_reached}
+use Rattle.lt_lossy_replay.specs.Rules.{lossy_rules_of}
+use Rattle.lt_lossy_replay.specs.Run.{IsLossyRun, HasLossySteps, executed_in}
 use Rattle.lt_replay.specs.Run.{IsRun, HasSteps}
 use Rattle.lt_run.specs.declared.fault.RunFault.{RunFault}
 use Rattle.lt_run.specs.declared.fault.RunFault.TheVariants.{Read}
-use Rattle.lt_run.specs.Fault.{of_schedule}
+use Rattle.lt_run.specs.Fault.{of_refusal, of_schedule}
 
 -- lists of events
 abbrev pub EventsBy : Pace → Type 0
 EventsBy Plain = List Event
+EventsBy (Lossy losses) = List LossyEvent
 EventsBy (Leader leader) = List Event
 
 -- refusals of schedules
 abbrev pub RefusalBy : Pace → Type 0
 RefusalBy Plain = ScheduleFault
+RefusalBy (Lossy losses) = Refusal LossyOffence
 RefusalBy (Leader leader) = ScheduleFault
 
 -- what the bytes of a schedule read as: its events, or the first row or event that is refused
 abbrev pub verdict_by : (pace : Pace) → Shape → Timing → (rows : ℕ) → (bytes : List ℕ) → Result (EventsBy pace) (RefusalBy pace)
 verdict_by Plain s t rows bytes = verdict s t rows bytes
+verdict_by (Lossy losses) s t rows bytes = file_judged_by (lossy_rules_of s t losses rows) bytes
 verdict_by (Leader leader) s t rows bytes = verdict s t rows bytes
 
 -- a refusal as a fault of the run
 abbrev pub fault_by : (pace : Pace) → RefusalBy pace → RunFault
 fault_by Plain refused = of_schedule refused
+fault_by (Lossy losses) refused = of_refusal refused
 fault_by (Leader leader) refused = of_schedule refused
 
 -- how many instants node n has executed after these events
 abbrev pub executed_by : (pace : Pace) → Shape → Timing → (rows : ℕ) → EventsBy pace → (n : ℕ) → ℕ
 executed_by Plain s t rows events n = executed_of (reached s t rows events) n
+executed_by (Lossy losses) s t rows events n = executed_in (lossy_reached s t rows events) n
 executed_by (Leader leader) s t rows events n = executed_of (reached s t rows events) n
 
 -- these cells are those of the outputs at the end of the events, at this horizon, and the fabric is as it is there
 abbrev pub IsRunBy : (pace : Pace) → Layout → Shape → Timing → (inputs : List (List Value)) → FabricState → EventsBy pace → (cells : List (List Cell)) → (horizon : ℕ) → Type 0
 IsRunBy Plain l s t inputs fabric events cells horizon = IsRun l s t inputs fabric events cells horizon
+IsRunBy (Lossy losses) l s t inputs fabric events cells horizon = IsLossyRun l s t losses inputs fabric events cells horizon
 IsRunBy (Leader leader) l s t inputs fabric events cells horizon = IsRun l s t inputs fabric events cells horizon
 
 -- the payloads that were delivered on each channel
 abbrev pub got_by : (pace : Pace) (l : Layout) (s : Shape) (t : Timing) (inputs : List (List Value)) (fabric : FabricState) (events : EventsBy pace) (cells : List (List Cell)) (horizon : ℕ) → IsRunBy pace l s t inputs fabric events cells horizon → (c : ℕ) → List (List Value)
 got_by Plain l s t inputs fabric events cells horizon run = run.lists.got
+got_by (Lossy losses) l s t inputs fabric events cells horizon run = run.got
 got_by (Leader leader) l s t inputs fabric events cells horizon run = run.lists.got
 
 -- there is a machine for each node, and it has run its part on the node's inputs and on what was delivered
 abbrev pub HasStepsBy : {M : Type 0} (stands : M → Function → List (List Value) → Type 0) (made : M → ℕ) (pace : Pace) → Layout → Shape → Timing → (inputs : List (List Value)) → EventsBy pace → (got : ℕ → List (List Value)) → List M → Type 0
 HasStepsBy stands made Plain l s t inputs events got machines = HasSteps stands made l s t inputs events got machines
+HasStepsBy stands made (Lossy losses) l s t inputs events got machines = HasLossySteps stands made l s t inputs events got machines
 HasStepsBy stands made (Leader leader) l s t inputs events got machines = HasSteps stands made l s t inputs events got machines
 
 -- what is right of a schedule that reads as events, or is refused: what they come to, or that refusal

@@ -1,10 +1,13 @@
 -- How far the schedule file of a refused run was read.
-use Rattle.std.specs.Prelude.{ℕ, List, Option, Ok, Err}
+use Rattle.std.specs.Prelude.{ℕ, List, Option, Ok, Err, IfSome}
 use Rattle.lt_base.specs.declared.memory.Or.{Or}
 use Rattle.lt_base.specs.declared.memory.Or.TheVariants.{Fault, Memory}
 use Rattle.lt_answer.specs.Answered.{Verdict}
 use Rattle.lt_judge.specs.declared.fault.ScheduleFault.TheVariants as schedule
-use Rattle.lt_judge.specs.Near.{IsNearFile}
+use Rattle.lt_rows.specs.Rows.{rows_of}
+use Rattle.lt_lossy.specs.declared.event.LossyOffence.{LossyOffence}
+use Rattle.lt_judge.specs.declared.halt.Refusal.TheVariants as refusal
+use Rattle.lt_judge.specs.Near.{IsNearFile, IsNearIn}
 use Rattle.lt_load.specs.declared.fault.What.{What}
 use Rattle.lt_load.specs.declared.fault.What.TheVariants.{ProgramBytes, ConfigBytes, InputsBytes, ObserverBytes, ScheduleBytes}
 use Rattle.lt_load.specs.declared.fault.CommandFault.{CommandFault}
@@ -24,10 +27,12 @@ IsNearFault file place (fault.Program f) = Unit {0}
 IsNearFault file place (fault.Config f) = Unit {0}
 IsNearFault file place (fault.Place f main) = Unit {0}
 IsNearFault file place (fault.Timing f names mixed) = Unit {0}
+IsNearFault file place (fault.Window f names) = Unit {0}
 IsNearFault file place (fault.Inputs f) = Unit {0}
 IsNearFault file place fault.TooManyCells = Unit {0}
 IsNearFault file place (fault.Row row f) = IsNearFile file place (Fault (schedule.Row row f))
 IsNearFault file place (fault.Offence event offence s) = IsNearFile file place (Fault (schedule.Offence event offence))
+IsNearFault file place (fault.Lossy event offence s) = IfSome file (λ bytes. IsNearIn {O = LossyOffence} (rows_of bytes) place (refusal.Offence event offence))
 IsNearFault file place (fault.Limit what) = IsNearLimit file place what
 IsNearFault file place fault.Read = Unit {0}
 IsNearFault file place fault.Link = Unit {0}

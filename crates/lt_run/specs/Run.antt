@@ -34,6 +34,7 @@ use Rattle.lt_run.specs.Printed.{ShowsAt, loaded_verdict}
 abbrev pub command_fault : Shape → RunFault → CommandFault
 command_fault s (run.Row row f) = fault.Row row f
 command_fault s (run.Offence event offence) = fault.Offence event offence s
+command_fault s (run.Lossy event offence) = fault.Lossy event offence s
 command_fault s run.Bytes = fault.Limit ScheduleBytes
 command_fault s run.Read = fault.Read
 command_fault s run.Link = fault.Link
@@ -42,6 +43,7 @@ command_fault s run.Link = fault.Link
 abbrev pub KeepsShape : RunFault → Type 0
 KeepsShape (run.Row row f) = ⊥
 KeepsShape (run.Offence event offence) = Unit {0}
+KeepsShape (run.Lossy event offence) = Unit {0}
 KeepsShape run.Bytes = ⊥
 KeepsShape run.Read = ⊥
 KeepsShape run.Link = ⊥

@@ -1,9 +1,11 @@
 // Why a loaded program is not run to the end of a schedule.
 ghost use Rattle.std.specs.Prelude.{◌≡◌};
-ghost use Rattle.lt_run.specs.Fault.{of_play, of_schedule};
+ghost use Rattle.lt_run.specs.Fault.{of_lossy, of_play, of_refusal, of_schedule};
 
 use lt_arch::Offence;
-use lt_judge::ScheduleFault;
+use lt_judge::{Refusal, ScheduleFault};
+use lt_lossy::LossyOffence;
+use lt_lossy_replay::LossyPlayFault;
 use lt_play::PlayFault;
 use lt_rows::RowFault;
 
@@ -14,6 +16,8 @@ pub enum RunFault {
     Row { row: u32, fault: RowFault },
     /// The event is refused. The missing end of a list is an offence one past its last event.
     Offence { event: u32, offence: Offence },
+    /// The same where links lose messages.
+    Lossy { event: u32, offence: LossyOffence },
     /// The next row holds the first byte past the limit on the bytes of a schedule file.
     Bytes,
     /// A call on the files failed, and their count of faults rose.
@@ -40,5 +44,26 @@ fn of_schedule(fault: ScheduleFault) -> RunFault
         ScheduleFault::Offence { event, offence } => RunFault::Offence { event, offence },
         ScheduleFault::Bytes => RunFault::Bytes,
         ScheduleFault::Read => RunFault::Read,
+    }
+}
+
+/// The fault of a network's play over links that lose messages as one of a run.
+pub(crate) fn of_lossy(fault: LossyPlayFault) -> RunFault
+    ensures { result ≡ of_lossy fault }
+{
+    match fault {
+        LossyPlayFault::Refused(refusal) => of_refusal(refusal),
+        LossyPlayFault::Read => RunFault::Read,
+        LossyPlayFault::Link => RunFault::Link,
+    }
+}
+
+fn of_refusal(refusal: Refusal<LossyOffence>) -> RunFault
+    ensures { result ≡ of_refusal refusal }
+{
+    match refusal {
+        Refusal::Row { row, fault } => RunFault::Row { row, fault },
+        Refusal::Offence { event, offence } => RunFault::Lossy { event, offence },
+        Refusal::Bytes => RunFault::Bytes,
     }
 }

@@ -83,6 +83,14 @@ fn of_run(shape: &Shape, fault: RunFault) -> Or<CommandFault>
             }),
             Err(_) => Or::Memory,
         },
+        RunFault::Lossy { event, offence } => match shape.copy() {
+            Ok(shape) => Or::Fault(CommandFault::Lossy {
+                event,
+                offence,
+                shape,
+            }),
+            Err(_) => Or::Memory,
+        },
         RunFault::Bytes => Or::Fault(CommandFault::Limit(What::ScheduleBytes)),
         RunFault::Read => Or::Fault(CommandFault::Read),
         RunFault::Link => Or::Fault(CommandFault::Link),

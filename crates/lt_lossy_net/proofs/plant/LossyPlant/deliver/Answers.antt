@@ -1,3 +1,4 @@
+use Rattle.std.proofs.Common.{None}
 use Rattle.lt_lossy_net.proofs.TakenByCode.{delivers_some, delivered_taken}
 use Rattle.lt_lossy_net.proofs.plant.LossyPlant.deliver.Goals as goal
 
@@ -9,3 +10,6 @@ pub returns-clause-taken : goal.returns-clause-taken
 returns-clause-taken g c = λ row.
     delivered_taken g.C.Controller.phase g.M.Machine.stands g.M.Machine.made g.M.Machine.left _ _ _ _ _ _ c.args.self.now c.bench.view_is c.self.view_is c.requires.kept c.args.ch c.args.at c.requires.time c.requires.channel _ _ c.requires.kinds c.requires.passes
     c.receive.new.inboxes.items c.in_ok-receive.ensures.ok c.delivered.new.self c.delivered.ensures.times _ c.receive.ensures.scratch row
+
+pub returns-clause-kept : goal.returns-clause-kept
+returns-clause-kept g c = (returns-clause-taken g c None).kept

@@ -1,0 +1,54 @@
+// What is sent again from now on.
+ghost use Rattle.std.specs.Prelude.{◌≡◌, ◌<◌, ℕ, true, [], length, slice_index_or, IfOk};
+ghost use Rattle.lt_plant.specs.Ports.{HasPorts};
+ghost use Rattle.lt_plant.specs.Sends.{is_from};
+ghost use Rattle.lt_lossy_net.specs.Changes.{PostedUpTo};
+
+use crate::posted::Posted;
+use lt_arch::Chan;
+use lt_base::{List, Memory, Value};
+use lt_plant::listing::outgoing;
+use lt_plant::{Payload, Ports};
+use std::alloc::Global;
+
+/// Puts the newest payload of each data channel from a node in the place of the one that was sent.
+pub fn post_all(
+    channels: &[Chan],
+    ports: &List<Ports>,
+    buffers: &[Payload],
+    posted: &mut Vec<Posted>,
+    node: u32,
+)
+    requires ports { HasPorts channels.now node ports.now }
+    requires buffers { length buffers.now ≡ length channels.now }
+    requires posted { length posted.old.items ≡ length channels.now }
+    requires sizes { (c : ℕ) → c < length channels.now → length (slice_index_or buffers.now c []) ≡ length (slice_index_or posted.old.items c []) }
+    ensures { PostedUpTo (length channels.now) (is_from channels.now node true) buffers.now posted.old.items posted.new.items }
+{
+    let numbers = outgoing(channels, ports, node, true);
+    for i in 0..numbers.len() {
+        let c = numbers[i] as usize;
+        posted[c].replace(buffers[c].as_slice());
+    }
+}
+
+fn copy_of(alloc: Global, values: &[Value]) -> Result<Vec<Value>, Memory>
+    ensures { IfOk result (λ copy. copy.items ≡ values.now) }
+{
+    let mut copy = Vec::with_capacity(alloc, values.len())?;
+    for value in values {
+        copy.push(*value)?;
+    }
+    Ok(copy)
+}
+
+/// A payload to send again for each channel.
+pub fn posted_of(alloc: Global, buffers: &[Payload]) -> Result<Vec<Posted>, Memory>
+    ensures { IfOk result (λ posted. posted.items ≡ buffers.now) }
+{
+    let mut posted = Vec::with_capacity(alloc, buffers.len())?;
+    for buffer in buffers {
+        posted.push(Posted::of(copy_of(alloc, buffer.as_slice())?))?;
+    }
+    Ok(posted)
+}

@@ -1,0 +1,9 @@
+pub mod Fates
+pub mod ToldOn
+pub mod NextLists
+pub mod OneMore
+pub mod FirstPlay
+pub mod AtTheEnd
+pub mod Outcomes
+pub mod Performed
+pub mod SoundNetworks

@@ -1,0 +1,44 @@
+use Rattle.std.proofs.Common.{◌≡◌, List, if◌then◌else◌, Some, None, Ok, Err, sym, ◌∙◌, ap, subst}
+use Rattle.lt_base.specs.declared.value.Value.{Value}
+use Rattle.lt_lossy.specs.Events.{IsLossyPlacedIn, lossy_event_of}
+use Rattle.lt_net.specs.Event.{given}
+use Rattle.lt_lossy_replay.proofs.NextLists.{row_fits}
+use Rattle.lt_lossy_replay.proofs.OneMore.{offence_by, free_of, plays_on}
+use Rattle.lt_lossy_replay.proofs.playback.LossyPlaybackReplica.take_line.Goals as goal
+
+pub event-requires-clause-row : goal.event-requires-clause-row
+event-requires-clause-row g c = λ none.
+    row_fits c.args.self.now.net.plant c.args.self.now.inputs.now.rows (c.requires.stands).1.plays.fed c.in-Ok.e
+    (subst (λ s. IsLossyPlacedIn s c.in-Ok.e) c.shape.ensures c.in-Ok.ensures.of_shape.placed) (given c.given-row.result)
+    (c.given-row.ensures ∙ ap (λ (r : List Value). if c.read_next-has.result then Some r else None) c.deref.ensures.value ∙ c.read_next-has.ensures.row)
+
+pub unreachable-requires : goal.unreachable-requires
+unreachable-requires g c =
+    let stopped = (c.event.ensures.stopped c.in-Err-Stopped.field-0-0).0 (c.in-Err-Stopped.is ∙ ap (λ f. Err f) c.in-Err-Stopped.field-0-is) in
+    let none : None ≡ Some c.in-Err-Stopped.field-0-0 = sym (c.requires.stands).1.plays.running ∙ stopped in
+    cc
+
+pub returns-in-Ok-event-clause-takes : goal.returns-in-Ok-event-clause-takes
+returns-in-Ok-event-clause-takes g c = λ before p.
+    let there : IsLossyPlacedIn c.args.self.now.net.plant.shape c.in-Ok.e = subst (λ s. IsLossyPlacedIn s c.in-Ok.e) c.shape.ensures c.in-Ok.ensures.of_shape.placed in
+    record {
+      event = c.in-Ok.e;
+      reads = sym (subst (λ s. Ok c.in-Ok.e ≡ lossy_event_of s c.args.line.now) c.shape.ensures c.in-Ok.ensures.event);
+      free = free_of _ g.M.Machine.stands g.M.Machine.made g.M.Machine.left c.args.self.now.inputs.now.rows before c.args.self.now.net (g.W.Fabric.state c.args.outside.now) p.plays
+          c.in-Ok.e c.event.result c.in-Ok-event.field-0 c.in-Ok-event.is (c.event.ensures.offence p.plays.running);
+      stands_on = record {
+        reads = record { width_is = p.reads.width_is; room_is = c.read_next-has.ensures.room; wide = p.reads.wide };
+        plays = plays_on _ g.M.Machine.stands g.M.Machine.made g.M.Machine.left c.args.self.now.inputs.now.rows before c.args.self.now.net (g.W.Fabric.state c.args.outside.now) p.plays
+            c.event.new.self (g.W.Fabric.state c.event.new.fabric) c.in-Ok.e there (given c.given-row.result)
+            (c.given-row.ensures ∙ ap (λ (r : List Value). if c.read_next-has.result then Some r else None) c.deref.ensures.value ∙ c.read_next-has.ensures.row)
+            c.in-Ok-event.ensures.happens c.in-Ok-event.ensures.running c.in-Ok-event.ensures.kinds c.in-Ok-event.ensures.keeps c.in-Ok-event.ensures.counts;
+      };
+    }
+
+pub returns-in-Err-Offence-clause-takes : goal.returns-in-Err-Offence-clause-takes
+returns-in-Err-Offence-clause-takes g c = λ before p. (
+  c.in-Ok.e,
+  sym (subst (λ s. Ok c.in-Ok.e ≡ lossy_event_of s c.args.line.now) c.shape.ensures c.in-Ok.ensures.event),
+  offence_by _ g.M.Machine.stands g.M.Machine.made g.M.Machine.left c.args.self.now.inputs.now.rows before c.args.self.now.net (g.W.Fabric.state c.args.outside.now) p.plays
+      c.in-Ok.e c.event.result c.in-Err-Offence.offence (c.in-Err-Offence.is ∙ ap (λ f. Err f) c.in-Err-Offence.field-0-is) (c.event.ensures.offence p.plays.running),
+)

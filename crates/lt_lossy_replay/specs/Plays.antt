@@ -1,0 +1,91 @@
+-- What a net along a schedule over links that lose messages keeps.
+use Rattle.std.specs.Prelude.{◌≡◌, ℕ, ◌+◌, ◌<◌, ◌^◌, Bool, false, List, [], ◌∷◌, length, map, Option, Some, None, IsTrue, slice_get, slice_index_or}
+use Rattle.lt_base.specs.declared.value.Value.{Value}
+use Rattle.lt_base.specs.Program.{Function}
+use Rattle.lt_base.specs.Inputs.{InputTable}
+use Rattle.lt_arch.specs.declared.event.Event.TheVariants.{Act, Del, End}
+use Rattle.lt_arch.specs.State.{Phase}
+use Rattle.lt_arch.specs.Readers.{node_count, chan_count}
+use Rattle.lt_io.specs.declared.message.Message.{Message}
+use Rattle.lt_io.specs.FabricState.{FabricState, KeepsFabric}
+use Rattle.lt_link.specs.Bits.{bit_of}
+use Rattle.lt_lossy.specs.declared.event.LossyEvent.{LossyEvent}
+use Rattle.lt_lossy.specs.declared.event.LossyEvent.TheVariants.{Plain, Lose}
+use Rattle.lt_plant.specs.Given.{FitsPart}
+use Rattle.lt_plant.specs.Own.{AreOwn, AreFronts}
+use Rattle.lt_plant.specs.Payloads.{row_at}
+use Rattle.lt_lossy_net.specs.Net.{LossyNetState, LossyLists}
+use Rattle.lt_lossy_net.specs.NetModel.{StoppableLossy}
+use Rattle.lt_lossy_net.specs.Kept.{IsFixedLossy}
+use Rattle.lt_lossy_net.specs.Laws.{StandsWith}
+use Rattle.lt_lossy_net.specs.Taken.{HasLossyKinds, SameLossyStatic}
+use Rattle.lt_play.specs.Plays.{CanRead}
+use Rattle.lt_replay.specs.declared.replayed.Replayed.{Replayed}
+use Rattle.lt_lossy_replay.specs.Told.{fates_of, came, without_copies}
+
+-- the row of the acting node's next instant
+abbrev pub lossy_row_for : {C M : Type 0} → LossyNetState C M → List (List Value) → LossyEvent → Option (List Value)
+lossy_row_for net inputs (Plain (Act n at)) = slice_get inputs (slice_index_or net.executed n 0)
+lossy_row_for net inputs (Plain (Del c at)) = None
+lossy_row_for net inputs (Plain (End at)) = None
+lossy_row_for net inputs (Lose c at) = None
+
+-- what is known of the whole play: the net is one of a placed program, and every row of inputs fits every part
+pub record IsFedLossy {C M : Type 0} (net : LossyNetState C M) (inputs : List (List Value)) : Type 0 where
+  pub fixed : IsFixedLossy net.layout net.shape net.timing
+  pub rows : net.rows ≡ length inputs
+  pub counts : length net.executed ≡ node_count net.shape
+  pub fit : (n k : ℕ) → n < node_count net.shape → k < length inputs → FitsPart net.layout n (row_at inputs k)
+  pub few_nodes : node_count net.shape < 2 ^ 32
+  pub few_channels : chan_count net.shape < 2 ^ 32
+
+-- the bit of the last of these messages, and before the first one `last`
+abbrev pub last_bit : (last : Bool) → List Message → Bool
+last_bit last [] = last
+last_bit last (m ∷ ms) = last_bit m.bit ms
+
+-- what is told of one channel, by the fates of the messages that left it: the new ones that were delivered are what was got, and the last one that
+-- was delivered has the bit of the newest number
+pub record TellsAt (fates : List Bool) (got : List (List Value)) (sent delivered transit : List Message) : Type 0 where
+  pub taken : length delivered ≡ length fates
+  pub are : map (λ (m : Message). m.payload) (without_copies false (came fates delivered)) ≡ got
+  pub total : length sent ≡ length fates + length transit
+  pub last : last_bit false (came fates delivered) ≡ bit_of (length got)
+
+-- what is told of all channels
+abbrev pub TellsLossy : {C M : Type 0} → LossyNetState C M → LossyLists → FabricState → Type 0
+TellsLossy net ls fabric = (c : ℕ) → c < chan_count net.shape → TellsAt (fates_of c ls.events) (ls.got c) (fabric.sent c) (fabric.delivered c) (fabric.transit c)
+
+-- the net and its fabric stand for these lists, which are those of these events on these inputs
+pub record KeepsLossy {C M : Type 0} (phase : C → Phase) (stands : M → Function → List (List Value) → Type 0) (made left : M → ℕ) (inputs : List (List Value)) (read : List LossyEvent) (net : LossyNetState C M) (fabric : FabricState) (ls : LossyLists) : Type 0 where
+  pub stood : StandsWith phase stands made left net ls fabric
+  pub events : ls.events ≡ read
+  pub fronts : AreFronts net.shape ls.inputs inputs
+  pub kinds : HasLossyKinds net fabric
+  pub own : IsTrue fabric.faithful → AreOwn net.layout net.shape ls.inputs ls.got
+  pub tells : IsTrue fabric.told → TellsLossy net ls fabric
+
+-- the net runs, and stands for some lists of these events
+pub record PlaysLossy {C M : Type 0} (phase : C → Phase) (stands : M → Function → List (List Value) → Type 0) (made left : M → ℕ) (inputs : List (List Value)) (before : List LossyEvent) (net : StoppableLossy C M) (fabric : FabricState) : Type 0 where
+  pub running : net.stopped ≡ None
+  pub fed : IsFedLossy net.plant inputs
+  pub kept : (ls : LossyLists) × KeepsLossy phase stands made left inputs before net.plant fabric ls
+
+-- so it does on inputs that it can read
+pub record IsPlayingLossy {C M : Type 0} (phase : C → Phase) (stands : M → Function → List (List Value) → Type 0) (made left : M → ℕ) (inputs : InputTable) (width : ℕ) (room : List Value) (before : List LossyEvent) (net : StoppableLossy C M) (fabric : FabricState) : Type 0 where
+  pub reads : CanRead inputs width room
+  pub plays : PlaysLossy phase stands made left inputs.rows before net fabric
+
+-- what no event changes
+pub record KeepsLossyPlay {C M : Type 0} (old new : StoppableLossy C M) (inputs later : List (List Value)) (fabric fabric' : FabricState) : Type 0 where
+  pub fixed : SameLossyStatic old.plant new.plant
+  pub inputs_are : later ≡ inputs
+  pub fabric_kept : KeepsFabric fabric fabric'
+  -- the count of a sound fabric stays
+  pub steady : IsTrue fabric.sound → fabric'.faults ≡ fabric.faults
+
+-- what is taken from a net: the cells of its outputs, its horizon and its machines
+pub record IsTakenFrom {C M : Type 0} (net : LossyNetState C M) (taken : Replayed M) : Type 0 where
+  pub cells : taken.cells ≡ map (λ track. track.cells) net.tracks
+  pub horizon : net.watch.horizon ≡ Some taken.horizon
+  pub machines : taken.machines ≡ net.machines

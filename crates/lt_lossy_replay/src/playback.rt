@@ -1,0 +1,143 @@
+// A net over links that lose messages, as it takes the events of a schedule.
+ghost use Rattle.std.specs.Prelude.{◌≡◌, ◌<◌, ◌-◌, ◌^◌, IsTrue, [], length, IfOk};
+ghost use Rattle.lt_base.specs.Behaviour.{RowsFit};
+ghost use Rattle.lt_io.specs.Counts.{LinkCounted};
+ghost use Rattle.lt_io.specs.FabricState.{KeepsPromises};
+ghost use Rattle.lt_norm.specs.Flat.{Originated};
+ghost use Rattle.lt_step.specs.Run.{HasRowValues};
+ghost use Rattle.lt_place.specs.Layout.{IsPlaced};
+ghost use Rattle.lt_plant.specs.Starts.{AreReady};
+ghost use Rattle.lt_lossy_net.specs.Starts.{IsMadeOfLossy};
+ghost use Rattle.lt_lossy_replay.specs.Rules.{lossy_rules_of};
+ghost use Rattle.lt_lossy_replay.specs.Sound.{IsLossySound};
+ghost use Rattle.lt_lossy_replay.specs.Plays.{IsPlayingLossy, KeepsLossyPlay};
+ghost use Rattle.lt_lossy_replay.specs.Keeping.{long_lossy_line, lossy_keeps_itself, lossy_keeps_on};
+
+use crate::feeding::read_next;
+use crate::reading::read_row;
+use lt_arch::{Controller, Offence, Shape, Timing};
+use lt_base::{Inputs, Steps, Value};
+use lt_bp::BackPressure;
+use lt_io::{Fabric, LinkErr};
+use lt_judge::{Replica, Stop};
+use lt_lossy::{LossyEvent, LossyOffence};
+use lt_lossy_net::{LossyFault, LossyNet};
+use lt_machine::Machine;
+use lt_place::Layout;
+use lt_plant::literals::kinds_of;
+use lt_play::feeding::{given, room_for};
+use lt_rows::PlaceTable;
+use std::alloc::Global;
+use std::sync::ledger::Ledger;
+
+/// A net beside its inputs, with room for one row of them.
+#[derive(Drop)]
+pub(crate) struct LossyPlayback<'a, M: Machine> {
+    pub net: LossyNet<M>,
+    pub inputs: &'a Inputs,
+    places: PlaceTable,
+    width: u32,
+    row: Vec<Value>,
+}
+
+impl<'a, M: Machine> LossyPlayback<'a, M> {
+    /// A net before its first event, with so many inputs of `main`, where so many losses in a row are allowed. The fabric, which has
+    /// no channels yet, is opened with the net's; an error of its leaves it as it was.
+    pub(crate) fn start<W: Fabric>(
+        alloc: Global,
+        layout: Layout,
+        shape: Shape,
+        timing: Timing,
+        losses: u64,
+        inputs: &'a Inputs,
+        width: u32,
+        machines: Vec<M>,
+        fabric: &mut W,
+    ) -> Result<LossyPlayback<'a, M>, LinkErr>
+        requires placed { (f : Originated) × IsPlaced f layout × RowsFit f.func inputs.now.rows }
+        requires sound { IsLossySound layout shape timing }
+        requires width { inputs.now.width ≡ width }
+        requires wide { HasRowValues width inputs.now.rows }
+        requires machines { AreReady M.stands M.made M.left layout (length inputs.now.rows) machines.items }
+        requires count { (W.state fabric.old).faults < 2 ^ 64 - 1 }
+        requires empty { (W.state fabric.old).kinds ≡ [] }
+        ensures inputs { IfOk result (λ playback. playback.inputs.now ≡ inputs.now) }
+        ensures made { IfOk result (λ playback. IsMadeOfLossy layout shape timing losses (length inputs.now.rows) machines.items playback.net.plant) }
+        ensures ready { IfOk result (λ playback. IsPlayingLossy ⟦<BackPressure as Controller>⟧.phase M.stands M.made M.left playback.inputs.now playback.width playback.row.items [] playback.net (W.state fabric.new)) }
+        ensures cause { LinkCounted (W.state fabric.old).faults (W.state fabric.new).faults result }
+        ensures keeps { KeepsPromises (W.state fabric.old) (W.state fabric.new) }
+        ensures sound { IsTrue (W.state fabric.old).sound → (W.state fabric.new).faults ≡ (W.state fabric.old).faults }
+    {
+        let kinds = kinds_of(alloc, &layout, &shape)?;
+        let row = room_for(alloc, width)?;
+        let places = PlaceTable::new(alloc, &shape)?;
+        let count = inputs.rows();
+        let net = LossyNet::start(alloc, layout, shape, timing, losses, count, machines)?;
+        net.kept();
+        fabric.open(kinds.as_slice())?;
+        Ok(LossyPlayback {
+            net,
+            inputs,
+            places,
+            width,
+            row,
+        })
+    }
+}
+
+impl<M: Machine, W: Fabric> Replica<W> for LossyPlayback<'_, M> {
+    type Event = LossyEvent;
+
+    type Offence = LossyOffence;
+
+    ghost rules = { λ a. lossy_rules_of a.net.plant.shape a.net.plant.timing a.net.plant.watch.limit a.net.plant.rows };
+
+    ghost stands = { λ a w steps before. IsPlayingLossy ⟦<BackPressure as Controller>⟧.phase M.stands M.made M.left a.inputs.now a.width a.row.items before a.net (W.state w) };
+
+    ghost keeps = { λ a v b w. KeepsLossyPlay a.net b.net a.inputs.now.rows b.inputs.now.rows (W.state v) (W.state w) };
+
+    ghost faults = { λ w. (W.state w).faults };
+
+    // a message that is sent behind others may want memory
+    ghost prompt = { λ w. ⊥ };
+
+    fn take_line<L: Ledger>(
+        &mut self,
+        line: &[u8],
+        outside: &mut W,
+        steps: &mut Steps<L>,
+    ) -> Result<(), Stop<LossyOffence>> {
+        match read_row(&self.places, line, self.net.shape()) {
+            Err(fault) => Err(Stop::Row(fault)),
+            Ok(e) => {
+                let has = read_next(&self.net, self.inputs, self.width, e, &mut self.row);
+                let row = given(has, &self.row);
+                match self.net.event(e, row, outside, steps) {
+                    Ok(()) => Ok(()),
+                    Err(LossyFault::Offence(offence)) => Err(Stop::Offence(offence)),
+                    Err(LossyFault::Link) => Err(Stop::Link),
+                    Err(LossyFault::Memory) => Err(Stop::Memory),
+                    Err(LossyFault::Stopped(_)) => unreachable!(),
+                }
+            }
+        }
+    }
+
+    fn missing(&self) -> Option<LossyOffence> {
+        if self.net.reached().is_some() {
+            None
+        } else {
+            Some(LossyOffence::Common(Offence::NoEnd))
+        }
+    }
+
+    ghost long = { λ r line long. long_lossy_line r.net.plant.shape line long };
+
+    ghost keeps_same = { λ r w. lossy_keeps_itself r.net r.inputs.now.rows (W.state w) };
+
+    ghost keeps_on = { λ a u b v c w x y. lossy_keeps_on a.net b.net c.net a.inputs.now.rows b.inputs.now.rows c.inputs.now.rows (W.state u) (W.state v) (W.state w) x y };
+
+    ghost keeps_rules = { λ a v b w x. λ i. lossy_rules_of (x.fixed.shape i) (x.fixed.timing i) (x.fixed.limit i) (x.fixed.rows i) };
+
+    ghost keeps_prompt = { λ a v b w x prompt. prompt };
+}

@@ -1,0 +1,59 @@
+// A whole schedule file.
+ghost use Rattle.std.specs.Prelude.{◌≡◌, ◌<◌, ◌-◌, ◌^◌, []};
+ghost use Rattle.lt_rows.specs.Lines.{fresh};
+ghost use Rattle.lt_lossy_replay.specs.Rules.{lossy_fault};
+ghost use Rattle.lt_lossy_replay.specs.Plays.{IsPlayingLossy};
+ghost use Rattle.lt_lossy_replay.specs.Replays.{HasLossyReplayed};
+
+use crate::LossyPlayFault;
+use crate::playback::LossyPlayback;
+use crate::taking::take;
+use lt_arch::Controller;
+use lt_base::Or;
+use lt_bp::BackPressure;
+use lt_io::{Fabric, Files};
+use lt_judge::{Halt, replay_schedule};
+use lt_lossy::LossyOffence;
+use lt_machine::Machine;
+use lt_replay::Replayed;
+use lt_rows::Lines;
+use std::alloc::Global;
+
+/// Has a net that was just started take the events of a schedule file, row by row, over its fabric, and takes what it comes to.
+///
+/// The file is refused at its first row or event that is refused.
+pub(crate) fn play<F: Files, W: Fabric, M: Machine>(
+    alloc: Global,
+    lines: &mut Lines,
+    files: &mut F,
+    name: &str,
+    playback: LossyPlayback<'_, M>,
+    fabric: &mut W,
+) -> Result<Replayed<M>, Or<LossyPlayFault>>
+    requires count { (F.state files.old).faults < 2 ^ 64 - 1 }
+    requires link_count { (W.state fabric.old).faults < 2 ^ 64 - 1 }
+    requires fresh { lines.old ≡ fresh }
+    requires ready { IsPlayingLossy ⟦<BackPressure as Controller>⟧.phase M.stands M.made M.left playback.inputs.now playback.width playback.row.items [] playback.net (W.state fabric.old) }
+    ensures { HasLossyReplayed M.stands M.made playback.entry.net.plant.layout playback.entry.net.plant.shape playback.entry.net.plant.timing playback.entry.net.plant.watch.limit playback.entry.inputs.now.rows name.now
+        (F.state files.old) (F.state files.new) (W.state fabric.old) (W.state fabric.new) result }
+{
+    let mut playback = playback;
+    match replay_schedule(lines, files, name, &mut playback, fabric) {
+        Ok(()) => {
+            playback.net.kept();
+            Ok(take(alloc, playback.net)?)
+        }
+        Err(halt) => Err(lossy_fault(halt)),
+    }
+}
+
+fn lossy_fault(halt: Halt<LossyOffence>) -> Or<LossyPlayFault>
+    ensures { result ≡ lossy_fault halt }
+{
+    match halt {
+        Halt::Refused(refusal) => Or::Fault(LossyPlayFault::Refused(refusal)),
+        Halt::Read => Or::Fault(LossyPlayFault::Read),
+        Halt::Link => Or::Fault(LossyPlayFault::Link),
+        Halt::Memory => Or::Memory,
+    }
+}
