@@ -10,6 +10,7 @@ use Rattle.lt_place.specs.declared.fault.PlaceFault.TheVariants.{Unplaced, Place
 use Rattle.lt_timing.specs.declared.fault.Which.{Which}
 use Rattle.lt_timing.specs.declared.fault.Which.TheVariants as which
 use Rattle.lt_timing.specs.declared.fault.TimingFault.{TimingFault}
+use Rattle.lt_lossy.specs.declared.room.WindowFault.{WindowFault}
 use Rattle.lt_run.specs.Main.{name_in}
 use Rattle.lt_inputs.specs.declared.fault.InputKind.{InputKind}
 use Rattle.lt_inputs.specs.declared.fault.InputKind.TheVariants as inputs
@@ -59,6 +60,10 @@ at_node names false node = []
 abbrev pub timing_line : TimingFault → (names : List (List ℕ)) → (mixed : Bool) → List ℕ
 timing_line f names mixed =
     codes "timing " ++ which_text f.which ++ at_node names mixed f.node ++ codes ": " ++ decimal f.left ++ codes " is not above " ++ decimal f.right
+
+-- the line of the first pair of nodes that is not in the window, with its first node
+abbrev pub window_line : WindowFault → (names : List (List ℕ)) → List ℕ
+window_line f names = codes "timing 4 Window" ++ at_node names true f.node ++ codes ": " ++ decimal f.left ++ codes " is not above " ++ decimal f.right
 
 -- a kind's number and name
 abbrev pub inputs_kind_text : InputKind → List ℕ

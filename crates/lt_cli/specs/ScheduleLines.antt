@@ -7,6 +7,8 @@ use Rattle.lt_arch.specs.declared.chan.ChanKind.TheVariants.{Data, Ack}
 use Rattle.lt_arch.specs.declared.event.Offence.{Offence}
 use Rattle.lt_arch.specs.declared.event.Offence.TheVariants.{AfterEnd, Backwards, NodeOverdue, ChannelOverdue, TooSoon, NothingSent, TooEarly, NoEnd}
 use Rattle.lt_arch.specs.declared.shape.Shape.{Shape}
+use Rattle.lt_lossy.specs.declared.event.LossyOffence.{LossyOffence}
+use Rattle.lt_lossy.specs.declared.event.LossyOffence.TheVariants.{Common, TooManyLost}
 use Rattle.lt_rows.specs.declared.fault.RowFault.{RowFault}
 use Rattle.lt_rows.specs.declared.fault.RowFault.TheVariants.{Header, Time, Kind, UnknownPlace, NotCsv, TooMany}
 
@@ -71,3 +73,8 @@ place_text s NoEnd = []
 
 abbrev pub offence_line : Shape → (event : ℕ) → Offence → List ℕ
 offence_line s event offence = codes "schedule offence at event " ++ decimal event ++ codes ": " ++ offence_name offence ++ place_text s offence
+
+-- the same where links lose messages
+abbrev pub lossy_line : Shape → (event : ℕ) → LossyOffence → List ℕ
+lossy_line s event (Common offence) = offence_line s event offence
+lossy_line s event (TooManyLost c) = codes "schedule offence at event " ++ decimal event ++ codes ": TooManyLost" ++ channel_text s c

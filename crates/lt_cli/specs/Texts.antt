@@ -17,13 +17,13 @@ use Rattle.lt_load.specs.declared.fault.What.TheVariants.{ProgramBytes, ConfigBy
 use Rattle.lt_load.specs.declared.fault.CommandFault.{CommandFault}
 use Rattle.lt_load.specs.declared.fault.CommandFault.TheVariants as fault
 use Rattle.lt_texts.specs.Lines.{program_line}
-use Rattle.lt_cli.specs.Lines.{config_line, place_line, timing_line, inputs_line, observer_line}
+use Rattle.lt_cli.specs.Lines.{config_line, place_line, timing_line, window_line, inputs_line, observer_line}
 use Rattle.lt_audit.specs.declared.miss.Miss.{Miss}
 use Rattle.lt_inspect.specs.declared.audited.Audited.{Audited}
 use Rattle.lt_sim.specs.File.{file_text}
 use Rattle.lt_watch.specs.declared.watched.Watched.{Watched}
 use Rattle.lt_watch.specs.declared.watched.Watched.TheVariants.{Holds, Fails}
-use Rattle.lt_cli.specs.ScheduleLines.{row_line, offence_line, node_name, channel_text}
+use Rattle.lt_cli.specs.ScheduleLines.{row_line, offence_line, lossy_line, node_name, channel_text}
 use Rattle.lt_cli.specs.Draws.{Drawing}
 use Rattle.lt_cli.specs.declared.refusal.Refusal.{Refusal}
 use Rattle.lt_cli.specs.declared.refusal.Refusal.TheVariants.{Words, Command, Observer}
@@ -44,10 +44,12 @@ fault_line (fault.Program f) = program_line f
 fault_line (fault.Config f) = config_line f
 fault_line (fault.Place f main) = place_line main f
 fault_line (fault.Timing f names mixed) = timing_line f names mixed
+fault_line (fault.Window f names) = window_line f names
 fault_line (fault.Inputs f) = inputs_line f
 fault_line fault.TooManyCells = codes "limit: meaning cells 16000000"
 fault_line (fault.Row n f) = row_line n f
 fault_line (fault.Offence event offence shape) = offence_line shape event offence
+fault_line (fault.Lossy event offence shape) = lossy_line shape event offence
 fault_line (fault.Limit what) = limit_line what
 fault_line fault.Read = codes "fault: read"
 fault_line fault.Link = codes "fault: link"
@@ -76,10 +78,12 @@ fault_status (fault.Program f) = program_status f
 fault_status (fault.Config f) = status.Setup
 fault_status (fault.Place f main) = status.Setup
 fault_status (fault.Timing f names mixed) = status.Setup
+fault_status (fault.Window f names) = status.Setup
 fault_status (fault.Inputs f) = inputs_status f.kind
 fault_status fault.TooManyCells = status.Limit
 fault_status (fault.Row n f) = row_status f
 fault_status (fault.Offence event offence shape) = status.Schedule
+fault_status (fault.Lossy event offence shape) = status.Schedule
 fault_status (fault.Limit what) = status.Limit
 fault_status fault.Read = status.Outside
 fault_status fault.Link = status.Outside

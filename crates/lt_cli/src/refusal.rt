@@ -8,8 +8,8 @@ use crate::config_line::config_line;
 use crate::inputs_line::inputs_line;
 use crate::observer_line::observer_line;
 use crate::place_line::place_line;
-use crate::schedule_line::{offence_line, row_line};
-use crate::timing_line::timing_line;
+use crate::schedule_line::{lossy_line, offence_line, row_line};
+use crate::timing_line::{timing_line, window_line};
 use lt_base::{List, Memory};
 use lt_front::ProgramFault;
 use lt_inputs::InputKind;
@@ -78,10 +78,12 @@ fn fault_status(fault: &CommandFault) -> Status
         CommandFault::Config(_) => Status::Setup,
         CommandFault::Place { .. } => Status::Setup,
         CommandFault::Timing { .. } => Status::Setup,
+        CommandFault::Window { .. } => Status::Setup,
         CommandFault::Inputs(fault) => inputs_status(fault.kind),
         CommandFault::TooManyCells => Status::Limit,
         CommandFault::Row { row: _, fault } => row_status(*fault),
         CommandFault::Offence { .. } => Status::Schedule,
+        CommandFault::Lossy { .. } => Status::Schedule,
         CommandFault::Limit(_) => Status::Limit,
         CommandFault::Read => Status::Outside,
         CommandFault::Link => Status::Outside,
@@ -127,6 +129,7 @@ fn fault_line(alloc: Global, fault: &CommandFault) -> Result<List<u8>, Memory>
             names,
             mixed,
         } => timing_line(alloc, *fault, names.as_slice(), *mixed),
+        CommandFault::Window { fault, names } => window_line(alloc, *fault, names.as_slice()),
         CommandFault::Inputs(fault) => inputs_line(alloc, *fault),
         CommandFault::TooManyCells => List::from_slice(alloc, b"limit: meaning cells 16000000"),
         CommandFault::Row { row, fault } => row_line(alloc, *row, *fault),
@@ -135,6 +138,11 @@ fn fault_line(alloc: Global, fault: &CommandFault) -> Result<List<u8>, Memory>
             offence,
             shape,
         } => offence_line(alloc, shape, *event, *offence),
+        CommandFault::Lossy {
+            event,
+            offence,
+            shape,
+        } => lossy_line(alloc, shape, *event, *offence),
         CommandFault::Limit(what) => limit_line(alloc, *what),
         CommandFault::Read => List::from_slice(alloc, b"fault: read"),
         CommandFault::Link => List::from_slice(alloc, b"fault: link"),

@@ -1,10 +1,12 @@
 // The line of a refused schedule.
 ghost use Rattle.std.specs.Prelude.{◌≡◌, ◌++◌, IfOk, OnOk};
-ghost use Rattle.lt_cli.specs.ScheduleLines.{row_kind_text, row_line, offence_name, place_text, offence_line, node_text, node_name, channel_text, ends_text};
+ghost use Rattle.lt_lossy.specs.declared.event.LossyOffence.TheVariants.{TooManyLost};
+ghost use Rattle.lt_cli.specs.ScheduleLines.{row_kind_text, row_line, offence_name, place_text, offence_line, lossy_line, node_text, node_name, channel_text, ends_text};
 
 use crate::numbers::append_number;
 use lt_arch::{Chan, ChanKind, Offence, Shape};
 use lt_base::{List, Memory};
+use lt_lossy::LossyOffence;
 use lt_rows::RowFault;
 use std::alloc::Global;
 
@@ -50,6 +52,32 @@ pub(crate) fn offence_line(
     line.extend(b": ")?;
     line.extend(offence_name(offence).as_bytes())?;
     append_place(&mut line, shape, offence)?;
+    Ok(line)
+}
+
+/// The same where links lose messages.
+pub(crate) fn lossy_line(
+    alloc: Global,
+    shape: &Shape,
+    event: u32,
+    offence: LossyOffence,
+) -> Result<List<u8>, Memory>
+    ensures { IfOk result (λ line. line ≡ lossy_line shape.now event offence) }
+{
+    match offence {
+        LossyOffence::Common(offence) => offence_line(alloc, shape, event, offence),
+        LossyOffence::TooManyLost(channel) => too_many_line(alloc, shape, event, channel),
+    }
+}
+
+// The line of one loss too many.
+fn too_many_line(alloc: Global, shape: &Shape, event: u32, channel: u32) -> Result<List<u8>, Memory>
+    ensures { IfOk result (λ line. line ≡ lossy_line shape.now event (TooManyLost channel)) }
+{
+    let mut line = List::from_slice(alloc, b"schedule offence at event ")?;
+    append_number(&mut line, event)?;
+    line.extend(b": TooManyLost")?;
+    append_channel(&mut line, shape, channel)?;
     Ok(line)
 }
 

@@ -1,10 +1,11 @@
 // The line of a timing that is not accepted.
 ghost use Rattle.std.specs.Prelude.{◌≡◌, ◌++◌, true, IfOk, OnOk};
 ghost use Rattle.std.specs.Fmt.{decimal};
-ghost use Rattle.lt_cli.specs.Lines.{at_node, timing_line, which_text};
+ghost use Rattle.lt_cli.specs.Lines.{at_node, timing_line, which_text, window_line};
 
 use itoa::Buffer;
 use lt_base::{List, Memory, Name};
+use lt_lossy::WindowFault;
 use lt_timing::{TimingFault, Which};
 use std::alloc::Global;
 
@@ -22,6 +23,23 @@ pub(crate) fn timing_line(
     if mixed {
         append_node(&mut line, names, fault.node)?;
     }
+    line.extend(b": ")?;
+    append_ticks(&mut line, fault.left)?;
+    line.extend(b" is not above ")?;
+    append_ticks(&mut line, fault.right)?;
+    Ok(line)
+}
+
+/// The line of a pair of nodes that is not in the window, without a line feed. The first node is named.
+pub(crate) fn window_line(
+    alloc: Global,
+    fault: WindowFault,
+    names: &[Name],
+) -> Result<List<u8>, Memory>
+    ensures { IfOk result (λ line. line ≡ window_line fault names.now) }
+{
+    let mut line = List::from_slice(alloc, b"timing 4 Window")?;
+    append_node(&mut line, names, fault.node)?;
     line.extend(b": ")?;
     append_ticks(&mut line, fault.left)?;
     line.extend(b" is not above ")?;
