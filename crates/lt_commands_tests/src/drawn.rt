@@ -6,8 +6,8 @@ use rand_core::Rng;
 use rand_xoshiro::SplitMix64;
 use std::alloc::Global;
 
-/// How many rows of inputs there are.
-pub const ROWS: u32 = 6;
+// How many rows of inputs there are.
+const ROWS: u32 = 6;
 
 // The bounds of time that a schedule keeps, in ticks.
 const SHORTEST_PERIOD: u64 = 9;
