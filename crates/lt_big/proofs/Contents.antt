@@ -14,10 +14,12 @@ use Rattle.lt_front.specs.Front.{examine_verdict}
 use Rattle.lt_inputs.specs.Inputs.{inputs_of}
 use Rattle.lt_config.specs.declared.config.Config.{Config}
 use Rattle.lt_config.specs.declared.pace.Pace.{Pace}
-use Rattle.lt_config.specs.declared.pace.Pace.TheVariants.{Plain, Leader}
+use Rattle.lt_config.specs.declared.pace.Pace.TheVariants.{Plain, Lossy, Leader}
 use Rattle.lt_judge.specs.declared.halt.Refusal.{Refusal}
 use Rattle.lt_judge.specs.declared.halt.Refusal.TheVariants as refusal
 use Rattle.lt_judge.specs.Verdict.{or_fault}
+use Rattle.lt_lossy.specs.declared.event.LossyEvent.{LossyEvent}
+use Rattle.lt_lossy.specs.declared.event.LossyOffence.{LossyOffence}
 use Rattle.lt_load.specs.declared.fault.What.{What}
 use Rattle.lt_load.specs.declared.fault.What.TheVariants.{ProgramBytes, ConfigBytes, InputsBytes}
 use Rattle.lt_load.specs.declared.fault.CommandFault.TheVariants as fault
@@ -31,7 +33,7 @@ use Rattle.lt_load.proofs.Contents.{fitting_content}
 use Rattle.lt_load.proofs.Steps.{IsContent, content_then, content_raised}
 use Rattle.lt_run.specs.declared.fault.RunFault.{RunFault}
 use Rattle.lt_run.specs.declared.fault.RunFault.TheVariants as run
-use Rattle.lt_run.specs.Fault.{of_schedule}
+use Rattle.lt_run.specs.Fault.{of_refusal, of_schedule}
 use Rattle.lt_run.specs.Kinds.{EventsBy, EndsBy, fault_by, file_verdict, verdict_by}
 use Rattle.lt_run.specs.Run.{command_fault}
 use Rattle.lt_big.specs.Big.{named_of, loaded_verdict}
@@ -111,8 +113,16 @@ ends_content end s (Err (refusal.Row row e)) f is = let same : f ≡ run.Row row
 ends_content end s (Err (refusal.Offence event e)) f is = let same : f ≡ run.Offence event e = cc is in ap (λ (g : RunFault). command_blame (command_fault s g)) same
 ends_content end s (Err refusal.Bytes) f is = let same : f ≡ run.Bytes = cc is in ap (λ (g : RunFault). command_blame (command_fault s g)) same
 
+-- where links lose messages
+lossy_content : {T : Type 0} (end : List LossyEvent → T → Type 0) (s : Shape) (judged : Result (List LossyEvent) (Refusal LossyOffence)) (f : RunFault) → EndsBy of_refusal end judged (Err f) → command_blame (command_fault s f) ≡ Content
+lossy_content end s (Ok events) f is = absurd is
+lossy_content end s (Err (refusal.Row row e)) f is = let same : f ≡ run.Row row e = cc is in ap (λ (g : RunFault). command_blame (command_fault s g)) same
+lossy_content end s (Err (refusal.Offence event e)) f is = let same : f ≡ run.Lossy event e = cc is in ap (λ (g : RunFault). command_blame (command_fault s g)) same
+lossy_content end s (Err refusal.Bytes) f is = let same : f ≡ run.Bytes = cc is in ap (λ (g : RunFault). command_blame (command_fault s g)) same
+
 paced_content : {T : Type 0} (pace : Pace) (end : EventsBy pace → T → Type 0) (s : Shape) (t : Timing) (rows : ℕ) (bytes : List ℕ) (f : RunFault) → EndsBy (fault_by pace) end (verdict_by pace s t rows bytes) (Err f) → command_blame (command_fault s f) ≡ Content
 paced_content Plain end s t rows bytes f is = ends_content end s _ f is
+paced_content (Lossy losses) end s t rows bytes f is = lossy_content end s _ f is
 paced_content (Leader leader) end s t rows bytes f is = ends_content end s _ f is
 
 pub bytes_content : (bytes : List ℕ) (fabric : FabricState) (k : LoadedPlan) → IsContent command_blame (along_bytes bytes fabric k)

@@ -1,19 +1,24 @@
--- In what the large input is loaded as no node leads.
+-- In what the large input is loaded as the protocol is no more than its timing.
 use Rattle.std.proofs.Common.{◌≡◌, ◌∙◌, ℕ, List, Option, Ok, Err, inl, inr, sym, ap}
 use Rattle.lt_front.specs.Examined.{ExaminedText}
 use Rattle.lt_config.specs.declared.config.Config.{Config}
 use Rattle.lt_config.specs.declared.pace.Pace.TheVariants.{Plain}
 use Rattle.lt_answer.specs.Answered.{AndThen}
-use Rattle.lt_load.specs.Setups.{accepted_verdict, fitting_verdict, placed_verdict}
+use Rattle.lt_load.specs.Setups.{accepted_verdict, fitting_verdict, placed_verdict, timed_verdict, windowed_verdict}
 use Rattle.lt_load.specs.Plan.{Plan, LoadedPlan, Loads, fitting_plan_verdict, inputs_plan_verdict}
 use Rattle.lt_load.specs.Pacing.{plain_config_verdict, plain_load_verdict, plain_setup_plan_verdict, unpaced_verdict}
 use Rattle.lt_big.specs.Big.{loaded_verdict}
 
 -- a setup that fits is the one that was read
+same_timed : (setup accepted : Config) → accepted_verdict setup (Ok accepted) → accepted ≡ setup
+unfolding accepted_verdict timed_verdict windowed_verdict
+same_timed setup accepted (inl refused) = absurd refused
+same_timed setup accepted (inr (timed, accepts, windowed)) = windowed.1 ∙ accepts.1
+
 same_setup : (checked : ExaminedText) (setup fitting : Config) → fitting_verdict checked setup (Ok fitting) → fitting ≡ setup
-unfolding fitting_verdict placed_verdict accepted_verdict
+unfolding fitting_verdict placed_verdict
 same_setup checked setup fitting (inl refused) = absurd refused
-same_setup checked setup fitting (inr (legal, placed, accepted)) = accepted.1 ∙ placed.1
+same_setup checked setup fitting (inr (legal, placed, accepted)) = same_timed legal fitting accepted ∙ placed.1
 
 -- and stays in the plan
 planned : (named : List ℕ → Option (List ℕ)) (inputs : List ℕ) (checked : ExaminedText) (setup : Config) (p : Plan) → inputs_plan_verdict named inputs checked setup (Ok p) → p.setup ≡ setup
