@@ -11,8 +11,11 @@ const ROWS: u32 = 6;
 
 // The bounds of time that a schedule keeps, in ticks.
 const SHORTEST_PERIOD: u64 = 9;
+
 const LONGEST_PERIOD: u64 = 11;
+
 const SHORTEST_DELAY: u64 = 1;
+
 const LONGEST_DELAY: u64 = 4;
 
 // A node: whether it has executed an instant that it has not sent, how many it has executed, and its last activation.

@@ -94,7 +94,9 @@ c protocol = 'lossy'/losses = 1/period = [9, 11]/delay = [1, 4]/[nodes]/a = ['x'
 const INPUTS: &str = "instant,x/0,1/1,2/2,3/3,4/4,5/5,6/";
 
 fn setup(alloc: Global, limit: u64) -> Result<String, Memory> {
-    Ok(format!(in alloc; "protocol = 'lossy'/losses = {limit}/period = [9, 11]/delay = [1, 4]/[nodes]/a = ['x', 'u']/b = ['v']/")?)
+    Ok(format!(in alloc;
+        "protocol = 'lossy'/losses = {limit}/period = [9, 11]/delay = [1, 4]/[nodes]/a = ['x', 'u']/b = ['v']/"
+    )?)
 }
 
 // Adds a line of a meaning with only so many of its cells.
