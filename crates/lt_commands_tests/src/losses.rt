@@ -1,6 +1,6 @@
 // Runs over links that lose messages.
 
-use crate::calls::{ACROSS, NOTHING, Texts, call};
+use crate::calls::{Ended, NOTHING, Texts, call};
 use crate::drawn::{Drawn, draw};
 use crate::script::holds;
 use lt_base::Memory;
@@ -91,6 +91,10 @@ c protocol = 'lossy'/losses = 1/period = [9, 11]/delay = [1, 4]/[nodes]/a = ['x'
 3 config 5 OutOfRange: protocol/
 ";
 
+// Two nodes that read each other's last value, on six rows.
+const PROGRAM: &str =
+    "node main(x: int) returns (u: int; v: int) let u = x + (0 fby v); v = 10 + (0 fby u); tel";
+
 const INPUTS: &str = "instant,x/0,1/1,2/2,3/3,4/4,5/5,6/";
 
 fn setup(alloc: Global, limit: u64) -> Result<String, Memory> {
@@ -122,16 +126,25 @@ fn wanted(alloc: Global, meaning: &str, executed: [u32; 2]) -> Result<String, Me
     Ok(text)
 }
 
+// The files of a run along a schedule.
+fn texts<'a>(schedule: &'a str, setup: &'a str) -> Texts<'a> {
+    Texts {
+        program: PROGRAM,
+        inputs: INPUTS,
+        schedule,
+        setup,
+        observer: "true",
+    }
+}
+
+fn run_along<'a>(alloc: Global, schedule: &'a str, setup: &'a str) -> Result<Ended, Memory> {
+    call(alloc, "run p i s c", texts(schedule, setup), NOTHING)
+}
+
 // Whether a run along a drawn schedule shows what it is to show.
 fn is_right(alloc: Global, drawn: &Drawn, limit: u64, meaning: &str) -> Result<bool, Memory> {
     let setup = setup(alloc, limit)?;
-    let texts = Texts {
-        inputs: INPUTS,
-        schedule: drawn.rows.as_str(),
-        setup: setup.as_str(),
-        ..ACROSS
-    };
-    let ended = call(alloc, "run p i s c", texts, NOTHING)?;
+    let ended = run_along(alloc, drawn.rows.as_str(), setup.as_str())?;
     let wanted = wanted(alloc, meaning, drawn.executed())?;
     Ok(ended.status == Status::Ok && ended.out.as_slice() == wanted.as_str().as_bytes())
 }
