@@ -201,7 +201,11 @@ impl Drawn {
 /// Draws a schedule in which a channel loses at most so many messages in a row.
 pub fn draw(alloc: Global, dice: &mut SplitMix64, limit: u64) -> Result<Drawn, Memory> {
     let mut drawn = Drawn::start(alloc, limit)?;
-    for _step in 0..300 {
+    for step in 0..10_000 {
+        // Nothing may be due at the end.
+        if step >= 300 && drawn.time < drawn.due() {
+            break;
+        }
         drawn.go_on(alloc, dice)?;
     }
     drawn.add_row(alloc, "end,")?;
