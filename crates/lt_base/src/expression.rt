@@ -1,6 +1,6 @@
 // Expressions.
 
-ghost use Rattle.std.specs.Prelude.{◌≡◌, ◌^◌, ◌-◌, IfOk, min};
+ghost use Rattle.std.specs.Prelude.{◌≡◌, ◌^◌, ◌-◌, IfOk, map, min};
 ghost use Rattle.lt_base.specs.Expression.{shape, parts};
 
 use crate::{Bin, Imp, Memory, Un, Value};
@@ -59,56 +59,62 @@ impl Expr {
     }
 
     /// An equal expression.
+    #[cycle(copying)]
     pub fn copy(&self) -> Result<Expr, Memory>
         ensures { IfOk result (λ r. shape r ≡ shape self.now) }
     {
         match self {
             Expr::Lit(v) => Ok(Expr::Lit(*v)),
             Expr::Var(x) => Ok(Expr::Var(*x)),
-            Expr::Un(o, a) => Ok(Expr::Un(*o, Box::new(*Box::allocator(a), a.copy()?)?)),
+            Expr::Un(o, a) => Ok(Expr::Un(*o, twin(a)?)),
             Expr::Bin(o, a, b) => {
-                let a = Box::new(*Box::allocator(a), a.copy()?)?;
-                let b = Box::new(*Box::allocator(b), b.copy()?)?;
-                Ok(Expr::Bin(*o, a, b))
+                let a = twin(a)?;
+                Ok(Expr::Bin(*o, a, twin(b)?))
             }
             Expr::Imported(o, a, b) => {
-                let a = Box::new(*Box::allocator(a), a.copy()?)?;
-                let b = Box::new(*Box::allocator(b), b.copy()?)?;
-                Ok(Expr::Imported(*o, a, b))
+                let a = twin(a)?;
+                Ok(Expr::Imported(*o, a, twin(b)?))
             }
             Expr::If(c, a, b) => {
-                let c = Box::new(*Box::allocator(c), c.copy()?)?;
-                let a = Box::new(*Box::allocator(a), a.copy()?)?;
-                let b = Box::new(*Box::allocator(b), b.copy()?)?;
-                Ok(Expr::If(c, a, b))
+                let c = twin(c)?;
+                let a = twin(a)?;
+                Ok(Expr::If(c, a, twin(b)?))
             }
-            Expr::When(e, c, b) => {
-                let e = Box::new(*Box::allocator(e), e.copy()?)?;
-                Ok(Expr::When(e, *c, *b))
-            }
+            Expr::When(e, c, b) => Ok(Expr::When(twin(e)?, *c, *b)),
             Expr::Merge(c, a, b) => {
-                let a = Box::new(*Box::allocator(a), a.copy()?)?;
-                let b = Box::new(*Box::allocator(b), b.copy()?)?;
-                Ok(Expr::Merge(*c, a, b))
+                let a = twin(a)?;
+                Ok(Expr::Merge(*c, a, twin(b)?))
             }
-            Expr::Fby(v, e) => Ok(Expr::Fby(*v, Box::new(*Box::allocator(e), e.copy()?)?)),
+            Expr::Fby(v, e) => Ok(Expr::Fby(*v, twin(e)?)),
             Expr::Follow(a, b) => {
-                let a = Box::new(*Box::allocator(a), a.copy()?)?;
-                let b = Box::new(*Box::allocator(b), b.copy()?)?;
-                Ok(Expr::Follow(a, b))
+                let a = twin(a)?;
+                Ok(Expr::Follow(a, twin(b)?))
             }
             Expr::Arrow(a, b) => {
-                let a = Box::new(*Box::allocator(a), a.copy()?)?;
-                let b = Box::new(*Box::allocator(b), b.copy()?)?;
-                Ok(Expr::Arrow(a, b))
+                let a = twin(a)?;
+                Ok(Expr::Arrow(a, twin(b)?))
             }
-            Expr::Call(g, args) => {
-                let mut copies = Vec::with_capacity(*args.allocator(), args.len())?;
-                for a in args {
-                    copies.push(a.copy()?)?;
-                }
-                Ok(Expr::Call(*g, copies))
-            }
+            Expr::Call(g, args) => Ok(Expr::Call(*g, twins(args)?)),
         }
     }
+}
+
+// An equal expression in a box of its own.
+#[cycle(copying)]
+fn twin(e: &Box<Expr>) -> Result<Box<Expr>, Memory>
+    ensures { IfOk result (λ r. shape r.value ≡ shape e.now.value) }
+{
+    Ok(Box::new(*Box::allocator(e), e.copy()?)?)
+}
+
+// Equal expressions, one by one.
+#[cycle(copying)]
+fn twins(es: &Vec<Expr>) -> Result<Vec<Expr>, Memory>
+    ensures { IfOk result (λ r. map shape r.items ≡ map shape es.now.items) }
+{
+    let mut copies = Vec::with_capacity(*es.allocator(), es.len())?;
+    for e in es {
+        copies.push(e.copy()?)?;
+    }
+    Ok(copies)
 }

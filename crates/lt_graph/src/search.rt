@@ -1,6 +1,6 @@
 // A search in depth that keeps the numbers it has met in parts: numbers of one part reach one another.
 
-ghost use Rattle.std.specs.Prelude.{◌≡◌, ◌<◌, ◌≤◌, ◌+◌, ◌-◌, ◌*◌, ◌++◌, ◌∷◌, ℕ, List as Items, [], IfOk, MatchBool, OnOk, length, slice_index, slice_set, sum, take};
+ghost use Rattle.std.specs.Prelude.{◌≡◌, ◌<◌, ◌≤◌, ◌+◌, ◌-◌, ◌*◌, ◌++◌, ◌∷◌, ℕ, List as Items, [], IfOk, MatchBool, OnOk, length, replicate, slice_index, slice_set, sum, take};
 ghost use Rattle.lt_graph.specs.Tables.{next, IsTable};
 ghost use Rattle.lt_graph.specs.Search.{Stands, IsMet, EndsWith, KeepsUpTo, closed_mark, mark};
 
@@ -27,6 +27,16 @@ pub struct Search {
     pub path: Vec<usize>,
 }
 
+fn new_marks(alloc: Global, size: usize) -> Result<Vec<Mark>, Memory>
+    ensures { IfOk result (λ marks. marks.items ≡ replicate size Mark.New) }
+{
+    let mut marks = Vec::with_capacity(alloc, size)?;
+    for _number in 0..size {
+        marks.push(Mark::New)?;
+    }
+    Ok(marks)
+}
+
 fn ends_with(places: &[usize], place: usize) -> bool
     ensures { MatchBool result (EndsWith places.now place) (EndsWith places.now place → ⊥) }
 {
@@ -39,12 +49,8 @@ impl Search {
         ensures stands { IfOk result (Stands table.now) }
         ensures idle { IfOk result (λ s. s.path.items ≡ []) }
     {
-        let size = table.len();
+        let marks = new_marks(alloc, table.len())?;
         let rest = degrees(alloc, table)?;
-        let mut marks = Vec::with_capacity(alloc, size)?;
-        for _number in 0..size {
-            marks.push(Mark::New)?;
-        }
         Ok(Search {
             marks,
             rest,
@@ -135,6 +141,20 @@ impl Search {
             }
             Mark::Done(_) => Ok(()),
         }
+    }
+
+    /// Goes on to the end of the path.
+    pub fn follow(&mut self, table: &List<List<u32>>) -> Result<(), Memory>
+        requires table { IsTable table.now }
+        requires stands { Stands table.now self.old }
+        ensures stands { OnOk result (Stands table.now self.new) }
+        ensures idle { OnOk result (self.new.path.items ≡ []) }
+        ensures met { OnOk result ((x : ℕ) → IsMet (mark self.old.marks.items x) → IsMet (mark self.new.marks.items x)) }
+    {
+        while !self.path.is_empty() {
+            self.step(table)?;
+        }
+        Ok(())
     }
 
     /// Begins at a number, unless it was met.

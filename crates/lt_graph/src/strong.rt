@@ -33,9 +33,7 @@ pub fn components(alloc: Global, table: &List<List<u32>>) -> Result<Vec<usize>, 
     let mut search = Search::new(alloc, table)?;
     for root in 0..table.len() {
         search.begin(root)?;
-        while !search.path.is_empty() {
-            search.step(table)?;
-        }
+        search.follow(table)?;
     }
     names(alloc, &search.marks)
 }

@@ -1,5 +1,5 @@
 // Expressions with names.
-ghost use Rattle.std.specs.Prelude.{◌≡◌, IfOk};
+ghost use Rattle.std.specs.Prelude.{◌≡◌, IfOk, map};
 ghost use Rattle.lt_syntax.specs.Views.{tm_of};
 
 use lt_base::{Bin, Memory, Name, Un, Value};
@@ -26,51 +26,65 @@ pub enum Term {
 
 impl Term {
     /// An equal term, with the allocators of this one.
+    #[cycle(copying)]
     pub fn copy(&self) -> Result<Term, Memory>
         ensures { IfOk result (λ copy. tm_of copy ≡ tm_of self.now) }
     {
         match self {
             Term::Lit(v) => Ok(Term::Lit(*v)),
             Term::Var(x) => Ok(Term::Var(x.copy()?)),
-            Term::Un(o, a) => Ok(Term::Un(*o, Box::new(*Box::allocator(a), a.copy()?)?)),
+            Term::Un(o, a) => Ok(Term::Un(*o, twin(a)?)),
             Term::Bin(o, a, b) => {
-                let a = Box::new(*Box::allocator(a), a.copy()?)?;
-                let b = Box::new(*Box::allocator(b), b.copy()?)?;
-                Ok(Term::Bin(*o, a, b))
+                let a = twin(a)?;
+                Ok(Term::Bin(*o, a, twin(b)?))
             }
             Term::If(c, a, b) => {
-                let c = Box::new(*Box::allocator(c), c.copy()?)?;
-                let a = Box::new(*Box::allocator(a), a.copy()?)?;
-                let b = Box::new(*Box::allocator(b), b.copy()?)?;
-                Ok(Term::If(c, a, b))
+                let c = twin(c)?;
+                let a = twin(a)?;
+                Ok(Term::If(c, a, twin(b)?))
             }
             Term::When(a, c, b) => {
-                let a = Box::new(*Box::allocator(a), a.copy()?)?;
+                let a = twin(a)?;
                 Ok(Term::When(a, c.copy()?, *b))
             }
             Term::Merge(c, a, b) => {
-                let a = Box::new(*Box::allocator(a), a.copy()?)?;
-                let b = Box::new(*Box::allocator(b), b.copy()?)?;
+                let a = twin(a)?;
+                let b = twin(b)?;
                 Ok(Term::Merge(c.copy()?, a, b))
             }
-            Term::Fby(v, a) => Ok(Term::Fby(*v, Box::new(*Box::allocator(a), a.copy()?)?)),
+            Term::Fby(v, a) => Ok(Term::Fby(*v, twin(a)?)),
             Term::Follow(a, b) => {
-                let a = Box::new(*Box::allocator(a), a.copy()?)?;
-                let b = Box::new(*Box::allocator(b), b.copy()?)?;
-                Ok(Term::Follow(a, b))
+                let a = twin(a)?;
+                Ok(Term::Follow(a, twin(b)?))
             }
             Term::Arrow(a, b) => {
-                let a = Box::new(*Box::allocator(a), a.copy()?)?;
-                let b = Box::new(*Box::allocator(b), b.copy()?)?;
-                Ok(Term::Arrow(a, b))
+                let a = twin(a)?;
+                Ok(Term::Arrow(a, twin(b)?))
             }
             Term::Call(f, args) => {
-                let mut copies = Vec::with_capacity(*args.allocator(), args.len())?;
-                for a in args {
-                    copies.push(a.copy()?)?;
-                }
-                Ok(Term::Call(f.copy()?, copies))
+                let args = twins(args)?;
+                Ok(Term::Call(f.copy()?, args))
             }
         }
     }
+}
+
+// An equal term in a box of its own.
+#[cycle(copying)]
+fn twin(a: &Box<Term>) -> Result<Box<Term>, Memory>
+    ensures { IfOk result (λ copy. tm_of copy.value ≡ tm_of a.now.value) }
+{
+    Ok(Box::new(*Box::allocator(a), a.copy()?)?)
+}
+
+// Equal terms, one by one.
+#[cycle(copying)]
+fn twins(terms: &Vec<Term>) -> Result<Vec<Term>, Memory>
+    ensures { IfOk result (λ copies. map tm_of copies.items ≡ map tm_of terms.now.items) }
+{
+    let mut copies = Vec::with_capacity(*terms.allocator(), terms.len())?;
+    for term in terms {
+        copies.push(term.copy()?)?;
+    }
+    Ok(copies)
 }
