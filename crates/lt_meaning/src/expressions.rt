@@ -1,9 +1,9 @@
 // How an expression is lifted.
 
-ghost use Rattle.std.specs.Prelude.{◌≡◌, ℕ, ◌+◌, true, false, List as Items, Option as Maybe, IfOk, OnOk, length, map};
+ghost use Rattle.std.specs.Prelude.{◌≡◌, ◌∷◌, ℕ, ◌+◌, true, false, List as Items, Option as Maybe, IfOk, OnOk, length, map};
 ghost use denote.Bor.{Bor};
 ghost use Rattle.lt_base.specs.declared.expression.Expr.{Expr as Tree};
-ghost use Rattle.lt_base.specs.Expression.{shape, arguments_of};
+ghost use Rattle.lt_base.specs.Expression.{shape, binary, imported, choose, merged, follow, arrow, arguments_of};
 ghost use Rattle.lt_base.specs.Meaning.{outer as outer_pairs};
 ghost use Rattle.lt_meaning.specs.Form.{form, at as at_cell, kept as at_delay, one, two, named, either, joined};
 ghost use Rattle.lt_meaning.specs.Plan.{runs};
@@ -27,53 +27,129 @@ pub fn lift<'a>(to: &mut Lifter<'a>, e: &'a Expr, clock: &Clock) -> Result<Node,
         Expr::Var(x) => Ok(Node::Cell(*x as usize)),
         Expr::Un(o, a) => {
             let a = lift(to, a, clock)?;
-            unary(to.alloc, *o, a)
+            one_of(to.alloc, *o, a)
         }
-        Expr::Bin(o, a, b) => {
-            let a = lift(to, a, clock)?;
-            let b = lift(to, b, clock)?;
-            binary(to.alloc, *o, a, b)
-        }
-        Expr::Imported(o, a, b) => {
-            let a = lift(to, a, clock)?;
-            let b = lift(to, b, clock)?;
-            imported(to.alloc, *o, a, b)
-        }
-        Expr::If(c, a, b) => {
-            let c = lift(to, c, clock)?;
-            let a = lift(to, a, clock)?;
-            let b = lift(to, b, clock)?;
-            choose(to.alloc, c, a, b)
-        }
+        Expr::Bin(o, a, b) => lift_binary(to, *o, a, b, clock),
+        Expr::Imported(o, a, b) => lift_imported(to, *o, a, b, clock),
+        Expr::If(c, a, b) => lift_choice(to, c, a, b, clock),
         Expr::When(e, _, _) => {
             let before = outer(to.alloc, clock)?;
             lift(to, e, &before)
         }
-        Expr::Merge(c, a, b) => {
-            let yes = clock.copy()?.deeper(*c, true)?;
-            let a = lift(to, a, &yes)?;
-            let no = clock.copy()?.deeper(*c, false)?;
-            let b = lift(to, b, &no)?;
-            merge(to.alloc, *c, a, b)
-        }
+        Expr::Merge(c, a, b) => lift_merge(to, *c, a, b, clock),
         Expr::Fby(v, right) => wait(to, clock, *v, Some(right)),
-        Expr::Follow(a, b) => {
-            let a = lift(to, a, clock)?;
-            let begins = wait(to, clock, Value::Bool(true), None)?;
-            let kept = wait(to, clock, Value::Bool(true), Some(b))?;
-            choose(to.alloc, begins, a, kept)
-        }
-        Expr::Arrow(a, b) => {
-            let a = lift(to, a, clock)?;
-            let b = lift(to, b, clock)?;
-            let begins = wait(to, clock, Value::Bool(true), None)?;
-            choose(to.alloc, begins, a, b)
-        }
+        Expr::Follow(a, b) => lift_follow(to, a, b, clock),
+        Expr::Arrow(a, b) => lift_arrow(to, a, b, clock),
         Expr::Call(g, args) => {
             let args = lift_all(to, args, clock)?;
             call(to, clock, *g as usize, args)
         }
     }
+}
+
+// Lifts an operator's operands, and the operator.
+#[cycle(lifting)]
+fn lift_binary<'a>(
+    to: &mut Lifter<'a>,
+    o: Bin,
+    a: &'a Expr,
+    b: &'a Expr,
+    clock: &Clock,
+) -> Result<Node, Memory>
+    ensures form { IfOk result (λ node. form node ≡ form_of (length (taken to.old).waits) (taken to.old).cells (binary o (shape a.now) (shape b.now))) }
+    ensures grown { OnOk result (taken to.new ≡ after (taken to.old) (binary o (shape a.now) (shape b.now)) clock.now) }
+{
+    let a = lift(to, a, clock)?;
+    let b = lift(to, b, clock)?;
+    two_of(to.alloc, o, a, b)
+}
+
+// Lifts an imported operator's operands, and the operator.
+#[cycle(lifting)]
+fn lift_imported<'a>(
+    to: &mut Lifter<'a>,
+    o: Imp,
+    a: &'a Expr,
+    b: &'a Expr,
+    clock: &Clock,
+) -> Result<Node, Memory>
+    ensures form { IfOk result (λ node. form node ≡ form_of (length (taken to.old).waits) (taken to.old).cells (imported o (shape a.now) (shape b.now))) }
+    ensures grown { OnOk result (taken to.new ≡ after (taken to.old) (imported o (shape a.now) (shape b.now)) clock.now) }
+{
+    let a = lift(to, a, clock)?;
+    let b = lift(to, b, clock)?;
+    named_of(to.alloc, o, a, b)
+}
+
+// Lifts a choice.
+#[cycle(lifting)]
+fn lift_choice<'a>(
+    to: &mut Lifter<'a>,
+    c: &'a Expr,
+    a: &'a Expr,
+    b: &'a Expr,
+    clock: &Clock,
+) -> Result<Node, Memory>
+    ensures form { IfOk result (λ node. form node ≡ form_of (length (taken to.old).waits) (taken to.old).cells (choose (shape c.now) (shape a.now) (shape b.now))) }
+    ensures grown { OnOk result (taken to.new ≡ after (taken to.old) (choose (shape c.now) (shape a.now) (shape b.now)) clock.now) }
+{
+    let c = lift(to, c, clock)?;
+    let a = lift(to, a, clock)?;
+    let b = lift(to, b, clock)?;
+    either_of(to.alloc, c, a, b)
+}
+
+// Lifts a merge, each branch at its own clock.
+#[cycle(lifting)]
+fn lift_merge<'a>(
+    to: &mut Lifter<'a>,
+    c: u32,
+    a: &'a Expr,
+    b: &'a Expr,
+    clock: &Clock,
+) -> Result<Node, Memory>
+    ensures form { IfOk result (λ node. form node ≡ form_of (length (taken to.old).waits) (taken to.old).cells (merged c (shape a.now) (shape b.now))) }
+    ensures grown { OnOk result (taken to.new ≡ after (taken to.old) (merged c (shape a.now) (shape b.now)) clock.now) }
+{
+    let yes = branch(clock, c, true)?;
+    let a = lift(to, a, &yes)?;
+    let no = branch(clock, c, false)?;
+    let b = lift(to, b, &no)?;
+    joined_of(to.alloc, c, a, b)
+}
+
+// Lifts a delay that begins with what its left side has at the first instant.
+#[cycle(lifting)]
+fn lift_follow<'a>(
+    to: &mut Lifter<'a>,
+    a: &'a Expr,
+    b: &'a Expr,
+    clock: &Clock,
+) -> Result<Node, Memory>
+    ensures form { IfOk result (λ node. form node ≡ form_of (length (taken to.old).waits) (taken to.old).cells (follow (shape a.now) (shape b.now))) }
+    ensures grown { OnOk result (taken to.new ≡ after (taken to.old) (follow (shape a.now) (shape b.now)) clock.now) }
+{
+    let a = lift(to, a, clock)?;
+    let begins = wait(to, clock, Value::Bool(true), None)?;
+    let kept = wait(to, clock, Value::Bool(true), Some(b))?;
+    either_of(to.alloc, begins, a, kept)
+}
+
+// Lifts both sides of `->`.
+#[cycle(lifting)]
+fn lift_arrow<'a>(
+    to: &mut Lifter<'a>,
+    a: &'a Expr,
+    b: &'a Expr,
+    clock: &Clock,
+) -> Result<Node, Memory>
+    ensures form { IfOk result (λ node. form node ≡ form_of (length (taken to.old).waits) (taken to.old).cells (arrow (shape a.now) (shape b.now))) }
+    ensures grown { OnOk result (taken to.new ≡ after (taken to.old) (arrow (shape a.now) (shape b.now)) clock.now) }
+{
+    let a = lift(to, a, clock)?;
+    let b = lift(to, b, clock)?;
+    let begins = wait(to, clock, Value::Bool(true), None)?;
+    either_of(to.alloc, begins, a, b)
 }
 
 // Lifts the arguments of a call.
@@ -134,6 +210,13 @@ fn call(
     Ok(Node::Cell(cell))
 }
 
+// The clock of a branch of a merge, where the variable has that truth value.
+fn branch(clock: &Clock, c: u32, polarity: bool) -> Result<Clock, Memory>
+    ensures { IfOk result (λ r. r ≡ (c, polarity) ∷ clock.now) }
+{
+    clock.copy()?.deeper(c, polarity)
+}
+
 // The clock before the innermost pair.
 fn outer(alloc: Global, clock: &Clock) -> Result<Clock, Memory>
     ensures { IfOk result (λ before. before ≡ outer_pairs clock.now) }
@@ -146,13 +229,13 @@ fn outer(alloc: Global, clock: &Clock) -> Result<Clock, Memory>
     Ok(Clock { steps: front })
 }
 
-fn unary(alloc: Global, o: Un, a: Node) -> Result<Node, Memory>
+fn one_of(alloc: Global, o: Un, a: Node) -> Result<Node, Memory>
     ensures { IfOk result (λ node. form node ≡ one o (form a)) }
 {
     Ok(Node::Unary(o, Box::new(alloc, a)?))
 }
 
-fn binary(alloc: Global, o: Bin, a: Node, b: Node) -> Result<Node, Memory>
+fn two_of(alloc: Global, o: Bin, a: Node, b: Node) -> Result<Node, Memory>
     ensures { IfOk result (λ node. form node ≡ two o (form a) (form b)) }
 {
     let a = Box::new(alloc, a)?;
@@ -160,7 +243,7 @@ fn binary(alloc: Global, o: Bin, a: Node, b: Node) -> Result<Node, Memory>
     Ok(Node::Binary(o, a, b))
 }
 
-fn imported(alloc: Global, o: Imp, a: Node, b: Node) -> Result<Node, Memory>
+fn named_of(alloc: Global, o: Imp, a: Node, b: Node) -> Result<Node, Memory>
     ensures { IfOk result (λ node. form node ≡ named o (form a) (form b)) }
 {
     let a = Box::new(alloc, a)?;
@@ -168,7 +251,7 @@ fn imported(alloc: Global, o: Imp, a: Node, b: Node) -> Result<Node, Memory>
     Ok(Node::Imported(o, a, b))
 }
 
-fn choose(alloc: Global, c: Node, a: Node, b: Node) -> Result<Node, Memory>
+fn either_of(alloc: Global, c: Node, a: Node, b: Node) -> Result<Node, Memory>
     ensures { IfOk result (λ node. form node ≡ either (form c) (form a) (form b)) }
 {
     let c = Box::new(alloc, c)?;
@@ -177,7 +260,7 @@ fn choose(alloc: Global, c: Node, a: Node, b: Node) -> Result<Node, Memory>
     Ok(Node::Choose(c, a, b))
 }
 
-fn merge(alloc: Global, c: u32, a: Node, b: Node) -> Result<Node, Memory>
+fn joined_of(alloc: Global, c: u32, a: Node, b: Node) -> Result<Node, Memory>
     ensures { IfOk result (λ node. form node ≡ joined c (form a) (form b)) }
 {
     let a = Box::new(alloc, a)?;

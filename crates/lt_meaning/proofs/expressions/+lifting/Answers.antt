@@ -14,44 +14,8 @@ pub lift-returns-in_ok-a-in-Un : goal.lift-returns-in_ok-a-in-Un
 lift-returns-in_ok-a-in-Un t c =
     let a = shape c.deref.result.now in
     let is : shape c.args.e.now ≡ unary c.in-Un.o a = ap shape c.in-Un.is ∙ (λ i. unary c.in-Un.o (shape (sym c.deref.ensures i))) in
-    let l = one_lifts (taken c.args.to.now) (taken c.lift.new.to) (unary c.in-Un.o a) a c.args.clock.now (one c.in-Un.o) c.in_ok-a-in-Un.a c.unary.result (λ k c. refl) (λ z. refl) c.in_ok-a-in-Un.ensures.form c.in_ok-a-in-Un.ensures.grown c.unary.ensures in
-    let whole = subst (λ (e : Expression). Lifts (taken c.args.to.now) e c.args.clock.now c.unary.result (taken c.lift.new.to)) (sym is) l in
-    record { form = whole.form; grown = whole.grown }
-
-pub lift-returns-in_ok-b-in-Bin : goal.lift-returns-in_ok-b-in-Bin
-lift-returns-in_ok-b-in-Bin t c =
-    let o = c.in-Bin.o in
-    let ck = c.args.clock.now in
-    let a = shape c.deref-in-Bin.result.now in
-    let b = shape c.deref-in-Bin-2.result.now in
-    let is : shape c.args.e.now ≡ binary o a b = ap shape c.in-Bin.is ∙ (λ i. binary o (shape (sym c.deref-in-Bin.ensures i)) (shape (sym c.deref-in-Bin-2.ensures i))) in
-    let l = two_lifts (taken c.args.to.now) (taken c.lift-in-Bin.new.to) (taken c.lift-in-Bin-2.new.to) (binary o a b) a b ck ck ck (two o) c.in_ok-a-in-Bin.a c.in_ok-b-in-Bin.b c.binary.result (λ k c. refl) refl
-    c.in_ok-a-in-Bin.ensures.form c.in_ok-a-in-Bin.ensures.grown c.in_ok-b-in-Bin.ensures.form c.in_ok-b-in-Bin.ensures.grown c.binary.ensures in
-    let whole = subst (λ (e : Expression). Lifts (taken c.args.to.now) e ck c.binary.result (taken c.lift-in-Bin-2.new.to)) (sym is) l in
-    record { form = whole.form; grown = whole.grown }
-
-pub lift-returns-in_ok-b-in-Imported : goal.lift-returns-in_ok-b-in-Imported
-lift-returns-in_ok-b-in-Imported t c =
-    let o = c.in-Imported.o in
-    let ck = c.args.clock.now in
-    let a = shape c.deref-in-Imported.result.now in
-    let b = shape c.deref-in-Imported-2.result.now in
-    let is : shape c.args.e.now ≡ imported o a b = ap shape c.in-Imported.is ∙ (λ i. imported o (shape (sym c.deref-in-Imported.ensures i)) (shape (sym c.deref-in-Imported-2.ensures i))) in
-    let l = two_lifts (taken c.args.to.now) (taken c.lift-in-Imported.new.to) (taken c.lift-in-Imported-2.new.to) (imported o a b) a b ck ck ck (named o) c.in_ok-a-in-Imported.a c.in_ok-b-in-Imported.b c.imported.result (λ k c. refl) refl
-    c.in_ok-a-in-Imported.ensures.form c.in_ok-a-in-Imported.ensures.grown c.in_ok-b-in-Imported.ensures.form c.in_ok-b-in-Imported.ensures.grown c.imported.ensures in
-    let whole = subst (λ (e : Expression). Lifts (taken c.args.to.now) e ck c.imported.result (taken c.lift-in-Imported-2.new.to)) (sym is) l in
-    record { form = whole.form; grown = whole.grown }
-
-pub lift-returns-in_ok-b-in-If : goal.lift-returns-in_ok-b-in-If
-lift-returns-in_ok-b-in-If t c =
-    let ck = c.args.clock.now in
-    let d = shape c.deref-in-If.result.now in
-    let a = shape c.deref-in-If-2.result.now in
-    let b = shape c.deref-in-If-3.result.now in
-    let is : shape c.args.e.now ≡ choose d a b = ap shape c.in-If.is ∙ (λ i. choose (shape (sym c.deref-in-If.ensures i)) (shape (sym c.deref-in-If-2.ensures i)) (shape (sym c.deref-in-If-3.ensures i))) in
-    let l = choose_lifts (taken c.args.to.now) (taken c.lift-in-If.new.to) (taken c.lift-in-If-2.new.to) (taken c.lift-in-If-3.new.to) d a b ck c.in_ok-c-in-If.c c.in_ok-a-in-If.a c.in_ok-b-in-If.b c.choose.result
-    c.in_ok-c-in-If.ensures.form c.in_ok-c-in-If.ensures.grown c.in_ok-a-in-If.ensures.form c.in_ok-a-in-If.ensures.grown c.in_ok-b-in-If.ensures.form c.in_ok-b-in-If.ensures.grown c.choose.ensures in
-    let whole = subst (λ (e : Expression). Lifts (taken c.args.to.now) e ck c.choose.result (taken c.lift-in-If-3.new.to)) (sym is) l in
+    let l = one_lifts (taken c.args.to.now) (taken c.lift.new.to) (unary c.in-Un.o a) a c.args.clock.now (one c.in-Un.o) c.in_ok-a-in-Un.a c.one_of.result (λ k c. refl) (λ z. refl) c.in_ok-a-in-Un.ensures.form c.in_ok-a-in-Un.ensures.grown c.one_of.ensures in
+    let whole = subst (λ (e : Expression). Lifts (taken c.args.to.now) e c.args.clock.now c.one_of.result (taken c.lift.new.to)) (sym is) l in
     record { form = whole.form; grown = whole.grown }
 
 pub lift-returns-in_ok-before-in-When : goal.lift-returns-in_ok-before-in-When
@@ -63,21 +27,6 @@ lift-returns-in_ok-before-in-When t c =
     let whole = subst (λ (e : Expression). Lifts (taken c.args.to.now) e ck c.lift-in-When.result (taken c.lift-in-When.new.to)) (sym is) l in
     record { form = whole.form; grown = whole.grown }
 
-pub lift-returns-in_ok-b-in-Merge : goal.lift-returns-in_ok-b-in-Merge
-lift-returns-in_ok-b-in-Merge t c =
-    let x = c.in-Merge.c in
-    let ck = c.args.clock.now in
-    let a = shape c.deref-in-Merge.result.now in
-    let b = shape c.deref-in-Merge-2.result.now in
-    let yes : c.in_ok-yes-in-Merge.yes ≡ (x, true) ∷ ck = c.in_ok-yes-in-Merge.ensures ∙ ap (λ k. (x, true) ∷ k) c.in_ok-copy-in-Merge.ensures in
-    let no : c.in_ok-no-in-Merge.no ≡ (x, false) ∷ ck = c.in_ok-no-in-Merge.ensures ∙ ap (λ k. (x, false) ∷ k) c.in_ok-copy-in-Merge-2.ensures in
-    let is : shape c.args.e.now ≡ merged x a b = ap shape c.in-Merge.is ∙ (λ i. merged x (shape (sym c.deref-in-Merge.ensures i)) (shape (sym c.deref-in-Merge-2.ensures i))) in
-    let l = two_lifts (taken c.args.to.now) (taken c.lift-in-Merge.new.to) (taken c.lift-in-Merge-2.new.to) (merged x a b) a b ck ((x, true) ∷ ck) ((x, false) ∷ ck) (joined x) c.in_ok-a-in-Merge.a c.in_ok-b-in-Merge.b c.merge.result (λ k c. refl) refl
-    c.in_ok-a-in-Merge.ensures.form (c.in_ok-a-in-Merge.ensures.grown ∙ ap (λ k. after (taken c.args.to.now) a k) yes)
-    c.in_ok-b-in-Merge.ensures.form (c.in_ok-b-in-Merge.ensures.grown ∙ ap (λ k. after (taken c.lift-in-Merge.new.to) b k) no) c.merge.ensures in
-    let whole = subst (λ (e : Expression). Lifts (taken c.args.to.now) e ck c.merge.result (taken c.lift-in-Merge-2.new.to)) (sym is) l in
-    record { form = whole.form; grown = whole.grown }
-
 pub lift-returns-in-Fby : goal.lift-returns-in-Fby
 lift-returns-in-Fby t c =
     let ck = c.args.clock.now in
@@ -85,28 +34,6 @@ lift-returns-in-Fby t c =
     let is : shape c.args.e.now ≡ delayed c.in-Fby.v e = ap shape c.in-Fby.is ∙ (λ i. delayed c.in-Fby.v (shape (sym c.deref-in-Fby.ensures i))) in
     let l = delayed_lifts (taken c.args.to.now) (taken c.wait.new.to) c.in-Fby.v e ck c.wait.result c.wait.ensures.form c.wait.ensures.grown in
     let whole = subst (λ (e : Expression). Lifts (taken c.args.to.now) e ck c.wait.result (taken c.wait.new.to)) (sym is) l in
-    record { form = whole.form; grown = whole.grown }
-
-pub lift-returns-in_ok-kept-in-Follow : goal.lift-returns-in_ok-kept-in-Follow
-lift-returns-in_ok-kept-in-Follow t c =
-    let ck = c.args.clock.now in
-    let a = shape c.deref-in-Follow.result.now in
-    let b = shape c.deref-in-Follow-2.result.now in
-    let is : shape c.args.e.now ≡ follow a b = ap shape c.in-Follow.is ∙ (λ i. follow (shape (sym c.deref-in-Follow.ensures i)) (shape (sym c.deref-in-Follow-2.ensures i))) in
-    let l = follow_lifts (taken c.args.to.now) (taken c.lift-in-Follow.new.to) (taken c.wait-in-Follow.new.to) (taken c.wait-in-Follow-2.new.to) a b ck c.in_ok-a-in-Follow.a c.in_ok-begins-in-Follow.begins c.in_ok-kept-in-Follow.kept c.choose-in-Follow.result
-    c.in_ok-a-in-Follow.ensures.form c.in_ok-a-in-Follow.ensures.grown c.in_ok-begins-in-Follow.ensures.form c.in_ok-begins-in-Follow.ensures.grown c.in_ok-kept-in-Follow.ensures.form c.in_ok-kept-in-Follow.ensures.grown c.choose-in-Follow.ensures in
-    let whole = subst (λ (e : Expression). Lifts (taken c.args.to.now) e ck c.choose-in-Follow.result (taken c.wait-in-Follow-2.new.to)) (sym is) l in
-    record { form = whole.form; grown = whole.grown }
-
-pub lift-returns-in_ok-begins-in-Arrow : goal.lift-returns-in_ok-begins-in-Arrow
-lift-returns-in_ok-begins-in-Arrow t c =
-    let ck = c.args.clock.now in
-    let a = shape c.deref-in-Arrow.result.now in
-    let b = shape c.deref-in-Arrow-2.result.now in
-    let is : shape c.args.e.now ≡ arrow a b = ap shape c.in-Arrow.is ∙ (λ i. arrow (shape (sym c.deref-in-Arrow.ensures i)) (shape (sym c.deref-in-Arrow-2.ensures i))) in
-    let l = arrow_lifts (taken c.args.to.now) (taken c.lift-in-Arrow.new.to) (taken c.lift-in-Arrow-2.new.to) (taken c.wait-in-Arrow.new.to) a b ck c.in_ok-a-in-Arrow.a c.in_ok-b-in-Arrow.b c.in_ok-begins-in-Arrow.begins c.choose-in-Arrow.result
-    c.in_ok-a-in-Arrow.ensures.form c.in_ok-a-in-Arrow.ensures.grown c.in_ok-b-in-Arrow.ensures.form c.in_ok-b-in-Arrow.ensures.grown c.in_ok-begins-in-Arrow.ensures.form c.in_ok-begins-in-Arrow.ensures.grown c.choose-in-Arrow.ensures in
-    let whole = subst (λ (e : Expression). Lifts (taken c.args.to.now) e ck c.choose-in-Arrow.result (taken c.wait-in-Arrow.new.to)) (sym is) l in
     record { form = whole.form; grown = whole.grown }
 
 pub lift-returns-in_ok-args-in-Call : goal.lift-returns-in_ok-args-in-Call
@@ -118,6 +45,67 @@ lift-returns-in_ok-args-in-Call t c =
     c.in_ok-args-in-Call.ensures.forms c.in_ok-args-in-Call.ensures.grown c.call.ensures.form c.call.ensures.grown in
     let whole = subst (λ (e : Expression). Lifts (taken c.args.to.now) e ck c.call.result (taken c.call.new.to)) (sym is) l in
     record { form = whole.form; grown = whole.grown }
+
+pub lift_binary-returns : goal.lift_binary-returns
+lift_binary-returns t c =
+    let o = c.args.o in
+    let ck = c.args.clock.now in
+    let a = shape c.args.a.now in
+    let b = shape c.args.b.now in
+    let l = two_lifts (taken c.args.to.now) (taken c.lift.new.to) (taken c.lift-2.new.to) (binary o a b) a b ck ck ck (two o) c.in_ok-a.a c.in_ok-b.b c.two_of.result (λ k c. refl) refl
+    c.in_ok-a.ensures.form c.in_ok-a.ensures.grown c.in_ok-b.ensures.form c.in_ok-b.ensures.grown c.two_of.ensures in
+    record { form = l.form; grown = l.grown }
+
+pub lift_imported-returns : goal.lift_imported-returns
+lift_imported-returns t c =
+    let o = c.args.o in
+    let ck = c.args.clock.now in
+    let a = shape c.args.a.now in
+    let b = shape c.args.b.now in
+    let l = two_lifts (taken c.args.to.now) (taken c.lift.new.to) (taken c.lift-2.new.to) (imported o a b) a b ck ck ck (named o) c.in_ok-a.a c.in_ok-b.b c.named_of.result (λ k c. refl) refl
+    c.in_ok-a.ensures.form c.in_ok-a.ensures.grown c.in_ok-b.ensures.form c.in_ok-b.ensures.grown c.named_of.ensures in
+    record { form = l.form; grown = l.grown }
+
+pub lift_choice-returns : goal.lift_choice-returns
+lift_choice-returns t c =
+    let ck = c.args.clock.now in
+    let d = shape c.args.c.now in
+    let a = shape c.args.a.now in
+    let b = shape c.args.b.now in
+    let l = choose_lifts (taken c.args.to.now) (taken c.lift.new.to) (taken c.lift-2.new.to) (taken c.lift-3.new.to) d a b ck c.in_ok-c.c c.in_ok-a.a c.in_ok-b.b c.either_of.result
+    c.in_ok-c.ensures.form c.in_ok-c.ensures.grown c.in_ok-a.ensures.form c.in_ok-a.ensures.grown c.in_ok-b.ensures.form c.in_ok-b.ensures.grown c.either_of.ensures in
+    record { form = l.form; grown = l.grown }
+
+pub lift_merge-returns : goal.lift_merge-returns
+lift_merge-returns t c =
+    let x = c.args.c in
+    let ck = c.args.clock.now in
+    let a = shape c.args.a.now in
+    let b = shape c.args.b.now in
+    let yes = c.in_ok-yes.ensures in
+    let no = c.in_ok-no.ensures in
+    let l = two_lifts (taken c.args.to.now) (taken c.lift.new.to) (taken c.lift-2.new.to) (merged x a b) a b ck ((x, true) ∷ ck) ((x, false) ∷ ck) (joined x) c.in_ok-a.a c.in_ok-b.b c.joined_of.result (λ k c. refl) refl
+    c.in_ok-a.ensures.form (c.in_ok-a.ensures.grown ∙ ap (λ k. after (taken c.args.to.now) a k) yes)
+    c.in_ok-b.ensures.form (c.in_ok-b.ensures.grown ∙ ap (λ k. after (taken c.lift.new.to) b k) no) c.joined_of.ensures in
+    record { form = l.form; grown = l.grown }
+
+pub lift_follow-returns : goal.lift_follow-returns
+lift_follow-returns t c =
+    let ck = c.args.clock.now in
+    let a = shape c.args.a.now in
+    let b = shape c.args.b.now in
+    let l = follow_lifts (taken c.args.to.now) (taken c.lift.new.to) (taken c.wait.new.to) (taken c.wait-2.new.to) a b ck c.in_ok-a.a c.in_ok-begins.begins c.in_ok-kept.kept c.either_of.result
+    c.in_ok-a.ensures.form c.in_ok-a.ensures.grown c.in_ok-begins.ensures.form c.in_ok-begins.ensures.grown c.in_ok-kept.ensures.form c.in_ok-kept.ensures.grown c.either_of.ensures in
+    record { form = l.form; grown = l.grown }
+
+pub lift_arrow-returns : goal.lift_arrow-returns
+lift_arrow-returns t c =
+    let ck = c.args.clock.now in
+    let a = shape c.args.a.now in
+    let b = shape c.args.b.now in
+    let l = arrow_lifts (taken c.args.to.now) (taken c.lift.new.to) (taken c.lift-2.new.to) (taken c.wait.new.to) a b ck c.in_ok-a.a c.in_ok-b.b c.in_ok-begins.begins c.either_of.result
+    c.in_ok-a.ensures.form c.in_ok-a.ensures.grown c.in_ok-b.ensures.form c.in_ok-b.ensures.grown c.in_ok-begins.ensures.form c.in_ok-begins.ensures.grown c.either_of.ensures in
+    record { form = l.form; grown = l.grown }
 
 pub lift_all-loop-a-init : goal.lift_all-loop-a-init
 lift_all-loop-a-init t c = record { forms = ap (map form) c.in_ok-nodes.ensures.items; grown = no_arguments_lift (taken c.args.to.now) c.args.clock.now }
