@@ -1,6 +1,10 @@
--- A command is made of those below it, one after another.
-use Rattle.std.proofs.Common.{◌≡◌, ap, ◌∙◌}
-use Rattle.clap.specs.Words.{App, with_subcommand}
+-- A command takes one argument after another.
+use Rattle.std.proofs.Common.{◌≡◌, Result, subst}
+use Rattle.clap.specs.Words.{App}
+use Rattle.clap.specs.declared.builder.command.Command.{Command}
+use Rattle.lt_base.specs.declared.memory.Memory.{Memory}
+use Rattle.lt_words.specs.Local.{Makes}
 
-pub one_more : (before after below x y : App) → after ≡ with_subcommand before below.top → before ≡ x → below ≡ y → after ≡ with_subcommand x y.top
-one_more before after below x y made is_x is_y = made ∙ ap (λ (a : App). with_subcommand a below.top) is_x ∙ ap (λ (b : App). with_subcommand x b.top) is_y
+pub taken : (said : App) {Rule : Type 0} (with_it : App → Rule → App) (rule given : Rule) (before after : Result Command Memory)
+    → ((x : App) → Makes x before → Makes (with_it x given) after) → given ≡ rule → Makes said before → Makes (with_it said rule) after
+taken said with_it rule given before after takes is made = subst (λ k. Makes (with_it said k) after) is (takes said made)

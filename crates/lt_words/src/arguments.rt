@@ -1,7 +1,7 @@
 // Arguments, and how a command takes them.
 ghost use Rattle.std.specs.Prelude.{◌≡◌, false, IfOk};
-ghost use Rattle.clap.specs.Words.{app_of, rule_of, with_rule, with_subcommand};
-ghost use Rattle.lt_words.specs.Local.{IsLocal};
+ghost use Rattle.clap.specs.Words.{App, rule_of, with_rule, with_subcommand};
+ghost use Rattle.lt_words.specs.Local.{IsLocal, Makes};
 ghost use Rattle.lt_words.specs.Commands.{text_rule, optional_rule, number_rule, needed_number_rule, counted_rule, name_rule};
 
 use clap::builder::ValueParser;
@@ -59,20 +59,24 @@ pub fn name<'a>(alloc: Global, id: &'a str) -> Arg<'a>
     Arg::new(alloc, id).long(id)
 }
 
-/// A command that takes one more argument.
-pub fn with_argument<'a>(command: Command<'a>, argument: Arg<'a>) -> Result<Command<'a>, Memory>
+/// The command with one more argument, where memory was found for it.
+pub fn with_argument<'a>(
+    command: Result<Command<'a>, Memory>,
+    argument: Arg<'a>,
+) -> Result<Command<'a>, Memory>
     requires { argument.global ≡ false }
-    ensures app { IfOk result (λ c. app_of c ≡ with_rule (app_of command.entry) (rule_of argument.entry)) }
-    ensures local { IfOk result (λ c. IsLocal command.entry → IsLocal c) }
+    ensures { (app : App) → Makes app command.entry → Makes (with_rule app (rule_of argument.entry)) result }
 {
-    Ok(command.arg(argument)?)
+    Ok(command?.arg(argument)?)
 }
 
-/// A command that has one more command below it.
-pub fn with_command<'a>(command: Command<'a>, below: Command<'a>) -> Result<Command<'a>, Memory>
-    requires { IsLocal below }
-    ensures app { IfOk result (λ c. app_of c ≡ with_subcommand (app_of command.entry) (app_of below.entry).top) }
-    ensures local { IfOk result (λ c. IsLocal command.entry → IsLocal c) }
+/// The command with one more command below it, where memory was found for both.
+pub fn with_command<'a>(
+    command: Result<Command<'a>, Memory>,
+    below: Result<Command<'a>, Memory>,
+) -> Result<Command<'a>, Memory>
+    requires { IfOk below IsLocal }
+    ensures { (app down : App) → Makes app command.entry → Makes down below.entry → Makes (with_subcommand app down.top) result }
 {
-    Ok(command.subcommand(below)?)
+    Ok(command?.subcommand(below?)?)
 }

@@ -1,7 +1,7 @@
 // The commands of the program, as `clap` is told of them.
-ghost use Rattle.std.specs.Prelude.{◌≡◌, IfOk};
-ghost use Rattle.clap.specs.Words.{app_of};
-ghost use Rattle.lt_words.specs.Local.{IsLocal};
+ghost use Rattle.std.specs.Prelude.{IfOk};
+ghost use Rattle.clap.specs.Words.{App, new_app};
+ghost use Rattle.lt_words.specs.Local.{IsMadeAs, Makes};
 ghost use Rattle.lt_words.specs.Commands.{check_app, meaning_app, run_app, plan_app, placed_app, sim_app, big_app, replayed_app, watch_app, audit_app, trace_app};
 ghost use Rattle.lt_words.specs.Commands.{with_programs, with_drawings, with_views, bare_app, program_app};
 
@@ -18,157 +18,154 @@ pub const GREATEST_TIME: u64 = 1_000_000_000_000_000;
 /// The most instants of the large input.
 pub const MOST_INSTANTS: u64 = 100_000;
 
-fn check<'a>(alloc: Global) -> Result<Command<'a>, Memory>
-    ensures app { IfOk result (λ c. app_of c ≡ check_app) }
-    ensures local { IfOk result IsLocal }
+// A command of this name that takes nothing yet.
+fn plain<'a>(alloc: Global, name: &'a str) -> Result<Command<'a>, Memory>
+    ensures { Makes (new_app name.entry.now) result }
 {
-    let command = with_argument(Command::new(alloc, "check"), text(alloc, "program"))?;
+    Ok(Command::new(alloc, name))
+}
+
+fn check<'a>(alloc: Global) -> Result<Command<'a>, Memory>
+    ensures { Makes check_app result }
+{
+    let command = with_argument(plain(alloc, "check"), text(alloc, "program"));
     with_argument(command, optional_text(alloc, "config"))
 }
 
 fn meaning<'a>(alloc: Global) -> Result<Command<'a>, Memory>
-    ensures app { IfOk result (λ c. app_of c ≡ meaning_app) }
-    ensures local { IfOk result IsLocal }
+    ensures { Makes meaning_app result }
 {
-    let command = with_argument(Command::new(alloc, "meaning"), text(alloc, "program"))?;
+    let command = with_argument(plain(alloc, "meaning"), text(alloc, "program"));
     with_argument(command, text(alloc, "inputs"))
 }
 
 fn run<'a>(alloc: Global) -> Result<Command<'a>, Memory>
-    ensures app { IfOk result (λ c. app_of c ≡ run_app) }
-    ensures local { IfOk result IsLocal }
+    ensures { Makes run_app result }
 {
-    let command = with_argument(Command::new(alloc, "run"), text(alloc, "program"))?;
-    let command = with_argument(command, text(alloc, "inputs"))?;
-    let needed = with_argument(command, text(alloc, "schedule"))?;
+    let command = with_argument(plain(alloc, "run"), text(alloc, "program"));
+    let command = with_argument(command, text(alloc, "inputs"));
+    let needed = with_argument(command, text(alloc, "schedule"));
     with_argument(needed, optional_text(alloc, "config"))
 }
 
 fn plan<'a>(alloc: Global) -> Result<Command<'a>, Memory>
-    ensures app { IfOk result (λ c. app_of c ≡ plan_app) }
-    ensures local { IfOk result IsLocal }
+    ensures { Makes plan_app result }
 {
-    let command = with_argument(Command::new(alloc, "plan"), text(alloc, "config"))?;
+    let command = with_argument(plain(alloc, "plan"), text(alloc, "config"));
     with_argument(command, number(alloc, "horizon", GREATEST_TIME))
 }
 
 // A command of this name on a program, its inputs and a setup.
 fn placed<'a>(alloc: Global, name: &'a str) -> Result<Command<'a>, Memory>
-    ensures app { IfOk result (λ c. app_of c ≡ placed_app name.entry.now) }
-    ensures local { IfOk result IsLocal }
+    ensures { Makes (placed_app name.entry.now) result }
 {
-    let command = with_argument(Command::new(alloc, name), text(alloc, "program"))?;
-    let command = with_argument(command, text(alloc, "inputs"))?;
+    let command = with_argument(plain(alloc, name), text(alloc, "program"));
+    let command = with_argument(command, text(alloc, "inputs"));
     with_argument(command, text(alloc, "config"))
 }
 
 fn sim<'a>(alloc: Global) -> Result<Command<'a>, Memory>
-    ensures app { IfOk result (λ c. app_of c ≡ sim_app) }
-    ensures local { IfOk result IsLocal }
+    ensures { Makes sim_app result }
 {
     let command = with_argument(
-        placed(alloc, "sim")?,
+        placed(alloc, "sim"),
         needed_number(alloc, "seed", u64::MAX),
-    )?;
+    );
     with_argument(command, needed_number(alloc, "horizon", GREATEST_TIME))
 }
 
 fn big<'a>(alloc: Global) -> Result<Command<'a>, Memory>
-    ensures app { IfOk result (λ c. app_of c ≡ big_app) }
-    ensures local { IfOk result IsLocal }
+    ensures { Makes big_app result }
 {
     with_argument(
-        Command::new(alloc, "big"),
+        plain(alloc, "big"),
         counted(alloc, "instants", MOST_INSTANTS),
     )
 }
 
 // A command of this name on a program, its inputs, a schedule and one file more.
 fn replayed<'a>(alloc: Global, name: &'a str, file: &'a str) -> Result<Command<'a>, Memory>
-    ensures app { IfOk result (λ c. app_of c ≡ replayed_app name.entry.now file.entry.now) }
-    ensures local { IfOk result IsLocal }
+    ensures { Makes (replayed_app name.entry.now file.entry.now) result }
 {
-    let command = with_argument(Command::new(alloc, name), text(alloc, "program"))?;
-    let command = with_argument(command, text(alloc, "inputs"))?;
-    let command = with_argument(command, text(alloc, "schedule"))?;
+    let command = with_argument(plain(alloc, name), text(alloc, "program"));
+    let command = with_argument(command, text(alloc, "inputs"));
+    let command = with_argument(command, text(alloc, "schedule"));
     with_argument(command, text(alloc, file))
 }
 
 fn watch<'a>(alloc: Global) -> Result<Command<'a>, Memory>
-    ensures app { IfOk result (λ c. app_of c ≡ watch_app) }
-    ensures local { IfOk result IsLocal }
+    ensures { Makes watch_app result }
 {
-    let command = replayed(alloc, "watch", "observer")?;
+    let command = replayed(alloc, "watch", "observer");
     with_argument(command, optional_text(alloc, "config"))
 }
 
 fn audit<'a>(alloc: Global) -> Result<Command<'a>, Memory>
-    ensures app { IfOk result (λ c. app_of c ≡ audit_app) }
-    ensures local { IfOk result IsLocal }
+    ensures { Makes audit_app result }
 {
     replayed(alloc, "audit", "config")
 }
 
 fn trace<'a>(alloc: Global) -> Result<Command<'a>, Memory>
-    ensures app { IfOk result (λ c. app_of c ≡ trace_app) }
-    ensures local { IfOk result IsLocal }
+    ensures { Makes trace_app result }
 {
-    let command = with_argument(replayed(alloc, "trace", "config")?, name(alloc, "node"))?;
-    let command = with_argument(command, number(alloc, "from", GREATEST_TIME))?;
+    let command = with_argument(replayed(alloc, "trace", "config"), name(alloc, "node"));
+    let command = with_argument(command, number(alloc, "from", GREATEST_TIME));
     with_argument(command, number(alloc, "to", GREATEST_TIME))
 }
 
-fn bare<'a>(alloc: Global) -> Command<'a>
-    ensures app { app_of result ≡ bare_app }
-    ensures local { IsLocal result }
+fn bare<'a>(alloc: Global) -> Result<Command<'a>, Memory>
+    ensures { Makes bare_app result }
 {
-    Command::new(alloc, "ltta")
+    let command = Command::new(alloc, "ltta")
         .no_binary_name(true)
         .disable_help_flag(true)
         .disable_help_subcommand(true)
-        .subcommand_required(true)
+        .subcommand_required(true);
+    Ok(command)
 }
 
 // The command with those on the files of a program.
-fn with_programs<'a>(alloc: Global, command: Command<'a>) -> Result<Command<'a>, Memory>
-    ensures app { IfOk result (λ c. app_of c ≡ with_programs (app_of command.entry)) }
-    ensures local { IfOk result (λ c. IsLocal command.entry → IsLocal c) }
+fn with_programs<'a>(
+    alloc: Global,
+    command: Result<Command<'a>, Memory>,
+) -> Result<Command<'a>, Memory>
+    ensures { (app : App) → Makes app command.entry → Makes (with_programs app) result }
 {
-    let command = with_command(command, check(alloc)?)?;
-    let command = with_command(command, meaning(alloc)?)?;
-    let command = with_command(command, run(alloc)?)?;
-    let command = with_command(command, plan(alloc)?)?;
-    Ok(command)
+    let command = with_command(command, check(alloc));
+    let command = with_command(command, meaning(alloc));
+    let command = with_command(command, run(alloc));
+    with_command(command, plan(alloc))
 }
 
 // The command with those that draw a schedule.
-fn with_drawings<'a>(alloc: Global, command: Command<'a>) -> Result<Command<'a>, Memory>
-    ensures app { IfOk result (λ c. app_of c ≡ with_drawings (app_of command.entry)) }
-    ensures local { IfOk result (λ c. IsLocal command.entry → IsLocal c) }
+fn with_drawings<'a>(
+    alloc: Global,
+    command: Result<Command<'a>, Memory>,
+) -> Result<Command<'a>, Memory>
+    ensures { (app : App) → Makes app command.entry → Makes (with_drawings app) result }
 {
-    let command = with_command(command, sim(alloc)?)?;
-    let command = with_command(command, big(alloc)?)?;
-    Ok(command)
+    let command = with_command(command, sim(alloc));
+    with_command(command, big(alloc))
 }
 
 // The command with those that look at a run.
-fn with_views<'a>(alloc: Global, command: Command<'a>) -> Result<Command<'a>, Memory>
-    ensures app { IfOk result (λ c. app_of c ≡ with_views (app_of command.entry)) }
-    ensures local { IfOk result (λ c. IsLocal command.entry → IsLocal c) }
+fn with_views<'a>(
+    alloc: Global,
+    command: Result<Command<'a>, Memory>,
+) -> Result<Command<'a>, Memory>
+    ensures { (app : App) → Makes app command.entry → Makes (with_views app) result }
 {
-    let command = with_command(command, watch(alloc)?)?;
-    let command = with_command(command, audit(alloc)?)?;
-    let command = with_command(command, trace(alloc)?)?;
-    Ok(command)
+    let command = with_command(command, watch(alloc));
+    let command = with_command(command, audit(alloc));
+    with_command(command, trace(alloc))
 }
 
 /// The program's command, with those below it.
 pub fn program<'a>(alloc: Global) -> Result<Command<'a>, Memory>
-    ensures app { IfOk result (λ c. app_of c ≡ program_app) }
-    ensures local { IfOk result IsLocal }
+    ensures { Makes program_app result }
 {
-    let command = with_programs(alloc, bare(alloc))?;
-    let command = with_drawings(alloc, command)?;
-    let command = with_views(alloc, command)?;
-    Ok(command)
+    let command = with_programs(alloc, bare(alloc));
+    let command = with_drawings(alloc, command);
+    with_views(alloc, command)
 }

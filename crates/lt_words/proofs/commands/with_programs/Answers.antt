@@ -1,17 +1,5 @@
-use Rattle.std.proofs.Common.{refl}
-use Rattle.clap.specs.Words.{app_of}
-use Rattle.lt_words.proofs.Steps.{one_more}
+use Rattle.lt_words.specs.Commands.{check_app, meaning_app, run_app, plan_app}
 use Rattle.lt_words.proofs.commands.with_programs.Goals as goal
 
-pub returns-clause-app : goal.returns-clause-app
-returns-clause-app c =
-    one_more _ _ _ _ _ c.in_ok-command-4.ensures.app
-    (one_more _ _ _ _ _ c.in_ok-command-3.ensures.app
-    (one_more _ _ _ _ _ c.in_ok-command-2.ensures.app
-    (one_more (app_of c.args.command) _ _ (app_of c.args.command) _ c.in_ok-command.ensures.app refl c.in_ok-check.ensures.app)
-    c.in_ok-meaning.ensures.app)
-    c.in_ok-run.ensures.app)
-    c.in_ok-plan.ensures.app
-
-pub returns-clause-local : goal.returns-clause-local
-returns-clause-local c = λ local. c.in_ok-command-4.ensures.local (c.in_ok-command-3.ensures.local (c.in_ok-command-2.ensures.local (c.in_ok-command.ensures.local local)))
+pub returns : goal.returns
+returns c = λ said made. c.with_command.ensures _ plan_app (c.with_command-command-3.ensures _ run_app (c.with_command-command-2.ensures _ meaning_app (c.with_command-command.ensures _ check_app made c.check.ensures) c.meaning.ensures) c.run.ensures) c.plan.ensures

@@ -1,15 +1,5 @@
-use Rattle.std.proofs.Common.{refl}
-use Rattle.clap.specs.Words.{app_of}
-use Rattle.lt_words.proofs.Steps.{one_more}
+use Rattle.lt_words.specs.Commands.{watch_app, audit_app, trace_app}
 use Rattle.lt_words.proofs.commands.with_views.Goals as goal
 
-pub returns-clause-app : goal.returns-clause-app
-returns-clause-app c =
-    one_more _ _ _ _ _ c.in_ok-command-3.ensures.app
-    (one_more _ _ _ _ _ c.in_ok-command-2.ensures.app
-    (one_more (app_of c.args.command) _ _ (app_of c.args.command) _ c.in_ok-command.ensures.app refl c.in_ok-watch.ensures.app)
-    c.in_ok-audit.ensures.app)
-    c.in_ok-trace.ensures.app
-
-pub returns-clause-local : goal.returns-clause-local
-returns-clause-local c = λ local. c.in_ok-command-3.ensures.local (c.in_ok-command-2.ensures.local (c.in_ok-command.ensures.local local))
+pub returns : goal.returns
+returns c = λ said made. c.with_command.ensures _ trace_app (c.with_command-command-2.ensures _ audit_app (c.with_command-command.ensures _ watch_app made c.watch.ensures) c.audit.ensures) c.trace.ensures

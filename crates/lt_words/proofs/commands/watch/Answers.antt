@@ -1,0 +1,8 @@
+use Rattle.clap.specs.Words.{with_rule}
+use Rattle.lt_words.proofs.Steps.{taken}
+use Rattle.lt_words.proofs.commands.watch.Goals as goal
+
+pub returns : goal.returns
+returns c =
+    taken _ with_rule _ _ _ _ c.with_argument.ensures c.optional_text.ensures.rule
+    c.replayed-command.ensures
