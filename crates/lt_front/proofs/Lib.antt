@@ -1,6 +1,7 @@
 pub mod Lengths
 pub mod Rooms
 pub mod Outcomes
+pub mod Refused
 pub mod OneProgram
 pub mod OneFault
 pub mod FlatSizes

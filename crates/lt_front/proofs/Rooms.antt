@@ -6,7 +6,6 @@ use Rattle.std.proofs.lemmas.List.Elements.{All-nil, All-cons, All-head, All-tai
 use Rattle.lt_base.specs.Program.{Function, WholeProgram}
 use Rattle.lt_base.specs.Meaning.{function_of}
 use Rattle.lt_base.specs.Dependence.{Causal, CausalProgram}
-use Rattle.lt_cause.specs.declared.causality.Cycle.{Cycle}
 use Rattle.lt_cause.specs.Orders.{IsLeastCycle}
 use Rattle.lt_syntax.specs.declared.tree.NodeText.{NodeText}
 use Rattle.lt_resolve.specs.Names.{Name}
@@ -53,7 +52,3 @@ no_cycle (f ∷ fs) (suc n) vars here all = no_cycle fs n vars here (All-tail Ca
 -- where a function has a cycle, not all functions are causal
 pub cycle_excludes : (p : WholeProgram) (n : ℕ) (vars : List ℕ) → IsFirstCycle p n vars → CausalProgram p → ⊥
 cycle_excludes p n vars first all = no_cycle p.funcs n vars first.here all
-
--- the same cycle
-pub first_cycle : (p : WholeProgram) (n m : ℕ) (x y : Cycle) → n ≡ m → x ≡ y → IsFirstCycle p m y.vars → IsFirstCycle p n x.vars
-first_cycle p n m x y same equal first = subst (λ (k : ℕ). IsFirstCycle p k x.vars) (sym same) (subst (λ (z : Cycle). IsFirstCycle p m z.vars) (sym equal) first)

@@ -5,6 +5,7 @@ ghost use Rattle.lt_base.specs.Or.{ForFault};
 ghost use Rattle.lt_base.specs.Dependence.{CausalProgram};
 ghost use Rattle.lt_front.specs.Causality.{IsFirstCycle};
 
+use crate::refusals::of_function;
 use lt_base::{Or, Program};
 use lt_cause::{Cycle, causal};
 use std::alloc::Global;
@@ -26,13 +27,7 @@ pub(crate) fn causality(alloc: Global, p: &Program) -> Result<(), Or<Circle>>
     for (number, f) in p.funcs.as_slice().iter().enumerate() {
         match causal(alloc, f) {
             Ok(_) => {}
-            Err(Or::Fault(cycle)) => {
-                return Err(Or::Fault(Circle {
-                    func: number as u32,
-                    cycle,
-                }));
-            }
-            Err(Or::Memory) => return Err(Or::Memory),
+            Err(e) => return Err(of_function(e, number as u32)),
         }
     }
     Ok(())

@@ -9,6 +9,7 @@ ghost use Rattle.lt_answer.specs.Answered.{Settles};
 ghost use Rattle.lt_front.specs.Front.{examine_verdict, resolved_verdict, typed_verdict, clocked_verdict, causal_verdict, fits_verdict};
 
 use crate::causality::causality;
+use crate::refusals::{of_circle, of_clocks, of_names};
 use crate::{Examined, ProgramFault};
 use lt_base::{Or, Program};
 use lt_check::{clocks, sizes, types};
@@ -41,8 +42,7 @@ fn resolved(alloc: Global, tree: Tree) -> Result<Examined, Or<ProgramFault>>
 {
     match resolve(alloc, &tree) {
         Ok(program) => typed(alloc, tree, program),
-        Err(Or::Fault(fault)) => Err(Or::Fault(ProgramFault::Name(fault, tree))),
-        Err(Or::Memory) => Err(Or::Memory),
+        Err(e) => Err(of_names(e, tree)),
     }
 }
 
@@ -67,8 +67,7 @@ fn clocked(alloc: Global, tree: Tree, program: Program) -> Result<Examined, Or<P
 {
     match clocks(alloc, &program) {
         Ok(()) => ordered(alloc, tree, program),
-        Err(Or::Fault(fault)) => Err(Or::Fault(ProgramFault::Clock(fault, tree))),
-        Err(Or::Memory) => Err(Or::Memory),
+        Err(e) => Err(of_clocks(e, tree)),
     }
 }
 
@@ -82,12 +81,7 @@ fn ordered(alloc: Global, tree: Tree, program: Program) -> Result<Examined, Or<P
 {
     match causality(alloc, &program) {
         Ok(()) => measured(alloc, tree, program),
-        Err(Or::Fault(circle)) => Err(Or::Fault(ProgramFault::Cycle {
-            func: circle.func,
-            cycle: circle.cycle,
-            tree,
-        })),
-        Err(Or::Memory) => Err(Or::Memory),
+        Err(e) => Err(of_circle(e, tree)),
     }
 }
 

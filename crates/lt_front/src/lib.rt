@@ -7,6 +7,7 @@ mod checks;
 mod examined;
 mod fault;
 mod flattening;
+mod refusals;
 
 pub use checked::Checked;
 pub use checks::examine;
