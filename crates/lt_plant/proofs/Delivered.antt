@@ -20,10 +20,10 @@ use Rattle.lt_plant.specs.Layout.{IsLaidOut}
 use Rattle.lt_plant.specs.Local.{upto, fed_row, firsts}
 use Rattle.lt_plant.specs.Payloads.{between, row_at, message_of, channel_between}
 use Rattle.lt_plant.specs.Plant.{PlantState}
-use Rattle.lt_plant.specs.Standing.{StandsAt}
+use Rattle.lt_plant.specs.Standing.{HasRun, StandsAt}
 use Rattle.lt_plant.proofs.Entries.{got_entry, message_same}
 use Rattle.lt_plant.proofs.Firsts.{firsts-same, upto-same}
-use Rattle.lt_plant.proofs.OwnValues.{Extends, fed_row_same, grows_extends, own_extended}
+use Rattle.lt_plant.proofs.OwnValues.{Extends, SeesSame, sees_extended, fed_row_same, grows_extends, own_extended}
 
 -- each node has at most one row more than each channel to it has payloads
 pub enough_ahead : {C M : Type 0} (phase : C → Phase) (stands : M → Function → List (List Value) → Type 0) (made left : M → ℕ) (p : PlantState C M) (f : Function) → IsLaidOut f p.layout → HasChannels p.layout p.shape →
@@ -55,6 +55,29 @@ module _ {C M : Type 0} (phase : C → Phase) (stands : M → Function → List 
     buffers = s.buffers;
   }
 
+  -- where each node sees the same messages, it has run the same
+  module _ (f : Function) (placed : IsLaidOut f p.layout) (got' : ℕ → List (List Value)) (sees : (n : ℕ) → SeesSame p.layout (between p.shape got) (between p.shape got') n (length (inputs n))) where
+    same_fed : (n k : ℕ) → n < length p.layout.nodes → k < length (inputs n) → fed_row p.layout (between p.shape got') n (row_at (inputs n) k) k ≡ fed_row p.layout (between p.shape got) n (row_at (inputs n) k) k
+    same_fed n k nb h = fed_row_same f p.layout placed (between p.shape got) (between p.shape got') n (length (inputs n)) nb (sees n) (row_at (inputs n) k) k h
+
+    same_rows : (n : ℕ) → n < length p.layout.nodes → firsts (λ k. fed_row p.layout (between p.shape got) n (row_at (inputs n) k) k) (length (inputs n)) ≡ firsts (λ k. fed_row p.layout (between p.shape got') n (row_at (inputs n) k) k) (length (inputs n))
+    same_rows n nb = firsts-same _ _ (length (inputs n)) (λ k h. sym (same_fed n k nb h))
+
+    same_upto : (n : ℕ) → n < length p.layout.nodes →
+        upto (λ k. map Some (fed_row p.layout (between p.shape got) n (row_at (inputs n) k) k)) (length (inputs n)) ≡ upto (λ k. map Some (fed_row p.layout (between p.shape got') n (row_at (inputs n) k) k)) (length (inputs n))
+    same_upto n nb = upto-same _ _ (length (inputs n)) (λ k h. ap (map Some) (sym (same_fed n k nb h)))
+
+    pub fit_seen : (n : ℕ) → n < length p.layout.nodes → AllFit (input_types (part_of p.layout n).flat.func) (upto (λ k. map Some (fed_row p.layout (between p.shape got') n (row_at (inputs n) k) k)) (length (inputs n)))
+    fit_seen n nb = subst (λ rs. AllFit (input_types (part_of p.layout n).flat.func) rs) (same_upto n nb) (s.fit n nb)
+
+    pub ran_seen : length p.machines ≡ length p.layout.nodes → HasRun stands made p.layout p.shape p.machines p.executed p.tracks inputs got'
+    ran_seen machines = record {
+      executed = s.ran.executed;
+      machines = λ n m h. subst (λ rs. stands m (part_of p.layout n).flat.func rs) (same_rows n (let w = slice_get_within p.machines n m h in omega (arith, w, machines))) (s.ran.machines n m h);
+      steps_made = s.ran.steps_made;
+      cells = λ y n x yb nb gives. s.ran.cells y n x yb nb gives ∙ ap (λ rs. stream_of [] (part_of p.layout n).flat.func rs x) (same_rows n nb);
+    }
+
   -- a payload was delivered
   module _ (ch : ℕ) (delivers : DeliversOn ch st st') (f : Function) (placed : IsLaidOut f p.layout) (channels : HasChannels p.layout p.shape) (ahead : IsAhead p.shape st) (got' : ℕ → List (List Value)) (payload : List Value) (gets : Gets got got' ch payload)
       (b : InboxState) (at_inbox : slice_get p.inboxes ch ≡ Some b) (here : ch < chan_count p.shape) (bit : Bool) (bit_is : bit ≡ not b.bit) where
@@ -64,17 +87,8 @@ module _ {C M : Type 0} (phase : C → Phase) (stands : M → Function → List 
     extends : Extends (between p.shape got) (between p.shape got')
     extends = grows_extends p.shape got got' ch payload gets
 
-    same_fed : (n k : ℕ) → n < length p.layout.nodes → k < length (inputs n) → fed_row p.layout (between p.shape got') n (row_at (inputs n) k) k ≡ fed_row p.layout (between p.shape got) n (row_at (inputs n) k) k
-    same_fed n k nb h =
-        fed_row_same f p.layout placed (between p.shape got) (between p.shape got') extends n (length (inputs n)) nb
-        (λ c cb is. subst (λ z. length (inputs z) ≤ length (between p.shape got (crossing_of p.layout c).from (crossing_of p.layout c).to) + 1) is (enough c cb)) (row_at (inputs n) k) k h
-
-    same_rows : (n : ℕ) → n < length p.layout.nodes → firsts (λ k. fed_row p.layout (between p.shape got) n (row_at (inputs n) k) k) (length (inputs n)) ≡ firsts (λ k. fed_row p.layout (between p.shape got') n (row_at (inputs n) k) k) (length (inputs n))
-    same_rows n nb = firsts-same _ _ (length (inputs n)) (λ k h. sym (same_fed n k nb h))
-
-    same_upto : (n : ℕ) → n < length p.layout.nodes →
-        upto (λ k. map Some (fed_row p.layout (between p.shape got) n (row_at (inputs n) k) k)) (length (inputs n)) ≡ upto (λ k. map Some (fed_row p.layout (between p.shape got') n (row_at (inputs n) k) k)) (length (inputs n))
-    same_upto n nb = upto-same _ _ (length (inputs n)) (λ k h. ap (map Some) (sym (same_fed n k nb h)))
+    sees : (n : ℕ) → SeesSame p.layout (between p.shape got) (between p.shape got') n (length (inputs n))
+    sees = sees_extended p.layout inputs (between p.shape got) (between p.shape got') extends enough
 
     longer : length (got' ch) ≡ length (got ch) + 1
     longer = ap length gets.there ∙ length-append (got ch) (payload ∷ [])
@@ -89,13 +103,8 @@ module _ {C M : Type 0} (phase : C → Phase) (stands : M → Function → List 
             | inl e ↦ subst (λ c. length (got' c) ≡ (st'.chan c).delivered) (sym e.1) (longer ∙ ap (λ x. x + 1) (s.messages ch here) ∙ sym delivers.here)
             | inr e ↦ ap length (gets.elsewhere c e.1) ∙ s.messages c h ∙ sym (delivers.elsewhere c e.1)
           ];
-          fit = λ n nb. subst (λ rs. AllFit (input_types (part_of p.layout n).flat.func) rs) (same_upto n nb) (s.fit n nb);
-          ran = record {
-            executed = s.ran.executed;
-            machines = λ n m h. subst (λ rs. stands m (part_of p.layout n).flat.func rs) (same_rows n (let w = slice_get_within p.machines n m h in omega (arith, w, machines))) (s.ran.machines n m h);
-            steps_made = s.ran.steps_made;
-            cells = λ y n x yb nb gives. s.ran.cells y n x yb nb gives ∙ ap (λ rs. stream_of [] (part_of p.layout n).flat.func rs x) (same_rows n nb);
-          };
+          fit = fit_seen f placed got' sees;
+          ran = ran_seen f placed got' sees machines;
           steps_left = s.steps_left;
           payloads = λ c d h data_too. elim (got_entry p.inboxes ch c (record b { payload = payload; bit = bit }) d in_inboxes h) [
             | inl e ↦ ap (λ (x : InboxState). x.payload) e.1 ∙ subst (λ c. payload ≡ message_of p.layout p.shape got' c (length (got' c))) (sym e.0)

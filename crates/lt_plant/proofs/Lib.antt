@@ -30,6 +30,7 @@ pub mod OwnPayloads
 pub mod Feeds
 pub mod InstantRun
 pub mod Delivered
+pub mod Replaced
 pub mod Able
 pub mod OutputFronts
 pub mod Begun

@@ -53,23 +53,33 @@ map-same f g (y ∷ ys) h =
 pub record Extends (old new : Messages) : Type 0 where
   pub same : (i j k : ℕ) → k < length (old i j) → slice_index_or (new i j) k [] ≡ slice_index_or (old i j) k []
 
-module _ (f : Function) (l : Layout) (layout : IsLaidOut f l) (got got' : Messages) (extends : Extends got got') where
-  arrived_same : (c k : ℕ) → k ≤ length (got (crossing_of l c).from (crossing_of l c).to) → arrived l got' k c ≡ arrived l got k c
-  arrived_same c zero h = refl
-  arrived_same c (suc k) h = ap (λ p. slice_index_or p (place_in l c) (crossing_of l c).first) (extends.same (crossing_of l c).from (crossing_of l c).to k (omega arith))
+-- the messages that node n sees at the instants before m are the same
+pub record SeesSame (l : Layout) (old new : Messages) (n m : ℕ) : Type 0 where
+  pub same : (c k : ℕ) → c < length l.cross → (crossing_of l c).to ≡ n → suc k < m → slice_index_or (new (crossing_of l c).from (crossing_of l c).to) k [] ≡ slice_index_or (old (crossing_of l c).from (crossing_of l c).to) k []
 
-  fed_same : (row : List Value) (k c : ℕ) (d : Feed) → ((c : ℕ) → d ≡ Cross c → k ≤ length (got (crossing_of l c).from (crossing_of l c).to)) → fed l got' row k d ≡ fed l got row k d
-  fed_same row k c (Input x) h = refl
-  fed_same row k c (Cross x) h = arrived_same x k (h x refl)
+module _ (f : Function) (l : Layout) (layout : IsLaidOut f l) (got got' : Messages) (n m : ℕ) (b : n < length l.nodes) (sees : SeesSame l got got' n m) where
+  arrived_same : (c k : ℕ) → c < length l.cross → (crossing_of l c).to ≡ n → k < m → arrived l got' k c ≡ arrived l got k c
+  arrived_same c zero cb to h = refl
+  arrived_same c (suc k) cb to h = ap (λ p. slice_index_or p (place_in l c) (crossing_of l c).first) (sees.same c k cb to h)
 
-  module _ (n m : ℕ) (b : n < length l.nodes) (enough : (c : ℕ) → c < length l.cross → (crossing_of l c).to ≡ n → m ≤ length (got (crossing_of l c).from (crossing_of l c).to) + 1) where
-    pub fed_row_same : (row : List Value) (k : ℕ) → k < m → fed_row l got' n row k ≡ fed_row l got n row k
-    fed_row_same row k h = map-same (fed l got' row k) (fed l got row k) (part_of l n).feeds (λ x d at. fed_same row k 0 d (λ c is.
-        let crosses = layout.crosses n x c b (at ∙ ap (λ z. Some z) is) in
-        omega (arith, h, enough c crosses.0 crosses.1)))
+  fed_same : (row : List Value) (k : ℕ) (d : Feed) → ((c : ℕ) → d ≡ Cross c → (c < length l.cross) × ((crossing_of l c).to ≡ n)) → k < m → fed l got' row k d ≡ fed l got row k d
+  fed_same row k (Input x) crosses h = refl
+  fed_same row k (Cross x) crosses h = let there = crosses x refl in arrived_same x k there.0 there.1 h
 
-    pub local_runs_grown : (callee : Callee) (rows : ℕ → List Value) (j : ℕ) → j ≤ m → local_runs callee l got' n rows j ≡ local_runs callee l got n rows j
-    local_runs_grown callee rows j h = ap (environments callee (part_of l n).flat.func) (upto-same _ _ j (λ k kb. ap (map Some) (fed_row_same (rows k) k (omega arith))))
+  pub fed_row_same : (row : List Value) (k : ℕ) → k < m → fed_row l got' n row k ≡ fed_row l got n row k
+  fed_row_same row k h = map-same (fed l got' row k) (fed l got row k) (part_of l n).feeds (λ x d at. fed_same row k d (λ c is. layout.crosses n x c b (at ∙ ap (λ z. Some z) is)) h)
+
+  local_runs_same_seen : (callee : Callee) (rows : ℕ → List Value) (j : ℕ) → j ≤ m → local_runs callee l got' n rows j ≡ local_runs callee l got n rows j
+  local_runs_same_seen callee rows j h = ap (environments callee (part_of l n).flat.func) (upto-same _ _ j (λ k kb. ap (map Some) (fed_row_same (rows k) k (omega arith))))
+
+-- so they are where messages came besides, and there was one for each instant but the first
+pub sees_extended : (l : Layout) (inputs : ℕ → List (List Value)) (got got' : Messages) → Extends got got' → ((c : ℕ) → c < length l.cross → length (inputs (crossing_of l c).to) ≤ length (got (crossing_of l c).from (crossing_of l c).to) + 1) →
+    (n : ℕ) → SeesSame l got got' n (length (inputs n))
+sees_extended l inputs got got' extends enough n = record {
+  same = λ c k cb to h.
+      let there : suc k < length (inputs (crossing_of l c).to) = subst (λ z. suc k < length (inputs z)) (sym to) h in
+      extends.same (crossing_of l c).from (crossing_of l c).to k (omega (arith, there, enough c cb));
+}
 
 module _ (s : Shape) (got got' : ℕ → List (List Value)) (ch : ℕ) (payload : List Value) (gets : Gets got got' ch payload) where
   pub entry_stays : (c k : ℕ) → k < length (got c) → slice_index_or (got' c) k [] ≡ slice_index_or (got c) k []
@@ -83,13 +93,16 @@ module _ (s : Shape) (got got' : ℕ → List (List Value)) (ch : ℕ) (payload 
   pub grows_extends : Extends (between s got) (between s got')
   grows_extends = record { same = λ i j k h. entry_stays (channel_between s i j) k h }
 
--- a sender's own value is the same over the longer lists
+-- a sender's own value is the same where its node sees the same
+pub own_seen : (f : Function) (l : Layout) (s : Shape) → IsLaidOut f l → (inputs got got' : ℕ → List (List Value)) → ((n : ℕ) → SeesSame l (between s got) (between s got') n (length (inputs n))) →
+    (i j k : ℕ) (p : List Value) → i < length l.nodes → k < length (inputs i) → HasOwnValues l s inputs got i j k p → HasOwnValues l s inputs got' i j k p
+own_seen f l s layout inputs got got' sees i j k p b h own c x cb from to gives =
+    ap (λ es. newest es x) (local_runs_same_seen f l layout (between s got) (between s got') i (length (inputs i)) b (sees i) (calls [] 0) (row_at (inputs i)) (suc k) (omega (arith, h))) ∙ own c x cb from to gives
+
+-- so it is over the longer lists
 pub own_extended : (f : Function) (l : Layout) (s : Shape) → IsLaidOut f l → (inputs got got' : ℕ → List (List Value)) → HasEnough l s inputs got → Extends (between s got) (between s got') →
     (i j k : ℕ) (p : List Value) → i < length l.nodes → k < length (inputs i) → HasOwnValues l s inputs got i j k p → HasOwnValues l s inputs got' i j k p
-own_extended f l s layout inputs got got' enough extends i j k p b h own c x cb from to gives =
-    let runs = local_runs_grown f l layout (between s got) (between s got') extends i (length (inputs i)) b
-    (λ c cb is. subst (λ z. length (inputs z) ≤ length (between s got (crossing_of l c).from (crossing_of l c).to) + 1) is (enough c cb)) (calls [] 0) (row_at (inputs i)) (suc k) (omega (arith, h)) in
-    ap (λ es. newest es x) runs ∙ own c x cb from to gives
+own_extended f l s layout inputs got got' enough extends = own_seen f l s layout inputs got got' (sees_extended l inputs (between s got) (between s got') extends enough)
 
 -- those delivered stay so when nodes go on
 pub owns_longer : (l : Layout) (s : Shape) (inputs inputs' got : ℕ → List (List Value)) (more : ℕ → List (List Value)) → ((n : ℕ) → inputs' n ≡ inputs n ++ more n) → AreOwn l s inputs got → AreOwn l s inputs' got

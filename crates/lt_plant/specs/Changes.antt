@@ -1,5 +1,5 @@
 -- What an event does to a state of the architecture, and to lists, as nodes and channels see it.
-use Rattle.std.specs.Prelude.{◌≡◌, ◌≢◌, ℕ, ◌+◌, ◌<◌, ◌≤◌, ◌==◌, ◌&&◌, true, false, List, [], ◌∷◌, ◌++◌, length, if◌then◌else◌}
+use Rattle.std.specs.Prelude.{◌≡◌, ◌≢◌, ℕ, ◌+◌, ◌-◌, ◌<◌, ◌≤◌, ◌==◌, ◌&&◌, true, false, List, [], ◌∷◌, ◌++◌, length, slice_set, if◌then◌else◌}
 use Rattle.lt_base.specs.declared.value.Value.{Value}
 use Rattle.lt_arch.specs.declared.event.Deed.{Deed}
 use Rattle.lt_arch.specs.declared.shape.Shape.{Shape}
@@ -50,6 +50,11 @@ pub record Takes (old new : ℕ → List (List Value)) (n : ℕ) (row : List Val
 -- one channel's list has grown by a payload
 pub record Gets (old new : ℕ → List (List Value)) (ch : ℕ) (payload : List Value) : Type 0 where
   pub there : new ch ≡ old ch ++ payload ∷ []
+  pub elsewhere : (c : ℕ) → c ≢ ch → new c ≡ old c
+
+-- the last payload of one channel's list gave way to this one
+pub record Replaces (old new : ℕ → List (List Value)) (ch : ℕ) (payload : List Value) : Type 0 where
+  pub there : new ch ≡ slice_set (old ch) (length (old ch) - 1) payload
   pub elsewhere : (c : ℕ) → c ≢ ch → new c ≡ old c
 
 -- each node has at most one row more than each channel to it has payloads
