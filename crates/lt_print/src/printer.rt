@@ -138,6 +138,15 @@ fn left_side(out: &mut List<u8>, t: &Term) -> Result<(), Memory>
     out.extend(b")")
 }
 
+/// A text, and behind it that of a term where the grammar asks for this level.
+#[cycle(show)]
+fn show_after(out: &mut List<u8>, before: &[u8], l: u8, t: &Term) -> Result<(), Memory>
+    ensures { OnOk result (out.new ≡ out.old ++ before.now ++ text (placed l (tm_of t.now))) }
+{
+    out.extend(before)?;
+    show(out, l, t)
+}
+
 /// The text of a term without parentheses around it.
 #[cycle(show)]
 fn inside(out: &mut List<u8>, t: &Term) -> Result<(), Memory>
@@ -146,26 +155,16 @@ fn inside(out: &mut List<u8>, t: &Term) -> Result<(), Memory>
     match t {
         Term::Lit(v) => value(out, *v),
         Term::Var(x) => out.extend(x.as_str().as_bytes()),
-        Term::Un(Un::Neg, a) => {
-            out.extend(b"-")?;
-            show(out, 11, a)
-        }
-        Term::Un(Un::Not, a) => {
-            out.extend(b"not ")?;
-            show(out, 5, a)
-        }
+        Term::Un(Un::Neg, a) => show_after(out, b"-", 11, a),
+        Term::Un(Un::Not, a) => show_after(out, b"not ", 5, a),
         Term::Bin(o, a, b) => {
             show(out, left(Infix::Operator(*o)), a)?;
-            out.extend(spaced(*o))?;
-            show(out, right(Infix::Operator(*o)), b)
+            show_after(out, spaced(*o), right(Infix::Operator(*o)), b)
         }
         Term::If(c, a, b) => {
-            out.extend(b"if ")?;
-            show(out, 1, c)?;
-            out.extend(b" then ")?;
-            show(out, 1, a)?;
-            out.extend(b" else ")?;
-            show(out, 1, b)
+            show_after(out, b"if ", 1, c)?;
+            show_after(out, b" then ", 1, a)?;
+            show_after(out, b" else ", 1, b)
         }
         Term::When(a, c, b) => {
             show(out, 9, a)?;
@@ -174,25 +173,20 @@ fn inside(out: &mut List<u8>, t: &Term) -> Result<(), Memory>
         Term::Merge(c, a, b) => {
             out.extend(b"merge ")?;
             out.extend(c.as_str().as_bytes())?;
-            out.extend(b" ")?;
-            show(out, 12, a)?;
-            out.extend(b" ")?;
-            show(out, 12, b)
+            show_after(out, b" ", 12, a)?;
+            show_after(out, b" ", 12, b)
         }
         Term::Fby(v, b) => {
             value(out, *v)?;
-            out.extend(b" fby ")?;
-            show(out, 1, b)
+            show_after(out, b" fby ", 1, b)
         }
         Term::Follow(a, b) => {
             left_side(out, a)?;
-            out.extend(b" fby ")?;
-            show(out, 1, b)
+            show_after(out, b" fby ", 1, b)
         }
         Term::Arrow(a, b) => {
             arrow_side(out, a)?;
-            out.extend(b" -> ")?;
-            show(out, 1, b)
+            show_after(out, b" -> ", 1, b)
         }
         Term::Call(f, xs) => {
             out.extend(f.as_str().as_bytes())?;
