@@ -67,10 +67,7 @@ fn placed<'a>(alloc: Global, name: &'a str) -> Result<Command<'a>, Memory>
 fn sim<'a>(alloc: Global) -> Result<Command<'a>, Memory>
     ensures { Makes sim_app result }
 {
-    let command = with_argument(
-        placed(alloc, "sim"),
-        needed_number(alloc, "seed", u64::MAX),
-    );
+    let command = with_argument(placed(alloc, "sim"), needed_number(alloc, "seed", u64::MAX));
     with_argument(command, needed_number(alloc, "horizon", GREATEST_TIME))
 }
 
