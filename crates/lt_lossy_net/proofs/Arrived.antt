@@ -1,5 +1,5 @@
 -- A net after a delivery, a loss and an end.
-use Rattle.std.proofs.Common.{◌≡◌, ℕ, ◌+◌, ◌<◌, ◌≤◌, Bool, true, false, not, List, [], ◌∷◌, ◌++◌, length, set, Option, Some, refl, sym, ap, ◌∙◌, subst, arith}
+use Rattle.std.proofs.Common.{◌≡◌, ℕ, suc, ◌+◌, ◌<◌, ◌≤◌, Bool, true, false, not, List, [], ◌∷◌, ◌++◌, length, set, Option, Some, refl, sym, ap, ◌∙◌, subst, arith}
 use Rattle.std.specs.Prelude.{slice_index_or}
 use Rattle.std.specs.List.{slice_get}
 use Rattle.std.proofs.lemmas.Bool.{ltb-true, ltb-false}
@@ -7,7 +7,7 @@ use Rattle.lt_base.specs.declared.value.Value.{Value}
 use Rattle.lt_base.specs.Program.{Function}
 use Rattle.lt_arch.specs.declared.event.Event.TheVariants.{Del, End}
 use Rattle.lt_arch.specs.State.{Phase}
-use Rattle.lt_arch.specs.Readers.{node_count, chan_count, from_of, to_of}
+use Rattle.lt_arch.specs.Readers.{node_count, chan_count, from_of, to_of, carries_data}
 use Rattle.lt_link.specs.Inbox.{InboxState}
 use Rattle.lt_lossy.specs.declared.event.LossyEvent.{LossyEvent}
 use Rattle.lt_lossy.specs.declared.event.LossyEvent.TheVariants.{Plain, Lose}
@@ -18,13 +18,13 @@ use Rattle.lt_lossy.specs.Laws.{Ascends}
 use Rattle.lt_lossy.proofs.Changes.{node-del, node-lose, node-end, link-end, link-del, link-lose}
 use Rattle.lt_lossy.proofs.Noted.{law-times}
 use Rattle.lt_lossy.proofs.Numbers.{ascends-ends, newest-lost}
-use Rattle.lt_plant.specs.Changes.{DeliversOn, StaysOn, Gets, Same, HasEnough}
+use Rattle.lt_plant.specs.Changes.{DeliversOn, StaysOn, Gets, HasEnough}
 use Rattle.lt_plant.specs.Standing.{HasOwnValues, StandsAt}
 use Rattle.lt_plant.proofs.Delivered.{delivered_at, enough_ahead, stays_at}
 use Rattle.lt_plant.proofs.OwnValues.{grows_extends, own_extended}
 use Rattle.lt_lossy_net.specs.Net.{LossyNetState, LossyLists, plant_of, lossy_state_of}
 use Rattle.lt_lossy_net.specs.Stands.{StandsLossy}
-use Rattle.lt_lossy_net.specs.Event.{PassesLossy, LossyGoesOn, GetsIf, is_newer, brings_new}
+use Rattle.lt_lossy_net.specs.Event.{PassesLossy, LossyGoesOn, GetsBy, is_newer, brings_new}
 use Rattle.lt_lossy_net.specs.Kept.{IsFixedLossy, HasLossySizes}
 use Rattle.lt_lossy_net.proofs.Reached.{balanced, one_now, ahead, state_is, clean_next, timely_next}
 
@@ -38,21 +38,22 @@ pub old_number : (link : LinkState) (ms : List Message) (high : ℕ) → is_newe
 old_number link [] high old up = refl
 old_number link (m ∷ later) high old up = let a = ltb-false link.newest m.number old in let b = up.0 in omega (arith, a, b)
 
-pub got_new : (b : Bool) (old new : ℕ → List (List Value)) (ch : ℕ) (payload : List Value) → b ≡ true → GetsIf b old new ch payload → Gets old new ch payload
-got_new true old new ch payload is go = go
-got_new false old new ch payload is go = absurd (cc)
+pub got_new : (b unread : Bool) (old new : ℕ → List (List Value)) (ch : ℕ) (payload : List Value) → b ≡ true → GetsBy b unread old new ch payload → Gets old new ch payload
+got_new b unread old new ch payload is go = subst (λ b. GetsBy b unread old new ch payload) is go
 
-pub got_copy : (b : Bool) (old new : ℕ → List (List Value)) (ch : ℕ) (payload : List Value) → b ≡ false → GetsIf b old new ch payload → Same old new
-got_copy true old new ch payload is go = absurd (cc)
-got_copy false old new ch payload is go = go
+pub got_copy : (b unread : Bool) (old new : ℕ → List (List Value)) (ch : ℕ) (payload : List Value) → b ≡ false → GetsBy b unread old new ch payload → GetsBy false unread old new ch payload
+got_copy b unread old new ch payload is go = subst (λ b. GetsBy b unread old new ch payload) is go
 
 module _ {C M : Type 0} (phase : C → Phase) (stands : M → Function → List (List Value) → Type 0) (made left : M → ℕ) (net : LossyNetState C M) (ls next : LossyLists) (s : StandsLossy phase stands made left net ls) (e : LossyEvent) (passes : PassesLossy net ls e)
     (events : next.events ≡ ls.events ++ e ∷ []) where
   next_is : lossy_state_of net next ≡ lossy_after net.shape net.timing net.rows (lossy_state_of net ls) e
   next_is = state_is phase stands made left net ls s e passes next events
 
-  -- where nothing changed that nodes and channels count they stand as before
-  module _ (inputs : next.inputs ≡ ls.inputs) (got : next.got ≡ ls.got) (nodes : (i : ℕ) → (lossy_after net.shape net.timing net.rows (lossy_state_of net ls) e).node i ≡ (lossy_state_of net ls).node i)
+  -- where nothing changed that nodes and channels count they stand as before, if they do with the inboxes and the payloads that they have now
+  module _ (inputs : next.inputs ≡ ls.inputs) (ibs : List InboxState) (plant : StandsAt phase stands made left (record (plant_of net) { inboxes = ibs }) (plain_of (lossy_state_of net ls)) ls.inputs next.got)
+      (posted : (c k : ℕ) → c < chan_count net.shape → carries_data net.shape c ≡ true → sent_by ((lossy_state_of net ls).node (from_of net.shape c)) ≡ suc k →
+      HasOwnValues net.layout net.shape ls.inputs next.got (from_of net.shape c) (to_of net.shape c) k (slice_index_or net.posted c []))
+      (nodes : (i : ℕ) → (lossy_after net.shape net.timing net.rows (lossy_state_of net ls) e).node i ≡ (lossy_state_of net ls).node i)
       (newest : (c : ℕ) → ((lossy_after net.shape net.timing net.rows (lossy_state_of net ls) e).link c).newest ≡ ((lossy_state_of net ls).link c).newest)
       (w : LossyTimes) (limit : w.limit ≡ net.watch.limit) (times : HasLossyTimes w net.shape net.timing net.watch.limit (lossy_after net.shape net.timing net.rows (lossy_state_of net ls) e)) where
     same_node : (i : ℕ) → (lossy_state_of net next).node i ≡ (lossy_state_of net ls).node i
@@ -61,27 +62,31 @@ module _ {C M : Type 0} (phase : C → Phase) (stands : M → Function → List 
     stays_on : StaysOn (plain_of (lossy_state_of net ls)) (plain_of (lossy_state_of net next))
     stays_on = record { nodes = same_node; delivered = λ c. ap (λ (z : LossyState). (z.link c).newest) next_is ∙ newest c }
 
-    same_lists : next ≡ record ls { events = next.events }
-    same_lists = λ i. record { events = next.events; inputs = inputs i; got = got i }
-
-    pub stays_stands : StandsLossy phase stands made left (record net { watch = w }) next
+    pub stays_stands : StandsLossy phase stands made left (record net { inboxes = ibs; watch = w }) next
     stays_stands = record {
       timely = timely_next phase stands made left net ls s e passes next events;
       clean = subst (λ k. Rattle.lt_lossy.specs.Schedule.IsLossyOffenceFree net.shape net.timing k net.rows next.events) (sym limit) (clean_next phase stands made left net ls s e passes next events);
       times = subst (λ k. HasLossyTimes w net.shape net.timing k (lossy_state_of net next)) (sym limit) (subst (λ z. HasLossyTimes w net.shape net.timing net.watch.limit z) (sym next_is) times);
-      plant = subst (λ (z : LossyLists). StandsAt phase stands made left (plant_of net) (plain_of (lossy_state_of net next)) z.inputs z.got) (sym same_lists)
-          (stays_at phase stands made left (plant_of net) (plain_of (lossy_state_of net ls)) (plain_of (lossy_state_of net next)) ls.inputs ls.got s.plant stays_on);
+      plant = subst (λ rs. StandsAt phase stands made left (record (plant_of net) { inboxes = ibs }) (plain_of (lossy_state_of net next)) rs next.got) (sym inputs)
+          (stays_at phase stands made left (record (plant_of net) { inboxes = ibs }) (plain_of (lossy_state_of net ls)) (plain_of (lossy_state_of net next)) ls.inputs next.got plant stays_on);
       sent = λ i lt. s.sent i lt ∙ ap sent_by (sym (same_node i));
-      posted = λ c k lt carries is. subst (λ (z : LossyLists). HasOwnValues net.layout net.shape z.inputs z.got (from_of net.shape c) (to_of net.shape c) k (slice_index_or net.posted c [])) (sym same_lists)
-          (s.posted c k lt carries (ap sent_by (sym (same_node (from_of net.shape c))) ∙ is));
+      posted = λ c k lt carries is. subst (λ rs. HasOwnValues net.layout net.shape rs next.got (from_of net.shape c) (to_of net.shape c) k (slice_index_or net.posted c [])) (sym inputs)
+          (posted c k lt carries (ap sent_by (sym (same_node (from_of net.shape c))) ∙ is));
     }
+
+  -- and so they do where the payloads did not change either
+  pub still_stands : next.inputs ≡ ls.inputs → next.got ≡ ls.got → ((i : ℕ) → (lossy_after net.shape net.timing net.rows (lossy_state_of net ls) e).node i ≡ (lossy_state_of net ls).node i) →
+      ((c : ℕ) → ((lossy_after net.shape net.timing net.rows (lossy_state_of net ls) e).link c).newest ≡ ((lossy_state_of net ls).link c).newest) → (w : LossyTimes) → w.limit ≡ net.watch.limit →
+      HasLossyTimes w net.shape net.timing net.watch.limit (lossy_after net.shape net.timing net.rows (lossy_state_of net ls) e) → StandsLossy phase stands made left (record net { watch = w }) next
+  still_stands inputs got = stays_stands inputs net.inboxes (subst (λ g. StandsAt phase stands made left (plant_of net) (plain_of (lossy_state_of net ls)) ls.inputs g) (sym got) s.plant)
+      (λ c k lt carries is. subst (λ g. HasOwnValues net.layout net.shape ls.inputs g (from_of net.shape c) (to_of net.shape c) k (slice_index_or net.posted c [])) (sym got) (s.posted c k lt carries is))
 
 module _ {C M : Type 0} (phase : C → Phase) (stands : M → Function → List (List Value) → Type 0) (made left : M → ℕ) (net : LossyNetState C M) (ls next : LossyLists) (s : StandsLossy phase stands made left net ls) (sized : HasLossySizes net)
     (row : Option (List Value)) (payload : List Value) where
   -- an end
   pub ended : (at : ℕ) → PassesLossy net ls (Plain (End at)) → LossyGoesOn net ls next (Plain (End at)) row payload → StandsLossy phase stands made left (record net { watch = with_end net.watch at }) next
   ended at passes goes =
-      stays_stands phase stands made left net ls next s (Plain (End at)) passes goes.events (λ i n. goes.inputs n i) (λ i c. goes.got c i) (λ i. node-end net.shape net.timing net.rows (lossy_state_of net ls) at i)
+      still_stands phase stands made left net ls next s (Plain (End at)) passes goes.events (λ i n. goes.inputs n i) (λ i c. goes.got c i) (λ i. node-end net.shape net.timing net.rows (lossy_state_of net ls) at i)
       (λ c. ap (λ (l : LinkState). l.newest) (link-end net.shape net.timing net.rows (lossy_state_of net ls) at c)) (with_end net.watch at) refl
       ((law-times net.watch net.shape net.timing net.watch.limit net.rows (lossy_state_of net ls) s.times).ending at)
 
@@ -90,7 +95,7 @@ module _ {C M : Type 0} (phase : C → Phase) (stands : M → Function → List 
     pub lost : PassesLossy net ls (Lose ch at) → LossyGoesOn net ls next (Lose ch at) row payload → StandsLossy phase stands made left (record net { watch = with_losses (without_oldest net.watch ch at) ch (losses_at net.watch ch + 1) }) next
     lost passes goes =
         let st = lossy_state_of net ls in
-        stays_stands phase stands made left net ls next s (Lose ch at) passes goes.events (λ i n. goes.inputs n i) (λ i c. goes.got c i) (λ i. node-lose net.shape net.timing net.rows (lossy_state_of net ls) ch at i)
+        still_stands phase stands made left net ls next s (Lose ch at) passes goes.events (λ i n. goes.inputs n i) (λ i c. goes.got c i) (λ i. node-lose net.shape net.timing net.rows (lossy_state_of net ls) ch at i)
         (λ c. link-lose net.shape net.timing net.rows (lossy_state_of net ls) ch at (λ l. l.newest ≡ ((lossy_state_of net ls).link c).newest) c
         (λ is. newest-lost ((lossy_state_of net ls).link ch) ((lossy_state_of net ls).link ch).transit ∙ ap (λ i. ((lossy_state_of net ls).link i).newest) (sym is)) (λ ne. refl))
         (with_losses (without_oldest net.watch ch at) ch (losses_at net.watch ch + 1)) refl
@@ -100,17 +105,8 @@ module _ {C M : Type 0} (phase : C → Phase) (stands : M → Function → List 
     taken = with_losses (without_oldest net.watch ch at) ch 0
 
     module _ (passes : PassesLossy net ls (Plain (Del ch at))) (goes : LossyGoesOn net ls next (Plain (Del ch at)) row payload) where
-      ascends : Ascends ((lossy_state_of net ls).link ch).newest ((lossy_state_of net ls).link ch).transit (number_on net.shape ((lossy_state_of net ls).node (from_of net.shape ch)) ch)
+      pub ascends : Ascends ((lossy_state_of net ls).link ch).newest ((lossy_state_of net ls).link ch).transit (number_on net.shape ((lossy_state_of net ls).node (from_of net.shape ch)) ch)
       ascends = (balanced phase stands made left net ls s).ordered.ascends ch here
-
-      -- a copy of the newest message came again
-      pub copied : brings_new (lossy_state_of net ls) ch ≡ false → StandsLossy phase stands made left (record net { watch = taken }) next
-      copied old =
-          let st = lossy_state_of net ls in
-          stays_stands phase stands made left net ls next s (Plain (Del ch at)) passes goes.events (λ i n. goes.inputs n i) (λ i c. got_copy _ ls.got next.got ch payload old goes.got c i) (λ i. node-del net.shape net.timing net.rows (lossy_state_of net ls) ch at i)
-          (λ c. link-del net.shape net.timing net.rows (lossy_state_of net ls) ch at (λ l. l.newest ≡ ((lossy_state_of net ls).link c).newest) c
-          (λ is. old_number ((lossy_state_of net ls).link ch) ((lossy_state_of net ls).link ch).transit _ old ascends ∙ ap (λ i. ((lossy_state_of net ls).link i).newest) (sym is)) (λ ne. refl))
-          taken refl ((law-times net.watch net.shape net.timing net.watch.limit net.rows st s.times).delivery ch at (omega (arith, here, sized.queues)) passes.clear)
 
       -- a message came that is new
       module _ (fixed : IsFixedLossy net.layout net.shape net.timing) (new : brings_new (lossy_state_of net ls) ch ≡ true) (b : InboxState) (at_inbox : slice_get net.inboxes ch ≡ Some b) (bit : Bool) (bit_is : bit ≡ not b.bit) where
@@ -136,7 +132,7 @@ module _ {C M : Type 0} (phase : C → Phase) (stands : M → Function → List 
         }
 
         gets : Gets ls.got next.got ch payload
-        gets = got_new _ ls.got next.got ch payload new goes.got
+        gets = got_new _ _ ls.got next.got ch payload new goes.got
 
         inputs_are : next.inputs ≡ ls.inputs
         inputs_are = λ i n. goes.inputs n i

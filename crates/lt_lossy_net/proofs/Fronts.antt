@@ -1,5 +1,5 @@
 -- Payloads that are their senders' own, and the cells that come of them.
-use Rattle.std.proofs.Common.{◌≡◌, inl, inr, ℕ, ◌<◌, ◌≤◌, List, [], ◌∷◌, length, Option, Some, None, refl, sym, ap, ◌∙◌, subst, arith, length-append}
+use Rattle.std.proofs.Common.{◌≡◌, inl, inr, ℕ, suc, ◌<◌, ◌≤◌, Bool, true, false, List, [], ◌∷◌, length, Option, Some, None, refl, sym, ap, ◌∙◌, subst, arith, length-append}
 use Rattle.std.specs.Prelude.{slice_index_or}
 use Rattle.std.proofs.lemmas.Bool.Decides.{eqb_tells}
 use Rattle.lt_base.specs.declared.value.Value.{Value}
@@ -9,7 +9,7 @@ use Rattle.lt_arch.specs.declared.event.Deed.TheVariants.{Nothing, Execute, Send
 use Rattle.lt_arch.specs.declared.event.Event.TheVariants.{Act, Del, End}
 use Rattle.lt_arch.specs.declared.shape.Shape.{Shape}
 use Rattle.lt_arch.specs.State.{Phase}
-use Rattle.lt_arch.specs.Readers.{node_count, from_of, to_of}
+use Rattle.lt_arch.specs.Readers.{node_count, chan_count, from_of, to_of, carries_data}
 use Rattle.lt_lossy.specs.declared.event.LossyEvent.TheVariants.{Plain, Lose}
 use Rattle.lt_lossy.specs.State.{plain_of}
 use Rattle.lt_place.specs.declared.layout.Layout.{Layout}
@@ -20,12 +20,16 @@ use Rattle.lt_plant.proofs.Delivered.{enough_ahead}
 use Rattle.lt_plant.proofs.Entries.{either_way}
 use Rattle.lt_plant.proofs.OutputFronts.{output_front}
 use Rattle.lt_plant.proofs.OwnValues.{own_taken, owns_delivered}
-use Rattle.lt_lossy_net.specs.Net.{plant_of, lossy_state_of}
-use Rattle.lt_lossy_net.specs.Event.{RowsGo, brings_new, lossy_deed_by}
+use Rattle.lt_plant.proofs.Replaced.{owns_replaced}
+use Rattle.lt_lossy_net.specs.Net.{LossyNetState, LossyLists, plant_of, lossy_state_of}
+use Rattle.lt_lossy_net.specs.Kept.{IsFixedLossy}
+use Rattle.lt_lossy_net.specs.Stands.{StandsLossy}
+use Rattle.lt_lossy_net.specs.Event.{RowsGo, GetsBy, brings_new, is_unread, lossy_deed_by}
 use Rattle.lt_lossy_net.specs.Laws.{EventsKeepOwn, LossyCellsAreFronts, LossyCellsAreLocal}
 use Rattle.lt_lossy_net.proofs.Arrived.{got_new, got_copy}
+use Rattle.lt_lossy_net.proofs.Copied.{unread_most}
 use Rattle.lt_lossy_net.proofs.Reached.{ahead}
-use Rattle.lt_lossy_net.proofs.Transit.{brings_own, newest_most}
+use Rattle.lt_lossy_net.proofs.Transit.{brings_own, copies_own, newest_most}
 
 same_own : (l : Layout) (s : Shape) (inputs inputs' got got' : ℕ → List (List Value)) → Same inputs inputs' → Same got got' → AreOwn l s inputs got → AreOwn l s inputs' got'
 same_own l s inputs inputs' got got' rows payloads own =
@@ -53,18 +57,30 @@ rows_own l s inputs inputs' got n Execute None go own = absurd go
 rows_own l s inputs inputs' got n Execute (Some r) go own = took_own l s inputs inputs' got n r go own
 
 module _ {C M : Type 0} (phase : C → Phase) (stands : M → Function → List (List Value) → Type 0) (made left : M → ℕ) where
+  copy_is_own : (net : LossyNetState C M) (ls next : LossyLists) (payload : List Value) (fixed : IsFixedLossy net.layout net.shape net.timing) → StandsLossy phase stands made left net ls → AreOwn net.layout net.shape ls.inputs ls.got →
+      (ch : ℕ) → ch < chan_count net.shape → (unread : Bool) → is_unread net.shape (lossy_state_of net ls) ch ≡ unread → Same ls.inputs next.inputs → GetsBy false unread ls.got next.got ch payload →
+      (carries_data net.shape ch ≡ true → (k : ℕ) → length (ls.got ch) ≡ suc k → HasOwnValues net.layout net.shape ls.inputs ls.got (from_of net.shape ch) (to_of net.shape ch) k payload) → AreOwn net.layout net.shape next.inputs next.got
+  copy_is_own net ls next payload fixed s own ch here false is rows got brought = same_own net.layout net.shape ls.inputs next.inputs ls.got next.got rows got own
+  copy_is_own net ls next payload fixed s own ch here true is rows got brought =
+      same_own net.layout net.shape ls.inputs next.inputs next.got next.got rows (λ c. refl)
+      (owns_replaced fixed.whole net.layout net.shape fixed.laid fixed.channels ls.inputs ls.got next.got ch payload got (unread_most phase stands made left net ls s fixed ch here is) own (λ lt carries k count. brought carries k count))
+
   pub law-own : EventsKeepOwn phase stands made left
   law-own net ls next row payload fabric (Plain (Act n at)) fixed with own placed goes brings =
       same_own net.layout net.shape next.inputs next.inputs ls.got next.got (λ i. refl) goes.got (rows_own net.layout net.shape ls.inputs next.inputs ls.got n (lossy_deed_by net ls (Plain (Act n at))) row goes.inputs own)
   law-own net ls next row payload fabric (Plain (End at)) fixed with own placed goes brings = same_own net.layout net.shape ls.inputs next.inputs ls.got next.got goes.inputs goes.got own
   law-own net ls next row payload fabric (Lose ch at) fixed with own placed goes brings = same_own net.layout net.shape ls.inputs next.inputs ls.got next.got goes.inputs goes.got own
   law-own net ls next row payload fabric (Plain (Del ch at)) fixed with own placed goes brings = elim (either_way (brings_new (lossy_state_of net ls) ch)) [
-    | inr old ↦ same_own net.layout net.shape ls.inputs next.inputs ls.got next.got goes.inputs (got_copy _ ls.got next.got ch payload old goes.got) own
+    | inr old ↦
+        let some = copies_own phase stands made left net ls next with.standing fixed fabric with.holds ch placed brings.0 brings.1 brings.2 old in
+        copy_is_own net ls next payload fixed with.standing own ch placed (is_unread net.shape (lossy_state_of net ls) ch) refl goes.inputs (got_copy _ _ ls.got next.got ch payload old goes.got)
+        (λ carries k count. subst (λ p. HasOwnValues net.layout net.shape ls.inputs ls.got (from_of net.shape ch) (to_of net.shape ch) k p) (sym brings.3)
+        (subst (λ j. HasOwnValues net.layout net.shape ls.inputs ls.got (from_of net.shape ch) (to_of net.shape ch) j brings.0.payload) (omega (arith, count, some.1)) (some.2 carries)))
     | inl new ↦
         same_own net.layout net.shape ls.inputs next.inputs next.got next.got goes.inputs (λ c. refl)
         (owns_delivered fixed.whole net.layout net.shape fixed.laid ls.inputs ls.got next.got
         (enough_ahead phase stands made left (plant_of net) fixed.whole fixed.laid fixed.channels (plain_of (lossy_state_of net ls)) ls.inputs ls.got with.standing.plant (ahead phase stands made left net ls with.standing fixed))
-        fixed.channels.ends ch payload (got_new _ ls.got next.got ch payload new goes.got) own
+        fixed.channels.ends ch payload (got_new _ _ ls.got next.got ch payload new goes.got) own
         (λ lt carries. newest_most phase stands made left net ls next with.standing fixed fabric with.holds ch lt brings.0 brings.1 brings.2 new carries)
         (λ lt carries. subst (λ p. HasOwnValues net.layout net.shape ls.inputs ls.got (from_of net.shape ch) (to_of net.shape ch) (length (ls.got ch)) p) (sym brings.3)
         (brings_own phase stands made left net ls next with.standing fixed fabric with.holds ch lt brings.0 brings.1 brings.2 new carries)))

@@ -1,5 +1,6 @@
 -- Every event without an offence leaves a net that stands, and a fabric that has in transit what its state says.
-use Rattle.std.proofs.Common.{◌≡◌, inl, inr, ℕ, suc, ◌<◌, true, false, not, Bool, List, [], ◌∷◌, ◌++◌, length, Option, refl, sym, ap, ◌∙◌, subst, arith}
+use Rattle.std.proofs.Common.{◌≡◌, inl, inr, ℕ, suc, ◌<◌, true, false, not, Bool, List, [], ◌∷◌, ◌++◌, length, set, Option, refl, sym, ap, ◌∙◌, subst, arith}
+use Rattle.std.specs.Prelude.{◌||◌, if◌then◌else◌}
 use Rattle.std.specs.List.{slice_get}
 use Rattle.lt_base.specs.declared.value.Value.{Value}
 use Rattle.lt_base.specs.Program.{Function}
@@ -10,24 +11,26 @@ use Rattle.lt_arch.specs.Readers.{node_count, chan_count, from_of, to_of}
 use Rattle.lt_io.specs.declared.message.Message.{Message}
 use Rattle.lt_io.specs.FabricState.{FabricState, Delivers}
 use Rattle.lt_link.specs.Bits.{differ}
-use Rattle.lt_link.specs.Inbox.{InboxState}
+use Rattle.lt_link.specs.Inbox.{InboxState, is_fresh}
 use Rattle.lt_lossy.specs.declared.event.LossyEvent.TheVariants.{Plain}
+use Rattle.lt_lossy.specs.Times.{without_oldest, with_losses}
 use Rattle.lt_plant.specs.Standing.{HasOwnValues}
+use Rattle.lt_plant.proofs.Bits.{differ_is, differ_none}
+use Rattle.lt_plant.proofs.Entries.{either_way}
 use Rattle.lt_plant.proofs.OwnValues.{own_taken}
 use Rattle.lt_lossy_net.specs.Net.{LossyNetState, LossyLists, lossy_state_of}
-use Rattle.lt_lossy_net.specs.Event.{PassesLossy, LossyGoesOn, lossy_deed_by, brings_new}
+use Rattle.lt_lossy_net.specs.Event.{PassesLossy, LossyGoesOn, lossy_deed_by, brings_new, is_unread}
 use Rattle.lt_lossy_net.specs.Kept.{IsFixedLossy, HasLossySizes}
+use Rattle.lt_lossy_net.specs.Receives.{with_latest}
 use Rattle.lt_lossy_net.specs.Laws.{StandsWith, KeepsAct, KeepsDel, KeepsStanding, EventsKeep}
 use Rattle.lt_lossy_net.proofs.Acted.{idle_stands, instant_stands, idle_rows, took_row}
-use Rattle.lt_lossy_net.proofs.Arrived.{ended, lost, copied, arrived, own_still, got_copy}
-use Rattle.lt_lossy_net.proofs.Transit.{acted_holds, delivered_holds, lost_holds, ended_holds, bit_tells}
+use Rattle.lt_lossy_net.proofs.Arrived.{ended, lost, arrived, own_still, got_copy}
+use Rattle.lt_lossy_net.proofs.Copied.{Copied, copied_lists, copied, copy_own}
+use Rattle.lt_lossy_net.proofs.Transit.{acted_holds, delivered_holds, lost_holds, ended_holds, bit_tells, copies_own}
 
--- bits differ exactly where one is the other's opposite
-differ_is : (a b : Bool) → differ a b ≡ true → a ≡ not b
-differ_is true true h = absurd (cc)
-differ_is true false h = refl
-differ_is false true h = refl
-differ_is false false h = absurd (cc)
+-- a message with another bit goes into an inbox
+new_latest : (b : InboxState) (payload : List Value) (bit : Bool) → differ bit b.bit ≡ true → with_latest b payload bit ≡ record b { payload = payload; bit = bit }
+new_latest b payload bit new = ap (λ x. if x || is_fresh b then record b { payload = payload; bit = bit } else b) new
 
 module _ {C M : Type 0} (phase : C → Phase) (stands : M → Function → List (List Value) → Type 0) (made left : M → ℕ) (net : LossyNetState C M) (ls next : LossyLists) (row : Option (List Value)) (payload : List Value) (fabric : FabricState)
     (fixed : IsFixedLossy net.layout net.shape net.timing) (sized : HasLossySizes net) (with : StandsWith phase stands made left net ls fabric) where
@@ -68,21 +71,10 @@ module _ {C M : Type 0} (phase : C → Phase) (stands : M → Function → List 
       slice_get net.inboxes ch ≡ Rattle.std.proofs.Common.Some b → KeepsDel phase stands made left net ls next payload fabric' ch at m b
   delivers ch at m fabric' b passes here goes from_fabric at_inbox = record {
     told = tells;
-    arrival = λ new is. record {
-      standing = arrived phase stands made left net ls next with.standing sized row payload ch at here passes goes fixed new b at_inbox m.bit (opposite new);
-      holds = record {
-        transit = (delivered_holds phase stands made left net ls next with.standing fixed fabric with.holds
-            (λ c k p lt h own. own_still phase stands made left net ls next with.standing sized row payload ch at here passes goes fixed new b at_inbox m.bit (opposite new) (from_of net.shape c) (to_of net.shape c) k p (sender c lt) h own)
-            ch at m fabric' from_fabric passes goes.events).transit;
-      };
-    };
-    copy = λ old. record {
-      standing = copied phase stands made left net ls next with.standing sized row payload ch at here passes goes old;
-      holds = record {
-        transit = (delivered_holds phase stands made left net ls next with.standing fixed fabric with.holds (same_own (λ i n. goes.inputs n i) (λ i c. got_copy _ ls.got next.got ch payload old goes.got c i))
-            ch at m fabric' from_fabric passes goes.events).transit;
-      };
-    };
+    arrival = λ is. elim (either_way (brings_new (lossy_state_of net ls) ch)) [
+      | inl new ↦ came_new new
+      | inr old ↦ came_again old
+    ];
   }
     where
       sender : (c : ℕ) → c < chan_count net.shape → from_of net.shape c < node_count net.shape
@@ -92,8 +84,36 @@ module _ {C M : Type 0} (phase : C → Phase) (stands : M → Function → List 
       tells = bit_tells phase stands made left net ls next with.standing fixed fabric with.holds ch here from_fabric.oldest (fabric'.transit ch) from_fabric.taken
           ∙ (λ i. differ (sym from_fabric.bit i) (sym (with.standing.plant.bits ch b at_inbox) i))
 
-      opposite : brings_new (lossy_state_of net ls) ch ≡ true → m.bit ≡ not b.bit
-      opposite new = differ_is m.bit b.bit (sym tells ∙ new)
+      inputs_are : next.inputs ≡ ls.inputs
+      inputs_are = λ i n. goes.inputs n i
+
+      came_new : brings_new (lossy_state_of net ls) ch ≡ true → StandsWith phase stands made left (record net { inboxes = set net.inboxes ch (with_latest b payload m.bit); watch = with_losses (without_oldest net.watch ch at) ch 0 }) next fabric'
+      came_new new =
+          let opposite : m.bit ≡ not b.bit = differ_is m.bit b.bit (sym tells ∙ new) in
+          subst (λ x. StandsWith phase stands made left (record net { inboxes = set net.inboxes ch x; watch = with_losses (without_oldest net.watch ch at) ch 0 }) next fabric') (sym (new_latest b payload m.bit (sym tells ∙ new))) (record {
+            standing = arrived phase stands made left net ls next with.standing sized row payload ch at here passes goes fixed new b at_inbox m.bit opposite;
+            holds = record {
+              transit = (delivered_holds phase stands made left net ls next with.standing fixed fabric with.holds
+                  (λ c k p lt h own. own_still phase stands made left net ls next with.standing sized row payload ch at here passes goes fixed new b at_inbox m.bit opposite (from_of net.shape c) (to_of net.shape c) k p (sender c lt) h own)
+                  ch at m fabric' from_fabric passes goes.events).transit;
+            };
+          })
+
+      came_again : brings_new (lossy_state_of net ls) ch ≡ false → StandsWith phase stands made left (record net { inboxes = set net.inboxes ch (with_latest b payload m.bit); watch = with_losses (without_oldest net.watch ch at) ch 0 }) next fabric'
+      came_again old =
+          let some = copies_own phase stands made left net ls next with.standing fixed fabric with.holds ch here from_fabric.oldest (fabric'.transit ch) from_fabric.taken old in
+          let is_copy : Copied phase stands made left net ls next with.standing sized fixed ch here b at_inbox payload (is_unread net.shape (lossy_state_of net ls) ch) =
+          copied_lists phase stands made left net ls next with.standing sized fixed ch here b at_inbox payload (is_unread net.shape (lossy_state_of net ls) ch) some.0 refl some.1
+          (got_copy _ _ ls.got next.got ch payload old goes.got) in
+          record {
+            standing = copied phase stands made left net ls next with.standing sized fixed ch here b at_inbox payload is_copy row at passes goes old m.bit (differ_none m.bit b.bit (sym tells ∙ old));
+            holds = record {
+              transit = (delivered_holds phase stands made left net ls next with.standing fixed fabric with.holds
+                  (λ c k p lt h own. subst (λ rs. HasOwnValues net.layout net.shape rs next.got (from_of net.shape c) (to_of net.shape c) k p) (sym inputs_are)
+                  (copy_own phase stands made left net ls next with.standing sized fixed ch here b at_inbox payload is_copy (from_of net.shape c) (to_of net.shape c) k p (sender c lt) h own))
+                  ch at m fabric' from_fabric passes goes.events).transit;
+            };
+          }
 
   pub events_keep : KeepsStanding phase stands made left net ls next row payload fabric
   events_keep = record {

@@ -3,6 +3,7 @@ pub mod SentAgain
 pub mod Acted
 pub mod Arrived
 pub mod Transit
+pub mod Copied
 pub mod Keeps
 pub mod Fronts
 pub mod Oldest

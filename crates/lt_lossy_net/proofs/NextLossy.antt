@@ -1,7 +1,6 @@
 -- Lists with one event more.
-use Rattle.std.proofs.Common.{◌≡◌, ◌≢◌, inl, inr, ℕ, ◌<◌, Bool, true, false, List, [], ◌∷◌, ◌++◌, length, Option, Some, None, cond, nat_eq, refl, sym, ap, ◌∙◌, subst, arith}
+use Rattle.std.proofs.Common.{◌≡◌, ◌≢◌, ℕ, ◌-◌, ◌<◌, Bool, true, false, List, [], ◌∷◌, ◌++◌, length, set, Option, Some, None, refl, sym, ap, ◌∙◌, subst, arith}
 use Rattle.std.specs.Prelude.{slice_index_or}
-use Rattle.std.proofs.lemmas.Bool.Decides.{eqb_tells}
 use Rattle.lt_base.specs.declared.value.Value.{Value}
 use Rattle.lt_base.specs.Program.{Function}
 use Rattle.lt_arch.specs.declared.event.Deed.{Deed}
@@ -10,6 +9,8 @@ use Rattle.lt_arch.specs.declared.event.Event.TheVariants.{Act, Del, End}
 use Rattle.lt_arch.specs.Deeds.{deed_at, more, all_in, any_in, all_ack}
 use Rattle.lt_arch.specs.Readers.{node_count, chan_count}
 use Rattle.lt_arch.specs.State.{Phase, executed_of}
+use Rattle.lt_arch.specs.Step.{updated}
+use Rattle.lt_arch.proofs.Changes.{updated-here, updated-other}
 use Rattle.lt_io.specs.FabricState.{FabricState}
 use Rattle.lt_lossy.specs.declared.event.LossyEvent.{LossyEvent}
 use Rattle.lt_lossy.specs.declared.event.LossyEvent.TheVariants.{Plain, Lose}
@@ -20,7 +21,7 @@ use Rattle.lt_plant.proofs.Bits.{leb-le}
 use Rattle.lt_net.proofs.ReplayStep.{deed_more}
 use Rattle.lt_lossy_net.specs.Net.{LossyNetState, LossyLists, lossy_state_of}
 use Rattle.lt_lossy_net.specs.Stands.{StandsLossy}
-use Rattle.lt_lossy_net.specs.Event.{RowsGo, GetsIf, LossyGoesOn, brings_new}
+use Rattle.lt_lossy_net.specs.Event.{RowsGo, GetsBy, LossyGoesOn, brings_new, is_unread}
 use Rattle.lt_lossy_net.specs.Given.{HasLossyRow, IsLossyRowFor}
 use Rattle.lt_lossy_net.specs.Taken.{Held, HasLossyKinds, SameLossyStatic, IsTakenLossy}
 
@@ -28,23 +29,12 @@ grow_rows : (n : ℕ) (d : Deed) (row : Option (List Value)) (old : ℕ → List
 grow_rows n Nothing row old h = (old, λ i. refl)
 grow_rows n Send row old h = (old, λ i. refl)
 grow_rows n Execute None old h = absurd (h refl refl)
-grow_rows n Execute (Some r) old h = (
-  (λ i. cond (nat_eq i n) (old i ++ r ∷ []) (old i)),
-  record {
-    there = elim (eqb_tells n n) [ inl e ↦ rw e.0 refl | inr e ↦ absurd (e.1 refl) ];
-    elsewhere = λ i ne. elim (eqb_tells i n) [ inl e ↦ absurd (ne e.1) | inr e ↦ rw e.0 refl ];
-  },
-)
+grow_rows n Execute (Some r) old h = let v = old n ++ r ∷ [] in (updated old n v, record { there = updated-here old n v n refl; elsewhere = updated-other old n v })
 
-grow_got : (b : Bool) (old : ℕ → List (List Value)) (ch : ℕ) (payload : List Value) → (new : ℕ → List (List Value)) × GetsIf b old new ch payload
-grow_got false old ch payload = (old, λ c. refl)
-grow_got true old ch payload = (
-  (λ c. cond (nat_eq c ch) (old c ++ payload ∷ []) (old c)),
-  record {
-    there = elim (eqb_tells ch ch) [ inl e ↦ rw e.0 refl | inr e ↦ absurd (e.1 refl) ];
-    elsewhere = λ c ne. elim (eqb_tells c ch) [ inl e ↦ absurd (ne e.1) | inr e ↦ rw e.0 refl ];
-  },
-)
+get_by : (b unread : Bool) (old : ℕ → List (List Value)) (ch : ℕ) (payload : List Value) → (new : ℕ → List (List Value)) × GetsBy b unread old new ch payload
+get_by true unread old ch payload = let v = old ch ++ payload ∷ [] in (updated old ch v, record { there = updated-here old ch v ch refl; elsewhere = updated-other old ch v })
+get_by false true old ch payload = let v = set (old ch) (length (old ch) - 1) payload in (updated old ch v, record { there = updated-here old ch v ch refl; elsewhere = updated-other old ch v })
+get_by false false old ch payload = (old, λ c. refl)
 
 module _ {C M : Type 0} (net : LossyNetState C M) (ls : LossyLists) (row : Option (List Value)) (payload : List Value) where
   -- there are lists with the event's entries
@@ -53,7 +43,7 @@ module _ {C M : Type 0} (net : LossyNetState C M) (ls : LossyLists) (row : Optio
       let g = grow_rows n (deed_at net.shape net.rows (plain_of (lossy_state_of net ls)) n) row ls.inputs (h n at refl) in
       (record { events = ls.events ++ Plain (Act n at) ∷ []; inputs = g.0; got = ls.got }, record { events = refl; inputs = g.1; got = λ c. refl })
   next_lossy (Plain (Del ch at)) h =
-      let g = grow_got (brings_new (lossy_state_of net ls) ch) ls.got ch payload in
+      let g = get_by (brings_new (lossy_state_of net ls) ch) (is_unread net.shape (lossy_state_of net ls) ch) ls.got ch payload in
       (record { events = ls.events ++ Plain (Del ch at) ∷ []; inputs = ls.inputs; got = g.0 }, record { events = refl; inputs = λ i. refl; got = g.1 })
   next_lossy (Plain (End at)) h = (record { events = ls.events ++ Plain (End at) ∷ []; inputs = ls.inputs; got = ls.got }, record { events = refl; inputs = λ i. refl; got = λ c. refl })
   next_lossy (Lose ch at) h = (record { events = ls.events ++ Lose ch at ∷ []; inputs = ls.inputs; got = ls.got }, record { events = refl; inputs = λ i. refl; got = λ c. refl })

@@ -1,8 +1,7 @@
 -- A delivery and a loss, by what code has.
 use Rattle.std.proofs.Common.{◌≡◌, ◌≢◌, inl, inr, ℕ, ◌+◌, ◌<◌, ◌≤◌, Bool, true, false, List, [], length, map, set, Option, Some, None, refl, sym, ap, ◌∙◌, subst, arith, length-set}
-use Rattle.std.specs.Prelude.{slice_index_or, if◌then◌else◌}
+use Rattle.std.specs.Prelude.{slice_index_or, ◌||◌, if◌then◌else◌}
 use Rattle.std.specs.List.{slice_get}
-use Rattle.std.proofs.lemmas.List.{set-get_or}
 use Rattle.std.proofs.lemmas.Option.{slice_get-get_or}
 use Rattle.lt_base.specs.declared.value.Value.{Value}
 use Rattle.lt_base.specs.Value.{ty_of}
@@ -15,7 +14,7 @@ use Rattle.lt_arch.specs.State.{Phase}
 use Rattle.lt_arch.specs.Readers.{chan_count}
 use Rattle.lt_io.specs.FabricState.{FabricState}
 use Rattle.lt_link.specs.Bits.{differ}
-use Rattle.lt_link.specs.Inbox.{InboxState, no_inbox}
+use Rattle.lt_link.specs.Inbox.{InboxState, no_inbox, is_fresh}
 use Rattle.lt_lossy.specs.declared.event.LossyEvent.{LossyEvent}
 use Rattle.lt_lossy.specs.declared.event.LossyEvent.TheVariants.{Plain, Lose}
 use Rattle.lt_lossy.specs.State.{LossyState}
@@ -26,27 +25,20 @@ use Rattle.lt_plant.specs.Plant.{PlantState}
 use Rattle.lt_plant.specs.Payloads.{types_for}
 use Rattle.lt_plant.specs.Room.{HasSizes, HasSpace}
 use Rattle.lt_plant.proofs.SizesStay.{sizes_delivered}
-use Rattle.lt_plant.proofs.Entries.{either_way}
 use Rattle.lt_lossy_net.specs.Net.{LossyNetState, LossyLists, net_of, lossy_state_of}
-use Rattle.lt_lossy_net.specs.Event.{PassesLossy, LossyGoesOn, brings_new}
+use Rattle.lt_lossy_net.specs.Event.{PassesLossy, LossyGoesOn}
 use Rattle.lt_lossy_net.specs.Kept.{HasLossySizes}
 use Rattle.lt_lossy_net.specs.Laws.{StandsWith, KeepsDel}
-use Rattle.lt_lossy_net.specs.Receives.{with_new, ReceivesLossy, DropsOldest}
+use Rattle.lt_lossy_net.specs.Receives.{with_latest, ReceivesLossy, DropsOldest}
 use Rattle.lt_lossy_net.specs.Taken.{Held, HasLossyKinds, SameLossyStatic, IsKeptLossy, IsTakenLossy}
 use Rattle.lt_lossy_net.proofs.Fronts.{law-own}
 use Rattle.lt_lossy_net.proofs.Keeps.{law-events_keep}
 use Rattle.lt_lossy_net.proofs.Oldest.{delivery_some, loss_some, some_held}
 use Rattle.lt_lossy_net.proofs.Reached.{balanced}
 
-with_new-is : (b : InboxState) (payload : List Value) (bit : Bool) → differ bit b.bit ≡ true → with_new b payload bit ≡ record b { payload = payload; bit = bit }
-with_new-is b payload bit h = ap (λ x. if x then record b { payload = payload; bit = bit } else b) h
-
-with_new-old : (b : InboxState) (payload : List Value) (bit : Bool) → differ bit b.bit ≡ false → with_new b payload bit ≡ b
-with_new-old b payload bit h = ap (λ x. if x then record b { payload = payload; bit = bit } else b) h
-
-with_new-typed : (b : InboxState) (payload : List Value) (bit x : Bool) → map ty_of payload ≡ map ty_of b.payload → map ty_of (if x then record b { payload = payload; bit = bit } else b).payload ≡ map ty_of b.payload
-with_new-typed b payload bit true h = h
-with_new-typed b payload bit false h = refl
+latest_typed : (b : InboxState) (payload : List Value) (bit x : Bool) → map ty_of payload ≡ map ty_of b.payload → map ty_of (if x then record b { payload = payload; bit = bit } else b).payload ≡ map ty_of b.payload
+latest_typed b payload bit true h = h
+latest_typed b payload bit false h = refl
 
 -- where every event of the net's times passes, one passes for all lists for which the net stands
 abbrev pub PassesBy : {C M : Type 0} → LossyNetState C M → LossyEvent → Type 0
@@ -123,35 +115,24 @@ module _ {C M : Type 0} (phase : C → Phase) (stands : M → Function → List 
       abbrev payload : List Value
       payload = received.message.payload
 
-      typed : map ty_of (with_new (slice_index_or p.inboxes ch no_inbox) received.message.payload received.message.bit).payload ≡ types_for p.layout p.shape ch
+      typed : map ty_of (with_latest (slice_index_or p.inboxes ch no_inbox) received.message.payload received.message.bit).payload ≡ types_for p.layout p.shape ch
       typed =
           let types = kept.sized.plant.inbox_types ch here in
-          with_new-typed (slice_index_or p.inboxes ch no_inbox) received.message.payload received.message.bit (differ received.message.bit (slice_index_or p.inboxes ch no_inbox).bit) (received.delivers.typed ∙ kinds.each ch here ∙ sym types) ∙ types
+          latest_typed (slice_index_or p.inboxes ch no_inbox) received.message.payload received.message.bit (differ received.message.bit (slice_index_or p.inboxes ch no_inbox).bit || is_fresh (slice_index_or p.inboxes ch no_inbox)) (received.delivers.typed ∙ kinds.each ch here ∙ sym types) ∙ types
 
       sizes : HasSizes (record p { inboxes = ibs })
-      sizes = subst (λ ibs. HasSizes (record p { inboxes = ibs })) (sym received.inboxes) (sizes_delivered p kept.sized.plant ch here (with_new (slice_index_or p.inboxes ch no_inbox) received.message.payload received.message.bit) typed)
+      sizes = subst (λ ibs. HasSizes (record p { inboxes = ibs })) (sym received.inboxes) (sizes_delivered p kept.sized.plant ch here (with_latest (slice_index_or p.inboxes ch no_inbox) received.message.payload received.message.bit) typed)
 
       keeps : (ls next : LossyLists) → StandsWith phase stands made left net ls old → LossyGoesOn net ls next (Plain (Del ch at)) row payload → KeepsDel phase stands made left net ls next payload new ch at received.message (slice_index_or p.inboxes ch no_inbox)
       keeps ls next with goes = (law-events_keep phase stands made left net ls next row payload old kept.fixed kept.sized with).delivery ch at received.message new (slice_index_or p.inboxes ch no_inbox)
           (passes_for net (Plain (Del ch at)) timely passes ls old with) here goes received.delivers at_inbox
 
       goes_on : (ls next : LossyLists) → StandsWith phase stands made left net ls old → LossyGoesOn net ls next (Plain (Del ch at)) row payload → StandsWith phase stands made left (net_of (record p { inboxes = ibs; values = v }) t w sent posted) next new
-      goes_on ls next with goes = elim (either_way (brings_new (lossy_state_of net ls) ch)) [
-        | inl yes_new ↦
-            let k = keeps ls next with goes in
-            let boxes : ibs ≡ set p.inboxes ch (record (slice_index_or p.inboxes ch no_inbox) { payload = received.message.payload; bit = received.message.bit }) =
-            received.inboxes ∙ ap (set p.inboxes ch) (with_new-is (slice_index_or p.inboxes ch no_inbox) received.message.payload received.message.bit (sym k.told ∙ yes_new)) in
-            let path : net_of (record p { inboxes = ibs; values = v }) t w sent posted ≡ net_of (record p { inboxes = set p.inboxes ch (record (slice_index_or p.inboxes ch no_inbox) { payload = received.message.payload; bit = received.message.bit }) }) t (with_losses (without_oldest w0 ch at) ch 0) sent posted =
-            λ i. net_of (record p { inboxes = boxes i; values = v_is i }) t (watch i) sent posted in
-            subst (λ z. StandsWith phase stands made left z next new) (sym path) (k.arrival yes_new refl)
-        | inr no_new ↦
-            let k = keeps ls next with goes in
-            let boxes : ibs ≡ p.inboxes =
-            received.inboxes ∙ ap (set p.inboxes ch) (with_new-old (slice_index_or p.inboxes ch no_inbox) received.message.payload received.message.bit (sym k.told ∙ no_new)) ∙ set-get_or p.inboxes ch no_inbox in
-            let path : net_of (record p { inboxes = ibs; values = v }) t w sent posted ≡ net_of p t (with_losses (without_oldest w0 ch at) ch 0) sent posted =
-            λ i. net_of (record p { inboxes = boxes i; values = v_is i }) t (watch i) sent posted in
-            subst (λ z. StandsWith phase stands made left z next new) (sym path) (k.copy no_new)
-      ]
+      goes_on ls next with goes =
+          let path : net_of (record p { inboxes = ibs; values = v }) t w sent posted
+              ≡ net_of (record p { inboxes = set p.inboxes ch (with_latest (slice_index_or p.inboxes ch no_inbox) received.message.payload received.message.bit) }) t (with_losses (without_oldest w0 ch at) ch 0) sent posted =
+          λ i. net_of (record p { inboxes = received.inboxes i; values = v_is i }) t (watch i) sent posted in
+          subst (λ z. StandsWith phase stands made left z next new) (sym path) ((keeps ls next with goes).arrival refl)
 
       pub delivery_taken : IsTakenLossy phase stands made left net (net_of (record p { inboxes = ibs; values = v }) t w sent posted) (Plain (Del ch at)) row old new
       delivery_taken = record {

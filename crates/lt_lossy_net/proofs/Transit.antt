@@ -1,7 +1,7 @@
 -- What is in transit after one event more.
 use Rattle.std.proofs.Common.{◌≡◌, ◌≢◌, inl, inr, ℕ, zero, suc, ◌+◌, ◌<◌, ◌≤◌, Bool, true, false, not, List, [], ◌∷◌, ◌++◌, length, refl, sym, ap, ◌∙◌, subst, arith}
 use Rattle.std.specs.Prelude.{slice_index_or, ◌==◌, nat_lt, if◌then◌else◌}
-use Rattle.std.proofs.lemmas.Bool.{cases_lt, lt-ltb, le-ltb, ltb-true}
+use Rattle.std.proofs.lemmas.Bool.{cases_lt, lt-ltb, le-ltb, ltb-true, ltb-false}
 use Rattle.std.proofs.lemmas.Bool.Decides.{eqb_tells}
 use Rattle.lt_base.specs.declared.value.Value.{Value}
 use Rattle.lt_base.specs.Program.{Function}
@@ -19,6 +19,7 @@ use Rattle.lt_lossy.specs.Laws.{Ascends}
 use Rattle.lt_lossy.proofs.Changes.{link-del, link-lose, link-end, node-act_here}
 use Rattle.lt_lossy.proofs.Numbers.{ascends-ends}
 use Rattle.lt_plant.specs.Standing.{HasOwnValues}
+use Rattle.lt_plant.proofs.Bits.{differ_same, differ_not}
 use Rattle.lt_plant.proofs.Entries.{and_parts}
 use Rattle.lt_lossy_net.specs.Net.{LossyNetState, LossyLists, lossy_state_of}
 use Rattle.lt_lossy_net.specs.Stands.{StandsLossy}
@@ -27,12 +28,12 @@ use Rattle.lt_lossy_net.specs.Event.{PassesLossy, is_newer, brings_new}
 use Rattle.lt_lossy_net.specs.Kept.{IsFixedLossy}
 use Rattle.lt_lossy_net.proofs.Reached.{balanced, one_now, state_is}
 
-own_of : (own : ℕ → List Value → Type 0) (number : ℕ) (p : List Value) → ((k : ℕ) → number ≡ suc k → own k p) → OwnOf own number p
-own_of own zero p h = tt
-own_of own (suc k) p h = h k refl
+own_of : (own : ℕ → List Value → Type 0) (number : ℕ) (p : List Value) → 0 < number → ((k : ℕ) → number ≡ suc k → own k p) → OwnOf own number p
+own_of own zero p some h = absurd (omega (arith, some))
+own_of own (suc k) p some h = h k refl
 
 own_more : (own own' : ℕ → List Value → Type 0) (number high : ℕ) (p : List Value) → number ≤ high → ((k : ℕ) (p : List Value) → k < high → own k p → own' k p) → OwnOf own number p → OwnOf own' number p
-own_more own own' zero high p le f h = tt
+own_more own own' zero high p le f h = h
 own_more own own' (suc k) high p le f h = f k p (omega (arith, le)) h
 
 -- the values stay those of the instants
@@ -63,14 +64,6 @@ sent-lost : (own : ℕ → List Value → Type 0) (link : LinkState) (ns : List 
 sent-lost own link [] o ms h = absurd h
 sent-lost own link (n ∷ ns) o ms h = h.2
 
-differ_same : (b : Bool) → differ b b ≡ false
-differ_same true = refl
-differ_same false = refl
-
-differ_not : (b : Bool) → differ (not b) b ≡ true
-differ_not true = refl
-differ_not false = refl
-
 -- the bit of the oldest tells whether it is new
 tells_new : (own : ℕ → List Value → Type 0) (newest high : ℕ) (ns : List Numbered) (o : Message) (ms : List Message) → Ascends newest ns high → high ≤ newest + 1 → AreSent own ns (o ∷ ms) → is_newer newest ns ≡ differ o.bit (bit_of newest)
 tells_new own newest high [] o ms up le h = absurd h
@@ -94,6 +87,19 @@ new_own own newest high (n ∷ ns) o ms up le new h =
     let lt = ltb-true newest n.number new in
     let is : n.number ≡ suc newest = omega (arith, lt, top, le) in
     subst (λ k. OwnOf own k o.payload) is h.1
+
+-- a copy has those of the last one
+old_own : (own : ℕ → List Value → Type 0) (newest high : ℕ) (ns : List Numbered) (o : Message) (ms : List Message) → Ascends newest ns high → is_newer newest ns ≡ false → AreSent own ns (o ∷ ms) → OwnOf own newest o.payload
+old_own own newest high [] o ms up old h = absurd h
+old_own own newest high (n ∷ ns) o ms up old h =
+    let low = up.0 in
+    let le = ltb-false newest n.number old in
+    let is : n.number ≡ newest = omega (arith, le, low) in
+    subst (λ k. OwnOf own k o.payload) is h.1
+
+numbered : (own : ℕ → List Value → Type 0) (number : ℕ) (p : List Value) → OwnOf own number p → (k : ℕ) × (number ≡ suc k) × own k p
+numbered own zero p h = absurd h
+numbered own (suc k) p h = (k, refl, h)
 
 new_counted : (newest high : ℕ) (ns : List Numbered) → is_newer newest ns ≡ true → Ascends newest ns high → newest < high
 new_counted newest high [] new up = absurd (cc)
@@ -136,7 +142,7 @@ module _ {C M : Type 0} (phase : C → Phase) (stands : M → Function → List 
         link_is c = refl
 
         own_sent : (c : ℕ) → c < chan_count net.shape → sends_number net.shape n v c ≡ true → OwnOf (OwnOn net next c) (number_on net.shape v c) (slice_index_or posted c [])
-        own_sent c lt on = own_of (OwnOn net next c) (number_on net.shape v c) (slice_index_or posted c []) (λ k is carries.
+        own_sent c lt on = own_of (OwnOn net next c) (number_on net.shape v c) (slice_index_or posted c []) (ltb-true 0 (number_on net.shape v c) (and_parts (from_of net.shape c == n) (nat_lt 0 (number_on net.shape v c)) on).1) (λ k is carries.
             let from : from_of net.shape c ≡ n = (Rattle.std.proofs.lemmas.Bool.Decides.Decides-eqb (from_of net.shape c) n).0 (and_parts (from_of net.shape c == n) (nat_lt 0 (number_on net.shape v c)) on).0 in
             let here : (lossy_state_of net next).node (from_of net.shape c) ≡ v = ap (λ i. (lossy_state_of net next).node i) from ∙ ap (λ (z : LossyState). z.node n) next_is ∙ node-act_here net.shape net.timing net.rows (lossy_state_of net ls) n at n refl in
             own_posted c k lt carries (ap sent_by here ∙ ap (λ b. if b then sent_by v else v.executed) (sym carries) ∙ is))
@@ -191,6 +197,12 @@ module _ {C M : Type 0} (phase : C → Phase) (stands : M → Function → List 
       brings_own new carries =
           subst (λ k. HasOwnValues net.layout net.shape ls.inputs ls.got (from_of net.shape ch) (to_of net.shape ch) k o.payload) (sym (s.plant.messages ch here))
           (new_own (OwnOn net ls ch) _ _ ((lossy_state_of net ls).link ch).transit o later (ascends ch here) ((one_now phase stands made left net ls s fixed).next ch here) new there carries)
+
+      -- a copy is one of the newest message, of which there is one
+      pub copies_own : brings_new (lossy_state_of net ls) ch ≡ false → (k : ℕ) × (length (ls.got ch) ≡ suc k) × OwnOn net ls ch k o.payload
+      copies_own old =
+          let n = numbered (OwnOn net ls ch) ((lossy_state_of net ls).link ch).newest o.payload (old_own (OwnOn net ls ch) _ _ ((lossy_state_of net ls).link ch).transit o later (ascends ch here) old there) in
+          (n.0, s.plant.messages ch here ∙ n.1, n.2)
 
       -- and its sender has executed that instant
       pub newest_most : brings_new (lossy_state_of net ls) ch ≡ true → carries_data net.shape ch ≡ true → length (ls.got ch) < length (ls.inputs (from_of net.shape ch))

@@ -1,17 +1,19 @@
 -- What an event does to the lists for which a net stands.
-use Rattle.std.specs.Prelude.{◌≡◌, ℕ, ◌≤◌, nat_lt, Bool, true, false, List, [], ◌∷◌, ◌++◌, Option, Some, None}
+use Rattle.std.specs.Prelude.{◌≡◌, ℕ, ◌≤◌, ◌&&◌, nat_lt, Bool, true, false, List, [], ◌∷◌, ◌++◌, Option, Some, None}
 use Rattle.lt_base.specs.declared.value.Value.{Value}
 use Rattle.lt_arch.specs.declared.event.Deed.{Deed}
 use Rattle.lt_arch.specs.declared.event.Deed.TheVariants.{Nothing, Execute, Send}
 use Rattle.lt_arch.specs.declared.event.Event.TheVariants.{Act, Del, End}
 use Rattle.lt_arch.specs.declared.limits.TheConstants.{GREATEST_TIME}
-use Rattle.lt_arch.specs.Deeds.{deed_at}
+use Rattle.lt_arch.specs.Deeds.{deed_at, is_fresh}
+use Rattle.lt_arch.specs.Readers.{carries_data}
+use Rattle.lt_arch.specs.declared.shape.Shape.{Shape}
 use Rattle.lt_lossy.specs.declared.event.LossyEvent.{LossyEvent}
 use Rattle.lt_lossy.specs.declared.event.LossyEvent.TheVariants.{Plain, Lose}
 use Rattle.lt_lossy.specs.State.{Message, LossyState, plain_of}
 use Rattle.lt_lossy.specs.Step.{lossy_offence}
 use Rattle.lt_lossy.specs.Times.{lossy_time_of}
-use Rattle.lt_plant.specs.Changes.{Takes, Gets, Same}
+use Rattle.lt_plant.specs.Changes.{Takes, Gets, Replaces, Same}
 use Rattle.lt_lossy_net.specs.Net.{LossyNetState, LossyLists, lossy_state_of}
 
 -- the event is in the range of times, and has no offence
@@ -48,20 +50,26 @@ lossy_deed_by net ls (Plain (Del c at)) = Nothing
 lossy_deed_by net ls (Plain (End at)) = Nothing
 lossy_deed_by net ls (Lose c at) = Nothing
 
--- the payloads of a channel with one more, or as they were
-abbrev pub GetsIf : Bool → (old new : ℕ → List (List Value)) → (ch : ℕ) → (payload : List Value) → Type 0
-GetsIf true old new ch payload = Gets old new ch payload
-GetsIf false old new ch payload = Same old new
+-- channel c carries data, and its receiver has not run yet on the newest message that it delivered
+abbrev pub is_unread : Shape → LossyState → (c : ℕ) → Bool
+is_unread s st c = carries_data s c && is_fresh s (plain_of st) c
 
--- a copy that comes again adds nothing, nor does a loss
-abbrev pub LossyGotGoes : LossyState → LossyEvent → List Value → (old new : ℕ → List (List Value)) → Type 0
-LossyGotGoes st (Plain (Act n at)) payload old new = Same old new
-LossyGotGoes st (Plain (Del c at)) payload old new = GetsIf (brings_new st c) old new c payload
-LossyGotGoes st (Plain (End at)) payload old new = Same old new
-LossyGotGoes st (Lose c at) payload old new = Same old new
+-- the payloads of a channel after a delivery: with one more where the message is new, with another last one where it is a copy of one that is
+-- unread, and else as they were
+abbrev pub GetsBy : (is_new unread : Bool) → (old new : ℕ → List (List Value)) → (ch : ℕ) → (payload : List Value) → Type 0
+GetsBy true unread old new ch payload = Gets old new ch payload
+GetsBy false true old new ch payload = Replaces old new ch payload
+GetsBy false false old new ch payload = Same old new
+
+-- only a delivery changes payloads
+abbrev pub LossyGotGoes : Shape → LossyState → LossyEvent → List Value → (old new : ℕ → List (List Value)) → Type 0
+LossyGotGoes s st (Plain (Act n at)) payload old new = Same old new
+LossyGotGoes s st (Plain (Del c at)) payload old new = GetsBy (brings_new st c) (is_unread s st c) old new c payload
+LossyGotGoes s st (Plain (End at)) payload old new = Same old new
+LossyGotGoes s st (Lose c at) payload old new = Same old new
 
 -- lists with all entries of one event more
 pub record LossyGoesOn {C M : Type 0} (net : LossyNetState C M) (ls next : LossyLists) (e : LossyEvent) (row : Option (List Value)) (payload : List Value) : Type 0 where
   pub events : next.events ≡ ls.events ++ e ∷ []
   pub inputs : LossyInputsGo e (lossy_deed_by net ls e) row ls.inputs next.inputs
-  pub got : LossyGotGoes (lossy_state_of net ls) e payload ls.got next.got
+  pub got : LossyGotGoes net.shape (lossy_state_of net ls) e payload ls.got next.got

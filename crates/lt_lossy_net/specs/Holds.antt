@@ -12,9 +12,9 @@ use Rattle.lt_lossy.specs.Step.{sends_number}
 use Rattle.lt_plant.specs.Standing.{HasOwnValues}
 use Rattle.lt_lossy_net.specs.Net.{LossyNetState, LossyLists, lossy_state_of}
 
--- message number k + 1 has the values of instant k
+-- message number k + 1 has the values of instant k, and no message has the number 0
 abbrev pub OwnOf : (own : ℕ → List Value → Type 0) → (number : ℕ) → List Value → Type 0
-OwnOf own zero payload = Unit {0}
+OwnOf own zero payload = ⊥
 OwnOf own (suc k) payload = own k payload
 
 -- messages in order, of which each has the bit of its number, and the values of its instant

@@ -33,6 +33,7 @@ use Rattle.lt_lossy_net.specs.Stands.{StandsLossy}
 use Rattle.lt_lossy_net.specs.Holds.{HoldsLossy, SendsLossy}
 use Rattle.lt_lossy_net.specs.Event.{PassesLossy, LossyGoesOn, lossy_deed_by, brings_new}
 use Rattle.lt_lossy_net.specs.Kept.{IsFixedLossy, HasLossySizes}
+use Rattle.lt_lossy_net.specs.Receives.{with_latest}
 use Rattle.lt_lossy_net.specs.Changes.{Posts, posts_on, sent_after, NotesAct, Controls}
 
 -- node n after its activation
@@ -57,15 +58,13 @@ pub record KeepsAct {C M : Type 0} (phase : C → Phase) (stands : M → Functio
       (mid : PlantState C M) (ex : Executes stands made left (record (plant_of net) { controllers = cs }) mid n input) → SendsLossy net.shape n (woken_in net ls n at) net.posted fabric fabric' →
       StandsWith phase stands made left (record net { watch = w; controllers = cs; machines = slice_set net.machines n ex.after; executed = mid.executed; inboxes = mid.inboxes; tracks = mid.tracks; buffers = mid.buffers }) next fabric'
 
--- what a delivery of a message on channel ch leaves
+-- what a delivery of a message on channel ch leaves, whose inbox was b
 pub record KeepsDel {C M : Type 0} (phase : C → Phase) (stands : M → Function → List (List Value) → Type 0) (made left : M → ℕ) (net : LossyNetState C M) (ls next : LossyLists) (payload : List Value) (fabric' : FabricState) (ch at : ℕ) (m : Message) (b : InboxState) : Type 0 where
   -- the message is new exactly where its bit differs from that of the inbox
   pub told : brings_new (lossy_state_of net ls) ch ≡ differ m.bit b.bit
-  -- a new one goes into the inbox
-  pub arrival : brings_new (lossy_state_of net ls) ch ≡ true → payload ≡ m.payload →
-      StandsWith phase stands made left (record net { inboxes = slice_set net.inboxes ch (record b { payload = payload; bit = m.bit }); watch = with_losses (without_oldest net.watch ch at) ch 0 }) next fabric'
-  -- a copy changes nothing there
-  pub copy : brings_new (lossy_state_of net ls) ch ≡ false → StandsWith phase stands made left (record net { watch = with_losses (without_oldest net.watch ch at) ch 0 }) next fabric'
+  -- it goes into the inbox, unless it is a copy of one that was read
+  pub arrival : payload ≡ m.payload →
+      StandsWith phase stands made left (record net { inboxes = slice_set net.inboxes ch (with_latest b payload m.bit); watch = with_losses (without_oldest net.watch ch at) ch 0 }) next fabric'
 
 -- what every event leaves
 pub record KeepsStanding {C M : Type 0} (phase : C → Phase) (stands : M → Function → List (List Value) → Type 0) (made left : M → ℕ) (net : LossyNetState C M) (ls next : LossyLists) (row : Option (List Value)) (payload : List Value) (fabric : FabricState) : Type 0 where
@@ -85,7 +84,7 @@ EventsKeep {C} {M} phase stands made left =
 
 -- Over a faithful fabric.
 
--- what is new of a delivery is the payload that is oldest in transit
+-- a delivery hands over the payload that is oldest in transit
 abbrev pub BringsFrom : {C M : Type 0} → LossyNetState C M → LossyLists → FabricState → LossyEvent → List Value → Type 0
 BringsFrom net ls fabric (Plain (Act n at)) payload = Unit {0}
 BringsFrom net ls fabric (Plain (Del ch at)) payload = (m : Message) × (later : List Message) × (fabric.transit ch ≡ m ∷ later) × (payload ≡ m.payload)
@@ -107,7 +106,7 @@ LossyCellsAreFronts {C} {M} phase stands made left =
     (track_at net.tracks y).cells ≡ take ((lossy_state_of net ls).node n).executed (stream_of [] fixed.whole rows (slice_index_or net.layout.outs y 0))
 
 -- what a node saw of a crossing at an executed instant, over any fabric: the literal at instant 0, and at instant k from then on the value of
--- message k, which was delivered as the newest
+-- the copy of message k that was delivered last before
 abbrev pub LossyCellsAreLocal : {C M : Type 0} (phase : C → Phase) (stands : M → Function → List (List Value) → Type 0) (made left : M → ℕ) → Type 0
 LossyCellsAreLocal {C} {M} phase stands made left =
     (net : LossyNetState C M) (ls : LossyLists) → IsFixedLossy net.layout net.shape net.timing → StandsLossy phase stands made left net ls →

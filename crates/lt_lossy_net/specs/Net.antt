@@ -62,8 +62,8 @@ plant_of net = record {
   outs = net.outs;
 }
 
--- what a net stands for: the events, the input rows of each node, and of each channel the payloads of the messages from the first to the
--- newest, each once however often it came
+-- what a net stands for: the events, the input rows of each node, and of each channel a payload of each message from the first to the
+-- newest: that of the copy that came last before the receiver ran on it
 pub record LossyLists : Type 0 where
   pub events : List LossyEvent
   pub inputs : ℕ → List (List Value)

@@ -21,8 +21,8 @@ pub fn cells_are_fronts<C: Controller, M: Machine>()
     ensures { LossyCellsAreFronts C.phase M.stands M.made M.left }
 {}
 
-/// Over any payloads the cells of an output are those that its node's part gives out on the literals and then on the messages
-/// that were delivered, each once.
+/// Over any payloads the cells of an output are those that its node's part gives out on the literals and then on the payloads of
+/// the messages, of each the copy that was delivered last before the node ran on it.
 pub fn cells_are_local<C: Controller, M: Machine>()
     ensures { LossyCellsAreLocal C.phase M.stands M.made M.left }
 {}

@@ -5,23 +5,23 @@ ghost use Rattle.lt_io.specs.declared.fault.LinkErr.TheVariants.{Memory as NoMem
 ghost use Rattle.lt_io.specs.Counts.{LinkCounted};
 ghost use Rattle.lt_io.specs.FabricState.{SameLists, KeepsFabric, kind_of};
 ghost use Rattle.lt_link.specs.Inbox.{no_inbox};
-ghost use Rattle.lt_lossy_net.specs.Receives.{with_new, ReceivesLossy, DropsOldest};
+ghost use Rattle.lt_lossy_net.specs.Receives.{with_latest, ReceivesLossy, DropsOldest};
 
 use lt_base::Value;
 use lt_io::{Fabric, LinkErr};
 use lt_link::Inbox;
 
-// Puts a message into an inbox, where its bit is not that of the one there.
-fn put_new(inbox: &mut Inbox, payload: &[Value], bit: bool)
+// Puts a message into an inbox, unless it is a copy of one that was read there.
+fn put_latest(inbox: &mut Inbox, payload: &[Value], bit: bool)
     requires types { map ty_of payload.now ≡ map ty_of inbox.old.payload }
-    ensures { inbox.new ≡ with_new inbox.old payload.now bit }
+    ensures { inbox.new ≡ with_latest inbox.old payload.now bit }
 {
-    if bit != inbox.bit() {
+    if bit != inbox.bit() || inbox.fresh() {
         inbox.put(payload, bit);
     }
 }
 
-/// Takes the oldest message of a channel into its inbox, and drops a copy of the one there.
+/// Takes the oldest message of a channel into its inbox, and drops it where it is a copy of one that was read there.
 pub fn receive<W: Fabric>(
     inboxes: &mut Vec<Inbox>,
     scratch: &mut Vec<Value>,
@@ -47,7 +47,7 @@ pub fn receive<W: Fabric>(
     let count = inbox.payload().len();
     let into = &mut scratch[..count];
     let bit = fabric.deliver(ch, into)?;
-    put_new(inbox, into, bit);
+    put_latest(inbox, into, bit);
     Ok(())
 }
 
