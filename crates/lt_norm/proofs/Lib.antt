@@ -7,6 +7,7 @@ pub mod Lifted
 pub mod Plains
 pub mod NormalForms
 pub mod Steps
+pub mod Sides
 pub mod Loop
 pub mod Found
 pub mod Built

@@ -1,10 +1,8 @@
 -- Right sides, and the loop over the equations.
 use Rattle.std.proofs.Common.{◌≡◌, ℕ, zero, suc, ◌+◌, ◌-◌, ◌^◌, ◌<◌, ◌≤◌, List, [], ◌∷◌, ◌++◌, length, map, take, get_or, replicate, All, refl, sym, ap, ◌∙◌, subst, arith, length-append}
 use Rattle.std.specs.List.{sum_by}
-use Rattle.std.specs.Prelude.{Result, Ok, Err, IfOk}
-use Rattle.lt_base.specs.declared.memory.Memory.{Memory}
-use Rattle.lt_base.specs.declared.expression.Expr.{Expr}
-use Rattle.std.proofs.lemmas.List.{length-map, map-append, append_assoc, append-nil, take_more, take_all, length-replicate}
+use Rattle.std.specs.Prelude.{true, false, Result, OnOk}
+use Rattle.std.proofs.lemmas.List.{length-map, map-append, append_assoc, append-nil, take_all, length-replicate, map-id}
 use Rattle.std.proofs.lemmas.List.Sums.{sum_by-cons, sum_by_more_le}
 use Rattle.lt_base.specs.declared.value.Value.{Value}
 use Rattle.lt_base.specs.declared.function.Decl.{Decl}
@@ -16,11 +14,11 @@ use Rattle.lt_base.proofs.Lookups.{all_found, left_below}
 use Rattle.lt_norm.specs.Plain.{plain, plain_equations}
 use Rattle.lt_norm.specs.Lift.{delays, right_delays, right_lifted, right_fresh, equations_delays, equations_lifted, equations_fresh, new_decl, new_equations, normal_form}
 use Rattle.lt_norm.specs.NormalForm.{right_places, new_origins}
-use Rattle.lt_norm.specs.Walk.{LiftedTo, RightTo, AllLifted, NotDelayed}
+use Rattle.lt_norm.specs.Walk.{LiftedTo, RightTo, AllLifted, is_delay}
 use Rattle.lt_norm.proofs.Stands.{right_length, equations_length}
 use Rattle.lt_norm.proofs.Lifted.{all_equations}
 use Rattle.lt_norm.proofs.NormalForms.{right_count, right_cost}
-use Rattle.lt_norm.proofs.Steps.{new_equations-append, grown_by}
+use Rattle.lt_norm.proofs.Steps.{new_equations-append, grown_by, on_ok}
 
 abbrev Decls : Type 0
 Decls = List Decl
@@ -30,8 +28,8 @@ Eqs = List (ℕ × Expression)
 
 -- ---- right sides
 
-pub other_delays : (e : Expression) → NotDelayed e → right_delays e ≡ delays e
-other_delays (delayed v e) n = elim n [ ]
+pub other_delays : (e : Expression) → is_delay e ≡ false → right_delays e ≡ delays e
+other_delays (delayed v e) n = let wrong : true ≡ false = n in absurd cc
 other_delays (literal v) n = refl
 other_delays (variable x) n = refl
 other_delays (unary o a) n = refl
@@ -44,8 +42,8 @@ other_delays (follow a b) n = refl
 other_delays (arrow a b) n = refl
 other_delays (call g args) n = refl
 
-pub other_right : (ck : ClockPairs) (e : Expression) (ds : Decls) (es : Eqs) (ds' : Decls) (es' : Eqs) (e' : Expression) → NotDelayed e → LiftedTo ck e ds es ds' es' e' → RightTo ck e ds es ds' es' e'
-other_right ck (delayed v e) ds es ds' es' e' n l = elim n [ ]
+pub other_right : (ck : ClockPairs) (e : Expression) (ds : Decls) (es : Eqs) (ds' : Decls) (es' : Eqs) (e' : Expression) → is_delay e ≡ false → LiftedTo ck e ds es ds' es' e' → RightTo ck e ds es ds' es' e'
+other_right ck (delayed v e) ds es ds' es' e' n l = let wrong : true ≡ false = n in absurd cc
 other_right ck (literal v) ds es ds' es' e' n l = record { form = l.form; rows = l.rows }
 other_right ck (variable x) ds es ds' es' e' n l = record { form = l.form; rows = l.rows }
 other_right ck (unary o a) ds es ds' es' e' n l = record { form = l.form; rows = l.rows }
@@ -209,24 +207,24 @@ clock_read (e ∷ ds) zero d l = refl
 clock_read (e ∷ ds) (suc x) d l = clock_read ds x d (omega arith)
 
 -- a right side that was lifted at the declared clock of its variable
-pub side_lifted : (known items : Decls) (x left : ℕ) (d : Decl) (e side : Expression) (ds : Decls) (es : Eqs) (ds' : Decls) (es' : Eqs) → items ≡ known → left ≡ x → x < length known → d ≡ get_or items left d → side ≡ plain known e → (r : Result Expr Memory) → IfOk r (λ r. RightTo d.clock side ds es ds' es' (shape r)) → IfOk r (λ r. RightTo (clock_of known x) (plain known e) ds es ds' es' (shape r))
-side_lifted known items x left d e side ds es ds' es' p q l k s (Ok r) h =
-    let here : d ≡ get_or known x d = k ∙ (λ i. get_or (p i) (q i) d) in
-    moved_right (clock_of known x) d.clock (plain known e) side ds es ds' es' (shape r) (clock_read known x d l ∙ ap (λ (d : Decl). d.clock) (sym here)) (sym s) h
-side_lifted known items x left d e side ds es ds' es' p q l k s (Err w) h = h
+pub side_lifted : {A E : Type 0} (known items : Decls) (x : ℕ) (d : Decl) (e side r : Expression) (ds : Decls) (es : Eqs) (ds' : Decls) (es' : Eqs) → items ≡ known → x < length known → d ≡ get_or items x d → side ≡ plain known e → (res : Result A E) → OnOk res (RightTo d.clock side ds es ds' es' r) → OnOk res (RightTo (clock_of known x) (plain known e) ds es ds' es' r)
+side_lifted known items x d e side r ds es ds' es' p l k s res h =
+    let here : d ≡ get_or known x d = k ∙ (λ i. get_or (p i) x d) in
+    on_ok res _ _ (moved_right (clock_of known x) d.clock (plain known e) side ds es ds' es' r (clock_read known x d l ∙ ap (λ (d : Decl). d.clock) (sym here)) (sym s)) h
 
 -- ---- one turn of the loop
 
-module _ (known : Decls) (origin : List ℕ) (items : Eqs) (i : ℕ) (q : ℕ × Expression) (read : q ≡ get_or items i q) (inside : i < length items) (ds : Decls) (eqs new : Eqs) (origins : List ℕ) (a : AllLifted known origin (take i items) ds eqs new origins) where
-  pub room_at : (all : Eqs) → items ≡ all → length known + sum_by (λ q. cost 1 (λ _. 0) q.1) all < 2 ^ 32 → length ds + right_delays (plain known q.1) < 2 ^ 32
-  room_at all p room =
-      let here : length known + sum_by (λ q. cost 1 (λ _. 0) q.1) items < 2 ^ 32 = subst (λ (z : Eqs). length known + sum_by (λ q. cost 1 (λ _. 0) q.1) z < 2 ^ 32) (sym p) room in
-      subst (λ (z : ℕ × Expression). length ds + right_delays (plain known z.1) < 2 ^ 32) (sym read) (room_more known origin items i q inside here ds eqs new origins a)
+module _ (known : Decls) (origin : List ℕ) (all taken : Eqs) (q : ℕ × Expression) (front : map (λ (z : ℕ × Expression). z) taken ≡ take (length taken) all) (inside : length taken < length all) (read : q ≡ get_or all (length taken) q) (ds : Decls) (eqs new : Eqs) (origins : List ℕ) (a : AllLifted known origin taken ds eqs new origins) where
+  pub room_at : (given : Eqs) → all ≡ given → length known + sum_by (λ q. cost 1 (λ _. 0) q.1) given < 2 ^ 32 → (side : Expression) → side ≡ q.1 → length ds + right_delays (plain known side) < 2 ^ 32
+  room_at given g room side p =
+      let here : length known + sum_by (λ q. cost 1 (λ _. 0) q.1) all < 2 ^ 32 = subst (λ (z : Eqs). length known + sum_by (λ q. cost 1 (λ _. 0) q.1) z < 2 ^ 32) (sym g) room in
+      let so_far : AllLifted known origin (take (length taken) all) ds eqs new origins = subst (λ qs. AllLifted known origin qs ds eqs new origins) (sym (map-id taken) ∙ front) a in
+      subst (λ (e : Expression). length ds + right_delays (plain known e) < 2 ^ 32) (sym (p ∙ ap (λ (z : ℕ × Expression). z.1) read)) (room_more known origin all (length taken) q inside here ds eqs new origins so_far)
 
-  pub turned : (ds' : Decls) (eqs' new' : Eqs) (origins' : List ℕ) (r : Expression) → length origin ≡ length known → RightTo (clock_of known q.0) (plain known q.1) ds new ds' new' r → (left : ℕ) (pushed : ℕ × Expression) → left ≡ q.0 → pushed ≡ (left, r) → eqs' ≡ eqs ++ pushed ∷ [] → (n m : ℕ) (all : List ℕ) (left' : ℕ) → n ≡ length ds' → m ≡ length origins → all ≡ origin → left' ≡ q.0 → origins' ≡ take n origins ++ replicate (n - m) (get_or all left' 0) → AllLifted known origin (take (i + 1) items) ds' eqs' new' origins'
-  turned ds' eqs' new' origins' r o t left pushed l p e n m all left' k j w l' h =
+  pub turned : (ds' : Decls) (eqs' new' : Eqs) (origins' : List ℕ) (r : Expression) → length origin ≡ length known → (left : ℕ) (side : Expression) → left ≡ q.0 → side ≡ q.1 → RightTo (clock_of known left) (plain known side) ds new ds' new' r → (pushed : ℕ × Expression) → pushed ≡ (left, r) → eqs' ≡ eqs ++ pushed ∷ [] → (n m : ℕ) (owners : List ℕ) → n ≡ length ds' → m ≡ length origins → owners ≡ origin → origins' ≡ take n origins ++ replicate (n - m) (get_or owners left 0) → AllLifted known origin (taken ++ q ∷ []) ds' eqs' new' origins'
+  turned ds' eqs' new' origins' r o left side l s t pushed p e n m owners k j w h =
+      let here : RightTo (clock_of known q.0) (plain known q.1) ds new ds' new' r = moved_right (clock_of known q.0) (clock_of known left) (plain known q.1) (plain known side) ds new ds' new' r (ap (clock_of known) (sym l)) (ap (plain known) (sym s)) t in
       let pushed_is : eqs' ≡ eqs ++ (q.0, r) ∷ [] = e ∙ ap (λ z. eqs ++ z ∷ []) (p ∙ ap (λ x. (x, r)) l) in
-      let owner : get_or all left' 0 ≡ get_or origin q.0 0 = λ i. get_or (w i) (l' i) 0 in
-      let resized_is = h ∙ ap (λ m. take n origins ++ replicate (n - m) (get_or all left' 0)) j ∙ resized known origin (take i items) ds eqs new origins a o q ds' new' r t n k (get_or all left' 0) owner in
-      subst (λ qs. AllLifted known origin qs ds' eqs' new' origins') (ap (λ z. take i items ++ z ∷ []) read ∙ sym (take_more items i q inside))
-      (all_more known origin (take i items) ds eqs new origins a q ds' eqs' new' origins' r t pushed_is resized_is)
+      let owner : get_or owners left 0 ≡ get_or origin q.0 0 = λ i. get_or (w i) (l i) 0 in
+      let resized_is = h ∙ ap (λ m. take n origins ++ replicate (n - m) (get_or owners left 0)) j ∙ resized known origin taken ds eqs new origins a o q ds' new' r here n k (get_or owners left 0) owner in
+      all_more known origin taken ds eqs new origins a q ds' eqs' new' origins' r here pushed_is resized_is

@@ -1,5 +1,6 @@
 -- The walk over an expression, case by case.
 use Rattle.std.proofs.Common.{◌≡◌, ℕ, zero, suc, ◌+◌, Bool, true, false, List, [], ◌∷◌, ◌++◌, length, map, refl, sym, ap, ◌∙◌, subst, arith, length-append}
+use Rattle.std.specs.Prelude.{Result, Ok, Err, OnOk}
 use Rattle.std.proofs.lemmas.List.{length-map, map-append, append_assoc, append-nil}
 use Rattle.lt_base.specs.declared.value.Value.{Value}
 use Rattle.lt_base.specs.declared.operators.Un.{Un}
@@ -7,6 +8,7 @@ use Rattle.lt_base.specs.declared.operators.Bin.{Bin}
 use Rattle.lt_base.specs.declared.operators.Imp.{Imp}
 use Rattle.lt_base.specs.declared.function.Decl.{Decl}
 use Rattle.lt_base.specs.Expression.{Expression, literal, variable, unary, binary, imported, choose, sampled, merged, delayed, call, Arguments}
+use Rattle.lt_base.specs.Value.{ty_of}
 use Rattle.lt_base.specs.Meaning.{ClockPairs, outer}
 use Rattle.lt_norm.specs.Lift.{delays, Delay, lifted, fresh, new_decl, new_equations}
 use Rattle.lt_norm.specs.Walk.{Adds, LiftedTo}
@@ -83,9 +85,12 @@ lift_merged ck c a a' b b' ds ds1 ds2 es es1 es2 l m =
     let f = form_two ((c, true) ∷ ck) ((c, false) ∷ ck) a a' b b' ds ds1 ds2 es es1 es2 l m in
     record { form = λ i. merged c (l.form i) (f i); rows = rows_two ((c, true) ∷ ck) ((c, false) ∷ ck) a a' b b' ds ds1 ds2 es es1 es2 l m }
 
-pub lift_merged_at : (ck ck1 ck2 : ClockPairs) (c : ℕ) (a a' b b' : Expression) (ds ds1 ds2 : Decls) (es es1 es2 : Eqs) → ck1 ≡ (c, true) ∷ ck → ck2 ≡ (c, false) ∷ ck → LiftedTo ck1 a ds es ds1 es1 a' → LiftedTo ck2 b ds1 es1 ds2 es2 b' → LiftedTo ck (merged c a b) ds es ds2 es2 (merged c a' b')
-lift_merged_at ck ck1 ck2 c a a' b b' ds ds1 ds2 es es1 es2 p q l m =
-    lift_merged ck c a a' b b' ds ds1 ds2 es es1 es2 (subst (λ k. LiftedTo k a ds es ds1 es1 a') p l) (subst (λ k. LiftedTo k b ds1 es1 ds2 es2 b') q m)
+-- the same at clocks that were made for the branches
+pub lift_merged_from : (ck ck1 ck2 : ClockPairs) (c c1 c2 : ℕ) (a a' b b' : Expression) (ds ds1 ds2 : Decls) (es es1 es2 : Eqs) → LiftedTo ck1 a ds es ds1 es1 a' → LiftedTo ck2 b ds1 es1 ds2 es2 b' → ck1 ≡ (c1, true) ∷ ck → ck2 ≡ (c2, false) ∷ ck → c1 ≡ c → c2 ≡ c → LiftedTo ck (merged c a b) ds es ds2 es2 (merged c a' b')
+lift_merged_from ck ck1 ck2 c c1 c2 a a' b b' ds ds1 ds2 es es1 es2 l m p q j k =
+    lift_merged ck c a a' b b' ds ds1 ds2 es es1 es2
+    (subst (λ n. LiftedTo n a ds es ds1 es1 a') (p ∙ ap (λ n. (n, true) ∷ ck) j) l)
+    (subst (λ n. LiftedTo n b ds1 es1 ds2 es2 b') (q ∙ ap (λ n. (n, false) ∷ ck) k) m)
 
 pub lift_choose : (ck : ClockPairs) (c c' a a' b b' : Expression) (ds ds1 ds2 ds3 : Decls) (es es1 es2 es3 : Eqs) → LiftedTo ck c ds es ds1 es1 c' → LiftedTo ck a ds1 es1 ds2 es2 a' → LiftedTo ck b ds2 es2 ds3 es3 b' → LiftedTo ck (choose c a b) ds es ds3 es3 (choose c' a' b')
 lift_choose ck c c' a a' b b' ds ds1 ds2 ds3 es es1 es2 es3 k l m =
@@ -103,6 +108,21 @@ lift_delayed ck v a a' z ds ds1 ds2 es es1 es2 l q r = record {
   rows = adds_two (fresh (length ds) ck a) _ ds ds1 ds2 es es1 es2 l.rows (subst (λ e. Adds ((ck, v, e) ∷ []) ds1 es1 ds2 es2) l.form r);
 }
 
+-- the same where the delay itself became the equation of a new variable
+pub lift_named : (ck : ClockPairs) (v v' : Value) (a a' right : Expression) (ds ds1 ds2 : Decls) (es es1 es2 : Eqs) → LiftedTo ck a ds es ds1 es1 a' → ds2 ≡ ds1 ++ record { name = []; ty = ty_of v'; clock = ck } ∷ [] → es2 ≡ es1 ++ (length ds1, right) ∷ [] → v' ≡ v → right ≡ delayed v a' → LiftedTo ck (delayed v a) ds es ds2 es2 (variable (length ds1))
+lift_named ck v v' a a' right ds ds1 ds2 es es1 es2 l d e p r =
+    lift_delayed ck v a a' (length ds1) ds ds1 ds2 es es1 es2 l refl (record { decls = d ∙ ap (λ (w : Value). ds1 ++ new_decl (ck, w, a') ∷ []) p; eqs = e ∙ ap (λ (z : Expression). es1 ++ (length ds1, z) ∷ []) r })
+
 -- the same of equal expressions
 pub moved : (ck : ClockPairs) (e0 e1 : Expression) (ds : Decls) (es : Eqs) (ds' : Decls) (es' : Eqs) (r0 r1 : Expression) → e0 ≡ e1 → r0 ≡ r1 → LiftedTo ck e1 ds es ds' es' r1 → LiftedTo ck e0 ds es ds' es' r0
 moved ck e0 e1 ds es ds' es' r0 r1 p q l = subst (λ z. LiftedTo ck z ds es ds' es' r0) (sym p) (subst (λ z. LiftedTo ck e1 ds es ds' es' z) (sym q) l)
+
+-- ---- where a call ends well
+
+pub on_ok : {A E : Type 0} (r : Result A E) (P Q : Type 0) → (P → Q) → OnOk r P → OnOk r Q
+on_ok (Ok a) P Q f h = f h
+on_ok (Err e) P Q f h = h
+
+pub on_ok_three : {A E : Type 0} (r : Result A E) (P Q R S : Type 0) → (P → Q → R → S) → OnOk r P → OnOk r Q → OnOk r R → OnOk r S
+on_ok_three (Ok a) P Q R S f h k l = f h k l
+on_ok_three (Err e) P Q R S f h k l = h

@@ -66,6 +66,12 @@ blank BoolTy = Truth false
 abbrev pub first_flag : Expression
 first_flag = delayed (Truth true) (literal (Truth false))
 
+-- the form of a `->`, or of a `fby` whose left side is no literal and has this type
+abbrev pub begun : Ty → Expression → Expression
+begun t (follow a b) = choose first_flag a (delayed (blank t) b)
+begun t (arrow a b) = choose first_flag a b
+begun t e = e
+
 -- the expression with flags and delays in place of `->` and of every `fby` without a literal
 abbrev pub plain : List Decl → Expression → Expression
 plain ds (literal v) = literal v

@@ -1,5 +1,5 @@
 -- What the steps of lifting do to the declarations and equations made so far.
-use Rattle.std.specs.Prelude.{◌≡◌, ℕ, List, ◌++◌, length, map}
+use Rattle.std.specs.Prelude.{◌≡◌, ℕ, Bool, true, false, List, ◌++◌, length, map}
 use Rattle.lt_base.specs.declared.function.Decl.{Decl}
 use Rattle.lt_base.specs.Expression.{Expression, delayed}
 use Rattle.lt_base.specs.Meaning.{ClockPairs}
@@ -29,7 +29,7 @@ pub record AllLifted (known : List Decl) (origin : List ℕ) (qs : List (ℕ × 
   pub new_are : new ≡ new_equations (length known) (equations_fresh known (length known) (plain_equations known qs))
   pub origins_are : origins ≡ origin ++ new_origins origin known qs
 
--- not a delay with a literal
-abbrev pub NotDelayed : Expression → Type 0
-NotDelayed (delayed v e) = ⊥
-NotDelayed e = Unit {0}
+-- whether it is a delay with a literal
+abbrev pub is_delay : Expression → Bool
+is_delay (delayed v e) = true
+is_delay e = false

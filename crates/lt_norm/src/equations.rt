@@ -1,6 +1,7 @@
 // The normal form.
 
-ghost use Rattle.std.specs.Prelude.{◌≡◌, ◌+◌, ◌<◌, ◌^◌, ◌++◌, length, All, IfOk, [], sum_by};
+ghost use Rattle.std.specs.Prelude.{◌≡◌, ◌+◌, ◌<◌, ◌^◌, length, All, IfOk, [], sum_by};
+ghost use Rattle.lt_base.specs.Expression.{shape};
 ghost use Rattle.lt_base.specs.Typing.{TypedFunction};
 ghost use Rattle.lt_base.specs.Clocking.{ClockedFunction};
 ghost use Rattle.lt_base.specs.Dependence.{Causal};
@@ -10,45 +11,55 @@ ghost use Rattle.lt_norm.specs.NormalForm.{NormalFormOf};
 ghost use Rattle.lt_norm.specs.Walk.{AllLifted};
 
 use crate::flat::Flat;
+use crate::lift::Lifting;
 use crate::right::lift_side;
-use lt_base::{Decl, Equation, Func, List, Memory, Whole};
+use lt_base::{Decl, Equation, Expr, Func, List, Memory, Whole};
 use std::alloc::Global;
 
-// The parts of a normal form: all declarations, the equations without their delays, those of the delays, and the origins.
+// The parts of a normal form: all declarations with the equations of the delays, the other equations, and the origins.
 #[derive(Drop)]
-struct Lifting {
-    decls: Vec<Decl>,
+struct Parts {
+    lifting: Lifting,
     eqs: Vec<Equation>,
-    delays: Vec<Equation>,
     origins: Vec<u32>,
+}
+
+// The right side of an equation.
+fn right_of(equation: Equation) -> Expr
+    ensures { shape result ≡ equation.1 }
+{
+    equation.right
 }
 
 // Lifts the delays out of these equations.
 fn lift_equations(
     alloc: Global,
     known: &List<Decl>,
-    equations: &List<Equation>,
+    equations: List<Equation>,
     origin: &List<u32>,
-) -> Result<Lifting, Memory>
-    requires lefts { All (λ q. q.0 < length known.now) equations.now }
+) -> Result<Parts, Memory>
+    requires lefts { All (λ q. q.0 < length known.now) equations }
     requires origins { length origin.now ≡ length known.now }
-    requires room { length known.now + sum_by (λ q. cost 1 (λ _. 0) q.1) equations.now < 2 ^ 32 }
-    ensures { IfOk result (λ r. AllLifted known.now origin.now equations.now r.decls.items r.eqs.items r.delays.items r.origins.items) }
+    requires room { length known.now + sum_by (λ q. cost 1 (λ _. 0) q.1) equations < 2 ^ 32 }
+    ensures { IfOk result (λ r. AllLifted known.now origin.now equations r.lifting.decls.items r.eqs.items r.lifting.delays.items r.origins.items) }
 {
-    let mut decls = known.copy()?.into_vec();
+    let mut lifting = Lifting {
+        decls: known.copy()?.into_vec(),
+        delays: Vec::new(alloc),
+    };
     let mut eqs = Vec::with_capacity(alloc, equations.len())?;
-    let mut delays = Vec::new(alloc);
     let mut origins = origin.copy()?.into_vec();
-    for equation in equations.as_slice() {
-        let right = lift_side(alloc, known, &mut decls, &mut delays, equation)?;
-        eqs.push(Equation::new(equation.left(), right))?;
-        let owner = origin.as_slice()[equation.left() as usize];
-        origins.resize(decls.len(), owner)?;
+    for equation in equations.into_vec() {
+        let left = equation.left();
+        let mut right = right_of(equation);
+        lift_side(alloc, known, &mut lifting, left, &mut right)?;
+        eqs.push(Equation::new(left, right))?;
+        let owner = origin.as_slice()[left as usize];
+        origins.resize(lifting.decls.len(), owner)?;
     }
-    Ok(Lifting {
-        decls,
+    Ok(Parts {
+        lifting,
         eqs,
-        delays,
         origins,
     })
 }
@@ -66,16 +77,36 @@ pub fn normal(alloc: Global, w: &Whole) -> Result<Flat, Memory>
     ensures form { IfOk result (λ flat. flat.func ≡ normal_form w.now.func) }
     ensures keeps { IfOk result (λ flat. NormalFormOf w.now.func w.now.origin flat.func flat.origin) }
 {
-    let lifted = lift_equations(alloc, &w.func.decls, &w.func.eqs, &w.origin)?;
-    let Lifting {
-        decls,
+    let twin = w.copy()?;
+    into_normal(alloc, twin)
+}
+
+/// The normal form of a function that is not needed again: right sides stay where they are.
+pub fn into_normal(alloc: Global, w: Whole) -> Result<Flat, Memory>
+    requires typed { TypedFunction [] w.func }
+    requires clocked { ClockedFunction [] w.func }
+    requires causal { Causal w.func }
+    requires origins { length w.origin ≡ length w.func.decls }
+    requires room { weight_with (λ _. 0) w.func < 2 ^ 32 }
+    ensures form { IfOk result (λ flat. flat.func ≡ normal_form w.func) }
+    ensures keeps { IfOk result (λ flat. NormalFormOf w.func w.origin flat.func flat.origin) }
+{
+    let Whole { func, origin } = w;
+    let Func {
+        name,
+        decls: known,
+        n_in,
+        outs,
+        eqs,
+    } = func;
+    let lifted = lift_equations(alloc, &known, eqs, &origin)?;
+    let Parts {
+        lifting,
         mut eqs,
-        mut delays,
         origins,
     } = lifted;
+    let Lifting { decls, mut delays } = lifting;
     eqs.append(&mut delays)?;
-    let name = w.func.name.copy()?;
-    let outs = w.func.outs.copy()?;
-    let func = Func::new(name, List::of(decls), w.func.n_in, outs, List::of(eqs));
+    let func = Func::new(name, List::of(decls), n_in, outs, List::of(eqs));
     Ok(Flat::new(func, List::of(origins)))
 }

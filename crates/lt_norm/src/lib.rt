@@ -1,13 +1,13 @@
 //! The normal form of a function: each delay stands alone on a right side.
 #![tactic(auto)]
 
+mod clocking;
 mod equations;
 mod flat;
-mod forms;
 mod kinds;
 mod lift;
 mod plain;
 mod right;
 
-pub use equations::normal;
+pub use equations::{into_normal, normal};
 pub use flat::Flat;

@@ -1,101 +1,95 @@
 // Each delay inside an expression becomes the equation of a variable of its own.
 
-ghost use Rattle.std.specs.Prelude.{◌≡◌, ◌+◌, ◌<◌, ◌^◌, ◌∷◌, [], length, IfOk};
-ghost use Rattle.lt_base.specs.Expression.{shape};
+ghost use Rattle.std.specs.Prelude.{◌≡◌, ◌+◌, ◌<◌, ◌^◌, ◌++◌, ◌∷◌, [], length, OnOk};
+ghost use Rattle.lt_base.specs.Expression.{shape, variable};
+ghost use Rattle.lt_base.specs.Value.{ty_of};
 ghost use Rattle.lt_norm.specs.Lift.{delays};
-ghost use Rattle.lt_norm.specs.Walk.{Adds, LiftedTo};
+ghost use Rattle.lt_norm.specs.Walk.{LiftedTo};
 
-use crate::forms::{binary, choose, deeper, delayed, imported, merged, outer, sampled, unary};
+use crate::clocking::{deeper, outer};
 use crate::kinds::type_of_value;
 use lt_base::{Clock, Decl, Equation, Expr, Memory, Name, Value};
 use std::alloc::Global;
+use std::mem::replace;
 
-// Declares a variable without a name whose equation is this delay, and gives its number.
-fn add(
+/// All declarations so far, and the equations of the lifted delays.
+#[derive(Drop)]
+pub(crate) struct Lifting {
+    pub decls: Vec<Decl>,
+    pub delays: Vec<Equation>,
+}
+
+// Declares a variable without a name whose equation is this delay, and puts the variable in the delay's place.
+fn name(
     alloc: Global,
-    decls: &mut Vec<Decl>,
-    eqs: &mut Vec<Equation>,
+    into: &mut Lifting,
     clock: &Clock,
     first: Value,
-    operand: Expr,
-) -> Result<u32, Memory>
-    requires { length decls.old.items + 1 < 2 ^ 32 }
-    ensures number { IfOk result (λ z. z ≡ length decls.old.items) }
-    ensures rows { IfOk result (λ z. Adds ((clock.now, first, shape operand) ∷ []) decls.old.items eqs.old.items decls.new.items eqs.new.items) }
+    delay: &mut Expr,
+) -> Result<(), Memory>
+    requires { length into.old.decls.items + 1 < 2 ^ 32 }
+    ensures place { OnOk result (shape delay.new ≡ variable (length into.old.decls.items)) }
+    ensures decls { OnOk result (into.new.decls.items ≡ into.old.decls.items ++ record { name = []; ty = ty_of first; clock = clock.now } ∷ []) }
+    ensures delays { OnOk result (into.new.delays.items ≡ into.old.delays.items ++ (length into.old.decls.items, shape delay.old) ∷ []) }
 {
-    let number = decls.len() as u32;
-    let right = delayed(alloc, first, operand)?;
+    let number = into.decls.len() as u32;
+    let right = replace(delay, Expr::Var(number));
     let clock = clock.copy()?;
-    decls.push(Decl {
+    into.decls.push(Decl {
         name: Name::of(String::new(alloc)),
         ty: type_of_value(first),
         clock,
     })?;
-    eqs.push(Equation::new(number, right))?;
-    Ok(number)
+    into.delays.push(Equation::new(number, right))?;
+    Ok(())
 }
 
-/// The expression with a variable for each delay with a literal in it. These variables are declared after those so far, on the
+/// Puts a variable in place of each delay with a literal in an expression. These variables are declared after those so far, on the
 /// clocks of their places.
 pub(crate) fn lift(
     alloc: Global,
-    decls: &mut Vec<Decl>,
-    eqs: &mut Vec<Equation>,
+    into: &mut Lifting,
     clock: &Clock,
-    e: &Expr,
-) -> Result<Expr, Memory>
-    requires { length decls.old.items + delays (shape e.now) < 2 ^ 32 }
-    ensures room { IfOk result (λ r. length decls.new.items ≡ length decls.old.items + delays (shape e.now)) }
-    ensures all { IfOk result (λ r. LiftedTo clock.now (shape e.now) decls.old.items eqs.old.items decls.new.items eqs.new.items (shape r)) }
+    e: &mut Expr,
+) -> Result<(), Memory>
+    requires { length into.old.decls.items + delays (shape e.old) < 2 ^ 32 }
+    ensures room { OnOk result (length into.new.decls.items ≡ length into.old.decls.items + delays (shape e.old)) }
+    ensures all { OnOk result (LiftedTo clock.now (shape e.old) into.old.decls.items into.old.delays.items into.new.decls.items into.new.delays.items (shape e.new)) }
 {
     match e {
-        Expr::Un(op, a) => {
-            let a = lift(alloc, decls, eqs, clock, a)?;
-            let r = unary(alloc, *op, a)?;
-            Ok(r)
-        }
+        Expr::Lit(_) => Ok(()),
+        Expr::Var(_) => Ok(()),
+        Expr::Follow(_, _) => Ok(()),
+        Expr::Arrow(_, _) => Ok(()),
+        Expr::Call(_, _) => Ok(()),
+        Expr::Un(_, a) => lift(alloc, into, clock, a),
         Expr::Bin(op, a, b) => {
-            let a = lift(alloc, decls, eqs, clock, a)?;
-            let b = lift(alloc, decls, eqs, clock, b)?;
-            let r = binary(alloc, *op, a, b)?;
-            Ok(r)
+            lift(alloc, into, clock, a)?;
+            lift(alloc, into, clock, b)
         }
         Expr::Imported(op, a, b) => {
-            let a = lift(alloc, decls, eqs, clock, a)?;
-            let b = lift(alloc, decls, eqs, clock, b)?;
-            let r = imported(alloc, *op, a, b)?;
-            Ok(r)
+            lift(alloc, into, clock, a)?;
+            lift(alloc, into, clock, b)
         }
         Expr::If(c, a, b) => {
-            let c = lift(alloc, decls, eqs, clock, c)?;
-            let a = lift(alloc, decls, eqs, clock, a)?;
-            let b = lift(alloc, decls, eqs, clock, b)?;
-            let r = choose(alloc, c, a, b)?;
-            Ok(r)
+            lift(alloc, into, clock, c)?;
+            lift(alloc, into, clock, a)?;
+            lift(alloc, into, clock, b)
         }
-        Expr::When(a, x, polarity) => {
+        Expr::When(a, _, _) => {
             let before = outer(clock)?;
-            let a = lift(alloc, decls, eqs, &before, a)?;
-            let r = sampled(alloc, a, *x, *polarity)?;
-            Ok(r)
+            lift(alloc, into, &before, a)
         }
         Expr::Merge(x, a, b) => {
             let left = deeper(clock, *x, true)?;
-            let a = lift(alloc, decls, eqs, &left, a)?;
+            lift(alloc, into, &left, a)?;
             let right = deeper(clock, *x, false)?;
-            let b = lift(alloc, decls, eqs, &right, b)?;
-            let r = merged(alloc, *x, a, b)?;
-            Ok(r)
+            lift(alloc, into, &right, b)
         }
-        Expr::Fby(v, a) => {
-            let a = lift(alloc, decls, eqs, clock, a)?;
-            let z = add(alloc, decls, eqs, clock, *v, a)?;
-            Ok(Expr::Var(z))
+        Expr::Fby(first, a) => {
+            let first = *first;
+            lift(alloc, into, clock, a)?;
+            name(alloc, into, clock, first, e)
         }
-        Expr::Lit(v) => Ok(Expr::Lit(*v)),
-        Expr::Var(x) => Ok(Expr::Var(*x)),
-        Expr::Follow(_, _) => e.copy(),
-        Expr::Arrow(_, _) => e.copy(),
-        Expr::Call(_, _) => e.copy(),
     }
 }

@@ -1,88 +1,88 @@
 // Expressions without `->`, and with a literal on the left of each `fby`.
 
-ghost use Rattle.std.specs.Prelude.{◌≡◌, IfOk};
+ghost use Rattle.std.specs.Prelude.{◌≡◌, IfOk, OnOk};
 ghost use Rattle.lt_base.specs.Expression.{shape, choose, delayed};
-ghost use Rattle.lt_norm.specs.Plain.{blank, first_flag, kind, plain};
+ghost use Rattle.lt_norm.specs.Plain.{begun, blank, first_flag, plain};
 
-use crate::forms::{binary, choose, delayed, imported, merged, sampled, unary};
 use crate::kinds::{blank, kind};
 use lt_base::{Decl, Expr, List, Memory, Ty, Value};
 use std::alloc::Global;
+use std::mem::replace;
 
 // `true fby false`
 fn flag(alloc: Global) -> Result<Expr, Memory>
     ensures { IfOk result (λ r. shape r ≡ first_flag) }
 {
-    delayed(alloc, Value::Bool(true), Expr::Lit(Value::Bool(false)))
+    let operand = Box::new(alloc, Expr::Lit(Value::Bool(false)))?;
+    Ok(Expr::Fby(Value::Bool(true), operand))
 }
 
 // The first side at the first instant, and afterwards the second.
-fn first(alloc: Global, a: Expr, b: Expr) -> Result<Expr, Memory>
-    ensures { IfOk result (λ r. shape r ≡ choose first_flag (shape a) (shape b)) }
+fn first(alloc: Global, a: Box<Expr>, b: Box<Expr>) -> Result<Expr, Memory>
+    ensures { IfOk result (λ r. shape r ≡ choose first_flag (shape a.value) (shape b.value)) }
 {
     let flag = flag(alloc)?;
-    choose(alloc, flag, a, b)
+    Ok(Expr::If(Box::new(alloc, flag)?, a, b))
 }
 
 // The first side at the first instant, and afterwards the second, late by one.
-fn followed(alloc: Global, ty: Ty, a: Expr, b: Expr) -> Result<Expr, Memory>
-    ensures { IfOk result (λ r. shape r ≡ choose first_flag (shape a) (delayed (blank ty) (shape b))) }
+fn followed(alloc: Global, ty: Ty, a: Box<Expr>, b: Box<Expr>) -> Result<Expr, Memory>
+    ensures { IfOk result (λ r. shape r ≡ choose first_flag (shape a.value) (delayed (blank ty) (shape b.value))) }
 {
-    let late = delayed(alloc, blank(ty), b)?;
+    let late = Box::new(alloc, Expr::Fby(blank(ty), b))?;
     first(alloc, a, late)
 }
 
-/// The expression with flags of the first instant and delays with literals in place of `->` and of every other `fby`.
-pub(crate) fn plain(alloc: Global, known: &List<Decl>, e: &Expr) -> Result<Expr, Memory>
-    ensures { IfOk result (λ r. shape r ≡ plain known.now (shape e.now)) }
+// The form of a `->`, or of a `fby` whose left side is no literal and has this type.
+fn begin(alloc: Global, ty: Ty, e: &mut Expr) -> Result<(), Memory>
+    ensures { OnOk result (shape e.new ≡ begun ty (shape e.old)) }
+{
+    match replace(e, Expr::Var(0)) {
+        Expr::Follow(a, b) => *e = followed(alloc, ty, a, b)?,
+        Expr::Arrow(a, b) => *e = first(alloc, a, b)?,
+        other => *e = other,
+    }
+    Ok(())
+}
+
+/// Puts flags of the first instant and delays with literals in place of `->` and of every other `fby`.
+pub(crate) fn make_plain(alloc: Global, known: &List<Decl>, e: &mut Expr) -> Result<(), Memory>
+    ensures { OnOk result (shape e.new ≡ plain known.now (shape e.old)) }
 {
     match e {
-        Expr::Lit(v) => Ok(Expr::Lit(*v)),
-        Expr::Var(x) => Ok(Expr::Var(*x)),
-        Expr::Un(op, a) => {
-            let a = plain(alloc, known, a)?;
-            unary(alloc, *op, a)
+        Expr::Lit(_) => Ok(()),
+        Expr::Var(_) => Ok(()),
+        Expr::Call(_, _) => Ok(()),
+        Expr::Un(_, a) => make_plain(alloc, known, a),
+        Expr::When(a, _, _) => make_plain(alloc, known, a),
+        Expr::Fby(_, a) => make_plain(alloc, known, a),
+        Expr::Bin(_, a, b) => {
+            make_plain(alloc, known, a)?;
+            make_plain(alloc, known, b)
         }
-        Expr::Bin(op, a, b) => {
-            let a = plain(alloc, known, a)?;
-            let b = plain(alloc, known, b)?;
-            binary(alloc, *op, a, b)
+        Expr::Imported(_, a, b) => {
+            make_plain(alloc, known, a)?;
+            make_plain(alloc, known, b)
         }
-        Expr::Imported(op, a, b) => {
-            let a = plain(alloc, known, a)?;
-            let b = plain(alloc, known, b)?;
-            imported(alloc, *op, a, b)
+        Expr::Merge(_, a, b) => {
+            make_plain(alloc, known, a)?;
+            make_plain(alloc, known, b)
         }
         Expr::If(c, a, b) => {
-            let c = plain(alloc, known, c)?;
-            let a = plain(alloc, known, a)?;
-            let b = plain(alloc, known, b)?;
-            choose(alloc, c, a, b)
-        }
-        Expr::When(a, x, polarity) => {
-            let a = plain(alloc, known, a)?;
-            sampled(alloc, a, *x, *polarity)
-        }
-        Expr::Merge(x, a, b) => {
-            let a = plain(alloc, known, a)?;
-            let b = plain(alloc, known, b)?;
-            merged(alloc, *x, a, b)
-        }
-        Expr::Fby(v, a) => {
-            let a = plain(alloc, known, a)?;
-            delayed(alloc, *v, a)
+            make_plain(alloc, known, c)?;
+            make_plain(alloc, known, a)?;
+            make_plain(alloc, known, b)
         }
         Expr::Follow(a, b) => {
             let ty = kind(known, a);
-            let a = plain(alloc, known, a)?;
-            let b = plain(alloc, known, b)?;
-            followed(alloc, ty, a, b)
+            make_plain(alloc, known, a)?;
+            make_plain(alloc, known, b)?;
+            begin(alloc, ty, e)
         }
         Expr::Arrow(a, b) => {
-            let a = plain(alloc, known, a)?;
-            let b = plain(alloc, known, b)?;
-            first(alloc, a, b)
+            make_plain(alloc, known, a)?;
+            make_plain(alloc, known, b)?;
+            begin(alloc, Ty::Int, e)
         }
-        Expr::Call(_, _) => e.copy(),
     }
 }
