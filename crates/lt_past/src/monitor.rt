@@ -1,6 +1,6 @@
 // Monitors.
 ghost use Rattle.std.specs.Prelude.{◌≡◌, ◌↔◌, ◌++◌, ◌∷◌, [], IfOk, OnOk, IsTrue, List as Items, Bool as Truth, length};
-ghost use Rattle.lt_past.specs.Formula.{Formula};
+ghost use Rattle.lt_past.specs.Formula.{Formula, unary, binary};
 ghost use Rattle.lt_past.specs.Views.{formula_of};
 ghost use Rattle.lt_past.specs.Satisfaction.{Sat, signals_of};
 ghost use Rattle.lt_past.specs.Parts.{Fit, parts_of};
@@ -52,53 +52,42 @@ fn push(parts: &mut Vec<Part>, part: Part) -> Result<(), Memory>
 }
 
 /// Appends the parts of a formula.
+#[cycle(adding)]
 fn add_parts(formula: &Obs, parts: &mut Vec<Part>) -> Result<(), Memory>
     ensures { OnOk result (parts.new.items ≡ parts.old.items ++ parts_of (length parts.old.items) (formula_of formula.now)) }
 {
     match formula {
         Obs::Lit(b) => push(parts, Part::Lit(*b)),
         Obs::Out(k) => push(parts, Part::Out(*k)),
-        Obs::Not(a) => {
-            add_parts(a, parts)?;
-            push(parts, Part::Before(Prefix::Not))
-        }
-        Obs::Previous(a) => {
-            add_parts(a, parts)?;
-            push(parts, Part::Before(Prefix::Previous))
-        }
-        Obs::Once(a) => {
-            add_parts(a, parts)?;
-            push(parts, Part::Before(Prefix::Once))
-        }
-        Obs::Historically(a) => {
-            add_parts(a, parts)?;
-            push(parts, Part::Before(Prefix::Historically))
-        }
-        Obs::And(a, b) => {
-            add_parts(a, parts)?;
-            let first = parts.len() - 1;
-            add_parts(b, parts)?;
-            push(parts, Part::Between(Infix::And, first))
-        }
-        Obs::Or(a, b) => {
-            add_parts(a, parts)?;
-            let first = parts.len() - 1;
-            add_parts(b, parts)?;
-            push(parts, Part::Between(Infix::Or, first))
-        }
-        Obs::Since(a, b) => {
-            add_parts(a, parts)?;
-            let first = parts.len() - 1;
-            add_parts(b, parts)?;
-            push(parts, Part::Between(Infix::Since, first))
-        }
-        Obs::Implies(a, b) => {
-            add_parts(a, parts)?;
-            let first = parts.len() - 1;
-            add_parts(b, parts)?;
-            push(parts, Part::Between(Infix::Implies, first))
-        }
+        Obs::Not(a) => add_before(Prefix::Not, a, parts),
+        Obs::Previous(a) => add_before(Prefix::Previous, a, parts),
+        Obs::Once(a) => add_before(Prefix::Once, a, parts),
+        Obs::Historically(a) => add_before(Prefix::Historically, a, parts),
+        Obs::And(a, b) => add_between(Infix::And, a, b, parts),
+        Obs::Or(a, b) => add_between(Infix::Or, a, b, parts),
+        Obs::Since(a, b) => add_between(Infix::Since, a, b, parts),
+        Obs::Implies(a, b) => add_between(Infix::Implies, a, b, parts),
     }
+}
+
+/// Appends the parts of a word and of the operand behind it.
+#[cycle(adding)]
+fn add_before(word: Prefix, a: &Obs, parts: &mut Vec<Part>) -> Result<(), Memory>
+    ensures { OnOk result (parts.new.items ≡ parts.old.items ++ parts_of (length parts.old.items) (unary word (formula_of a.now))) }
+{
+    add_parts(a, parts)?;
+    push(parts, Part::Before(word))
+}
+
+/// Appends the parts of a word and of the operands beside it.
+#[cycle(adding)]
+fn add_between(word: Infix, a: &Obs, b: &Obs, parts: &mut Vec<Part>) -> Result<(), Memory>
+    ensures { OnOk result (parts.new.items ≡ parts.old.items ++ parts_of (length parts.old.items) (binary word (formula_of a.now) (formula_of b.now))) }
+{
+    add_parts(a, parts)?;
+    let first = parts.len() - 1;
+    add_parts(b, parts)?;
+    push(parts, Part::Between(word, first))
 }
 
 /// The value of a word before its operand, by its own value at the instant before, where there was one, the operand's there, and the
