@@ -67,7 +67,7 @@ admissible_by s t limit rows es h free is =
 
 -- messages that are their senders' own by one reading are so by another
 own_mapped : (own own' : ℕ → List Value → Type 0) → ((k : ℕ) (p : List Value) → own k p → own' k p) → (number : ℕ) (p : List Value) → OwnOf own number p → OwnOf own' number p
-own_mapped own own' f zero p h = tt
+own_mapped own own' f zero p h = h
 own_mapped own own' f (suc k) p h = f k p h
 
 sent_mapped : (own own' : ℕ → List Value → Type 0) → ((k : ℕ) (p : List Value) → own k p → own' k p) → (ns : List Numbered) (ms : List Message) → AreSent own ns ms → AreSent own' ns ms
@@ -106,9 +106,16 @@ module _ {C M : Type 0} (phase : C → Phase) (stands : M → Function → List 
       (sent_mapped (OwnOn net ls c) (IsOwnOn net.layout net.shape last inputs ls.got c) (λ m p own carries. own_on (from_of net.shape c) (to_of net.shape c) m p (sender c lt) (own carries))
       ((lossy_state_of net ls).link c).transit (fabric.transit c) (k.stood.holds.transit c lt))
 
-  is_told : IsTrue fabric.told → IsToldLossy net.shape events ls.got fabric
-  is_told told = subst (λ es. IsToldLossy net.shape es ls.got fabric) k.events
-      (record { taken = λ c lt. (k.tells told c lt).taken; delivered = λ c lt. (k.tells told c lt).are; total = λ c lt. (k.tells told c lt).total })
+  is_told : IsTrue fabric.told → IsToldLossy net.shape net.timing (length inputs) events ls.got fabric
+  is_told told =
+      let tells = k.tells told in
+      subst (λ m. IsToldLossy net.shape net.timing m events ls.got fabric) rows (subst (λ es. IsToldLossy net.shape net.timing net.rows es ls.got fabric) k.events (record {
+        taken = λ c lt. (tells.each c lt).taken;
+        counted = λ c lt. (tells.each c lt).counted;
+        total = λ c lt. (tells.each c lt).total;
+        ran_on = λ i n j x. (tells.ran_on i n j x).1;
+        unread = tells.unread;
+      }))
 
   are_own : IsTrue fabric.faithful → AreOwn net.layout net.shape (rows_in last inputs) ls.got
   are_own faithful =

@@ -1,5 +1,7 @@
 pub mod Fates
 pub mod ToldOn
+pub mod RanOn
+pub mod TellsNext
 pub mod NextLists
 pub mod OneMore
 pub mod FirstPlay

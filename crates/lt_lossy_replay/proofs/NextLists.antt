@@ -18,39 +18,19 @@ use Rattle.lt_lossy.specs.declared.event.LossyEvent.{LossyEvent}
 use Rattle.lt_lossy.specs.declared.event.LossyEvent.TheVariants.{Plain, Lose}
 use Rattle.lt_lossy.specs.Events.{IsLossyPlacedIn}
 use Rattle.lt_lossy.specs.State.{plain_of}
+use Rattle.lt_lossy.specs.Schedule.{lossy_reached}
 use Rattle.lt_plant.proofs.Bits.{leb-le}
 use Rattle.lt_plant.specs.Own.{AreOwn, AreFronts}
 use Rattle.lt_plant.specs.Payloads.{row_at}
 use Rattle.lt_net.proofs.ReplayStep.{deed_more}
 use Rattle.lt_lossy_net.specs.Net.{LossyNetState, LossyLists, lossy_state_of}
-use Rattle.lt_lossy_net.specs.Event.{RowsGo, GetsIf, LossyGoesOn, lossy_deed_by, brings_new}
+use Rattle.lt_lossy_net.specs.Event.{RowsGo, LossyGoesOn, lossy_deed_by}
 use Rattle.lt_lossy_net.specs.Given.{IsLossyRowFor}
 use Rattle.lt_lossy_net.specs.Taken.{HasLossyKinds, IsTakenLossy}
-use Rattle.lt_lossy_replay.specs.Plays.{lossy_row_for, IsFedLossy, KeepsLossy, TellsAt}
-use Rattle.lt_lossy_replay.specs.Told.{fates_of}
+use Rattle.lt_lossy_net.proofs.NextLossy.{next_lossy}
+use Rattle.lt_lossy_replay.specs.Plays.{lossy_row_for, IsFedLossy, KeepsLossy, TellsLossy}
 use Rattle.lt_lossy_replay.proofs.ToldOn.{tells_on}
-
-grow_rows : (n : ℕ) (d : Deed) (row : Option (List Value)) (old : ℕ → List (List Value)) → (d ≡ Execute → row ≢ None) → (new : ℕ → List (List Value)) × RowsGo n d row old new
-grow_rows n Nothing row old h = (old, λ i. refl)
-grow_rows n Send row old h = (old, λ i. refl)
-grow_rows n Execute None old h = absurd (h refl refl)
-grow_rows n Execute (Some r) old h = (
-  (λ i. cond (nat_eq i n) (old i ++ r ∷ []) (old i)),
-  record {
-    there = elim (eqb_tells n n) [ inl e ↦ rw e.0 refl | inr e ↦ absurd (e.1 refl) ];
-    elsewhere = λ i ne. elim (eqb_tells i n) [ inl e ↦ absurd (ne e.1) | inr e ↦ rw e.0 refl ];
-  },
-)
-
-grow_got : (b : Bool) (old : ℕ → List (List Value)) (ch : ℕ) (payload : List Value) → (new : ℕ → List (List Value)) × GetsIf b old new ch payload
-grow_got false old ch payload = (old, λ c. refl)
-grow_got true old ch payload = (
-  (λ c. cond (nat_eq c ch) (old c ++ payload ∷ []) (old c)),
-  record {
-    there = elim (eqb_tells ch ch) [ inl e ↦ rw e.0 refl | inr e ↦ absurd (e.1 refl) ];
-    elsewhere = λ c ne. elim (eqb_tells c ch) [ inl e ↦ absurd (ne e.1) | inr e ↦ rw e.0 refl ];
-  },
-)
+use Rattle.lt_lossy_replay.proofs.TellsNext.{tells_next}
 
 -- a list that is a front, and one row more
 abbrev Front : List (List Value) → List (List Value) → Type 0
@@ -77,17 +57,6 @@ rows_fronts inputs n Execute (Some r) old new go h i f = elim (eqb_tells i n) [
 ]
 
 module _ {C M : Type 0} (net : LossyNetState C M) (ls : LossyLists) (row : Option (List Value)) (payload : List Value) where
-  -- there are lists with the event's entries
-  next_lists : (e : LossyEvent) → ((n at : ℕ) → e ≡ Plain (Act n at) → lossy_deed_by net ls e ≡ Execute → row ≢ None) → (next : LossyLists) × LossyGoesOn net ls next e row payload
-  next_lists (Plain (Act n at)) h =
-      let g = grow_rows n (lossy_deed_by net ls (Plain (Act n at))) row ls.inputs (h n at refl) in
-      (record { events = ls.events ++ Plain (Act n at) ∷ []; inputs = g.0; got = ls.got }, record { events = refl; inputs = g.1; got = λ c. refl })
-  next_lists (Plain (Del ch at)) h =
-      let g = grow_got (brings_new (lossy_state_of net ls) ch) ls.got ch payload in
-      (record { events = ls.events ++ Plain (Del ch at) ∷ []; inputs = ls.inputs; got = g.0 }, record { events = refl; inputs = λ i. refl; got = g.1 })
-  next_lists (Plain (End at)) h = (record { events = ls.events ++ Plain (End at) ∷ []; inputs = ls.inputs; got = ls.got }, record { events = refl; inputs = λ i. refl; got = λ c. refl })
-  next_lists (Lose ch at) h = (record { events = ls.events ++ Lose ch at ∷ []; inputs = ls.inputs; got = ls.got }, record { events = refl; inputs = λ i. refl; got = λ c. refl })
-
   next_fronts : (inputs : List (List Value)) (next : LossyLists) (e : LossyEvent) → LossyGoesOn net ls next e row payload → ((n at : ℕ) → e ≡ Plain (Act n at) → lossy_deed_by net ls e ≡ Execute → (r : List Value) → row ≡ Some r → IsNextRow inputs (ls.inputs n) r) →
       (i : ℕ) → Front inputs (ls.inputs i) → Front inputs (next.inputs i)
   next_fronts inputs next (Plain (Act n at)) goes right i f = rows_fronts inputs n (lossy_deed_by net ls (Plain (Act n at))) row ls.inputs next.inputs goes.inputs (right n at refl) i f
@@ -126,7 +95,7 @@ module _ {C M : Type 0} (phase : C → Phase) (stands : M → Function → List 
 
   pub one_more : IsTakenLossy phase stands made left net next_net e row old new → HasLossyKinds next_net new → KeepsFabric old new → (next : LossyLists) × KeepsLossy phase stands made left inputs (read ++ e ∷ []) next_net new next
   one_more taken kinds keeps =
-      let go = next_lists net ls row taken.payload e has_row in (
+      let go = next_lossy net ls row taken.payload e (λ n at is executes. has_row n at is (subst (λ x. lossy_deed_by net ls x ≡ Execute) (sym is) executes)) in (
         go.0,
         record {
           stood = taken.goes ls go.0 kept.stood go.1;
@@ -142,8 +111,17 @@ module _ {C M : Type 0} (phase : C → Phase) (stands : M → Function → List 
               (subst (λ s. AreOwn net.layout s (go.0).inputs (go.0).got) (sym taken.static.shape) (taken.own before ls go.0 kept.stood go.1 (kept.own before)));
           tells = λ told.
               let before : IsTrue old.told = subst IsTrue keeps.told told in
-              subst (λ s. (c : ℕ) → c < chan_count s → TellsAt (fates_of c (go.0).events) ((go.0).got c) (new.sent c) (new.delivered c) (new.transit c)) (sym taken.static.shape)
-              (tells_on phase stands made left net next_net ls go.0 old new fed.fixed kept.stood before (kept.tells before) e row taken.payload there go.1 (taken.carried ls go.0 kept.stood go.1));
+              let same = taken.static in
+              let stood = (taken.goes ls go.0 kept.stood go.1).standing.plant in
+              let messages : (c : ℕ) → c < chan_count net.shape → length ((go.0).got c) ≡ ((lossy_state_of net go.0).link c).newest =
+              λ c lt. stood.messages c (subst (λ s. c < chan_count s) (sym same.shape) lt) ∙ (λ i. ((lossy_reached (same.shape i) (same.timing i) (same.rows i) (go.0).events).link c).newest) in
+              let carried = taken.carried ls go.0 kept.stood go.1 in
+              let tells = kept.tells before in
+              subst (λ s. TellsLossy s next_net.timing next_net.rows go.0 new) (sym same.shape)
+              (subst (λ t. TellsLossy net.shape t next_net.rows go.0 new) (sym same.timing)
+              (subst (λ k. TellsLossy net.shape net.timing k go.0 new) (sym same.rows)
+              (tells_next phase stands made left net next_net ls go.0 old new fed.fixed kept.stood before tells
+              (tells_on phase stands made left net next_net ls go.0 old new fed.fixed kept.stood before tells.each e row taken.payload there go.1 carried) messages e row taken.payload there go.1 carried)));
         },
       )
 

@@ -1,11 +1,13 @@
 -- What a net along a schedule over links that lose messages keeps.
-use Rattle.std.specs.Prelude.{◌≡◌, ℕ, ◌+◌, ◌<◌, ◌^◌, Bool, false, List, [], ◌∷◌, length, map, Option, Some, None, IsTrue, slice_get, slice_index_or}
+use Rattle.std.specs.Prelude.{◌≡◌, ℕ, suc, ◌+◌, ◌<◌, ◌^◌, Bool, true, false, List, [], ◌∷◌, length, take, map, Option, Some, None, IsTrue, slice_get, slice_index_or}
 use Rattle.lt_base.specs.declared.value.Value.{Value}
 use Rattle.lt_base.specs.Program.{Function}
 use Rattle.lt_base.specs.Inputs.{InputTable}
 use Rattle.lt_arch.specs.declared.event.Event.TheVariants.{Act, Del, End}
 use Rattle.lt_arch.specs.State.{Phase}
-use Rattle.lt_arch.specs.Readers.{node_count, chan_count}
+use Rattle.lt_arch.specs.declared.shape.Shape.{Shape}
+use Rattle.lt_arch.specs.declared.timing.Timing.{Timing}
+use Rattle.lt_arch.specs.Readers.{node_count, chan_count, to_of, carries_data}
 use Rattle.lt_io.specs.declared.message.Message.{Message}
 use Rattle.lt_io.specs.FabricState.{FabricState, KeepsFabric}
 use Rattle.lt_link.specs.Bits.{bit_of}
@@ -14,6 +16,8 @@ use Rattle.lt_lossy.specs.declared.event.LossyEvent.TheVariants.{Plain, Lose}
 use Rattle.lt_plant.specs.Given.{FitsPart}
 use Rattle.lt_plant.specs.Own.{AreOwn, AreFronts}
 use Rattle.lt_plant.specs.Payloads.{row_at}
+use Rattle.lt_lossy.specs.Schedule.{lossy_reached}
+use Rattle.lt_lossy_net.specs.Event.{is_unread}
 use Rattle.lt_lossy_net.specs.Net.{LossyNetState, LossyLists}
 use Rattle.lt_lossy_net.specs.NetModel.{StoppableLossy}
 use Rattle.lt_lossy_net.specs.Kept.{IsFixedLossy}
@@ -21,7 +25,7 @@ use Rattle.lt_lossy_net.specs.Laws.{StandsWith}
 use Rattle.lt_lossy_net.specs.Taken.{HasLossyKinds, SameLossyStatic}
 use Rattle.lt_play.specs.Plays.{CanRead}
 use Rattle.lt_replay.specs.declared.replayed.Replayed.{Replayed}
-use Rattle.lt_lossy_replay.specs.Told.{fates_of, came, without_copies}
+use Rattle.lt_lossy_replay.specs.Told.{fates_of, came, without_copies, ExecutesAt, EndsInCopy}
 
 -- the row of the acting node's next instant
 abbrev pub lossy_row_for : {C M : Type 0} → LossyNetState C M → List (List Value) → LossyEvent → Option (List Value)
@@ -44,17 +48,26 @@ abbrev pub last_bit : (last : Bool) → List Message → Bool
 last_bit last [] = last
 last_bit last (m ∷ ms) = last_bit m.bit ms
 
--- what is told of one channel, by the fates of the messages that left it: the new ones that were delivered are what was got, and the last one that
--- was delivered has the bit of the newest number
-pub record TellsAt (fates : List Bool) (got : List (List Value)) (sent delivered transit : List Message) : Type 0 where
+-- what is told of one channel, by the fates of the messages that left it: so many new ones were delivered, and the last one that was delivered
+-- has the bit of the newest number
+pub record TellsAt (fates : List Bool) (newest : ℕ) (sent delivered transit : List Message) : Type 0 where
   pub taken : length delivered ≡ length fates
-  pub are : map (λ (m : Message). m.payload) (without_copies false (came fates delivered)) ≡ got
+  pub counted : length (without_copies false (came fates delivered)) ≡ newest
   pub total : length sent ≡ length fates + length transit
-  pub last : last_bit false (came fates delivered) ≡ bit_of (length got)
+  pub last : last_bit false (came fates delivered) ≡ bit_of newest
+
+-- what is told of each channel
+abbrev pub TellsEach : Shape → LossyLists → FabricState → Type 0
+TellsEach s ls fabric = (c : ℕ) → c < chan_count s → TellsAt (fates_of c ls.events) (length (ls.got c)) (fabric.sent c) (fabric.delivered c) (fabric.transit c)
 
 -- what is told of all channels
-abbrev pub TellsLossy : {C M : Type 0} → LossyNetState C M → LossyLists → FabricState → Type 0
-TellsLossy net ls fabric = (c : ℕ) → c < chan_count net.shape → TellsAt (fates_of c ls.events) (ls.got c) (fabric.sent c) (fabric.delivered c) (fabric.transit c)
+pub record TellsLossy (s : Shape) (t : Timing) (rows : ℕ) (ls : LossyLists) (fabric : FabricState) : Type 0 where
+  pub each : TellsEach s ls fabric
+  -- what instants that were executed ran on
+  pub ran_on : (i n k : ℕ) → ExecutesAt s t rows ls.events i n (suc k) →
+      (suc k < ((lossy_reached s t rows ls.events).node n).executed) × ((c : ℕ) → c < chan_count s → carries_data s c ≡ true → to_of s c ≡ n → EndsInCopy s t rows (take i ls.events) c (suc k) (fabric.delivered c) (slice_index_or (ls.got c) k []))
+  -- and what the next ones would run on
+  pub unread : (c k : ℕ) → c < chan_count s → is_unread s (lossy_reached s t rows ls.events) c ≡ true → length (ls.got c) ≡ suc k → EndsInCopy s t rows ls.events c (suc k) (fabric.delivered c) (slice_index_or (ls.got c) k [])
 
 -- the net and its fabric stand for these lists, which are those of these events on these inputs
 pub record KeepsLossy {C M : Type 0} (phase : C → Phase) (stands : M → Function → List (List Value) → Type 0) (made left : M → ℕ) (inputs : List (List Value)) (read : List LossyEvent) (net : LossyNetState C M) (fabric : FabricState) (ls : LossyLists) : Type 0 where
@@ -63,7 +76,7 @@ pub record KeepsLossy {C M : Type 0} (phase : C → Phase) (stands : M → Funct
   pub fronts : AreFronts net.shape ls.inputs inputs
   pub kinds : HasLossyKinds net fabric
   pub own : IsTrue fabric.faithful → AreOwn net.layout net.shape ls.inputs ls.got
-  pub tells : IsTrue fabric.told → TellsLossy net ls fabric
+  pub tells : IsTrue fabric.told → TellsLossy net.shape net.timing net.rows ls fabric
 
 -- the net runs, and stands for some lists of these events
 pub record PlaysLossy {C M : Type 0} (phase : C → Phase) (stands : M → Function → List (List Value) → Type 0) (made left : M → ℕ) (inputs : List (List Value)) (before : List LossyEvent) (net : StoppableLossy C M) (fabric : FabricState) : Type 0 where

@@ -39,7 +39,8 @@ IsOwnOn l s st inputs got c k payload = carries_data s c ≡ true → HasOwnValu
 pub record IsLossyRun (l : Layout) (s : Shape) (t : Timing) (losses : ℕ) (inputs : List (List Value)) (fabric : FabricState) (events : List LossyEvent) (cells : List (List Cell)) (horizon : ℕ) : Type 0 where
   pub admissible : IsLossyAdmissible s t losses (length inputs) events
   pub ends : LossyEndsAt s t (length inputs) events horizon
-  -- the payloads of each channel's messages from the first to the newest that was delivered, each once however often it came
+  -- a payload of each channel's messages from the first to the newest that was delivered, each once however often it came: that of its last
+  -- copy before the receiver ran on it
   pub got : ℕ → List (List Value)
   pub given : (c : ℕ) → c < chan_count s → length (got c) ≡ ((lossy_reached s t (length inputs) events).link c).newest
   -- each output of `main` has the stream of its node's part on those, with a cell for each instant that the node has executed
@@ -48,7 +49,7 @@ pub record IsLossyRun (l : Layout) (s : Shape) (t : Timing) (losses : ℕ) (inpu
       slice_index_or cells y [] ≡ local_stream l (between s got) n (row_at inputs) (executed_in (lossy_reached s t (length inputs) events) n) x
   -- the fabric has in transit what the architecture leaves there, in order: of each number a message with the number's bit, as its sender sent it
   pub in_transit : (c : ℕ) → c < chan_count s → AreSent (IsOwnOn l s (lossy_reached s t (length inputs) events) inputs got c) ((lossy_reached s t (length inputs) events).link c).transit (fabric.transit c)
-  pub told : IsTrue fabric.told → IsToldLossy s events got fabric
+  pub told : IsTrue fabric.told → IsToldLossy s t (length inputs) events got fabric
   -- over a faithful fabric what was delivered has the senders' own values, and the cells are the first of the whole program's stream
   pub own : IsTrue fabric.faithful → AreOwn l s (rows_in (lossy_reached s t (length inputs) events) inputs) got
   pub fronts : (f : Originated) → IsPlaced f l → RowsFit f.func inputs → IsTrue fabric.faithful →
