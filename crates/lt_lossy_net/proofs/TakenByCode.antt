@@ -130,7 +130,7 @@ module _ {C M : Type 0} (phase : C → Phase) (stands : M → Function → List 
       goes_on : (ls next : LossyLists) → StandsWith phase stands made left net ls old → LossyGoesOn net ls next (Plain (Del ch at)) row payload → StandsWith phase stands made left (net_of (record p { inboxes = ibs; values = v }) t w sent posted) next new
       goes_on ls next with goes =
           let path : net_of (record p { inboxes = ibs; values = v }) t w sent posted
-              ≡ net_of (record p { inboxes = set p.inboxes ch (with_latest (slice_index_or p.inboxes ch no_inbox) received.message.payload received.message.bit) }) t (with_losses (without_oldest w0 ch at) ch 0) sent posted =
+          ≡ net_of (record p { inboxes = set p.inboxes ch (with_latest (slice_index_or p.inboxes ch no_inbox) received.message.payload received.message.bit) }) t (with_losses (without_oldest w0 ch at) ch 0) sent posted =
           λ i. net_of (record p { inboxes = received.inboxes i; values = v_is i }) t (watch i) sent posted in
           subst (λ z. StandsWith phase stands made left z next new) (sym path) ((keeps ls next with goes).arrival refl)
 

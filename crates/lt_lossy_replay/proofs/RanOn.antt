@@ -1,30 +1,24 @@
 -- What instants ran on, as a fabric tells it, goes on with the lists.
-use Rattle.std.proofs.Common.{◌≡◌, ◌≢◌, inl, inr, ℕ, suc, ◌+◌, ◌<◌, ◌≤◌, Bool, true, false, List, [], ◌∷◌, ◌++◌, length, take, Option, Some, IsTrue, cond, refl, sym, ap, ◌∙◌, subst, arith, length-append, le-leb, nat_le}
-use Rattle.std.specs.Prelude.{◌&&◌, ◌==◌, slice_index_or}
+use Rattle.std.proofs.Common.{◌≡◌, inl, inr, ℕ, suc, ◌<◌, ◌≤◌, true, List, [], ◌∷◌, ◌++◌, length, take, Some, refl, sym, ap, ◌∙◌, subst, arith, length-append}
+use Rattle.std.specs.Prelude.{slice_index_or}
 use Rattle.std.specs.List.{slice_get}
 use Rattle.std.proofs.Math.ListN.{get_or-append}
-use Rattle.std.proofs.Math.Seq.{get_or-append_seam, take-append_seam, take-length}
+use Rattle.std.proofs.Math.Seq.{get_or-append_seam, take-length}
 use Rattle.std.proofs.lemmas.Bool.{cases_lt}
-use Rattle.std.proofs.lemmas.Bool.Decides.{eqb_tells}
 use Rattle.std.proofs.lemmas.List.{take-append-le}
 use Rattle.std.proofs.lemmas.Option.{slice_get_within, get_or_from_slice_get, slice_get_read}
-use Rattle.lt_base.specs.declared.value.Value.{Value}
-use Rattle.lt_base.specs.Program.{Function}
 use Rattle.lt_arch.specs.declared.event.Deed.TheVariants.{Execute}
-use Rattle.lt_arch.specs.declared.event.Event.TheVariants.{Act, Del, End}
+use Rattle.lt_arch.specs.declared.event.Event.TheVariants.{Act}
 use Rattle.lt_arch.specs.declared.shape.Shape.{Shape}
 use Rattle.lt_arch.specs.declared.timing.Timing.{Timing}
-use Rattle.lt_arch.specs.State.{Phase}
 use Rattle.lt_arch.specs.Deeds.{deed_at}
 use Rattle.lt_arch.specs.Readers.{chan_count, to_of, carries_data}
 use Rattle.lt_io.specs.declared.message.Message.{Message}
 use Rattle.lt_io.specs.FabricState.{FabricState}
 use Rattle.lt_lossy.specs.declared.event.LossyEvent.{LossyEvent}
-use Rattle.lt_lossy.specs.declared.event.LossyEvent.TheVariants.{Plain, Lose}
+use Rattle.lt_lossy.specs.declared.event.LossyEvent.TheVariants.{Plain}
 use Rattle.lt_lossy.specs.State.{LossyState, plain_of}
 use Rattle.lt_lossy.specs.Schedule.{lossy_reached}
-use Rattle.lt_plant.proofs.Bits.{leb-le}
-use Rattle.lt_plant.proofs.Entries.{and_parts}
 use Rattle.lt_lossy_net.specs.Net.{LossyLists}
 use Rattle.lt_lossy_net.specs.Event.{is_unread}
 use Rattle.lt_lossy_replay.specs.Told.{fates_of, came, ExecutesAt, EndsInCopy}
@@ -93,13 +87,15 @@ module _ (s : Shape) (t : Timing) (rows : ℕ) (ls next : LossyLists) (old new :
       let whole : take i ls.events ≡ ls.events = ap (λ j. take j ls.events) at_end ∙ take-length ls.events in
       let same : take i next.events ≡ ls.events = front i (omega (arith, at_end)) ∙ whole in
       let had = acted n x.at k
-          (last_event ls.events e (Plain (Act n x.at)) (ap (λ j. slice_get (ls.events ++ e ∷ []) j) (sym at_end) ∙ ap (λ es. slice_get es i) (sym events) ∙ x.is))
-          (ap (λ es. deed_at s rows (plain_of (lossy_reached s t rows es)) n) (sym same) ∙ x.executes)
-          (ap (λ es. ((lossy_reached s t rows es).node n).executed) (sym same) ∙ x.instant) in
-      (had.more, λ c cb carries to.
-          let newest = had.there c cb carries to in
-          still_ends i c k (omega (arith, at_end)) cb carries (subst (λ j. suc k < (st'.node j).executed) (sym to) had.more)
-          (subst (λ es. EndsInCopy s t rows es c (suc k) (old.delivered c) (slice_index_or (ls.got c) k [])) (sym whole) (tells.unread c k cb newest.0 newest.1)))
+      (last_event ls.events e (Plain (Act n x.at)) (ap (λ j. slice_get (ls.events ++ e ∷ []) j) (sym at_end) ∙ ap (λ es. slice_get es i) (sym events) ∙ x.is))
+      (ap (λ es. deed_at s rows (plain_of (lossy_reached s t rows es)) n) (sym same) ∙ x.executes)
+      (ap (λ es. ((lossy_reached s t rows es).node n).executed) (sym same) ∙ x.instant) in (
+        had.more,
+        λ c cb carries to.
+            let newest = had.there c cb carries to in
+            still_ends i c k (omega (arith, at_end)) cb carries (subst (λ j. suc k < (st'.node j).executed) (sym to) had.more)
+            (subst (λ es. EndsInCopy s t rows es c (suc k) (old.delivered c) (slice_index_or (ls.got c) k [])) (sym whole) (tells.unread c k cb newest.0 newest.1)),
+      )
 
   pub ran_next : (i n k : ℕ) → ExecutesAt s t rows next.events i n (suc k) → RanOn i n k
   ran_next i n k x = elim (cases_lt i (length ls.events)) [

@@ -8,7 +8,7 @@ use Rattle.lt_base.specs.declared.value.Value.{Value}
 use Rattle.lt_base.specs.Program.{Function}
 use Rattle.lt_arch.specs.declared.event.Deed.TheVariants.{Execute}
 use Rattle.lt_arch.specs.declared.event.Event.TheVariants.{Act, Del, End}
-use Rattle.lt_arch.specs.State.{NodeState, Phase, executed_of}
+use Rattle.lt_arch.specs.State.{NodeState, Phase}
 use Rattle.lt_arch.specs.Deeds.{deed_at}
 use Rattle.lt_arch.specs.Readers.{chan_count, to_of, carries_data}
 use Rattle.lt_arch.specs.Step.{is_execute}
@@ -34,7 +34,7 @@ use Rattle.lt_lossy_net.specs.Laws.{StandsWith}
 use Rattle.lt_lossy_net.specs.Taken.{CarriedLossy}
 use Rattle.lt_lossy_net.proofs.Reached.{acts_on, after_all-more, balanced, one_now}
 use Rattle.lt_lossy_replay.specs.Told.{fate_of, fates_of, kept_if, came, EndsInCopy}
-use Rattle.lt_lossy_replay.specs.Plays.{last_bit, TellsAt, TellsEach, TellsLossy}
+use Rattle.lt_lossy_replay.specs.Plays.{last_bit, TellsEach, TellsLossy}
 use Rattle.lt_lossy_replay.proofs.Fates.{fates-more, delivered-here, delivered-elsewhere, lost-here, lost-elsewhere, came-more, last-more}
 use Rattle.lt_lossy_replay.proofs.RanOn.{HadUnread, ran_next}
 

@@ -13,7 +13,6 @@ use Rattle.lt_lossy.specs.declared.event.LossyEvent.{LossyEvent}
 use Rattle.lt_lossy.specs.declared.event.LossyEvent.TheVariants.{Plain, Lose}
 use Rattle.lt_lossy.specs.Step.{sends_number}
 use Rattle.lt_lossy.specs.Events.{IsLossyPlacedIn}
-use Rattle.lt_arch.specs.declared.shape.Shape.{Shape}
 use Rattle.lt_plant.specs.Changes.{Same}
 use Rattle.lt_plant.proofs.Replaced.{replaced_length}
 use Rattle.lt_lossy_net.specs.Net.{LossyNetState, LossyLists, lossy_state_of}
