@@ -15,4 +15,5 @@ pub mod Equals
 pub mod Planned
 pub mod Onward
 pub mod Sited
+pub mod Misplaced
 pub mod OnePlain

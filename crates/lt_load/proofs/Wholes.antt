@@ -1,7 +1,8 @@
 -- A whole file as a step.
-use Rattle.std.proofs.Common.{◌≡◌, ◌<◌, ◌+◌, ℕ, List, [], ◌∷◌, false, inl, inr, length, Option, Some, None, Result, Ok, Err, IsTrue, refl, ap, subst, arith}
+use Rattle.std.proofs.Common.{◌≡◌, ◌<◌, ◌+◌, ℕ, List, [], ◌∷◌, false, inl, inr, length, Option, Some, None, Result, Ok, Err, IsTrue, refl, sym, ap, subst, arith, ◌≤◌}
 use Rattle.std.specs.Prelude.{is_ok, IfOk, IsSomeAnd, IsNone, IsSome}
 use Rattle.std.proofs.lemmas.Bool.Decides.{leb_tells}
+use Rattle.lt_base.specs.Or.{MapsFault}
 use Rattle.lt_base.specs.declared.memory.Or.{Or}
 use Rattle.lt_base.specs.declared.memory.Or.TheVariants.{Fault, Memory}
 use Rattle.lt_io.specs.declared.fault.Failed.{Failed}
@@ -13,12 +14,13 @@ use Rattle.lt_io.proofs.Visiting.{visited_any}
 use Rattle.lt_io.specs.Counts.{OrCounted}
 use Rattle.lt_io.specs.Transfer.{whole_of}
 use Rattle.lt_load.specs.declared.fault.What.{What}
+use Rattle.lt_load.specs.declared.fault.CommandFault.{CommandFault}
 use Rattle.lt_load.specs.declared.fault.CommandFault.TheVariants.{Limit, Read}
 use Rattle.lt_answer.specs.World.{KeepsWorld, alone}
 use Rattle.lt_answer.specs.Answered.{Answered, RefusesReading}
 use Rattle.lt_load.specs.Blamed.{command_blame}
 use Rattle.lt_load.specs.Errands.{whole_errand}
-use Rattle.lt_load.specs.Loaded.{limit_of, whole_verdict}
+use Rattle.lt_load.specs.Loaded.{limit_of, whole_verdict, within}
 use Rattle.lt_answer.proofs.Stages.{keeps_itself}
 
 -- what reading a whole file says
@@ -76,7 +78,7 @@ past what None bytes is long = absurd is
 past what (Some whole) bytes is long = let read = held what (Some whole) bytes is in absurd (omega (arith, read.short, ap length read.same, long))
 
 -- the file's bytes
-pub fetched : (what : What) (old new : FilesState) (name bytes : List ℕ) → IsRead what old new name (Ok (Bytes bytes)) → Answered command_blame (whole_errand what name) (whole_verdict what (old.named name)) (alone old) (alone new) (Ok bytes)
+fetched : (what : What) (old new : FilesState) (name bytes : List ℕ) → IsRead what old new name (Ok (Bytes bytes)) → Answered command_blame (whole_errand what name) (whole_verdict what (old.named name)) (alone old) (alone new) (Ok bytes)
 fetched what old new name bytes read =
     record {
       keeps = keeps_alone old new read.keeps;
@@ -87,7 +89,7 @@ fetched what old new name bytes read =
     }
 
 -- it has too many
-pub fetched_too_long : (what : What) (old new : FilesState) (name : List ℕ) → IsRead what old new name (Ok TooLong) → Answered command_blame (whole_errand what name) (whole_verdict what (old.named name)) (alone old) (alone new) (Err (Fault (Limit what)))
+fetched_too_long : (what : What) (old new : FilesState) (name : List ℕ) → IsRead what old new name (Ok TooLong) → Answered command_blame (whole_errand what name) (whole_verdict what (old.named name)) (alone old) (alone new) (Err (Fault (Limit what)))
 fetched_too_long what old new name read =
     record {
       keeps = keeps_alone old new read.keeps;
@@ -98,7 +100,7 @@ fetched_too_long what old new name read =
     }
 
 -- a call on the files failed
-pub fetch_failed : (what : What) (old new : FilesState) (name : List ℕ) (failed : Failed) → IsRead what old new name (Err (Fault failed)) → Answered command_blame (whole_errand what name) (whole_verdict what (old.named name)) (alone old) (alone new) (Err (Fault Read))
+fetch_failed : (what : What) (old new : FilesState) (name : List ℕ) (failed : Failed) → IsRead what old new name (Err (Fault failed)) → Answered command_blame (whole_errand what name) (whole_verdict what (old.named name)) (alone old) (alone new) (Err (Fault Read))
 fetch_failed what old new name failed read =
     let rose : old.faults < new.faults = read.cause in
     record {
@@ -110,7 +112,7 @@ fetch_failed what old new name failed read =
     }
 
 -- no memory was found
-pub fetch_short : (what : What) (old new : FilesState) (name : List ℕ) → IsRead what old new name (Err Memory) → Answered command_blame (whole_errand what name) (whole_verdict what (old.named name)) (alone old) (alone new) (Err Memory)
+fetch_short : (what : What) (old new : FilesState) (name : List ℕ) → IsRead what old new name (Err Memory) → Answered command_blame (whole_errand what name) (whole_verdict what (old.named name)) (alone old) (alone new) (Err Memory)
 fetch_short what old new name read =
     record {
       keeps = keeps_alone old new read.keeps;
@@ -121,7 +123,7 @@ fetch_short what old new name read =
     }
 
 -- files that do not tell their bytes gave too many
-pub fetched_past : (what : What) (old new : FilesState) (name bytes : List ℕ) → IsRead what old new name (Ok (Bytes bytes)) → limit_of what < length bytes → Answered command_blame (whole_errand what name) (whole_verdict what (old.named name)) (alone old) (alone new) (Err (Fault (Limit what)))
+fetched_past : (what : What) (old new : FilesState) (name bytes : List ℕ) → IsRead what old new name (Ok (Bytes bytes)) → limit_of what < length bytes → Answered command_blame (whole_errand what name) (whole_verdict what (old.named name)) (alone old) (alone new) (Err (Fault (Limit what)))
 fetched_past what old new name bytes read long =
     record {
       keeps = keeps_alone old new read.keeps;
@@ -130,3 +132,28 @@ fetched_past what old new name bytes read long =
       exact = λ told calm. past what (old.named name) bytes (read.whole told) long;
       sound = λ told sound rose. missing_alone what old new (old.named name) (read.sound sound) rose;
     }
+
+-- what was read of it
+pub fetched_whole : (what : What) (old new : FilesState) (name : List ℕ) (whole : Whole) → IsRead what old new name (Ok whole) → Answered command_blame (whole_errand what name) (whole_verdict what (old.named name)) (alone old) (alone new) (within what whole)
+fetched_whole what old new name TooLong read = fetched_too_long what old new name read
+fetched_whole what old new name (Bytes bytes) read =
+    elim (leb_tells (length bytes) (limit_of what)) [
+      | inl small ↦ rw small.0 (fetched what old new name bytes read)
+      | inr large ↦ rw large.0 (fetched_past what old new name bytes read large.1)
+    ]
+
+pub within_limit : (what : What) (whole : Whole) → IfOk (within what whole) (λ bytes. length bytes ≤ limit_of what)
+within_limit what TooLong = tt
+within_limit what (Bytes bytes) =
+    elim (leb_tells (length bytes) (limit_of what)) [
+      | inl small ↦ rw small.0 small.1
+      | inr large ↦ rw large.0 tt
+    ]
+
+-- a call on the files failed, or no memory was found
+pub not_fetched : (what : What) (old new : FilesState) (name : List ℕ) (e : Or Failed) (g : Or CommandFault) → MapsFault e g (λ failed f. f ≡ Read) → IsRead what old new name (Err e) → Answered command_blame (whole_errand what name) (whole_verdict what (old.named name)) (alone old) (alone new) (Err g)
+not_fetched what old new name (Fault failed) (Fault f) is read =
+    subst (λ (h : CommandFault). Answered command_blame (whole_errand what name) (whole_verdict what (old.named name)) (alone old) (alone new) (Err (Fault h))) (sym is) (fetch_failed what old new name failed read)
+not_fetched what old new name (Fault failed) Memory is read = absurd is
+not_fetched what old new name Memory (Fault f) is read = absurd is
+not_fetched what old new name Memory Memory is read = fetch_short what old new name read

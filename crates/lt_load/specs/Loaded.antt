@@ -1,5 +1,9 @@
 -- Files that a command reads before it runs.
-use Rattle.std.specs.Prelude.{◌≡◌, ◌≤◌, ℕ, List, length, Option, Ok, Err}
+use Rattle.std.specs.Prelude.{◌≡◌, ◌≤◌, ℕ, nat_le, if◌then◌else◌, List, length, Option, Result, Ok, Err}
+use Rattle.lt_base.specs.declared.memory.Or.{Or}
+use Rattle.lt_base.specs.declared.memory.Or.TheVariants.{Fault}
+use Rattle.lt_io.specs.declared.transfer.Whole.{Whole}
+use Rattle.lt_io.specs.declared.transfer.Whole.TheVariants.{Bytes, TooLong}
 use Rattle.lt_answer.specs.Answered.{Verdict, AndThen, OfForm, OfFile}
 use Rattle.lt_verdict.specs.Rules.{Raised, Exactly}
 use Rattle.lt_front.specs.Examined.{ExaminedText}
@@ -29,6 +33,11 @@ limit_of ScheduleBytes = 1073741824
 pub record IsWithin (most : ℕ) (bytes whole : List ℕ) : Type 0 where
   pub same : whole ≡ bytes
   pub short : length bytes ≤ most
+
+-- what was read of a file: its bytes, or that they are too many
+abbrev pub within : What → Whole → Result (List ℕ) (Or CommandFault)
+within what (Bytes bytes) = if nat_le (length bytes) (limit_of what) then Ok bytes else Err (Fault (fault.Limit what))
+within what TooLong = Err (Fault (fault.Limit what))
 
 -- the bytes of a file, that they are too many, or that the file is missing
 unfoldable pub whole_verdict : What → Option (List ℕ) → Verdict (List ℕ) CommandFault

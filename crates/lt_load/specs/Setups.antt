@@ -1,7 +1,11 @@
 -- A program with a setup: its placement is legal, its timing is accepted, and it has the window that its pace asks for.
 use Rattle.std.specs.Prelude.{◌≡◌, ℕ, List, Option, Some, None, Ok, Err}
+use Rattle.lt_base.specs.declared.memory.Or.{Or}
+use Rattle.lt_base.specs.declared.memory.Or.TheVariants.{Fault, Memory}
+use Rattle.lt_base.specs.Program.{Function}
 use Rattle.lt_front.specs.Examined.{ExaminedText}
 use Rattle.lt_front.specs.Flattened.{flat_of}
+use Rattle.lt_place.specs.declared.fault.PlaceFault.{PlaceFault}
 use Rattle.lt_place.specs.Legal.{Legal}
 use Rattle.lt_place.specs.Faults as placement
 use Rattle.lt_place.specs.Placement.{node_names}
@@ -28,6 +32,13 @@ Passes setup Rule IsFault (Err e) = (Rule → ⊥) × IsFault e
 abbrev pub IsPlaceFault : ExaminedText → Config → CommandFault → Type 0
 IsPlaceFault checked setup (fault.Place f main) = placement.IsFirstFault (flat_of checked.program) setup.placement f × (main ≡ main_in checked.program)
 IsPlaceFault checked setup _ = ⊥
+
+-- the fault of a placement as a command's, beside a function; memory may be wanting for the copy of the function
+abbrev pub AsPlace : Function → Or PlaceFault → Or CommandFault → Type 0
+AsPlace main (Fault f) (Fault g) = g ≡ fault.Place f main
+AsPlace main (Fault f) Memory = Unit {0}
+AsPlace main Memory (Fault g) = ⊥
+AsPlace main Memory Memory = Unit {0}
 
 -- the first inequality of a timing that fails, beside the names of the nodes
 abbrev pub IsTimingFault : Config → CommandFault → Type 0

@@ -6,6 +6,7 @@ mod fault;
 mod loaded;
 mod loading;
 mod pacing;
+mod placing;
 mod planning;
 mod setups;
 mod sites;

@@ -5,7 +5,7 @@ ghost use Rattle.lt_answer.specs.Answered.{Answered};
 ghost use Rattle.lt_meaning.specs.Streams.{InputsFitMain};
 ghost use Rattle.lt_load.specs.Blamed.{command_blame};
 ghost use Rattle.lt_load.specs.Errands.{whole_errand, program_errand, config_errand, inputs_errand};
-ghost use Rattle.lt_load.specs.Loaded.{Flattened, limit_of, whole_verdict, program_verdict, config_verdict, inputs_verdict};
+ghost use Rattle.lt_load.specs.Loaded.{Flattened, limit_of, whole_verdict, within, program_verdict, config_verdict, inputs_verdict};
 ghost use Rattle.lt_load.specs.Main.{main_in};
 
 use crate::{CommandFault, What};
@@ -13,7 +13,7 @@ use lt_base::{Func, Inputs, List, Or, Program};
 use lt_config::{Config, read_config};
 use lt_front::{Checked, Examined, examine};
 use lt_inputs::read_inputs;
-use lt_io::{Files, Whole, read_file};
+use lt_io::{Failed, Files, Whole, read_file};
 use std::alloc::Global;
 
 impl What {
@@ -42,19 +42,32 @@ pub fn fetch_within<F: Files>(
     ensures answered { Answered command_blame (whole_errand what name.now) (whole_verdict what ((F.state files.old).named name.now)) (alone (F.state files.old)) (alone (F.state files.new)) result }
     ensures short { IfOk result (λ bytes. length bytes ≤ limit_of what) }
 {
-    let limit = what.limit();
-    match read_file(alloc, files, name, limit) {
-        Ok(Whole::Bytes(bytes)) => {
-            // Files that do not tell their bytes could give more.
-            if bytes.len() > limit {
+    match read_file(alloc, files, name, what.limit()) {
+        Ok(whole) => within(what, whole),
+        Err(e) => Err(e.map(unread)),
+    }
+}
+
+// The bytes of a whole file, if they are not too many. Files that do not tell their bytes could give more than they were asked for.
+fn within(what: What, whole: Whole) -> Result<List<u8>, Or<CommandFault>>
+    ensures { result ≡ within what whole }
+{
+    match whole {
+        Whole::Bytes(bytes) => {
+            if bytes.len() > what.limit() {
                 return Err(Or::Fault(CommandFault::Limit(what)));
             }
             Ok(bytes)
         }
-        Ok(Whole::TooLong) => Err(Or::Fault(CommandFault::Limit(what))),
-        Err(Or::Fault(_)) => Err(Or::Fault(CommandFault::Read)),
-        Err(Or::Memory) => Err(Or::Memory),
+        Whole::TooLong => Err(Or::Fault(CommandFault::Limit(what))),
     }
+}
+
+// The refusal for a call on the files that failed.
+fn unread(_failed: Failed) -> CommandFault
+    ensures { result ≡ CommandFault.Read }
+{
+    CommandFault::Read
 }
 
 /// Reads a program's file, and the program through all checks.

@@ -9,6 +9,7 @@ ghost use Rattle.lt_load.specs.Setups.{IsOutsideWindow, Passes, accepted_verdict
 ghost use Rattle.lt_lossy.specs.Window.{HasWindow};
 
 use crate::loading::{load_flat, main_of};
+use crate::placing::as_place;
 use crate::{CommandFault, load_config, load_program};
 use lt_base::Or;
 use lt_config::{Config, Pace};
@@ -88,11 +89,7 @@ pub(crate) fn placed(
     checked.kept();
     match legal_nodes(alloc, &checked.flat, &setup.placement) {
         Ok(_) => Ok(setup),
-        Err(Or::Fault(fault)) => {
-            let main = main_of(&checked.program).copy()?;
-            Err(Or::Fault(CommandFault::Place { fault, main }))
-        }
-        Err(Or::Memory) => Err(Or::Memory),
+        Err(fault) => Err(as_place(main_of(&checked.program), fault)),
     }
 }
 

@@ -9,6 +9,7 @@ ghost use Rattle.lt_load.specs.Sites.{IsSiteOf, IsSited, layout_verdict, site_ve
 
 use crate::CommandFault;
 use crate::loading::main_of;
+use crate::placing::as_place;
 use crate::setups::accepted;
 use lt_arch::{Shape, Timing};
 use lt_base::{Memory, Or};
@@ -54,11 +55,7 @@ pub fn layout_of(
     checked.kept();
     match place(alloc, &checked.flat, &setup.placement) {
         Ok(layout) => Ok(layout),
-        Err(Or::Fault(fault)) => {
-            let main = main_of(&checked.program).copy()?;
-            Err(Or::Fault(CommandFault::Place { fault, main }))
-        }
-        Err(Or::Memory) => Err(Or::Memory),
+        Err(fault) => Err(as_place(main_of(&checked.program), fault)),
     }
 }
 
