@@ -3,9 +3,12 @@ ghost use Rattle.std.specs.Prelude.{◌≡◌, ◌<◌, ◌+◌, ◌*◌, ◌^�
 ghost use Rattle.lt_arch.specs.Readers.{node_count, chan_count};
 ghost use Rattle.lt_arch.specs.Schedule.{OnePlace};
 ghost use Rattle.lt_arch.specs.Shapes.{HaveSameNodes};
+ghost use Rattle.lt_arch.specs.State.{start};
+ghost use Rattle.lt_arch.specs.Times.{HasTimes};
 ghost use Rattle.lt_norm.specs.Flat.{Originated};
 ghost use Rattle.lt_place.specs.Layout.{IsPlaced};
 ghost use Rattle.lt_plant.specs.Channels.{FitsLayout};
+ghost use Rattle.lt_plant.specs.Initial.{IsInitial};
 ghost use Rattle.lt_net.specs.Kept.{Kept, HasRoom};
 ghost use Rattle.lt_plant.specs.Wakes.{AreConfigured};
 ghost use Rattle.lt_plant.specs.Starts.{AreReady, AreAtStart};
@@ -16,11 +19,27 @@ use lt_arch::{Controller, Shape, Timing, Watch};
 use lt_base::Memory;
 use lt_machine::Machine;
 use lt_place::Layout;
-use lt_plant::listing::ports;
-use lt_plant::literals::{buffers, inboxes};
-use lt_plant::room::{counts, outs, tracks, values};
-use lt_plant::tables::{exits, routes};
+use lt_plant::initial::Initial;
 use std::alloc::Global;
+
+// The watch, and what nodes and channels have.
+fn at_start(
+    alloc: Global,
+    layout: &Layout,
+    shape: &Shape,
+    timing: &Timing,
+    rows: u32,
+) -> Result<(Watch, Initial), Memory>
+    requires placed { (f : Originated) × IsPlaced f layout.now }
+    requires nodes { HaveSameNodes shape.now timing.now }
+    requires numbered { 2 * (node_count shape.now + chan_count shape.now) < 2 ^ 32 }
+    ensures watch { IfOk result (λ both. HasTimes both.0 shape.now timing.now (start timing.now.protocol)) }
+    ensures initial { IfOk result (λ both. IsInitial layout.now shape.now rows both.1) }
+{
+    let watch = Watch::start(alloc, shape, timing)?;
+    let initial = Initial::of(alloc, layout, shape, rows)?;
+    Ok((watch, initial))
+}
 
 impl<C: Controller, M: Machine> Plant<C, M> {
     /// Nothing has happened. Room for all that an event needs is taken here.
@@ -47,16 +66,13 @@ impl<C: Controller, M: Machine> Plant<C, M> {
         ensures room { IfOk result HasRoom }
         ensures configured { IfOk result (λ plant. AreConfigured C.protocol C.send C.execute plant.timing plant.controllers) }
     {
-        let watch = Watch::start(alloc, &shape, &timing)?;
-        let executed = counts(alloc, &shape)?;
-        let inboxes = inboxes(alloc, &layout, &shape)?;
-        let buffers = buffers(alloc, &layout, &shape)?;
-        let tracks = tracks(alloc, &layout, rows)?;
-        let routes = routes(alloc, &layout, &shape)?;
-        let exits = exits(alloc, &layout)?;
-        let ports = ports(alloc, &shape)?;
-        let values = values(alloc, &layout)?;
-        let outs = outs(alloc, &layout)?;
+        let (watch, initial) = at_start(alloc, &layout, &shape, &timing, rows)?;
+        let Initial {
+            executed,
+            ends,
+            tables,
+            space,
+        } = initial;
         Ok(Plant {
             layout,
             shape,
@@ -66,14 +82,14 @@ impl<C: Controller, M: Machine> Plant<C, M> {
             machines,
             controllers,
             executed,
-            inboxes,
-            buffers,
-            tracks,
-            routes,
-            exits,
-            ports,
-            values,
-            outs,
+            inboxes: ends.inboxes,
+            buffers: ends.buffers,
+            tracks: space.tracks,
+            routes: tables.routes,
+            exits: tables.exits,
+            ports: tables.ports,
+            values: space.values,
+            outs: space.outs,
         })
     }
 }

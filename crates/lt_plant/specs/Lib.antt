@@ -1,4 +1,5 @@
 pub mod Track
+pub mod Initial
 pub mod Layout
 pub mod Local
 pub mod Payloads

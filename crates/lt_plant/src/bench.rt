@@ -126,4 +126,15 @@ impl<C: Controller, M: Machine> Bench<C, M> {
         take_all(channels, &self.ports, &mut self.inboxes, node, true);
         self.executed[node as usize] += 1;
     }
+
+    /// Its machines, and the cells of its outputs. The rest is dropped.
+    pub fn into_ends(self) -> (Vec<M>, Vec<Track>)
+        ensures machines { result.0.items ≡ self.machines }
+        ensures tracks { result.1.items ≡ self.tracks }
+    {
+        drop((self.layout, self.shape));
+        drop((self.executed, self.inboxes, self.buffers));
+        drop((self.routes, self.exits, self.ports));
+        (self.machines, self.tracks)
+    }
 }

@@ -4,6 +4,7 @@
 
 mod bench;
 pub mod freshness;
+pub mod initial;
 pub mod laws;
 pub mod listing;
 pub mod literals;

@@ -1,0 +1,20 @@
+// A plant after its last event.
+ghost use Rattle.std.specs.Prelude.{◌≡◌};
+
+use crate::plant::Plant;
+use lt_arch::Controller;
+use lt_machine::Machine;
+use lt_plant::Track;
+
+impl<C: Controller, M: Machine> Plant<C, M> {
+    /// Its machines, and the cells of its outputs. The rest is dropped.
+    pub fn into_ends(self) -> (Vec<M>, Vec<Track>)
+        ensures machines { result.0.items ≡ self.machines }
+        ensures tracks { result.1.items ≡ self.tracks }
+    {
+        drop((self.layout, self.shape, self.timing, self.watch));
+        drop((self.executed, self.inboxes, self.buffers));
+        drop((self.routes, self.exits, self.ports));
+        (self.machines, self.tracks)
+    }
+}
