@@ -1,6 +1,7 @@
 //! The network over links that lose messages: nodes that send their newest messages again at each activation.
 #![tactic(auto)]
 
+mod ending;
 mod fault;
 pub mod laws;
 mod net;

@@ -152,9 +152,8 @@ impl<M: Machine> LossyNet<M> {
     pub fn into_machines(self) -> List<M>
         ensures { result ≡ self.plant.machines }
     {
-        let plant = self.plant;
-        let bench = plant.bench;
-        List::of(bench.machines)
+        let (machines, _) = self.plant.into_ends();
+        List::of(machines)
     }
 
     /// Its machines and the cells of its outputs. No cell is copied.
@@ -162,11 +161,10 @@ impl<M: Machine> LossyNet<M> {
         ensures machines { IfOk result (λ parts. parts.machines ≡ self.plant.machines) }
         ensures cells { IfOk result (λ parts. parts.cells ≡ map (λ track. track.cells) self.plant.tracks) }
     {
-        let plant = self.plant;
-        let bench = plant.bench;
-        let cells = cells_of(alloc, bench.tracks)?;
+        let (machines, tracks) = self.plant.into_ends();
+        let cells = cells_of(alloc, tracks)?;
         Ok(Parts {
-            machines: List::of(bench.machines),
+            machines: List::of(machines),
             cells,
         })
     }

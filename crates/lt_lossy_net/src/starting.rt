@@ -1,18 +1,22 @@
 // A plant before the first event.
-ghost use Rattle.std.specs.Prelude.{◌≡◌, ◌<◌, ◌+◌, ◌*◌, ◌^◌, IfOk, All, length};
+ghost use Rattle.std.specs.Prelude.{◌≡◌, ◌<◌, ◌+◌, ◌*◌, ◌^◌, IfOk, All, length, replicate};
 ghost use Rattle.lt_arch.specs.declared.timing.Protocol.TheVariants.{BackPressure as ByPressure};
 ghost use Rattle.lt_arch.specs.Readers.{node_count, chan_count};
 ghost use Rattle.lt_arch.specs.Shapes.{HaveSameNodes};
 ghost use Rattle.lt_arch.specs.State.{Wait};
+ghost use Rattle.lt_lossy.specs.State.{lossy_start};
+ghost use Rattle.lt_lossy.specs.Times.{HasLossyTimes};
 ghost use Rattle.lt_lossy.specs.Window.{HasWindow};
 ghost use Rattle.lt_norm.specs.Flat.{Originated};
 ghost use Rattle.lt_place.specs.Layout.{IsPlaced};
 ghost use Rattle.lt_plant.specs.Channels.{FitsLayout};
+ghost use Rattle.lt_plant.specs.Initial.{IsInitial};
 ghost use Rattle.lt_plant.specs.Starts.{AreReady, AreAtStart};
 ghost use Rattle.lt_lossy_net.specs.Starts.{IsFirstBench, IsMadeOfLossy, IsFreshLossy};
 ghost use Rattle.lt_lossy_net.specs.Taken.{IsKeptLossy};
 
 use crate::plant::LossyPlant;
+use crate::posted::Posted;
 use crate::posting::posted_of;
 use lt_arch::{Controller, Shape, Timing};
 use lt_base::Memory;
@@ -21,10 +25,8 @@ use lt_lossy::LossyWatch;
 use lt_machine::Machine;
 use lt_place::Layout;
 use lt_plant::Bench;
-use lt_plant::listing::ports;
-use lt_plant::literals::{buffers, inboxes};
-use lt_plant::room::{counts, outs, tracks, values};
-use lt_plant::tables::{exits, routes};
+use lt_plant::initial::Initial;
+use lt_plant::room::counts;
 use std::alloc::Global;
 
 /// So many controllers at their start.
@@ -39,44 +41,94 @@ pub fn controllers(alloc: Global, count: usize) -> Result<Vec<BackPressure>, Mem
     Ok(controllers)
 }
 
-// Nodes and channels before the first event.
-fn bench_at_start<C: Controller, M: Machine>(
+// What a plant has at its start beside its nodes and channels.
+#[derive(Drop)]
+struct AtStart {
+    watch: LossyWatch,
+    sent: Vec<u32>,
+    initial: Initial,
+    posted: Vec<Posted>,
+}
+
+// What nodes and channels have, and the payloads to send again.
+fn initial_and_posted(
     alloc: Global,
+    layout: &Layout,
+    shape: &Shape,
+    rows: u32,
+) -> Result<(Initial, Vec<Posted>), Memory>
+    requires placed { (f : Originated) × IsPlaced f layout.now }
+    requires numbered { 2 * (node_count shape.now + chan_count shape.now) < 2 ^ 32 }
+    ensures initial { IfOk result (λ both. IsInitial layout.now shape.now rows both.0) }
+    ensures posted { IfOk result (λ both. both.1.items ≡ both.0.ends.buffers.items) }
+{
+    let initial = Initial::of(alloc, layout, shape, rows)?;
+    let posted = posted_of(alloc, &initial.ends.buffers)?;
+    Ok((initial, posted))
+}
+
+fn at_start(
+    alloc: Global,
+    layout: &Layout,
+    shape: &Shape,
+    timing: &Timing,
+    losses: u64,
+    rows: u32,
+) -> Result<AtStart, Memory>
+    requires placed { (f : Originated) × IsPlaced f layout.now }
+    requires nodes { HaveSameNodes shape.now timing.now }
+    requires numbered { 2 * (node_count shape.now + chan_count shape.now) < 2 ^ 32 }
+    ensures watch { IfOk result (λ first. HasLossyTimes first.watch shape.now timing.now losses lossy_start) }
+    ensures sent { IfOk result (λ first. first.sent.items ≡ replicate (node_count shape.now) 0) }
+    ensures initial { IfOk result (λ first. IsInitial layout.now shape.now rows first.initial) }
+    ensures posted { IfOk result (λ first. first.posted.items ≡ first.initial.ends.buffers.items) }
+{
+    let watch = LossyWatch::start(alloc, shape, timing, losses)?;
+    let sent = counts(alloc, shape)?;
+    let (initial, posted) = initial_and_posted(alloc, layout, shape, rows)?;
+    Ok(AtStart {
+        watch,
+        sent,
+        initial,
+        posted,
+    })
+}
+
+// Nodes and channels before the first event.
+fn bench_of<C: Controller, M: Machine>(
     layout: Layout,
     shape: Shape,
     rows: u32,
     machines: Vec<M>,
     controllers: Vec<C>,
-) -> Result<Bench<C, M>, Memory>
-    requires placed { (f : Originated) × IsPlaced f layout }
-    requires numbered { 2 * (node_count shape + chan_count shape) < 2 ^ 32 }
-    ensures { IfOk result (IsFirstBench layout shape rows machines.items controllers.items) }
+    initial: Initial,
+) -> Bench<C, M>
+    requires { IsInitial layout shape rows initial }
+    ensures first { IsFirstBench layout shape rows machines.items controllers.items result }
+    ensures buffers { result.buffers ≡ initial.ends.buffers.items }
 {
-    let executed = counts(alloc, &shape)?;
-    let inboxes = inboxes(alloc, &layout, &shape)?;
-    let buffers = buffers(alloc, &layout, &shape)?;
-    let tracks = tracks(alloc, &layout, rows)?;
-    let routes = routes(alloc, &layout, &shape)?;
-    let exits = exits(alloc, &layout)?;
-    let ports = ports(alloc, &shape)?;
-    let values = values(alloc, &layout)?;
-    let outs = outs(alloc, &layout)?;
-    Ok(Bench {
+    let Initial {
+        executed,
+        ends,
+        tables,
+        space,
+    } = initial;
+    Bench {
         layout,
         shape,
         rows,
         machines,
         controllers,
         executed,
-        inboxes,
-        buffers,
-        tracks,
-        routes,
-        exits,
-        ports,
-        values,
-        outs,
-    })
+        inboxes: ends.inboxes,
+        buffers: ends.buffers,
+        tracks: space.tracks,
+        routes: tables.routes,
+        exits: tables.exits,
+        ports: tables.ports,
+        values: space.values,
+        outs: space.outs,
+    }
 }
 
 impl<C: Controller, M: Machine> LossyPlant<C, M> {
@@ -103,16 +155,14 @@ impl<C: Controller, M: Machine> LossyPlant<C, M> {
         ensures fresh { IfOk result (IsFreshLossy C.phase M.stands M.made M.left) }
         ensures kept { IfOk result IsKeptLossy }
     {
-        let watch = LossyWatch::start(alloc, &shape, &timing, losses)?;
-        let sent = counts(alloc, &shape)?;
-        let bench = bench_at_start(alloc, layout, shape, rows, machines, controllers)?;
-        let posted = posted_of(alloc, &bench.buffers)?;
+        let first = at_start(alloc, &layout, &shape, &timing, losses, rows)?;
+        let bench = bench_of(layout, shape, rows, machines, controllers, first.initial);
         Ok(LossyPlant {
             bench,
             timing,
-            watch,
-            sent,
-            posted,
+            watch: first.watch,
+            sent: first.sent,
+            posted: first.posted,
         })
     }
 }

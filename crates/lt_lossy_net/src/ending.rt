@@ -1,0 +1,18 @@
+// A plant after its last event.
+ghost use Rattle.std.specs.Prelude.{◌≡◌};
+
+use crate::plant::LossyPlant;
+use lt_arch::Controller;
+use lt_machine::Machine;
+use lt_plant::Track;
+
+impl<C: Controller, M: Machine> LossyPlant<C, M> {
+    /// Its machines, and the cells of its outputs. The rest is dropped.
+    pub fn into_ends(self) -> (Vec<M>, Vec<Track>)
+        ensures machines { result.0.items ≡ self.machines }
+        ensures tracks { result.1.items ≡ self.tracks }
+    {
+        drop((self.timing, self.watch, self.sent, self.posted));
+        self.bench.into_ends()
+    }
+}
