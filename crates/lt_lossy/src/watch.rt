@@ -53,11 +53,12 @@ impl LossyWatch {
         requires numbered { 2 * (length shape.now.nodes + length shape.now.channels) < 2 ^ 32 }
         ensures { IfOk result (λ watch. HasLossyTimes watch shape.now timing.now limit lossy_start) }
     {
-        let channels = shape.channels.len();
+        let (queues, losses) = nothing_sent(alloc, shape.channels.len())?;
+        let watch = Watch::start(alloc, shape, timing)?;
         Ok(LossyWatch {
-            watch: Watch::start(alloc, shape, timing)?,
-            queues: empty_queues(alloc, channels)?,
-            losses: no_losses(alloc, channels)?,
+            watch,
+            queues,
+            losses,
             limit,
         })
     }
@@ -182,6 +183,16 @@ fn at_any_time(offence: Option<Offence>) -> Option<Offence>
         Some(Offence::TooEarly(_)) => None,
         _ => offence,
     }
+}
+
+// The queues and the counts of losses of so many channels that were not used.
+fn nothing_sent(alloc: Global, count: usize) -> Result<(Vec<Queue>, Vec<u64>), Memory>
+    ensures queues { IfOk result (λ first. first.0.items ≡ replicate count []) }
+    ensures losses { IfOk result (λ first. first.1.items ≡ replicate count 0) }
+{
+    let queues = empty_queues(alloc, count)?;
+    let losses = no_losses(alloc, count)?;
+    Ok((queues, losses))
 }
 
 fn empty_queues(alloc: Global, count: usize) -> Result<Vec<Queue>, Memory>
