@@ -32,12 +32,12 @@ impl Seat {
         ensures rows { IfOk result (λ seat. seat.rows ≡ rows) }
         ensures seated { IfOk result (λ seat. IsSeated seat.node seat.shape seat.rows []) }
     {
+        let places = PlaceTable::new(alloc, shape)?;
+        let copy = shape.copy()?;
         let node = Node::start(alloc, shape, timing)?;
-        let shape = shape.copy()?;
-        let places = PlaceTable::new(alloc, &shape)?;
         Ok(Seat {
             node,
-            shape,
+            shape: copy,
             places,
             rows,
         })
