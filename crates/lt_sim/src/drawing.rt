@@ -8,6 +8,7 @@ ghost use Rattle.lt_arch.specs.declared.shape.Shape.{Shape as OfShape};
 ghost use Rattle.lt_arch.specs.declared.timing.Timing.{Timing as OfTiming};
 ghost use Rattle.lt_arch.specs.Readers.{chan_count, node_count, is_back_pressure};
 ghost use Rattle.lt_arch.specs.Deeds.{deed_at};
+ghost use Rattle.lt_arch.specs.State.{first_phase};
 ghost use Rattle.lt_arch.specs.Shapes.{HaveSameNodes};
 ghost use Rattle.lt_sim.specs.Words.{generator, left_after};
 ghost use Rattle.lt_sim.specs.Drawn.{Draw, beginning, activated, drawn_on, next_due, pending_at, event_of};
@@ -18,7 +19,7 @@ ghost use Rattle.lt_sim.specs.Standing.{Stands, Keeps, IsDue, unless_later};
 use crate::controllers::Controllers;
 use crate::pending::{first_pending, set_pending};
 use crate::progress::Progress;
-use crate::sending::{Span, draw_delays, spans};
+use crate::sending::{Span, both_spans, draw_delays};
 use crate::words::{draw, generator_of};
 use lt_arch::{Deadlines, Deed, Event, Protocol, Shape, Timing};
 use lt_base::Memory;
@@ -52,13 +53,15 @@ impl Drawing {
     {
         let mut generator = generator_of(seed);
         let pending = first_activations(alloc, &mut generator, shape, timing)?;
+        let (messages, acks) = both_spans(alloc, shape)?;
+        let (controllers, progress) = at_start(alloc, shape, timing)?;
         Ok(Drawing {
             generator,
             pending,
-            controllers: Controllers::start(alloc, timing)?,
-            progress: Progress::start(alloc, shape)?,
-            messages: spans(alloc, shape, true)?,
-            acks: spans(alloc, shape, false)?,
+            controllers,
+            progress,
+            messages,
+            acks,
         })
     }
 
@@ -158,6 +161,21 @@ fn wake(progress: &Progress, controllers: &mut Controllers, rows: u32, node: u32
     let all_ack = progress.acks.all_fresh(node);
     let more = progress.executed[node as usize] < rows;
     controllers.wake(node, all_in, any_in, all_ack, more)
+}
+
+// How far the nodes and the channels are before the first event.
+fn at_start(
+    alloc: Global,
+    shape: &Shape,
+    timing: &Timing,
+) -> Result<(Controllers, Progress), Memory>
+    requires { 2 * (node_count shape.now + chan_count shape.now) < 2 ^ 32 }
+    ensures controllers { IfOk result (λ first. AreControlled timing.now (length timing.now.nodes) (λ n. first_phase timing.now.protocol) first.0) }
+    ensures progress { IfOk result (λ first. IsAt first.1 shape.now (λ n. 0) (λ c. 0)) }
+{
+    let controllers = Controllers::start(alloc, timing)?;
+    let progress = Progress::start(alloc, shape)?;
+    Ok((controllers, progress))
 }
 
 // The times of the nodes' first activations.

@@ -1,5 +1,5 @@
 // The delays of the messages that a node sends.
-ghost use Rattle.std.specs.Prelude.{◌≡◌, ◌<◌, ◌≤◌, ◌+◌, ◌-◌, ◌*◌, ◌^◌, ℕ, IfOk, length};
+ghost use Rattle.std.specs.Prelude.{◌≡◌, ◌<◌, ◌≤◌, ◌+◌, ◌-◌, ◌*◌, ◌^◌, ℕ, true, false, IfOk, length};
 ghost use Rattle.rand_core.specs.Steps.{stream_of};
 ghost use Rattle.rand_xoshiro.specs.SplitMix64.{splitmix_steps};
 ghost use Rattle.lt_arch.specs.declared.limits.TheConstants.{GREATEST_TIME};
@@ -26,7 +26,7 @@ pub struct Span {
 }
 
 /// The spans of all nodes, over the channels of one kind.
-pub fn spans(alloc: Global, shape: &Shape, data_kind: bool) -> Result<Vec<Span>, Memory>
+fn spans(alloc: Global, shape: &Shape, data_kind: bool) -> Result<Vec<Span>, Memory>
     requires { 2 * (node_count shape.now + chan_count shape.now) < 2 ^ 32 }
     ensures { IfOk result (λ spans. AreSpans shape.now.channels data_kind (node_count shape.now) spans.items) }
 {
@@ -36,6 +36,17 @@ pub fn spans(alloc: Global, shape: &Shape, data_kind: bool) -> Result<Vec<Span>,
         spans.push(span_of(channels, node as u32, data_kind))?;
     }
     Ok(spans)
+}
+
+/// The spans of all nodes, over the data channels and over those of acknowledgements.
+pub fn both_spans(alloc: Global, shape: &Shape) -> Result<(Vec<Span>, Vec<Span>), Memory>
+    requires { 2 * (node_count shape.now + chan_count shape.now) < 2 ^ 32 }
+    ensures messages { IfOk result (λ both. AreSpans shape.now.channels true (node_count shape.now) both.0.items) }
+    ensures acks { IfOk result (λ both. AreSpans shape.now.channels false (node_count shape.now) both.1.items) }
+{
+    let messages = spans(alloc, shape, true)?;
+    let acks = spans(alloc, shape, false)?;
+    Ok((messages, acks))
 }
 
 // Where the channels of a kind from a node stand.

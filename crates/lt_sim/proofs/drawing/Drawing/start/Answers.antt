@@ -16,8 +16,8 @@ returns c =
       left = c.in_ok-pending.ensures.left seed start;
       places = c.in_ok-pending.ensures.size;
       pending = c.in_ok-pending.ensures.pending seed start;
-      controllers = subst (λ count. AreControlled t count (λ n. first_phase t.protocol) c.in_ok-start.field-0) c.requires.same c.in_ok-start.ensures;
-      progress = c.in_ok-start-2.ensures;
-      messages = c.in_ok-spans.ensures;
-      acks = c.in_ok-spans-2.ensures;
+      controllers = subst (λ count. AreControlled t count (λ n. first_phase t.protocol) c.in_ok-controllers.controllers) c.requires.same c.in_ok-controllers.ensures.controllers;
+      progress = c.in_ok-controllers.ensures.progress;
+      messages = c.in_ok-messages.ensures.messages;
+      acks = c.in_ok-messages.ensures.acks;
     }
