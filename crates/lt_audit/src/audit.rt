@@ -57,10 +57,19 @@ impl Audit {
         ensures kept { IfOk result IsKept }
         ensures stands { IfOk result (λ audit. Stands audit shape timing rows []) }
     {
-        let watch = Watch::start(alloc, &shape, &timing)?;
-        let members = members_of(alloc, &timing)?;
-        let lines = lines_of(alloc, shape.channels.len())?;
         let wiring = Wiring::of(alloc, shape)?;
+        Audit::of_wiring(alloc, wiring, &timing, rows)
+    }
+
+    // Before the first event, over these nodes and channels.
+    fn of_wiring(alloc: Global, wiring: Wiring, timing: &Timing, rows: u32) -> Result<Audit, Memory>
+        requires same { HaveSameNodes wiring timing.now }
+        requires numbered { 2 * (node_count wiring + chan_count wiring) < 2 ^ 32 }
+        ensures kept { IfOk result IsKept }
+        ensures stands { IfOk result (λ audit. Stands audit wiring timing.now rows []) }
+    {
+        let (members, lines) = at_start(alloc, timing, wiring.channels().len())?;
+        let watch = Watch::start(alloc, wiring.shape(), timing)?;
         Ok(Audit {
             wiring,
             watch,
@@ -179,6 +188,20 @@ impl Audit {
     {
         deliver(&mut self.lines[ch as usize], &mut self.watch, ch, at, steps);
     }
+}
+
+// The nodes, and so many channels.
+fn at_start(
+    alloc: Global,
+    timing: &Timing,
+    channels: usize,
+) -> Result<(Vec<Member>, Vec<Line>), Memory>
+    ensures members { IfOk result (λ first. AreAtStart first.0.items timing.now (length timing.now.nodes)) }
+    ensures lines { IfOk result (λ first. map kept_of first.1.items ≡ replicate channels no_chan_state) }
+{
+    let members = members_of(alloc, timing)?;
+    let lines = lines_of(alloc, channels)?;
+    Ok((members, lines))
 }
 
 fn members_of(alloc: Global, timing: &Timing) -> Result<Vec<Member>, Memory>
