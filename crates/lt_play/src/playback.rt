@@ -1,18 +1,18 @@
 // A net, as it takes the events of a schedule.
-ghost use Rattle.std.specs.Prelude.{◌≡◌, ◌<◌, ◌+◌, ◌-◌, ◌*◌, ◌^◌, ℕ, IsTrue, [], length, IfOk};
+ghost use Rattle.std.specs.Prelude.{◌≡◌, ◌<◌, ◌+◌, ◌-◌, ◌*◌, ◌^◌, ℕ, IsTrue, [], length, IfOk, OnOk};
 ghost use Rattle.lt_base.specs.Behaviour.{RowsFit};
 ghost use Rattle.lt_arch.specs.Readers.{node_count, chan_count};
 ghost use Rattle.lt_arch.specs.Schedule.{OnePlace};
 ghost use Rattle.lt_arch.specs.Shapes.{HaveSameNodes};
 ghost use Rattle.lt_io.specs.Counts.{LinkCounted};
-ghost use Rattle.lt_io.specs.FabricState.{KeepsPromises};
+ghost use Rattle.lt_io.specs.FabricState.{KeepsPromises, OpensFabric};
 ghost use Rattle.lt_judge.specs.Verdict.{rules_of};
 ghost use Rattle.lt_judge.specs.Long.{long_line};
 ghost use Rattle.lt_norm.specs.Flat.{Originated};
 ghost use Rattle.lt_step.specs.Run.{HasRowValues};
 ghost use Rattle.lt_place.specs.Layout.{IsPlaced};
 ghost use Rattle.lt_plant.specs.Channels.{FitsLayout};
-ghost use Rattle.lt_plant.specs.Starts.{AreReady, AreAtStart};
+ghost use Rattle.lt_plant.specs.Starts.{AreReady, AreAtStart, kinds_for};
 ghost use Rattle.lt_net.specs.Starts.{IsMadeOf};
 ghost use Rattle.lt_plant.specs.Wakes.{AreConfigured};
 ghost use Rattle.lt_play.specs.Plays.{IsPlaying, KeepsPlay};
@@ -43,7 +43,7 @@ pub struct Playback<'a, C: Controller, M: Machine> {
 
 impl<'a, C: Controller, M: Machine> Playback<'a, C, M> {
     /// A net before its first event, with so many inputs of `main`. The fabric, which has no channels yet, is opened with
-    /// the net's; an error of its leaves it as it was.
+    /// the net's first; an error of its leaves it as it was.
     pub fn start<W: Fabric>(
         alloc: Global,
         layout: Layout,
@@ -74,12 +74,9 @@ impl<'a, C: Controller, M: Machine> Playback<'a, C, M> {
         ensures keeps { KeepsPromises (W.state fabric.old) (W.state fabric.new) }
         ensures sound { IsTrue (W.state fabric.old).sound → (W.state fabric.new).faults ≡ (W.state fabric.old).faults }
     {
-        let kinds = kinds_of(alloc, &layout, &shape)?;
-        let row = room_for(alloc, width)?;
-        let places = PlaceTable::new(alloc, &shape)?;
+        let (places, row) = open(alloc, &layout, &shape, width, fabric)?;
         let count = inputs.rows();
         let net = Net::start(alloc, layout, shape, timing, count, machines, controllers)?;
-        fabric.open(kinds.as_slice())?;
         Ok(Playback {
             net,
             inputs,
@@ -88,6 +85,30 @@ impl<'a, C: Controller, M: Machine> Playback<'a, C, M> {
             row,
         })
     }
+}
+
+// Opens the channels of a layout, and takes room for reading its events and a row so wide.
+fn open<W: Fabric>(
+    alloc: Global,
+    layout: &Layout,
+    shape: &Shape,
+    width: u32,
+    fabric: &mut W,
+) -> Result<(PlaceTable, Vec<Value>), LinkErr>
+    requires numbered { 2 * (node_count shape.now + chan_count shape.now) < 2 ^ 32 }
+    requires count { (W.state fabric.old).faults < 2 ^ 64 - 1 }
+    requires empty { (W.state fabric.old).kinds ≡ [] }
+    ensures room { IfOk result (λ room. length room.1.items ≡ width) }
+    ensures opened { OnOk result (OpensFabric (W.state fabric.old) (W.state fabric.new) (kinds_for layout.now shape.now)) }
+    ensures cause { LinkCounted (W.state fabric.old).faults (W.state fabric.new).faults result }
+    ensures keeps { KeepsPromises (W.state fabric.old) (W.state fabric.new) }
+    ensures sound { IsTrue (W.state fabric.old).sound → (W.state fabric.new).faults ≡ (W.state fabric.old).faults }
+{
+    let places = PlaceTable::new(alloc, shape)?;
+    let row = room_for(alloc, width)?;
+    let kinds = kinds_of(alloc, layout, shape)?;
+    fabric.open(kinds.as_slice())?;
+    Ok((places, row))
 }
 
 impl<C: Controller, M: Machine, W: Fabric> Replica<W> for Playback<'_, C, M> {
