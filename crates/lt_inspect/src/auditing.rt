@@ -1,5 +1,5 @@
 // The first message too few or too many.
-ghost use Rattle.std.specs.Prelude.{◌<◌, ◌-◌, ◌^◌, ℕ, List};
+ghost use Rattle.std.specs.Prelude.{◌≡◌, ◌<◌, ◌-◌, ◌^◌, ℕ, [], List};
 ghost use Rattle.lt_arch.specs.declared.event.Event.{Event};
 ghost use Rattle.lt_arch.specs.declared.shape.Shape.{Shape};
 ghost use Rattle.lt_arch.specs.declared.timing.Timing.{Timing};
@@ -10,7 +10,9 @@ ghost use Rattle.lt_inspect.specs.Errands.{inspect_errands};
 ghost use Rattle.lt_load.specs.Blamed.{command_blame};
 ghost use Rattle.lt_audit.specs.Standing.{Stands};
 ghost use Rattle.lt_inspect.specs.Audits.{IsTold};
+ghost use Rattle.lt_inspect.specs.declared.scene.Scene.{Scene as OfScene};
 ghost use Rattle.lt_inspect.specs.Inspected.{IsAudited, along_scene, audit_verdict};
+ghost use Rattle.lt_inspect.specs.Inspecting.{IsInspected};
 
 use crate::Audited;
 use crate::inspecting::inspect;
@@ -64,7 +66,22 @@ fn audit_scene<F: Files>(
 {
     let tap = Tap::new(NOTHING, scene.shape.copy()?, selects);
     let mut inspection = Inspection::start(alloc, scene.shape, scene.timing, scene.rows, tap)?;
-    inspect(alloc, files, schedule, &mut inspection)?;
+    audit_by(alloc, files, schedule, &mut inspection)
+}
+
+// Has an inspection take the events of a schedule file, and tells of its auditor.
+fn audit_by<F: Files>(
+    alloc: Global,
+    files: &mut F,
+    schedule: &str,
+    inspection: &mut Inspection,
+) -> Result<Audited, Or<CommandFault>>
+    requires count { (F.state files.old).faults < 2 ^ 64 - 1 }
+    requires fresh { IsInspected inspection.old.auditor inspection.old.tap.selection inspection.old.tap.shape inspection.old.text [] }
+    ensures { (k : OfScene) → inspection.old.auditor.shape ≡ k.shape → inspection.old.auditor.watch.timing ≡ k.timing → inspection.old.auditor.rows ≡ k.rows
+        → Answered command_blame (schedule_errand schedule.now) (along_scene (IsAudited k) k ((F.state files.old).named schedule.now)) (alone (F.state files.old)) (alone (F.state files.new)) result }
+{
+    inspect(alloc, files, schedule, inspection)?;
     tell(&inspection.auditor)
 }
 
