@@ -1,39 +1,25 @@
 -- A net after a delivery.
-use Rattle.std.proofs.Common.{map, ◌≡◌, ◌≢◌, ◌⊎◌, inl, inr, ℕ, zero, suc, ◌-◌, ◌+◌, ◌<◌, ◌≤◌, Bool, true, false, not, List, [], ◌∷◌, length, set, Option, Some, None, refl, sym, ap, ◌∙◌, subst, arith, length-append, length-set, add-one}
-use Rattle.std.specs.Prelude.{slice_index_or}
+use Rattle.std.proofs.Common.{◌≡◌, ◌≢◌, ℕ, ◌+◌, ◌<◌, Bool, not, List, [], ◌∷◌, length, set, Option, Some, None, refl, sym, ap, ◌∙◌, subst, arith}
 use Rattle.std.specs.List.{slice_get}
-use Rattle.std.proofs.Math.Seq.{get_or-append_seam}
-use Rattle.std.proofs.lemmas.Bool.Decides.{eqb_tells}
-use Rattle.std.proofs.lemmas.List.{get_or-set_same, get_or-set_other}
-use Rattle.std.proofs.lemmas.Option.{slice_get_within, get_or_from_slice_get, slice_get-get_or}
 use Rattle.lt_base.specs.declared.value.Value.{Value}
-use Rattle.lt_base.specs.Typing.{input_types, AllFit}
 use Rattle.lt_base.specs.Program.{Function}
-use Rattle.lt_base.specs.Meaning.{stream_of, calls}
 use Rattle.lt_arch.specs.declared.event.Event.TheVariants.{Del}
 use Rattle.lt_arch.specs.declared.shape.Shape.{Shape}
 use Rattle.lt_arch.specs.declared.timing.Timing.{Timing}
-use Rattle.lt_arch.specs.State.{State, NodeState, ChanState, Phase, start, unsent, sent_of}
-use Rattle.lt_arch.specs.Readers.{chan_count, to_of, from_of, carries_data}
+use Rattle.lt_arch.specs.State.{State, ChanState, Phase, start}
+use Rattle.lt_arch.specs.Readers.{chan_count}
 use Rattle.lt_arch.specs.Step.{after, own_offence, too_early, with_delivered, updated}
-use Rattle.lt_arch.specs.Schedule.{after_all, HasNoOffence, OnePlace, IsOnePlace}
+use Rattle.lt_arch.specs.Schedule.{after_all, HasNoOffence, OnePlace}
 use Rattle.lt_arch.specs.Times.{HasTimes}
 use Rattle.lt_arch.proofs.Noted.{noted-del}
 use Rattle.lt_arch.proofs.Facts.{clear}
 use Rattle.lt_arch.proofs.Changes.{updated-here, updated-other}
-use Rattle.lt_place.specs.declared.layout.Layout.{Layout}
 use Rattle.lt_plant.specs.Layout.{IsLaidOut}
-use Rattle.lt_place.specs.Layout.{part_of, crossing_of}
-use Rattle.lt_plant.specs.Local.{upto, fed_row, firsts, local_value, newest}
-use Rattle.lt_link.specs.Bits.{bit_of}
-use Rattle.lt_plant.specs.Payloads.{between, row_at, message_of, channel_between}
 use Rattle.lt_net.specs.Net.{NetState, Lists, plant_of, state_of}
 use Rattle.lt_link.specs.Inbox.{InboxState}
 use Rattle.lt_net.specs.Stands.{Stands}
-use Rattle.lt_net.specs.Owns.{Enough, OwnPayload}
 use Rattle.lt_plant.specs.Channels.{HasChannels}
 use Rattle.lt_net.specs.Event.{GoesOn}
-use Rattle.lt_plant.proofs.Firsts.{firsts-same, upto-same}
 use Rattle.lt_plant.specs.Changes.{DeliversOn}
 use Rattle.lt_plant.specs.Standing.{StandsAt}
 use Rattle.lt_plant.proofs.Delivered.{delivered_at}

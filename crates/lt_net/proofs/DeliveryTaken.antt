@@ -1,5 +1,5 @@
 -- A delivery, by what code has.
-use Rattle.std.proofs.Common.{◌≤◌, ◌≡◌, ◌≢◌, inl, inr, ℕ, ◌<◌, Bool, not, List, map, [], ◌∷◌, ◌++◌, length, set, Option, Some, None, cond, nat_eq, refl, sym, ap, ◌∙◌, subst, arith, length-set}
+use Rattle.std.proofs.Common.{◌≤◌, ◌≡◌, ◌≢◌, inl, inr, ℕ, ◌<◌, Bool, not, List, [], ◌∷◌, ◌++◌, length, set, Option, Some, None, cond, nat_eq, refl, sym, ap, ◌∙◌, subst, arith, length-set}
 use Rattle.std.specs.Prelude.{slice_index_or}
 use Rattle.std.specs.List.{slice_get}
 use Rattle.std.proofs.lemmas.Bool.Decides.{eqb_tells}
@@ -24,8 +24,6 @@ use Rattle.lt_net.specs.Net.{NetState, Lists, state_of, plant_of}
 use Rattle.lt_link.specs.Inbox.{InboxState, no_inbox}
 use Rattle.lt_net.specs.Stands.{Stands}
 use Rattle.lt_net.specs.Event.{GoesOn, Happens, Holds, HeldBy, HasKinds, IsTaken}
-use Rattle.lt_plant.specs.Payloads.{types_for}
-use Rattle.lt_base.specs.Value.{ty_of}
 use Rattle.lt_net.specs.Kept.{Kept}
 use Rattle.lt_net.specs.Receives.{Receives}
 use Rattle.lt_net.proofs.DeliveryStands.{delivered_stands}

@@ -1,20 +1,18 @@
 -- A net after its end.
-use Rattle.std.proofs.Common.{◌≡◌, ℕ, suc, ◌-◌, ◌≤◌, List, [], ◌∷◌, ◌++◌, Option, Some, None, refl, sym, ap, ◌∙◌, subst}
+use Rattle.std.proofs.Common.{◌≡◌, ℕ, ◌≤◌, List, [], ◌∷◌, ◌++◌, Option, Some, None, refl, sym, ap, ◌∙◌, subst}
 use Rattle.lt_base.specs.declared.value.Value.{Value}
 use Rattle.lt_base.specs.Program.{Function}
 use Rattle.lt_arch.specs.declared.event.Event.{Event}
 use Rattle.lt_arch.specs.declared.event.Event.TheVariants.{End}
 use Rattle.lt_arch.specs.declared.shape.Shape.{Shape}
 use Rattle.lt_arch.specs.declared.timing.Timing.{Timing}
-use Rattle.lt_arch.specs.State.{State, NodeState, Phase, start, unsent}
-use Rattle.lt_arch.specs.Readers.{to_of}
+use Rattle.lt_arch.specs.State.{State, Phase, start}
 use Rattle.lt_arch.specs.Step.{offence_of, after, time_of}
 use Rattle.lt_arch.specs.declared.limits.TheConstants.{GREATEST_TIME}
 use Rattle.lt_arch.specs.Schedule.{after_all, AreUpTo, HasNoOffence}
 use Rattle.lt_arch.specs.declared.event.Offence.{Offence}
 use Rattle.lt_arch.specs.Times.{Times, HasTimes}
 use Rattle.lt_arch.proofs.Noted.{noted-end}
-use Rattle.lt_link.specs.Bits.{bit_of}
 use Rattle.lt_io.specs.FabricState.{FabricState}
 use Rattle.lt_plant.proofs.Delivered.{stays_at}
 use Rattle.lt_net.specs.Net.{NetState, Lists, plant_of, state_of}

@@ -1,11 +1,7 @@
 -- A node that is to execute can.
-use Rattle.std.proofs.Common.{◌≡◌, inl, inr, ℕ, ◌<◌, ◌≤◌, true, false, List, [], length, Some, None, sym, ap, ◌∙◌, subst, arith}
+use Rattle.std.proofs.Common.{◌≡◌, ℕ, ◌<◌, ◌≤◌, true, false, List, length, None, sym, ◌∙◌, arith}
 use Rattle.std.specs.Prelude.{slice_index_or, nat_lt}
-use Rattle.std.specs.List.{slice_get}
-use Rattle.std.proofs.lemmas.Option.{slice_get_within, slice_get-get_or}
-use Rattle.std.specs.Prelude.{◌==◌}
 use Rattle.lt_base.specs.declared.value.Value.{Value}
-use Rattle.lt_base.specs.Value.{ty_of}
 use Rattle.lt_base.specs.Program.{Function}
 use Rattle.lt_arch.specs.declared.event.Deed.{Deed}
 use Rattle.lt_arch.specs.declared.event.Deed.TheVariants.{Execute}
@@ -25,25 +21,15 @@ use Rattle.lt_plant.specs.Wakes.{Wakes, AreConfigured}
 use Rattle.lt_arch.specs.declared.timing.Protocol.{Protocol}
 use Rattle.lt_arch.specs.declared.limits.TheConstants.{GREATEST_TIME}
 use Rattle.lt_net.specs.Kept.{HasRoom}
-use Rattle.lt_plant.specs.Payloads.{types_for, channel_between}
 use Rattle.lt_plant.specs.Given.{FitsPart}
 use Rattle.lt_net.proofs.IdleActivation.{deed_by_bits}
-use Rattle.std.proofs.lemmas.Bool.Decides.{eqb_tells}
-use Rattle.std.proofs.lemmas.List.{length-map}
 use Rattle.lt_arch.specs.State.{executed_of}
 use Rattle.lt_arch.specs.Deeds.{all_in, any_in, all_ack, more}
-use Rattle.lt_place.specs.Layout.{Gives, part_of, crossing_of, no_crossing}
-use Rattle.lt_base.proofs.Streams.{stream_length}
-use Rattle.lt_plant.specs.Layout.{place_in}
-use Rattle.lt_plant.specs.Track.{track_at}
-use Rattle.lt_plant.specs.Routes.{route_of, exit_of}
 use Rattle.lt_plant.specs.Executes.{CanExecute}
 use Rattle.lt_plant.proofs.Bits.{leb-le}
-use Rattle.lt_plant.proofs.FedRows.{type_entry}
 use Rattle.lt_plant.proofs.Able.{can_execute as able}
 use Rattle.lt_net.proofs.Plants.{sizes_of, space_of}
 use Rattle.lt_net.proofs.ReplayStep.{deed_more}
-use Rattle.lt_plant.proofs.Firsts.{length-firsts}
 
 module _ {C M : Type 0} (phase : C → Phase) (protocol : C → Protocol) (send execute : C → ℕ) (stands : M → Function → List (List Value) → Type 0) (made left : M → ℕ) (net : NetState C M) (kept : Kept phase stands made left net) (configured : AreConfigured protocol send execute net.timing net.controllers)
     (n at : ℕ) (timely : at ≤ GREATEST_TIME) (nb : n < node_count net.shape) (passes : (s : Shape) (t : Timing) (st : State) → HasTimes net.watch s t st → offence_of s t st (Act n at) ≡ None)

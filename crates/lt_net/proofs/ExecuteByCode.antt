@@ -1,5 +1,5 @@
 -- An activation that executes, by what code has.
-use Rattle.std.proofs.Common.{◌≡◌, ℕ, ◌<◌, ◌≤◌, true, false, List, [], length, set, Option, Some, None, sym, ap, ◌∙◌, subst, arith}
+use Rattle.std.proofs.Common.{◌≡◌, ℕ, ◌<◌, ◌≤◌, true, false, List, [], length, set, Option, Some, None, sym, ap, ◌∙◌, subst}
 use Rattle.std.specs.Prelude.{slice_index_or, nat_lt, Result, Ok, Err, IsErrAnd}
 use Rattle.lt_base.specs.declared.value.Value.{Value}
 use Rattle.lt_base.specs.Program.{Function}
@@ -17,7 +17,6 @@ use Rattle.lt_arch.specs.Step.{offence_of, sends_on}
 use Rattle.lt_arch.specs.Times.{HasTimes}
 use Rattle.lt_io.specs.FabricState.{FabricState}
 use Rattle.lt_net.specs.Net.{NetState, plant_of}
-use Rattle.lt_plant.specs.Track.{track_at}
 use Rattle.lt_net.specs.Event.{IsTaken, Holds}
 use Rattle.lt_net.specs.Kept.{Kept, IsSized, HasRoom}
 use Rattle.lt_plant.specs.Given.{FitsPart}

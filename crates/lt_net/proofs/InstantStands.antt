@@ -12,7 +12,6 @@ use Rattle.lt_arch.specs.Deeds.{deed_at, phase_at}
 use Rattle.lt_arch.specs.Step.{sends_on}
 use Rattle.lt_arch.specs.Schedule.{OnePlace}
 use Rattle.lt_arch.specs.Times.{Times, SentOn}
-use Rattle.lt_place.specs.Layout.{part_of}
 use Rattle.lt_plant.specs.Changes.{ActsOn, Takes}
 use Rattle.lt_plant.specs.Channels.{HasChannels}
 use Rattle.lt_plant.specs.Executes.{Executes}

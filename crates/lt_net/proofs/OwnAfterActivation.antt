@@ -1,16 +1,13 @@
 -- Messages stay their senders' own when nodes go on, and when they send.
-use Rattle.std.proofs.Common.{◌≡◌, ◌⊎◌, inl, inr, ℕ, suc, ◌+◌, ◌<◌, ◌≤◌, true, false, List, [], ◌∷◌, ◌++◌, length, sym, ap, ◌∙◌, subst, arith, length-append}
+use Rattle.std.proofs.Common.{◌≡◌, ◌⊎◌, inl, inr, ℕ, ◌+◌, ◌<◌, ◌≤◌, true, false, List, [], ◌∷◌, ◌++◌, length, sym, ap, ◌∙◌, subst, arith, length-append}
 use Rattle.std.specs.Prelude.{slice_index_or}
 use Rattle.std.proofs.Math.ListN.{get_or-append}
 use Rattle.std.proofs.Math.Seq.{get_or-append_seam}
 use Rattle.std.proofs.lemmas.Bool.{cases_lt}
 use Rattle.lt_base.specs.declared.value.Value.{Value}
-use Rattle.lt_base.specs.Meaning.{calls}
 use Rattle.lt_arch.specs.Readers.{chan_count, from_of, to_of, carries_data}
 use Rattle.lt_io.specs.declared.message.Message.{Message}
 use Rattle.lt_io.specs.FabricState.{FabricState}
-use Rattle.lt_plant.specs.Local.{newest, local_runs}
-use Rattle.lt_plant.specs.Payloads.{between, row_at}
 use Rattle.lt_net.specs.Net.{NetState, Lists}
 use Rattle.lt_net.specs.Owns.{OwnPayload, Owns, OwnsTransit}
 use Rattle.lt_plant.specs.Standing.{HasOwnValues}

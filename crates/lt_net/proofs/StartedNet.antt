@@ -1,34 +1,24 @@
 -- A net that was started.
-use Rattle.std.proofs.Common.{◌≡◌, ℕ, zero, suc, ◌+◌, ◌-◌, ◌*◌, ◌^◌, ◌<◌, ◌≤◌, List, [], length, map, Some, refl, sym, ap, ◌∙◌, arith, All, replicate, max}
-use Rattle.std.specs.Prelude.{slice_index_or, filter, if◌then◌else◌}
-use Rattle.std.specs.List.{slice_get}
-use Rattle.std.proofs.Math.Nat.{le-max_left, le-max_right}
-use Rattle.std.proofs.lemmas.List.{length-map, length-replicate, get_or-replicate}
+use Rattle.std.proofs.Common.{◌≡◌, ℕ, ◌+◌, ◌*◌, ◌^◌, ◌<◌, List, length, map, arith, All, replicate, max}
 use Rattle.lt_base.specs.declared.value.Value.{Value}
-use Rattle.lt_base.specs.Value.{ty_of}
 use Rattle.lt_base.specs.Program.{Function}
 use Rattle.lt_arch.specs.declared.shape.Shape.{Shape}
 use Rattle.lt_arch.specs.declared.timing.Timing.{Timing}
-use Rattle.lt_arch.specs.declared.timing.Protocol.{Protocol}
-use Rattle.lt_arch.specs.declared.timing.Protocol.TheVariants.{BackPressure, TimeBased}
-use Rattle.lt_arch.specs.State.{Phase, start, unsent, first_phase}
-use Rattle.lt_arch.specs.Readers.{node_count, chan_count, chan_of, from_of, to_of}
+use Rattle.lt_arch.specs.State.{Phase, start}
+use Rattle.lt_arch.specs.Readers.{node_count, chan_count}
 use Rattle.lt_arch.specs.Schedule.{OnePlace}
 use Rattle.lt_arch.specs.Times.{Times, HasTimes}
-use Rattle.lt_link.specs.Bits.{bit_of}
-use Rattle.lt_link.specs.Inbox.{InboxState, no_inbox}
+use Rattle.lt_link.specs.Inbox.{InboxState}
 use Rattle.lt_norm.specs.Flat.{Originated}
-use Rattle.lt_place.specs.declared.layout.Crossing.{Crossing}
 use Rattle.lt_place.specs.declared.layout.Layout.{Layout}
-use Rattle.lt_place.specs.Layout.{IsPlaced, part_of, no_part}
+use Rattle.lt_place.specs.Layout.{IsPlaced}
 use Rattle.lt_plant.specs.declared.route.Route.{Route}
 use Rattle.lt_plant.specs.declared.route.Exit.{Exit}
 use Rattle.lt_plant.specs.declared.ports.Ports.{Ports}
-use Rattle.lt_plant.specs.Ports.{ports_of, no_ports}
-use Rattle.lt_plant.specs.Layout.{joins}
+use Rattle.lt_plant.specs.Ports.{ports_of}
 use Rattle.lt_plant.specs.Local.{firsts}
 use Rattle.lt_net.specs.Net.{NetState}
-use Rattle.lt_plant.specs.Track.{TrackState, track_at}
+use Rattle.lt_plant.specs.Track.{TrackState}
 use Rattle.lt_plant.specs.Channels.{FitsLayout}
 use Rattle.lt_net.specs.Stands.{Stands}
 use Rattle.lt_net.specs.Kept.{Kept, IsSized, HasRoom}
