@@ -116,8 +116,8 @@ pub fn replay<F: Files, W: Fabric, M: Machine>(
 {
     networks_are_sound();
     let mut lines = Lines::new(alloc)?;
-    let setup = copies(layout, shape, timing)?;
     let controllers = controllers_of(alloc, timing)?;
+    let setup = copies(layout, shape, timing)?;
     perform(
         alloc,
         &mut lines,

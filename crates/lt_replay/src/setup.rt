@@ -19,9 +19,12 @@ pub fn copies(layout: &Layout, shape: &Shape, timing: &Timing) -> Result<Setup, 
     ensures shape { IfOk result (λ setup. setup.shape ≡ shape.now) }
     ensures timing { IfOk result (λ setup. setup.timing ≡ timing.now) }
 {
+    let timing = timing.copy()?;
+    let shape = shape.copy()?;
+    let layout = layout.copy()?;
     Ok(Setup {
-        layout: layout.copy()?,
-        shape: shape.copy()?,
-        timing: timing.copy()?,
+        layout,
+        shape,
+        timing,
     })
 }
