@@ -21,7 +21,7 @@ use Rattle.lt_judge.specs.Rules.{unless_missing, unless_offence, unless_fault, r
 use Rattle.lt_judge.specs.Verdict.{unended, rules_of, or_fault, judged_rows}
 use Rattle.lt_judge.specs.Settled.{IsWithin, event_in_row, read_event, ReadAs, settled}
 use Rattle.lt_judge.proofs.Steps.{not_past, event_few, judged_event, judged_offence}
-use Rattle.lt_judge.proofs.Seating.{after_push}
+use Rattle.lt_judge.proofs.Pushed.{after_push}
 
 low_of : (n : ℕ) → nat_lt 1073741824 n ≡ false → n ≤ 1073741824
 low_of n is = grind (arith, nat_tests)

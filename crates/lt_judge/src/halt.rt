@@ -2,7 +2,7 @@
 use lt_rows::RowFault;
 
 /// Why a schedule is refused. Rows and events are counted from 1, and the header is row 0.
-#[derive(Clone, Copy, Debug, PartialEq, Eq, Drop)]
+#[derive(Clone, Copy, Drop)]
 pub enum Refusal<O> {
     /// The row is no event, the first line is no header, or there are too many rows.
     Row { row: u32, fault: RowFault },
@@ -13,7 +13,7 @@ pub enum Refusal<O> {
 }
 
 /// Why the rows of a schedule are not all taken.
-#[derive(Clone, Copy, Debug, PartialEq, Eq, Drop)]
+#[derive(Drop)]
 pub enum Halt<O> {
     /// The schedule is refused.
     Refused(Refusal<O>),
@@ -26,7 +26,7 @@ pub enum Halt<O> {
 }
 
 /// Why a line is not taken.
-#[derive(Clone, Copy, Debug, PartialEq, Eq, Drop)]
+#[derive(Drop)]
 pub enum Stop<O> {
     /// It reads as no event.
     Row(RowFault),

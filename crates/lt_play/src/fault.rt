@@ -2,7 +2,7 @@
 use lt_judge::ScheduleFault;
 
 /// Why a net does not take a schedule file to its end.
-#[derive(Clone, Copy, Debug, PartialEq, Eq)]
+#[derive(Clone, Copy)]
 pub enum PlayFault {
     /// The schedule is refused, or a call on the files failed.
     Schedule(ScheduleFault),

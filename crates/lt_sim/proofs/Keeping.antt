@@ -20,7 +20,7 @@ use Rattle.lt_arch.specs.Schedule.{after_all, reached, HasNoOffence, IsOffenceFr
 use Rattle.lt_arch.proofs.Changes.{one_if, executed-act}
 use Rattle.lt_arch.proofs.Ranges.{tmin-tmax, dmin-dmax}
 use Rattle.lt_arch.proofs.Winners.{least_below-first}
-use Rattle.lt_judge.proofs.Seating.{after_push}
+use Rattle.lt_judge.proofs.Pushed.{after_push}
 use Rattle.lt_sim.specs.Words.{word, number_in}
 use Rattle.lt_sim.specs.Drawn.{Draw, pending_at, next_due, event_of, beginning, how_many, sends, gap, delay, activated, delivered, drawn_on}
 use Rattle.lt_sim.specs.Standing.{IsRestPending, IsTransitPending, IsNotBefore, IsPending, Keeps}
