@@ -1,6 +1,6 @@
 -- A call and its arguments, as the walk reads them.
 use Rattle.std.proofs.Common.{◌≡◌, ℕ, ◌+◌, ◌^◌, ◌<◌, ◌≤◌, List, [], ◌∷◌, ◌++◌, length, map, take, get_or, Vec, Global, Option, refl, sym, ap, ◌∙◌, subst, arith}
-use Rattle.std.proofs.lemmas.List.{length-map, map-append, take_more, take_all, take-map}
+use Rattle.std.proofs.lemmas.List.{length-map, map-append, map-id, take_more, take_all, take-map}
 use Rattle.std.proofs.Math.ListN.{get_or-map}
 use Rattle.lt_base.specs.declared.function.Decl.{Decl}
 use Rattle.lt_base.specs.declared.expression.Expr.{Expr, Call}
@@ -60,27 +60,45 @@ module _ (versions : List (Option Function)) (e : Expr) (g : ℕ) (args : Vec Ex
   pub arguments_begin : (ck : ClockPairs) (ds : List Decl) (es : List (ℕ × Expression)) (new : List Expr) → new ≡ [] → ArgumentsTo lib ck [] ds es ds es (map shape new)
   arguments_begin ck ds es new p = subst (λ l. ArgumentsTo lib ck [] ds es ds es (map shape l)) (sym p) (arguments_none lib ck ds es)
 
+  -- the arguments that a loop has taken
+  module _ (taken : List Expr) (front : map (λ (z : Expr). z) taken ≡ take (length taken) items) where
+    so_far : taken ≡ take (length taken) items
+    so_far = sym (map-id taken) ∙ front
+
+    pub of_taken : (ck : ClockPairs) (ds ds' : List Decl) (es es' : List (ℕ × Expression)) (ys : List Expression) → ArgumentsTo lib ck (map shape taken) ds es ds' es' ys → ArgumentsTo lib ck (map shape (take (length taken) items)) ds es ds' es' ys
+    of_taken ck ds ds' es es' ys t = subst (λ (l : List Expr). ArgumentsTo lib ck (map shape l) ds es ds' es' ys) so_far t
+
+    pub taken_turn : (a : Expr) → length taken < length items → a ≡ get_or items (length taken) a → (ck : ClockPairs) (ds ds1 ds2 : List Decl) (es es1 es2 : List (ℕ × Expression)) (old new : List Expr) (r : Expr) → ArgumentsTo lib ck (map shape taken) ds es ds1 es1 (map shape old) → InlinedTo lib ck (shape a) ds1 es1 ds2 es2 (shape r) → new ≡ old ++ r ∷ [] → ArgumentsTo lib ck (map shape (taken ++ a ∷ [])) ds es ds2 es2 (map shape new)
+    taken_turn a inside read ck ds ds1 ds2 es es1 es2 old new r t l p =
+        let next = argument_turn (length taken) a inside read ck ds ds1 ds2 es es1 es2 old new r (of_taken ck ds ds1 es es1 (map shape old) t) l p in
+        subst (λ (xs : List Expr). ArgumentsTo lib ck (map shape xs) ds es ds2 es2 (map shape new))
+        (take_more items (length taken) a inside ∙ (λ i. sym so_far i ++ sym read i ∷ []))
+        next
+
   -- after the last argument
-  module _ (i : ℕ) (all : length items ≤ i) (ck : ClockPairs) (ds ds' : List Decl) (es es' : List (ℕ × Expression)) (inputs : List Expr) (t : ArgumentsTo lib ck (map shape (take i items)) ds es ds' es' (map shape inputs)) where
+  module _ (i : ℕ) (all : length items ≤ i) (ck : ClockPairs) (ds ds' : List Decl) (es es' : List (ℕ × Expression)) (inputs : List Expr) (t : ArgumentsTo lib ck (map shape (take i items)) ds es ds' es' (map shape inputs)) (h : ℕ) (same : h ≡ g) where
     whole : ArgumentsTo lib ck xs ds es ds' es' (map shape inputs)
     whole = subst (λ l. ArgumentsTo lib ck (map shape l) ds es ds' es' (map shape inputs)) (take_all i items all) t
 
-    pub call_copyable : EachUse P (shape e) → Copyable versions g (length inputs)
+    pub call_copyable : EachUse P (shape e) → Copyable versions h (length inputs)
     call_copyable u =
         let c = whole.count in
         let l = length-map inputs shape in
         let n = count_of xs in
-        subst (Copyable versions g) (omega (arith, c, l, n)) (uses u).0
+        subst (λ k. Copyable versions k (length inputs)) (sym same) (subst (Copyable versions g) (omega (arith, c, l, n)) (uses u).0)
 
-    pub call_room : length ds + grown lib (shape e) < 2 ^ 32 → length ds' + length (lib g).decls < 2 ^ 32
+    pub call_room : length ds + grown lib (shape e) < 2 ^ 32 → length ds' + length (lib h).decls < 2 ^ 32
     call_room r =
         let n = arguments_length lib ck xs ds es ds' es' (map shape inputs) whole in
         let w = ap (grown lib) call_is in
-        omega (arith, n, w, r)
+        let s = ap (λ k. length (lib k).decls) same in
+        omega (arith, n, w, s, r)
 
-    pub call_inlined : (ds2 : List Decl) (es2 : List (ℕ × Expression)) (y : ℕ) → y ≡ first_of (lib g).outs + length ds' → Adds (record { from = length ds'; clock = ck; source = lib g; inputs = arguments_of (map shape inputs) } ∷ []) ds' es' ds2 es2 → InlinedTo lib ck (shape e) ds es ds2 es2 (variable y)
+    pub call_inlined : (ds2 : List Decl) (es2 : List (ℕ × Expression)) (y : ℕ) → y ≡ first_of (lib h).outs + length ds' → Adds (record { from = length ds'; clock = ck; source = lib h; inputs = arguments_of (map shape inputs) } ∷ []) ds' es' ds2 es2 → InlinedTo lib ck (shape e) ds es ds2 es2 (variable y)
     call_inlined ds2 es2 y o r =
-        moved lib ck (shape e) (call g (arguments_of xs)) ds es ds2 es2 (variable y) (variable y) call_is refl (inline_call lib ck g xs ds ds' ds2 es es' es2 (map shape inputs) y whole o r)
+        moved lib ck (shape e) (call g (arguments_of xs)) ds es ds2 es2 (variable y) (variable y) call_is refl (inline_call lib ck g xs ds ds' ds2 es es' es2 (map shape inputs) y whole
+        (o ∙ ap (λ k. first_of (lib k).outs + length ds') same)
+        (subst (λ k. Adds (record { from = length ds'; clock = ck; source = lib k; inputs = arguments_of (map shape inputs) } ∷ []) ds' es' ds2 es2) same r))
 
-    pub call_length : (ds2 : List Decl) (es2 : List (ℕ × Expression)) (y : ℕ) → y ≡ first_of (lib g).outs + length ds' → Adds (record { from = length ds'; clock = ck; source = lib g; inputs = arguments_of (map shape inputs) } ∷ []) ds' es' ds2 es2 → length ds2 ≡ length ds + grown lib (shape e)
+    pub call_length : (ds2 : List Decl) (es2 : List (ℕ × Expression)) (y : ℕ) → y ≡ first_of (lib h).outs + length ds' → Adds (record { from = length ds'; clock = ck; source = lib h; inputs = arguments_of (map shape inputs) } ∷ []) ds' es' ds2 es2 → length ds2 ≡ length ds + grown lib (shape e)
     call_length ds2 es2 y o r = inline_length lib ck (shape e) ds es ds2 es2 (variable y) (call_inlined ds2 es2 y o r)

@@ -23,6 +23,7 @@ pub mod Versions
 pub mod Whole
 pub mod Lawful
 pub mod Steps
+pub mod Sides
 pub mod Loops
 pub mod Making
 pub mod Lower

@@ -1,12 +1,9 @@
 -- The loop over the equations of a function, and the function that it makes.
-use Rattle.std.proofs.Common.{◌≡◌, ℕ, zero, suc, ◌+◌, ◌-◌, ◌^◌, ◌<◌, List, [], ◌∷◌, ◌++◌, length, take, get_or, replicate, All, Result, Ok, Err, refl, sym, ap, ◌∙◌, subst, arith}
-use Rattle.std.specs.Prelude.{IfOk}
+use Rattle.std.proofs.Common.{◌≡◌, ℕ, zero, suc, ◌+◌, ◌-◌, ◌^◌, ◌<◌, List, [], ◌∷◌, ◌++◌, length, take, get_or, replicate, All, refl, sym, ap, ◌∙◌, subst, arith}
 use Rattle.std.specs.List.{range_with_len}
 use Rattle.std.proofs.lemmas.List.{take_more}
-use Rattle.lt_base.specs.declared.memory.Memory.{Memory}
 use Rattle.lt_base.specs.declared.function.Decl.{Decl}
-use Rattle.lt_base.specs.declared.expression.Expr.{Expr}
-use Rattle.lt_base.specs.Expression.{Expression, shape}
+use Rattle.lt_base.specs.Expression.{Expression}
 use Rattle.lt_base.specs.Program.{Function, GoodFunction}
 use Rattle.lt_base.specs.Meaning.{clock_of}
 use Rattle.lt_base.proofs.Lookups.{all_found, left_below}
@@ -38,12 +35,11 @@ clock_read (e ∷ ds) zero d l = refl
 clock_read (e ∷ ds) (suc x) d l = clock_read ds x d (omega arith)
 
 -- a right side at the declared clock of its variable
-pub side_inlined : (lib : Library) (known items : List Decl) (x left : ℕ) (d : Decl) (e side : Expression) (ds : List Decl) (es : List (ℕ × Expression)) (ds' : List Decl) (es' : List (ℕ × Expression)) → items ≡ known → left ≡ x → x < length known → d ≡ get_or items left d → side ≡ e → (r : Result Expr Memory) → IfOk r (λ r. InlinedTo lib d.clock side ds es ds' es' (shape r)) → IfOk r (λ r. InlinedTo lib (clock_of known x) e ds es ds' es' (shape r))
-side_inlined lib known items x left d e side ds es ds' es' p q l k s (Ok r) h =
+pub side_inlined : (lib : Library) (known items : List Decl) (x left : ℕ) (d : Decl) (e side r : Expression) (ds : List Decl) (es : List (ℕ × Expression)) (ds' : List Decl) (es' : List (ℕ × Expression)) → items ≡ known → left ≡ x → x < length known → d ≡ get_or items left d → side ≡ e → InlinedTo lib d.clock side ds es ds' es' r → InlinedTo lib (clock_of known x) e ds es ds' es' r
+side_inlined lib known items x left d e side r ds es ds' es' p q l k s h =
     let here : d ≡ get_or known x d = k ∙ (λ i. get_or (p i) (q i) d) in
     let clock : d.clock ≡ clock_of known x = ap (λ (d : Decl). d.clock) here ∙ sym (clock_read known x d l) in
-    subst (λ ck. InlinedTo lib ck e ds es ds' es' (shape r)) clock (subst (λ a. InlinedTo lib d.clock a ds es ds' es' (shape r)) s h)
-side_inlined lib known items x left d e side ds es ds' es' p q l k s (Err w) h = h
+    subst (λ ck. InlinedTo lib ck e ds es ds' es' r) clock (subst (λ a. InlinedTo lib d.clock a ds es ds' es' r) s h)
 
 -- ---- the function that is made
 

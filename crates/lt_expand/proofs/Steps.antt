@@ -101,6 +101,11 @@ module _ (lib : Library) where
       let f = form_next ((c, true) ∷ ck) ((c, false) ∷ ck) a a' b b' ds ds1 ds2 es es1 es2 l' m' in
       record { form = λ i. merged c (l'.form i) (f i); adds = adds_pair ((c, true) ∷ ck) ((c, false) ∷ ck) a a' b b' ds ds1 ds2 es es1 es2 l' m' }
 
+  -- the same at clocks that were made for the branches
+  pub inline_merged_from : (ck ck1 ck2 : ClockPairs) (c c1 c2 : ℕ) (a a' b b' : Expression) (ds ds1 ds2 : Decls) (es es1 es2 : Eqs) → To ck1 a ds es ds1 es1 a' → To ck2 b ds1 es1 ds2 es2 b' → ck1 ≡ (c1, true) ∷ ck → ck2 ≡ (c2, false) ∷ ck → c1 ≡ c → c2 ≡ c → To ck (merged c a b) ds es ds2 es2 (merged c a' b')
+  inline_merged_from ck ck1 ck2 c c1 c2 a a' b b' ds ds1 ds2 es es1 es2 l m p q j k =
+      inline_merged ck ck1 ck2 c a a' b b' ds ds1 ds2 es es1 es2 (p ∙ ap (λ n. (n, true) ∷ ck) j) (q ∙ ap (λ n. (n, false) ∷ ck) k) l m
+
   pub inline_choose : (ck : ClockPairs) (c c' a a' b b' : Expression) (ds ds1 ds2 ds3 : Decls) (es es1 es2 es3 : Eqs) → To ck c ds es ds1 es1 c' → To ck a ds1 es1 ds2 es2 a' → To ck b ds2 es2 ds3 es3 b' → To ck (choose c a b) ds es ds3 es3 (choose c' a' b')
   inline_choose ck c c' a a' b b' ds ds1 ds2 ds3 es es1 es2 es3 k l m =
       let n1 = inline_length ck c ds es ds1 es1 c' k in

@@ -7,16 +7,15 @@ ghost use Rattle.lt_base.specs.Checked.{EachUse};
 ghost use Rattle.lt_expand.specs.Copies.{equations_grown, opened};
 ghost use Rattle.lt_expand.specs.Walk.{library_of, Copyable, AllInlined, owners};
 
-use crate::inline::inline_side;
+use crate::inline::{Pasted, inline_side};
 use lt_base::{Decl, Equation, Func, List, Memory, Whole};
 use std::alloc::Global;
 
-// The parts of a function with copies: all declarations, its own equations, those of the copies, and the origins.
+// The parts of a function with copies: all declarations with the equations of the copies, its own equations, and the origins.
 #[derive(Drop)]
 struct Opening {
-    decls: Vec<Decl>,
+    pasted: Pasted,
     eqs: Vec<Equation>,
-    copied: Vec<Equation>,
     origins: Vec<u32>,
 }
 
@@ -41,21 +40,22 @@ fn open_equations(
     requires lefts { All (λ q. q.0 < length known.now) equations.now }
     requires ready { All (λ q. EachUse (λ h k. Copyable versions.now h k) q.1) equations.now }
     requires room { length known.now + equations_grown (library_of versions.now) equations.now < 2 ^ 32 }
-    ensures { IfOk result (λ r. AllInlined (library_of versions.now) known.now equations.now r.decls.items r.eqs.items r.copied.items r.origins.items) }
+    ensures { IfOk result (λ r. AllInlined (library_of versions.now) known.now equations.now r.pasted.decls.items r.eqs.items r.pasted.eqs.items r.origins.items) }
 {
-    let mut decls = known.copy()?.into_vec();
+    let mut pasted = Pasted {
+        decls: known.copy()?.into_vec(),
+        eqs: Vec::new(alloc),
+    };
     let mut eqs = Vec::with_capacity(alloc, equations.len())?;
-    let mut copied = Vec::new(alloc);
     let mut origins = numbers(alloc, known.len() as u32)?;
     for equation in equations.as_slice() {
-        let right = inline_side(alloc, versions, known, &mut decls, &mut copied, equation)?;
+        let right = inline_side(alloc, versions, known, &mut pasted, equation)?;
         eqs.push(Equation::new(equation.left(), right))?;
-        origins.resize(decls.len(), equation.left())?;
+        origins.resize(pasted.decls.len(), equation.left())?;
     }
     Ok(Opening {
-        decls,
+        pasted,
         eqs,
-        copied,
         origins,
     })
 }
@@ -71,11 +71,14 @@ pub(crate) fn open(alloc: Global, versions: &[Option<Func>], f: &Func) -> Result
     f.kept();
     let opening = open_equations(alloc, versions, &f.decls, &f.eqs)?;
     let Opening {
-        decls,
+        pasted,
         mut eqs,
-        mut copied,
         origins,
     } = opening;
+    let Pasted {
+        decls,
+        eqs: mut copied,
+    } = pasted;
     eqs.append(&mut copied)?;
     let name = f.name.copy()?;
     let outs = f.outs.copy()?;

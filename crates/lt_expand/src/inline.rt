@@ -1,18 +1,24 @@
 // Calls replaced by copies of what is made for the called functions.
 
-ghost use Rattle.std.specs.Prelude.{◌≡◌, ◌+◌, ◌<◌, ◌^◌, ◌∷◌, [], length, map, IfOk};
+ghost use Rattle.std.specs.Prelude.{◌≡◌, ◌+◌, ◌<◌, ◌^◌, ◌∷◌, [], length, map, IfOk, OnOk};
 ghost use Rattle.lt_base.specs.Expression.{shape, arguments_of};
 ghost use Rattle.lt_base.specs.Checked.{EachUse};
 ghost use Rattle.lt_base.specs.Meaning.{clock_of};
 ghost use Rattle.lt_expand.specs.Copies.{first_of, grown};
 ghost use Rattle.lt_expand.specs.Walk.{library_of, IsMade, Copyable, Adds, InlinedTo};
 
-use crate::forms::{
-    arrow, binary, choose, deeper, delayed, follow, imported, merged, outer, sampled, unary,
-};
+use crate::clocking::{deeper, outer};
 use crate::paste::append_copy;
 use lt_base::{Clock, Decl, Equation, Expr, Func, List, Memory};
 use std::alloc::Global;
+use std::mem::replace;
+
+/// All declarations so far, and the equations of the copies.
+#[derive(Drop)]
+pub(crate) struct Pasted {
+    pub decls: Vec<Decl>,
+    pub eqs: Vec<Equation>,
+}
 
 // What is made for a function.
 fn version(versions: &[Option<Func>], g: u32) -> &Func
@@ -27,103 +33,82 @@ fn version(versions: &[Option<Func>], g: u32) -> &Func
 
 // Appends the copy for a call of this function, and gives the number of its output.
 fn copy_for_call(
-    alloc: Global,
     versions: &[Option<Func>],
-    decls: &mut Vec<Decl>,
-    eqs: &mut Vec<Equation>,
+    into: &mut Pasted,
     place: &Clock,
     g: u32,
     inputs: Vec<Expr>,
 ) -> Result<u32, Memory>
     requires ready { Copyable versions.now g (length inputs.items) }
-    requires room { length decls.old.items + length (library_of versions.now g).decls < 2 ^ 32 }
-    ensures output { IfOk result (λ y. y ≡ first_of (library_of versions.now g).outs + length decls.old.items) }
-    ensures adds { IfOk result (λ y. Adds (record { from = length decls.old.items; clock = place.now; source = library_of versions.now g; inputs = arguments_of (map shape inputs.items) } ∷ []) decls.old.items eqs.old.items decls.new.items eqs.new.items) }
+    requires room { length into.old.decls.items + length (library_of versions.now g).decls < 2 ^ 32 }
+    ensures output { IfOk result (λ y. y ≡ first_of (library_of versions.now g).outs + length into.old.decls.items) }
+    ensures adds { IfOk result (λ y. Adds (record { from = length into.old.decls.items; clock = place.now; source = library_of versions.now g; inputs = arguments_of (map shape inputs.items) } ∷ []) into.old.decls.items into.old.eqs.items into.new.decls.items into.new.eqs.items) }
 {
     let source = version(versions, g);
-    append_copy(alloc, decls, eqs, place, source, inputs)
+    append_copy(&mut into.decls, &mut into.eqs, place, source, inputs)
 }
 
-/// The expression with the output of a copy in place of each call. The copies are appended, those of a call's arguments first.
+/// Puts the output of a copy in place of each call in an expression. The copies are appended, those of a call's arguments first.
 pub(crate) fn inline(
     alloc: Global,
     versions: &[Option<Func>],
-    decls: &mut Vec<Decl>,
-    eqs: &mut Vec<Equation>,
+    into: &mut Pasted,
     clock: &Clock,
-    e: &Expr,
-) -> Result<Expr, Memory>
-    requires ready { EachUse (λ h k. Copyable versions.now h k) (shape e.now) }
-    requires room { length decls.old.items + grown (library_of versions.now) (shape e.now) < 2 ^ 32 }
-    ensures room { IfOk result (λ r. length decls.new.items ≡ length decls.old.items + grown (library_of versions.now) (shape e.now)) }
-    ensures all { IfOk result (λ r. InlinedTo (library_of versions.now) clock.now (shape e.now) decls.old.items eqs.old.items decls.new.items eqs.new.items (shape r)) }
+    e: &mut Expr,
+) -> Result<(), Memory>
+    requires ready { EachUse (λ h k. Copyable versions.now h k) (shape e.old) }
+    requires room { length into.old.decls.items + grown (library_of versions.now) (shape e.old) < 2 ^ 32 }
+    ensures room { OnOk result (length into.new.decls.items ≡ length into.old.decls.items + grown (library_of versions.now) (shape e.old)) }
+    ensures all { OnOk result (InlinedTo (library_of versions.now) clock.now (shape e.old) into.old.decls.items into.old.eqs.items into.new.decls.items into.new.eqs.items (shape e.new)) }
 {
     match e {
-        Expr::Lit(v) => Ok(Expr::Lit(*v)),
-        Expr::Var(x) => Ok(Expr::Var(*x)),
-        Expr::Un(op, a) => {
-            let a = inline(alloc, versions, decls, eqs, clock, a)?;
-            let r = unary(alloc, *op, a)?;
-            Ok(r)
-        }
+        Expr::Lit(_) => Ok(()),
+        Expr::Var(_) => Ok(()),
+        Expr::Un(_, a) => inline(alloc, versions, into, clock, a),
+        Expr::Fby(_, a) => inline(alloc, versions, into, clock, a),
         Expr::Bin(op, a, b) => {
-            let a = inline(alloc, versions, decls, eqs, clock, a)?;
-            let b = inline(alloc, versions, decls, eqs, clock, b)?;
-            let r = binary(alloc, *op, a, b)?;
-            Ok(r)
+            inline(alloc, versions, into, clock, a)?;
+            inline(alloc, versions, into, clock, b)
         }
         Expr::Imported(op, a, b) => {
-            let a = inline(alloc, versions, decls, eqs, clock, a)?;
-            let b = inline(alloc, versions, decls, eqs, clock, b)?;
-            let r = imported(alloc, *op, a, b)?;
-            Ok(r)
+            inline(alloc, versions, into, clock, a)?;
+            inline(alloc, versions, into, clock, b)
+        }
+        Expr::Follow(a, b) => {
+            inline(alloc, versions, into, clock, a)?;
+            inline(alloc, versions, into, clock, b)
+        }
+        Expr::Arrow(a, b) => {
+            inline(alloc, versions, into, clock, a)?;
+            inline(alloc, versions, into, clock, b)
         }
         Expr::If(c, a, b) => {
-            let c = inline(alloc, versions, decls, eqs, clock, c)?;
-            let a = inline(alloc, versions, decls, eqs, clock, a)?;
-            let b = inline(alloc, versions, decls, eqs, clock, b)?;
-            let r = choose(alloc, c, a, b)?;
-            Ok(r)
+            inline(alloc, versions, into, clock, c)?;
+            inline(alloc, versions, into, clock, a)?;
+            inline(alloc, versions, into, clock, b)
         }
-        Expr::When(a, x, polarity) => {
+        Expr::When(a, _, _) => {
             let before = outer(clock)?;
-            let a = inline(alloc, versions, decls, eqs, &before, a)?;
-            let r = sampled(alloc, a, *x, *polarity)?;
-            Ok(r)
+            inline(alloc, versions, into, &before, a)
         }
         Expr::Merge(x, a, b) => {
             let left = deeper(clock, *x, true)?;
-            let a = inline(alloc, versions, decls, eqs, &left, a)?;
+            inline(alloc, versions, into, &left, a)?;
             let right = deeper(clock, *x, false)?;
-            let b = inline(alloc, versions, decls, eqs, &right, b)?;
-            let r = merged(alloc, *x, a, b)?;
-            Ok(r)
-        }
-        Expr::Fby(v, a) => {
-            let a = inline(alloc, versions, decls, eqs, clock, a)?;
-            let r = delayed(alloc, *v, a)?;
-            Ok(r)
-        }
-        Expr::Follow(a, b) => {
-            let a = inline(alloc, versions, decls, eqs, clock, a)?;
-            let b = inline(alloc, versions, decls, eqs, clock, b)?;
-            let r = follow(alloc, a, b)?;
-            Ok(r)
-        }
-        Expr::Arrow(a, b) => {
-            let a = inline(alloc, versions, decls, eqs, clock, a)?;
-            let b = inline(alloc, versions, decls, eqs, clock, b)?;
-            let r = arrow(alloc, a, b)?;
-            Ok(r)
+            inline(alloc, versions, into, &right, b)
         }
         Expr::Call(g, args) => {
-            let mut inputs = Vec::with_capacity(alloc, args.len())?;
-            for a in args {
-                let input = inline(alloc, versions, decls, eqs, clock, a)?;
+            let g = *g;
+            let taken = replace(args, Vec::new(alloc));
+            let mut inputs = Vec::with_capacity(alloc, taken.len())?;
+            for a in taken {
+                let mut input = a;
+                inline(alloc, versions, into, clock, &mut input)?;
                 inputs.push(input)?;
             }
-            let y = copy_for_call(alloc, versions, decls, eqs, clock, *g, inputs)?;
-            Ok(Expr::Var(y))
+            let y = copy_for_call(versions, into, clock, g, inputs)?;
+            *e = Expr::Var(y);
+            Ok(())
         }
     }
 }
@@ -133,15 +118,16 @@ pub(crate) fn inline_side(
     alloc: Global,
     versions: &[Option<Func>],
     known: &List<Decl>,
-    decls: &mut Vec<Decl>,
-    eqs: &mut Vec<Equation>,
+    into: &mut Pasted,
     equation: &Equation,
 ) -> Result<Expr, Memory>
     requires left { equation.now.0 < length known.now }
     requires ready { EachUse (λ h k. Copyable versions.now h k) equation.now.1 }
-    requires room { length decls.old.items + grown (library_of versions.now) equation.now.1 < 2 ^ 32 }
-    ensures { IfOk result (λ r. InlinedTo (library_of versions.now) (clock_of known.now equation.now.0) equation.now.1 decls.old.items eqs.old.items decls.new.items eqs.new.items (shape r)) }
+    requires room { length into.old.decls.items + grown (library_of versions.now) equation.now.1 < 2 ^ 32 }
+    ensures { IfOk result (λ r. InlinedTo (library_of versions.now) (clock_of known.now equation.now.0) equation.now.1 into.old.decls.items into.old.eqs.items into.new.decls.items into.new.eqs.items (shape r)) }
 {
     let decl = &known.as_slice()[equation.left() as usize];
-    inline(alloc, versions, decls, eqs, &decl.clock, equation.right())
+    let mut right = equation.right().copy()?;
+    inline(alloc, versions, into, &decl.clock, &mut right)?;
+    Ok(right)
 }

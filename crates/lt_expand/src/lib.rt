@@ -1,7 +1,7 @@
 //! Calls replaced by copies of the called functions.
 #![tactic(auto)]
 
-mod forms;
+mod clocking;
 mod function;
 mod inline;
 pub mod laws;

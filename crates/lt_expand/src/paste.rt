@@ -9,7 +9,6 @@ ghost use Rattle.lt_expand.specs.Walk.{Adds};
 
 use crate::raised::{raised, raised_decl};
 use lt_base::{Clock, Decl, Equation, Expr, Func, List, Memory};
-use std::alloc::Global;
 
 // Appends the declarations of a copy that begins at this number.
 fn append_decls(
@@ -43,7 +42,6 @@ fn append_inputs(eqs: &mut Vec<Equation>, inputs: Vec<Expr>, first: u32) -> Resu
 
 // Appends the equations of the copied function.
 fn append_equations(
-    alloc: Global,
     eqs: &mut Vec<Equation>,
     known: &List<Equation>,
     first: u32,
@@ -54,7 +52,7 @@ fn append_equations(
     ensures { OnOk result (eqs.new.items ≡ eqs.old.items ++ copy_equations first known.now) }
 {
     for equation in known.as_slice() {
-        let right = raised(alloc, equation.right(), first)?;
+        let right = raised(equation.right(), first)?;
         eqs.push(Equation::new(equation.left() + first, right))?;
     }
     Ok(())
@@ -63,7 +61,6 @@ fn append_equations(
 /// Appends a copy of a function without calls, on the clock of a call's place, whose inputs have these equations. Gives the number
 /// of its output.
 pub(crate) fn append_copy(
-    alloc: Global,
     decls: &mut Vec<Decl>,
     eqs: &mut Vec<Equation>,
     place: &Clock,
@@ -81,6 +78,6 @@ pub(crate) fn append_copy(
     let first = decls.len() as u32;
     append_decls(decls, &source.decls, place, first)?;
     append_inputs(eqs, inputs, first)?;
-    append_equations(alloc, eqs, &source.eqs, first)?;
+    append_equations(eqs, &source.eqs, first)?;
     Ok(source.outs.as_slice()[0] + first)
 }

@@ -7,64 +7,62 @@ ghost use Rattle.lt_base.specs.Calls.{EachCall};
 ghost use Rattle.lt_base.specs.Placed.{renamed, below};
 ghost use Rattle.lt_expand.specs.Copies.{raise, copy_decl};
 
-use crate::forms::{arrow, binary, choose, delayed, follow, imported, merged, sampled, unary};
 use lt_base::{Clock, Decl, Expr, Memory};
-use std::alloc::Global;
+
+// Gives the variables of an expression without calls numbers that are that much higher.
+fn raise(e: &mut Expr, by: u32)
+    requires callless { EachCall (λ g. ⊥) (shape e.old) }
+    requires room { VarsBelow (2 ^ 32 - by) (shape e.old) }
+    ensures { shape e.new ≡ renamed (raise by) (shape e.old) }
+{
+    match e {
+        Expr::Lit(_) => {}
+        Expr::Var(x) => *x += by,
+        Expr::Un(_, a) => raise(a, by),
+        Expr::When(a, x, _) => {
+            *x += by;
+            raise(a, by);
+        }
+        Expr::Merge(x, a, b) => {
+            *x += by;
+            raise(a, by);
+            raise(b, by);
+        }
+        Expr::Fby(_, a) => raise(a, by),
+        Expr::Bin(_, a, b) => {
+            raise(a, by);
+            raise(b, by);
+        }
+        Expr::Imported(_, a, b) => {
+            raise(a, by);
+            raise(b, by);
+        }
+        Expr::Follow(a, b) => {
+            raise(a, by);
+            raise(b, by);
+        }
+        Expr::Arrow(a, b) => {
+            raise(a, by);
+            raise(b, by);
+        }
+        Expr::If(c, a, b) => {
+            raise(c, by);
+            raise(a, by);
+            raise(b, by);
+        }
+        Expr::Call(_, _) => unreachable!(),
+    }
+}
 
 /// An expression without calls, with numbers for its variables that are that much higher.
-pub(crate) fn raised(alloc: Global, e: &Expr, by: u32) -> Result<Expr, Memory>
+pub(crate) fn raised(e: &Expr, by: u32) -> Result<Expr, Memory>
     requires callless { EachCall (λ g. ⊥) (shape e.now) }
     requires room { VarsBelow (2 ^ 32 - by) (shape e.now) }
     ensures { IfOk result (λ r. shape r ≡ renamed (raise by) (shape e.now)) }
 {
-    match e {
-        Expr::Lit(v) => Ok(Expr::Lit(*v)),
-        Expr::Var(x) => Ok(Expr::Var(*x + by)),
-        Expr::Un(op, a) => {
-            let a = raised(alloc, a, by)?;
-            unary(alloc, *op, a)
-        }
-        Expr::Bin(op, a, b) => {
-            let a = raised(alloc, a, by)?;
-            let b = raised(alloc, b, by)?;
-            binary(alloc, *op, a, b)
-        }
-        Expr::Imported(op, a, b) => {
-            let a = raised(alloc, a, by)?;
-            let b = raised(alloc, b, by)?;
-            imported(alloc, *op, a, b)
-        }
-        Expr::If(c, a, b) => {
-            let c = raised(alloc, c, by)?;
-            let a = raised(alloc, a, by)?;
-            let b = raised(alloc, b, by)?;
-            choose(alloc, c, a, b)
-        }
-        Expr::When(a, x, polarity) => {
-            let a = raised(alloc, a, by)?;
-            sampled(alloc, a, *x + by, *polarity)
-        }
-        Expr::Merge(x, a, b) => {
-            let a = raised(alloc, a, by)?;
-            let b = raised(alloc, b, by)?;
-            merged(alloc, *x + by, a, b)
-        }
-        Expr::Fby(v, a) => {
-            let a = raised(alloc, a, by)?;
-            delayed(alloc, *v, a)
-        }
-        Expr::Follow(a, b) => {
-            let a = raised(alloc, a, by)?;
-            let b = raised(alloc, b, by)?;
-            follow(alloc, a, b)
-        }
-        Expr::Arrow(a, b) => {
-            let a = raised(alloc, a, by)?;
-            let b = raised(alloc, b, by)?;
-            arrow(alloc, a, b)
-        }
-        Expr::Call(_, _) => unreachable!(),
-    }
+    let mut copy = e.copy()?;
+    raise(&mut copy, by);
+    Ok(copy)
 }
 
 // The clock of a variable of a copy: its own pairs, that much higher, below the clock of the call's place.

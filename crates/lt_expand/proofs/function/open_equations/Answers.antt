@@ -16,8 +16,8 @@ inline_side-requires-clause-room c =
 
 pub loop-equation-preserved : goal.loop-equation-preserved
 loop-equation-preserved c =
-    let n : c.len-in-loop-equation.result ≡ length c.inline_side.new.decls.items = omega (arith, c.len-in-loop-equation.ensures, c.inline_side.new.decls.ok.0) in
+    let n : c.len-in-loop-equation.result ≡ length c.inline_side.new.into.decls.items = omega (arith, c.len-in-loop-equation.ensures, c.inline_side.new.into.decls.ok.0) in
     let m : c.loop-equation.origins.len ≡ length c.loop-equation.origins.items = c.loop-equation.origins.ok.0 in
     open_turn (library_of c.args.versions.now) c.args.known.now c.as_slice-equation-items.result.now c.loop-equation.equation-index c.equation-item.result c.equation-item.is c.loop-equation-test.true _ _ _ _ c.loop-equation.invariant
-    _ _ _ _ (shape c.in_ok-right.right) c.in_ok-right.ensures c.left.result c.new.result c.left.ensures c.new.ensures c.in_ok-push.ensures.items
+    _ _ _ _ (shape c.in_ok-right.right) c.in_ok-right.ensures c.left.result c.new-in-loop-equation.result c.left.ensures c.new-in-loop-equation.ensures c.in_ok-push.ensures.items
     c.len-in-loop-equation.result c.loop-equation.origins.len c.left-in-loop-equation.result n m c.left-in-loop-equation.ensures c.in_ok-resize.ensures.items
