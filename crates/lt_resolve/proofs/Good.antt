@@ -177,7 +177,7 @@ module _ (funcs vars : List Name) (d : Draft) (names : vars ≡ variables d.node
         eqs = subst (λ v. Along (IsDraftEquation v funcs) m.eqs d.eqs) names h;
       }
 
-equations_named : (vs funcs : List Name) (qs : List (Name × Tm)) (es : List (ℕ × Expression)) → Along (IsDraftEquation vs funcs) qs es → All (λ q. IsKnown vs funcs q.1) qs → Along (IsEquation vs funcs) qs es
+pub equations_named : (vs funcs : List Name) (qs : List (Name × Tm)) (es : List (ℕ × Expression)) → Along (IsDraftEquation vs funcs) qs es → All (λ q. IsKnown vs funcs q.1) qs → Along (IsEquation vs funcs) qs es
 equations_named vs funcs [] [] h k = tt
 equations_named vs funcs [] (e ∷ es) h k = absurd h
 equations_named vs funcs (q ∷ qs) [] h k = absurd h

@@ -17,5 +17,6 @@ pub mod Good
 pub mod Rights
 pub mod Programs
 pub mod Resolved
+pub mod Taken
 pub mod Inside
 pub mod One

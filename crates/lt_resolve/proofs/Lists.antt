@@ -22,7 +22,7 @@ drop_whole (x ∷ xs) zero h = absurd (omega arith)
 drop_whole (x ∷ xs) (suc i) h = drop_whole xs i (omega arith)
 
 module _ {A B : Type 0} (f : A → Option B) where
-  at_place : (xs : List A) (i : ℕ) (x : A) → i < length xs → x ≡ get_or xs i x → first_some f (drop i xs) ≡ option_or (f x) (first_some f (drop (i + 1) xs))
+  pub at_place : (xs : List A) (i : ℕ) (x : A) → i < length xs → x ≡ get_or xs i x → first_some f (drop i xs) ≡ option_or (f x) (first_some f (drop (i + 1) xs))
   at_place xs i x l e =
       ap (first_some f) (drop-cons xs i x l)
       ∙ (λ j. option_or (f (sym e j)) (first_some f (drop (sym (add-one i) j) xs)))
@@ -57,7 +57,7 @@ some_same f g h (x ∷ xs) = λ i. option_or (h x i) (some_same f g h xs i)
 
 -- what is found first in functions
 module _ (f : ℕ → NodeText → Option Name) where
-  at_function : (t : List NodeText) (i : ℕ) (n : NodeText) → i < length t → n ≡ get_or t i n → first_in f i (drop i t) ≡ option_or (option_map (λ x. (i, x)) (f i n)) (first_in f (i + 1) (drop (i + 1) t))
+  pub at_function : (t : List NodeText) (i : ℕ) (n : NodeText) → i < length t → n ≡ get_or t i n → first_in f i (drop i t) ≡ option_or (option_map (λ x. (i, x)) (f i n)) (first_in f (i + 1) (drop (i + 1) t))
   at_function t i n l e =
       ap (first_in f i) (drop-cons t i n l)
       ∙ (λ j. option_or (option_map (λ x. (i, x)) (f i (sym e j))) (first_in f (i + 1) (drop (sym (add-one i) j) t)))

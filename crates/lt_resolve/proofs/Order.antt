@@ -8,7 +8,7 @@ use Rattle.lt_resolve.specs.declared.fault.NameKind.{NameKind}
 use Rattle.lt_resolve.specs.declared.fault.NameKind.TheVariants.{Twice, Unknown, NoEquation, TwoEquations, EquationForInput, NoMain, WrongCount, NotOneOutput, Recursive, Limit}
 use Rattle.lt_resolve.specs.declared.fault.NameFault.{NameFault}
 use Rattle.lt_resolve.specs.Faults.{Occurrence, First, number, IsFirstFault, NoFault}
-use Rattle.lt_resolve.specs.Told.{Shows, Cleared, Passes}
+use Rattle.lt_resolve.specs.Told.{Shows, Cleared, IsFirstBehind, Passes}
 
 kind_at : ℕ → NameKind
 kind_at n =
@@ -62,27 +62,47 @@ at_most_ten NotOneOutput = omega arith
 at_most_ten Recursive = omega arith
 at_most_ten Limit = omega arith
 
-pub none_cleared : (t : List NodeText) → Cleared t 0
-none_cleared t k l = absurd (omega (arith, positive k, l))
+pub none_cleared : (t : List NodeText) (m : ℕ) → Cleared t m m
+none_cleared t m k a l = absurd (omega (arith, a, l))
 
-pub all_cleared : (t : List NodeText) → Cleared t 10 → NoFault t
-all_cleared t c k = c k (at_most_ten k)
+-- the kinds behind a number are cleared after those up to it
+pub cleared_on : (t : List NodeText) (l m n : ℕ) → Cleared t l m → Cleared t m n → Cleared t l n
+cleared_on t l m n low high k a b =
+    let go : (b : Bool) → nat_le (number k) m ≡ b → First t k None =
+    elim [ true ↦ λ p. low k a (leb-true (number k) m p) | false ↦ λ p. high k (leb-false (number k) m p) b ] in
+    go (nat_le (number k) m) refl
 
-module _ (t : List NodeText) (n : ℕ) (kind : NameKind) (next : number kind ≡ suc n) (cleared : Cleared t n) where
+pub all_cleared : (t : List NodeText) → Cleared t 0 10 → NoFault t
+all_cleared t c k = c k (positive k) (at_most_ten k)
+
+-- where the kinds up to a number are cleared, the first one behind it is the first of all
+pub first_of_all : (t : List NodeText) (m : ℕ) (f : NameFault) → Cleared t 0 m → IsFirstBehind t m f → IsFirstFault t f
+first_of_all t m f low first = record {
+  here = first.here;
+  before = λ k l.
+      let go : (b : Bool) → nat_le (number k) m ≡ b → First t k None =
+      elim [ true ↦ λ p. low k (positive k) (leb-true (number k) m p) | false ↦ λ p. first.before k (leb-false (number k) m p) l ] in
+      go (nat_le (number k) m) refl;
+}
+
+module _ (t : List NodeText) (m n : ℕ) (low : m ≤ n) (kind : NameKind) (next : number kind ≡ suc n) (cleared : Cleared t m n) where
   -- one kind more
-  pub also : First t kind None → Cleared t (suc n)
-  also h k l =
+  pub also : First t kind None → Cleared t m (suc n)
+  also h k a l =
       let go : (b : Bool) → nat_le (number k) n ≡ b → First t k None =
-      elim [ true ↦ λ p. cleared k (leb-true (number k) n p) | false ↦ λ p. subst (λ j. First t j None) (same_kind kind k (omega (arith, next, l, leb-false (number k) n p))) h ] in
+      elim [ true ↦ λ p. cleared k a (leb-true (number k) n p) | false ↦ λ p. subst (λ j. First t j None) (same_kind kind k (omega (arith, next, l, leb-false (number k) n p))) h ] in
       go (nat_le (number k) n) refl
 
-  pub is_first : (f : NameFault) → f.kind ≡ kind → First t kind (Some (f.func, f.name)) → IsFirstFault t f
-  is_first f e h = record {
-    here = subst (λ k. First t k (Some (f.func, f.name))) (sym e) h;
-    before = λ k l. cleared k (let same : number f.kind ≡ number kind = ap number e in omega (arith, next, l, same));
-  }
+  pub is_first : (f : NameFault) → f.kind ≡ kind → First t kind (Some (f.func, f.name)) → IsFirstBehind t m f
+  is_first f e h =
+      let same : number f.kind ≡ number kind = ap number e in
+      record {
+        here = subst (λ k. First t k (Some (f.func, f.name))) (sym e) h;
+        behind = omega (arith, low, next, same);
+        before = λ k a l. cleared k a (omega (arith, next, l, same));
+      }
 
-  pub passes : {T : Type 0} (r : Result T (Or NameFault)) → Shows kind (First t kind) r → Passes t (suc n) r
+  pub passes : {T : Type 0} (r : Result T (Or NameFault)) → Shows kind (First t kind) r → Passes t m (suc n) r
   passes (Ok x) h = also h
   passes (Err (Fault f)) h = is_first f h.0 h.1
   passes (Err Memory) h = tt

@@ -1,5 +1,5 @@
 -- Names that stand a second time.
-use Rattle.std.proofs.Common.{◌≡◌, Bool, true, false, List, [], ◌∷◌, ◌++◌, Some, refl, sym, ap, ◌∙◌, if◌then◌else◌}
+use Rattle.std.proofs.Common.{◌≡◌, ℕ, ◌+◌, ◌<◌, Bool, true, false, List, [], ◌∷◌, ◌++◌, length, get_or, drop, Option, None, Some, refl, sym, ap, ◌∙◌, add-one, drop-cons, if◌then◌else◌}
 use Rattle.std.specs.Option.{option_or}
 use Rattle.std.proofs.lemmas.List.{append_assoc, append-nil, map-append}
 use Rattle.lt_syntax.specs.declared.tree.DeclText.{DeclText}
@@ -31,3 +31,26 @@ repeated_variables n v0 v1 v2 e0 e1 e2 =
   where
     one : v1 ≡ [] ++ names_of n.ins
     one = e1 ∙ ap (λ v. v ++ names_of n.ins) e0
+
+module _ (before xs : List Name) (i : ℕ) (x : Name) (l : i < length xs) (e : x ≡ get_or xs i x) (h : repeated before (drop i xs) ≡ None) where
+  next_repeats : repeated before (x ∷ drop (i + 1) xs) ≡ None
+  next_repeats = sym (ap (repeated before) (drop-cons xs i x l ∙ (λ j. sym e j ∷ drop (sym (add-one i) j) xs))) ∙ h
+
+  -- the next name is not one of those before it
+  pub next_is_new : among before x ≡ false
+  next_is_new = go (among before x) refl next_repeats
+    where
+      go : (b : Bool) → among before x ≡ b → ◌≡◌ {A = Option Name} (if b then Some x else repeated (before ++ x ∷ []) (drop (i + 1) xs)) None → among before x ≡ false
+      go true p k = absurd (cc)
+      go false p k = p
+
+  pub later_are_new : repeated (before ++ x ∷ []) (drop (i + 1) xs) ≡ None
+  later_are_new = go (among before x) next_repeats
+    where
+      go : (b : Bool) → ◌≡◌ {A = Option Name} (if b then Some x else repeated (before ++ x ∷ []) (drop (i + 1) xs)) None → repeated (before ++ x ∷ []) (drop (i + 1) xs) ≡ None
+      go true k = absurd (cc)
+      go false k = k
+
+-- a new name is put last
+pub put_last : (before now : List Name) (x : Name) → among before x ≡ false → now ≡ (if among before x then before else before ++ x ∷ []) → now ≡ before ++ x ∷ []
+put_last before now x p h = h ∙ ap (λ b. if b then before else before ++ x ∷ []) p

@@ -28,7 +28,7 @@ use Rattle.lt_resolve.specs.Resolves.{IsSmall, IsResolved}
 use Rattle.lt_resolve.proofs.Distinct.{none_left, none_right, at_among}
 use Rattle.lt_resolve.proofs.Pairs.{along_length, all_right, all_left}
 use Rattle.lt_resolve.proofs.Edges.{edges_append, sites_within}
-use Rattle.lt_resolve.proofs.Rights.{all_of_first, fit, few_functions, few_inputs, few_outputs, few_sizes, right_tree}
+use Rattle.lt_resolve.proofs.Rights.{all_of_first, fit, few_functions, few_inputs, few_outputs, few_sizes, no_other, right_tree}
 use Rattle.lt_resolve.proofs.Programs.{function_names, variables_differ, uses_right, length_numbers}
 
 -- ---- no function calls itself
@@ -213,7 +213,7 @@ module _ (t : List NodeText) (p : WholeProgram) (spelled : IsSpelled t) (no : No
   checked = record {
     functions = subst NamesDiffer (sym (function_names (functions t) t p.funcs named.funcs)) (functions_differ t (sym (no kind.Twice)));
     variables = variables_differ (functions t) t p.funcs named.funcs (right_tree t spelled no).all;
-    uses = uses_right t p.funcs named.funcs (fit t spelled no) one_output (callees_below (length t) (sites t) (sites_within t));
+    uses = uses_right t p.funcs named.funcs (fit t spelled (no_other t no)) one_output (callees_below (length t) (sites t) (sites_within t));
     not_recursive = no_walk (CallsFunction p.funcs) (Joined (edges (sites t))) (λ g h c. joined_from (functions t) t p.funcs named.funcs 0 g h g (omega arith) c) (no kind.Recursive);
   }
 
@@ -222,6 +222,6 @@ module _ (t : List NodeText) (p : WholeProgram) (spelled : IsSpelled t) (no : No
     faultless = no;
     named = named;
     checked = checked;
-    functions = (let same = along_length (IsFunction (functions t)) t p.funcs named.funcs in omega (arith, same, few_functions t spelled no));
-    small = all_small (functions t) t p.funcs named.funcs (few_sizes t spelled no) (few_inputs t spelled no) (few_outputs t spelled no);
+    functions = (let same = along_length (IsFunction (functions t)) t p.funcs named.funcs in omega (arith, same, few_functions t spelled (no_other t no)));
+    small = all_small (functions t) t p.funcs named.funcs (few_sizes t spelled (no_other t no)) (few_inputs t spelled (no_other t no)) (few_outputs t spelled (no_other t no));
   }

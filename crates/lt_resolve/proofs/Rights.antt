@@ -16,7 +16,7 @@ use Rattle.lt_resolve.specs.Named.{operator_of, main}
 use Rattle.lt_resolve.specs.Uses.{Site, count, unknown, unknown_argument, if_uncallable, sites_in, argument_sites, equation_sites, sites_from}
 use Rattle.lt_resolve.specs.Known.{HasNumber, IsCallable, IsKnown, AreKnown}
 use Rattle.lt_resolve.specs.Right.{ClockKnown, IsRight, IsRightTree}
-use Rattle.lt_resolve.specs.Faults.{first_in, twice_in, unknown_clock, unknown_declared, unknown_equation, unknown_in, no_equation_in, two_equations_in, input_equation_in, sites, wanted, unless, above, size, functions_limit, NoFault}
+use Rattle.lt_resolve.specs.Faults.{first_in, twice_in, unknown_clock, unknown_declared, unknown_equation, unknown_in, no_equation_in, two_equations_in, input_equation_in, sites, wanted, unless, above, size, functions_limit, NoOtherFault, NoFault}
 use Rattle.lt_resolve.proofs.Numbers.{has_number}
 use Rattle.lt_resolve.proofs.Distinct.{none_left, none_right}
 use Rattle.lt_resolve.proofs.Pairs.{all_left, all_right}
@@ -146,12 +146,16 @@ clean_right t funcs i n c s = record {
     later : first_some (unknown_equation (variables n) funcs) n.eqs ≡ None
     later = none_right (unknown_declared (variables n) (declarations n)) (first_some (unknown_equation (variables n) funcs) n.eqs) c.known
 
-right_from : (whole : List NodeText) (funcs : List Name) (i : ℕ) (t : List NodeText) → All (Clean funcs) t → All (Fits whole) (sites_from funcs i t) → All (IsRight funcs) t
-right_from whole funcs i [] c s = All-nil (IsRight funcs)
+-- where its names are declared
+abbrev IfKnown : List Name → (NodeText → Type 0) → NodeText → Type 0
+IfKnown funcs P n = unknown_in funcs n ≡ None → P n
+
+right_from : (whole : List NodeText) (funcs : List Name) (i : ℕ) (t : List NodeText) → All (IfKnown funcs (Clean funcs)) t → All (Fits whole) (sites_from funcs i t) → All (IfKnown funcs (IsRight funcs)) t
+right_from whole funcs i [] c s = All-nil (IfKnown funcs (IsRight funcs))
 right_from whole funcs i (n ∷ t) c s =
-    All-cons (IsRight funcs) n t
-    (clean_right whole funcs i n (All-head (Clean funcs) n t c) (all_left (Fits whole) (equation_sites funcs i n.eqs) (sites_from funcs (i + 1) t) s))
-    (right_from whole funcs (i + 1) t (All-tail (Clean funcs) n t c) (all_right (Fits whole) (equation_sites funcs i n.eqs) (sites_from funcs (i + 1) t) s))
+    All-cons (IfKnown funcs (IsRight funcs)) n t
+    (λ k. clean_right whole funcs i n (All-head (IfKnown funcs (Clean funcs)) n t c k) (all_left (Fits whole) (equation_sites funcs i n.eqs) (sites_from funcs (i + 1) t) s))
+    (right_from whole funcs (i + 1) t (All-tail (IfKnown funcs (Clean funcs)) n t c) (all_right (Fits whole) (equation_sites funcs i n.eqs) (sites_from funcs (i + 1) t) s))
 
 -- ---- inputs have no clocks
 
@@ -172,14 +176,14 @@ inputs_on_base t s = All-same (λ n. All (λ d. d.clock ≡ []) n.ins) t (map no
 
 -- ---- trees
 
-module _ (t : List NodeText) (spelled : IsSpelled t) (no : NoFault t) where
+module _ (t : List NodeText) (spelled : IsSpelled t) (no : NoOtherFault t) where
   limits : (functions_limit t ≡ None) × (first_in (λ _ n. above 4096 (size n) (codes "variables")) 0 t ≡ None) × (first_in (λ _ n. above 64 (length n.ins) (codes "inputs")) 0 t ≡ None) × (first_in (λ _ n. above 64 (length n.outs) (codes "outputs")) 0 t ≡ None)
   limits =
       let a = functions_limit t in
       let b = first_in (λ _ n. above 4096 (size n) (codes "variables")) 0 t in
       let c = first_in (λ _ n. above 64 (length n.ins) (codes "inputs")) 0 t in
       let d = first_in (λ _ n. above 64 (length n.outs) (codes "outputs")) 0 t in
-      let all : option_or a (option_or b (option_or c d)) ≡ None = sym (no kind.Limit) in
+      let all : option_or a (option_or b (option_or c d)) ≡ None = sym (no kind.Limit tt) in
       let r1 = none_right a (option_or b (option_or c d)) all in
       let r2 = none_right b (option_or c d) r1 in
       (none_left a (option_or b (option_or c d)) all, none_left b (option_or c d) r1, none_left c d r2, none_right c d r2)
@@ -197,27 +201,54 @@ module _ (t : List NodeText) (spelled : IsSpelled t) (no : NoFault t) where
   few_outputs = all_of_functions (λ _ n. above 64 (length n.outs) (codes "outputs")) (λ n. length n.outs ≤ 64) (λ i n h. above_none 64 (length n.outs) (codes "outputs") h) 0 t limits.3
 
   pub fit : All (Fits t) (sites t)
-  fit = all_of_first (λ s. unless (nat_eq s.arguments (wanted t s.callee)) s) (Fits t) (λ s h. go s (nat_eq s.arguments (wanted t s.callee)) h) (sites t) (sym (no kind.WrongCount))
+  fit = all_of_first (λ s. unless (nat_eq s.arguments (wanted t s.callee)) s) (Fits t) (λ s h. go s (nat_eq s.arguments (wanted t s.callee)) h) (sites t) (sym (no kind.WrongCount tt))
     where
       go : (s : Site) (b : Bool) → unless b s ≡ None → b ≡ true
       go s true h = refl
       go s false h = absurd (cc)
 
-  clean : All (Clean (functions t)) t
+  -- no variable of a function is declared twice
+  pub all_apart : All (λ n. repeated [] (variables n) ≡ None) t
+  all_apart = all_of_functions (twice_in (functions t)) (λ n. repeated [] (variables n) ≡ None) (λ i n h. none_right (if_among (take i (functions t)) n.name) (repeated [] (variables n)) h) 0 t (sym (no kind.Twice tt))
+
+  clean : All (IfKnown (functions t) (Clean (functions t))) t
   clean =
-      let funcs = functions t in
-      let apart : All (λ n. repeated [] (variables n) ≡ None) t = all_of_functions (twice_in (functions t)) (λ n. repeated [] (variables n) ≡ None) (λ i n h. none_right (if_among (take i (functions t)) n.name) (repeated [] (variables n)) h) 0 t (sym (no kind.Twice)) in
-      let known : All (λ n. unknown_in (functions t) n ≡ None) t = all_of_functions (λ _. unknown_in (functions t)) (λ n. unknown_in (functions t) n ≡ None) (λ i n h. h) 0 t (sym (no kind.Unknown)) in
-      let each : All (λ n. no_equation_in n ≡ None) t = all_of_functions (λ _. no_equation_in) (λ n. no_equation_in n ≡ None) (λ i n h. h) 0 t (sym (no kind.NoEquation)) in
-      let once : All (λ n. two_equations_in n ≡ None) t = all_of_functions (λ _. two_equations_in) (λ n. two_equations_in n ≡ None) (λ i n h. h) 0 t (sym (no kind.TwoEquations)) in
-      let inputs : All (λ n. input_equation_in n ≡ None) t = all_of_functions (λ _. input_equation_in) (λ n. input_equation_in n ≡ None) (λ i n h. h) 0 t (sym (no kind.EquationForInput)) in
+      let each : All (λ n. no_equation_in n ≡ None) t = all_of_functions (λ _. no_equation_in) (λ n. no_equation_in n ≡ None) (λ i n h. h) 0 t (sym (no kind.NoEquation tt)) in
+      let once : All (λ n. two_equations_in n ≡ None) t = all_of_functions (λ _. two_equations_in) (λ n. two_equations_in n ≡ None) (λ i n h. h) 0 t (sym (no kind.TwoEquations tt)) in
+      let inputs : All (λ n. input_equation_in n ≡ None) t = all_of_functions (λ _. input_equation_in) (λ n. input_equation_in n ≡ None) (λ i n h. h) 0 t (sym (no kind.EquationForInput tt)) in
       let few = few_sizes in
       let base = inputs_on_base t spelled in
-      λ k d l. record { apart = apart k d l; known = known k d l; each = each k d l; once = once k d l; inputs = inputs k d l; few = few k d l; base = base k d l }
+      λ k d l known. record { apart = all_apart k d l; known = known; each = each k d l; once = once k d l; inputs = inputs k d l; few = few k d l; base = base k d l }
 
-  pub right_tree : IsRightTree t
-  right_tree = record {
-    all = right_from t (functions t) 0 t clean fit;
-    main = missing_none (functions t) main (map_none (λ x. (0, x)) (if_missing (functions t) main) (sym (no kind.NoMain)));
-    few = few_functions;
-  }
+  -- each function is right where its names are declared
+  pub right_if_known : All (λ n. unknown_in (functions t) n ≡ None → IsRight (functions t) n) t
+  right_if_known = right_from t (functions t) 0 t clean fit
+
+  pub has_main : HasNumber (functions t) main
+  has_main = missing_none (functions t) main (map_none (λ x. (0, x)) (if_missing (functions t) main) (sym (no kind.NoMain tt)))
+
+-- no kind occurs, where unknown names do not
+pub no_fault : (t : List NodeText) → NoOtherFault t → first_in (λ _. unknown_in (functions t)) 0 t ≡ None → NoFault t
+no_fault t free known kind.Twice = free kind.Twice tt
+no_fault t free known kind.Unknown = sym known
+no_fault t free known kind.NoEquation = free kind.NoEquation tt
+no_fault t free known kind.TwoEquations = free kind.TwoEquations tt
+no_fault t free known kind.EquationForInput = free kind.EquationForInput tt
+no_fault t free known kind.NoMain = free kind.NoMain tt
+no_fault t free known kind.WrongCount = free kind.WrongCount tt
+no_fault t free known kind.NotOneOutput = free kind.NotOneOutput tt
+no_fault t free known kind.Recursive = free kind.Recursive tt
+no_fault t free known kind.Limit = free kind.Limit tt
+
+pub no_other : (t : List NodeText) → NoFault t → NoOtherFault t
+no_other t free k other = free k
+
+pub right_tree : (t : List NodeText) → IsSpelled t → NoFault t → IsRightTree t
+right_tree t spelled free =
+    let other = no_other t free in
+    let known : All (λ n. unknown_in (functions t) n ≡ None) t = all_of_functions (λ _. unknown_in (functions t)) (λ n. unknown_in (functions t) n ≡ None) (λ i n h. h) 0 t (sym (free kind.Unknown)) in
+    record {
+      all = λ k d l. right_if_known t spelled other k d l (known k d l);
+      main = has_main t spelled other;
+      few = few_functions t spelled other;
+    }

@@ -158,6 +158,15 @@ pub record IsFirstFault (t : List NodeText) (f : NameFault) : Type 0 where
   pub here : First t f.kind (Some (f.func, f.name))
   pub before : (k : NameKind) → number k < number f.kind → First t k None
 
+-- every kind but that of unknown names
+abbrev pub IsOther : NameKind → Type 0
+IsOther Unknown = ⊥
+IsOther _ = Unit {0}
+
+-- at most names that are not declared are at fault
+abbrev pub NoOtherFault : List NodeText → Type 0
+NoOtherFault t = (k : NameKind) → IsOther k → First t k None
+
 -- no kind occurs
 abbrev pub NoFault : List NodeText → Type 0
 NoFault t = (k : NameKind) → First t k None

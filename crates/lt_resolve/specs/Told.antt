@@ -1,5 +1,5 @@
 -- What a check answers against what it looks for.
-use Rattle.std.specs.Prelude.{◌≡◌, ◌≤◌, ℕ, Option, Some, None, List, Result, Ok, Err, MatchResult}
+use Rattle.std.specs.Prelude.{◌≡◌, ◌<◌, ◌≤◌, ℕ, Option, Some, None, List, Result, Ok, Err, MatchResult}
 use Rattle.std.specs.Borrow.{Bor}
 use Rattle.lt_base.specs.declared.memory.Or.{Or}
 use Rattle.lt_base.specs.declared.memory.Or.TheVariants.{Fault, Memory}
@@ -8,7 +8,7 @@ use Rattle.lt_syntax.specs.declared.tree.NodeText.{NodeText}
 use Rattle.lt_resolve.specs.declared.fault.NameKind.{NameKind}
 use Rattle.lt_resolve.specs.declared.fault.NameFault.{NameFault}
 use Rattle.lt_resolve.specs.Names.{Name}
-use Rattle.lt_resolve.specs.Faults.{Occurrence, First, number, IsFirstFault}
+use Rattle.lt_resolve.specs.Faults.{Occurrence, First, number}
 
 -- this name is found, or memory was wanting
 abbrev pub Refuses : Option Name → Or (Bor Name) → Type 0
@@ -30,10 +30,16 @@ abbrev pub Shows : {T : Type 0} → NameKind → (Option Occurrence → Type 0) 
 Shows kind P (Ok x) = P None
 Shows kind P (Err e) = Blames kind P e
 
--- no kind up to that number occurs
-abbrev pub Cleared : List NodeText → ℕ → Type 0
-Cleared t n = (k : NameKind) → number k ≤ n → First t k None
+-- no kind behind the one number and up to the other occurs
+abbrev pub Cleared : List NodeText → ℕ → ℕ → Type 0
+Cleared t m n = (k : NameKind) → m < number k → number k ≤ n → First t k None
 
--- no kind up to that number occurs, or the fault is the first one
-abbrev pub Passes : {T : Type 0} → List NodeText → ℕ → Result T (Or NameFault) → Type 0
-Passes t n result = MatchResult result (λ _. Cleared t n) (λ e. ForFault e (IsFirstFault t))
+-- the first occurrence of the first kind behind that number that occurs
+pub record IsFirstBehind (t : List NodeText) (m : ℕ) (f : NameFault) : Type 0 where
+  pub here : First t f.kind (Some (f.func, f.name))
+  pub behind : m < number f.kind
+  pub before : (k : NameKind) → m < number k → number k < number f.kind → First t k None
+
+-- no such kind occurs, or the fault is the first one behind the one number
+abbrev pub Passes : {T : Type 0} → List NodeText → ℕ → ℕ → Result T (Or NameFault) → Type 0
+Passes t m n result = MatchResult result (λ _. Cleared t m n) (λ e. ForFault e (IsFirstBehind t m))

@@ -45,14 +45,6 @@ impl<'a> Call<'a> {
     }
 }
 
-/// What the equations of functions use: the calls, in text order, and for each function its delays, cut at the greatest
-/// number.
-#[derive(Drop)]
-pub struct Uses<'a> {
-    pub calls: Vec<Call<'a>>,
-    pub delays: Vec<u64>,
-}
-
 /// Appends the calls in a term, in text order.
 #[cycle(collect)]
 pub fn collect<'a>(
@@ -205,8 +197,8 @@ fn no_recursion(alloc: Global, tables: &Tables, calls: &[Call]) -> Result<(), Or
 pub fn check_calls(alloc: Global, tables: &Tables, calls: &[Call]) -> Result<(), Or<NameFault>>
     requires room { length tables.now < 2 ^ 32 }
     requires calls { calls.now ≡ sites tables.now }
-    requires cleared { Cleared tables.now 6 }
-    ensures { Passes tables.now 9 result }
+    requires cleared { Cleared tables.now 2 6 }
+    ensures { Passes tables.now 2 9 result }
 {
     right_counts(alloc, tables, calls)?;
     one_output(alloc, tables, calls)?;

@@ -75,8 +75,8 @@ fn check_all(alloc: Global, check: Check, tables: &Tables) -> Result<(), Or<Name
 fn pass(alloc: Global, check: Check, tables: &Tables) -> Result<(), Or<NameFault>>
     requires room { length tables.now < 2 ^ 32 }
     requires whole { IsWhole check }
-    requires cleared { Cleared tables.now (number (kind_of check) - 1) }
-    ensures { Passes tables.now (number (kind_of check)) result }
+    requires cleared { Cleared tables.now 2 (number (kind_of check) - 1) }
+    ensures { Passes tables.now 2 (number (kind_of check)) result }
 {
     check_all(alloc, check, tables)
 }
@@ -93,9 +93,8 @@ fn has_main(alloc: Global, tables: &Tables) -> Result<(), Or<NameFault>>
 
 /// Refuses the first fault among those of single functions, and a tree without `main`.
 pub fn check_functions(alloc: Global, tables: &Tables) -> Result<(), Or<NameFault>>
-    requires room { length tables.now < 2 ^ 32 }
-    requires cleared { Cleared tables.now 2 }
-    ensures { Passes tables.now 6 result }
+    requires { length tables.now < 2 ^ 32 }
+    ensures { Passes tables.now 2 6 result }
 {
     pass(alloc, Check::NoEquation, tables)?;
     pass(alloc, Check::TwoEquations, tables)?;
@@ -131,8 +130,8 @@ fn few_variables(alloc: Global, tables: &Tables, delays: &[u64]) -> Result<(), O
 pub fn check_limits(alloc: Global, tables: &Tables, delays: &[u64]) -> Result<(), Or<NameFault>>
     requires room { length tables.now < 2 ^ 32 }
     requires delays { delays.now ≡ map (λ n. all_delays n.eqs) tables.now }
-    requires cleared { Cleared tables.now 9 }
-    ensures { Passes tables.now 10 result }
+    requires cleared { Cleared tables.now 2 9 }
+    ensures { Passes tables.now 2 10 result }
 {
     few_functions(alloc, tables)?;
     few_variables(alloc, tables, delays)?;

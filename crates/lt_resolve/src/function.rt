@@ -6,11 +6,8 @@ ghost use Rattle.lt_resolve.specs.Faults.{unknown_clock, unknown_declared, unkno
 ghost use Rattle.lt_resolve.specs.Told.{Tells};
 ghost use Rattle.lt_base.specs.Program.{GoodFunction};
 ghost use Rattle.lt_resolve.specs.Named.{IsPair, IsDeclared, Along, numbers};
-ghost use Rattle.lt_resolve.specs.Uses.{equation_sites, all_delays};
 ghost use Rattle.lt_resolve.specs.Drafts.{IsDraftEquation, IsDraft, completed};
 
-use crate::calls::{Uses, collect};
-use crate::delays::delays;
 use crate::expression::expression;
 use crate::names::Names;
 use crate::scope::Scope;
@@ -64,7 +61,7 @@ fn declare<'t>(
     Ok(())
 }
 
-fn equation<'t>(
+pub fn equation<'t>(
     alloc: Global,
     variables: &Names,
     functions: &Names,
@@ -78,28 +75,19 @@ fn equation<'t>(
     Ok(Equation::new(left, right))
 }
 
-/// The equations, and what they use. The walks over an equation come one after another, while it is in the cache.
 fn equations<'t>(
     alloc: Global,
     variables: &Names,
     functions: &Names,
-    caller: u32,
     eqs: &'t List<EqText>,
-    uses: &mut Uses<'t>,
 ) -> Result<Vec<Equation>, Or<&'t str>>
     ensures told { Tells (first_some (unknown_equation variables.now functions.now) eqs.now) result }
     ensures named { IfOk result (λ list. Along (IsDraftEquation variables.now functions.now) eqs.now list.items) }
-    ensures calls { OnOk result (uses.new.calls.items ≡ uses.old.calls.items ++ equation_sites functions.now caller eqs.now) }
-    ensures delays { OnOk result (uses.new.delays.items ≡ uses.old.delays.items ++ all_delays eqs.now ∷ []) }
 {
     let mut list = Vec::with_capacity(alloc, eqs.len())?;
-    let mut sum = 0u64;
     'eqs: for eq in eqs.as_slice() {
         list.push(equation(alloc, variables, functions, eq)?)?;
-        collect(functions, caller, eq.right(), &mut uses.calls)?;
-        sum = sum.saturating_add(delays(eq.right()));
     }
-    uses.delays.push(sum)?;
     Ok(list)
 }
 
@@ -111,19 +99,15 @@ pub struct Draft<'a> {
     eqs: List<Equation>,
 }
 
-/// The function with its names replaced by numbers, and what its equations use; refuses the first name that has no number.
+/// The function with its names replaced by numbers; refuses the first name that has no number.
 pub fn draft_of<'a>(
     alloc: Global,
     functions: &Names,
-    caller: u32,
     scope: &Scope<'a>,
-    uses: &mut Uses<'a>,
 ) -> Result<Draft<'a>, Or<&'a str>>
     ensures told { Tells (unknown_in functions.now scope.now) result }
     ensures node { IfOk result (λ d. d.node.now ≡ scope.now) }
     ensures draft { IfOk result (IsDraft functions.now) }
-    ensures calls { OnOk result (uses.new.calls.items ≡ uses.old.calls.items ++ equation_sites functions.now caller scope.now.eqs) }
-    ensures delays { OnOk result (uses.new.delays.items ≡ uses.old.delays.items ++ all_delays scope.now.eqs ∷ []) }
 {
     let node = scope.node();
     let variables = scope.variables();
@@ -131,7 +115,7 @@ pub fn draft_of<'a>(
     declare(alloc, variables, &node.ins, &mut decls)?;
     declare(alloc, variables, &node.outs, &mut decls)?;
     declare(alloc, variables, &node.locals, &mut decls)?;
-    let eqs = equations(alloc, variables, functions, caller, &node.eqs, uses)?;
+    let eqs = equations(alloc, variables, functions, &node.eqs)?;
     Ok(Draft {
         node,
         decls: List::of(decls),
@@ -152,6 +136,17 @@ fn count(alloc: Global, first: u32, n: u32) -> Result<Vec<u32>, Memory>
 }
 
 impl<'a> Draft<'a> {
+    /// The draft with these equations.
+    pub fn with_equations(self, eqs: Vec<Equation>) -> Draft<'a>
+        ensures { result ≡ record self.entry { eqs = eqs.items } }
+    {
+        Draft {
+            node: self.node,
+            decls: self.decls,
+            eqs: List::of(eqs),
+        }
+    }
+
     /// The function of a draft that turned out to be without a fault.
     pub fn function(self, alloc: Global) -> Result<Func, Memory>
         requires room { length self.node.now.ins + length self.node.now.outs < 2 ^ 32 }

@@ -13,6 +13,8 @@ mod names;
 mod program;
 mod scope;
 mod tables;
+mod taking;
+mod uses;
 
 pub use fault::{NameFault, NameKind};
-pub use program::resolve;
+pub use program::{into_program, resolve};

@@ -5,22 +5,26 @@ ghost use Rattle.lt_resolve.specs.Names.{number_of};
 ghost use Rattle.lt_resolve.specs.Named.{main, Named};
 ghost use Rattle.lt_resolve.specs.Known.{HasNumber};
 ghost use Rattle.lt_resolve.specs.Drafts.{AreDrafts};
+ghost use Rattle.lt_resolve.specs.Faults.{First, NoOtherFault};
+ghost use Rattle.lt_resolve.specs.Told.{Passes};
 ghost use Rattle.lt_resolve.specs.Right.{IsRightTree};
 ghost use Rattle.lt_resolve.specs.Resolves.{Resolves};
 
-use crate::calls::{Uses, check_calls};
+use crate::calls::check_calls;
 use crate::checks::{check_functions, check_limits};
 use crate::drafts::drafts;
 use crate::fault::NameFault;
 use crate::function::Draft;
 use crate::names::Names;
 use crate::tables::Tables;
+use crate::taking::taken_program;
+use crate::uses::uses_of;
 use lt_base::{List, Memory, Or, Program};
 use lt_syntax::Tree;
 use std::alloc::Global;
 
 /// The number of `main`.
-fn main_of(functions: &Names) -> u32
+pub fn main_of(functions: &Names) -> u32
     requires { HasNumber functions.now main }
     ensures { number_of functions.now main ≡ Some result }
 {
@@ -40,6 +44,17 @@ fn program(alloc: Global, tables: &Tables, drafts: Vec<Draft>) -> Result<Program
     Ok(Program::new(List::of(funcs), main_of(tables.functions())))
 }
 
+/// Refuses the first fault of the kinds that come behind unknown names.
+fn check_others(alloc: Global, tables: &Tables) -> Result<(), Or<NameFault>>
+    requires { length tables.now < 2 ^ 32 }
+    ensures { Passes tables.now 2 10 result }
+{
+    let uses = uses_of(alloc, tables)?;
+    check_functions(alloc, tables)?;
+    check_calls(alloc, tables, &uses.calls)?;
+    check_limits(alloc, tables, &uses.delays)
+}
+
 /// The program of the tree, in which each name is replaced by the number of its declaration, or the tree's first fault.
 /// The kinds of faults are tried in their order over the whole tree.
 pub fn resolve(alloc: Global, t: &Tree) -> Result<Program, Or<NameFault>>
@@ -50,13 +65,30 @@ pub fn resolve(alloc: Global, t: &Tree) -> Result<Program, Or<NameFault>>
 {
     t.kept();
     let tables = Tables::of(alloc, t)?;
-    let mut uses = Uses {
-        calls: Vec::new(alloc),
-        delays: Vec::new(alloc),
-    };
-    let drafts = drafts(alloc, &tables, &mut uses)?;
-    check_functions(alloc, &tables)?;
-    check_calls(alloc, &tables, &uses.calls)?;
-    check_limits(alloc, &tables, &uses.delays)?;
+    let drafts = drafts(alloc, &tables)?;
+    check_others(alloc, &tables)?;
     Ok(program(alloc, &tables, drafts)?)
+}
+
+/// Refuses a fault of any kind but that of unknown names, if there is one. It need not be the first fault.
+fn check_but_unknown(alloc: Global, t: &Tree) -> Result<(), Or<NameFault>>
+    requires { length t.now < 2 ^ 32 }
+    ensures { MatchResult result (λ _. NoOtherFault t.now) (λ e. ForFault e (λ f. First t.now f.kind (Some (f.func, f.name)))) }
+{
+    let tables = Tables::of(alloc, t)?;
+    check_others(alloc, &tables)
+}
+
+/// The same as `resolve`, of a tree that is taken apart: each equation is dropped once it is one of the program, so that the two are
+/// never whole together.
+pub fn into_program(alloc: Global, t: Tree) -> Result<Program, Or<NameFault>>
+    requires { length t < 2 ^ 32 }
+    ensures { MatchResult result (λ p. Resolves t (Ok p)) (λ e. ForFault e (λ f. Resolves t (Err f))) }
+{
+    match check_but_unknown(alloc, &t) {
+        Ok(()) => taken_program(alloc, t),
+        // An unknown name may come before this fault.
+        Err(Or::Fault(_)) => resolve(alloc, &t),
+        Err(Or::Memory) => Err(Or::Memory),
+    }
 }

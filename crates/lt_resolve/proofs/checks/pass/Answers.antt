@@ -1,4 +1,4 @@
-use Rattle.std.proofs.Common.{◌≡◌, suc, ◌-◌, Option, List, refl}
+use Rattle.std.proofs.Common.{◌≡◌, suc, ◌-◌, ◌≤◌, Option, List, refl, arith}
 use Rattle.lt_syntax.specs.declared.tree.NodeText.{NodeText}
 use Rattle.lt_resolve.specs.declared.checks.Check.{Check}
 use Rattle.lt_resolve.specs.declared.checks.Check.TheVariants.{NoEquation, TwoEquations, EquationForInput, Inputs, Outputs}
@@ -21,9 +21,16 @@ next_number EquationForInput = refl
 next_number Inputs = refl
 next_number Outputs = refl
 
+behind_two : (check : Check) → 2 ≤ number (kind_of check) - 1
+behind_two NoEquation = omega arith
+behind_two TwoEquations = omega arith
+behind_two EquationForInput = omega arith
+behind_two Inputs = omega arith
+behind_two Outputs = omega arith
+
 pub returns : goal.returns
 returns c =
     let t = c.args.tables.now in
     let kind = kind_of c.args.check in
     rw (next_number c.args.check)
-    (passes t (number kind - 1) kind (next_number c.args.check) c.requires.cleared c.check_all.result (shows_as kind _ _ (whole_first c.args.check c.requires.whole t) c.check_all.result c.check_all.ensures))
+    (passes t 2 (number kind - 1) (behind_two c.args.check) kind (next_number c.args.check) c.requires.cleared c.check_all.result (shows_as kind _ _ (whole_first c.args.check c.requires.whole t) c.check_all.result c.check_all.ensures))

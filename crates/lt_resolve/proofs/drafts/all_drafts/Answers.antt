@@ -6,13 +6,11 @@ use Rattle.lt_resolve.specs.declared.fault.NameKind.TheVariants.{Unknown}
 use Rattle.lt_resolve.specs.declared.function.Draft.{Draft}
 use Rattle.lt_resolve.specs.Names.{Name}
 use Rattle.lt_resolve.specs.Scopes.{functions}
-use Rattle.lt_resolve.specs.Uses.{equation_sites}
 use Rattle.lt_resolve.specs.Faults.{unknown_in}
 use Rattle.lt_resolve.specs.Told.{Refuses}
 use Rattle.lt_resolve.specs.Drafts.{IsDraft}
 use Rattle.lt_resolve.proofs.Lists.{in_next}
 use Rattle.lt_resolve.proofs.Located.{blames_at, one_more}
-use Rattle.lt_resolve.proofs.Used.{more_calls, more_counts}
 use Rattle.lt_resolve.proofs.drafts.all_drafts.Goals as goal
 
 pub returns-in-Err-clause-shown : goal.returns-in-Err-clause-shown
@@ -39,7 +37,5 @@ scopes-preserved c =
     record {
       nodes = one_more t (map node old) (map node c.push.new.self.items) c.scopes.i n d.node.now less at c.scopes.invariant.nodes c.in-Ok.ensures.node (ap (map node) pushed ∙ map-append node old (d ∷ []));
       all = All-same (IsDraft (functions t)) c.push.new.self.items (old ++ d ∷ []) pushed (All-push (IsDraft (functions t)) old d c.scopes.invariant.all (subst (λ (fs : List Name). IsDraft fs d) c.functions.ensures c.in-Ok.ensures.draft));
-      calls = more_calls (functions t) t c.scopes.i n _ _ _ less at c.scopes.invariant.calls (subst (λ (fs : List Name). c.draft_of.new.uses.calls.items ≡ c.scopes.uses.calls.items ++ equation_sites fs c.scopes.i n.eqs) c.functions.ensures c.in-Ok.ensures.calls);
-      delays = more_counts t c.scopes.i n _ _ _ less at c.scopes.invariant.delays c.in-Ok.ensures.delays;
       rest = in_next (λ _. unknown_in (functions t)) t c.scopes.i n less at (subst (λ (fs : List Name). unknown_in fs n ≡ None) c.functions.ensures c.in-Ok.ensures.told) c.scopes.invariant.rest;
     }

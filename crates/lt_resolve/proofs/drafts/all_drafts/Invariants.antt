@@ -1,8 +1,7 @@
-use Rattle.std.proofs.Common.{◌≡◌, ◌++◌, take, drop, map}
+use Rattle.std.proofs.Common.{◌≡◌, take, drop, map}
 use Rattle.std.specs.List.{All}
 use Rattle.lt_resolve.specs.Scopes.{functions}
-use Rattle.lt_resolve.specs.Uses.{sites_from, all_delays}
-use Rattle.lt_resolve.specs.Faults.{first_in, unknown_in, sites}
+use Rattle.lt_resolve.specs.Faults.{first_in, unknown_in}
 use Rattle.lt_resolve.specs.Drafts.{IsDraft}
 use Rattle.lt_resolve.proofs.drafts.all_drafts.Given as goal
 
@@ -10,7 +9,5 @@ abbrev pub invariant-scopes : goal.invariant-scopes
 invariant-scopes l = record {
   nodes : map (λ d. d.node.now) l.drafts.items ≡ take l.i l.tables;
   all : All (IsDraft (functions l.tables)) l.drafts.items;
-  calls : l.uses.calls.items ++ sites_from (functions l.tables) l.i (drop l.i l.tables) ≡ l.initial.uses.calls.items ++ sites l.tables;
-  delays : l.uses.delays.items ≡ l.initial.uses.delays.items ++ map (λ n. all_delays n.eqs) (take l.i l.tables);
   rest : first_in (λ _. unknown_in (functions l.tables)) l.i (drop l.i l.tables) ≡ first_in (λ _. unknown_in (functions l.tables)) 0 l.tables;
 }

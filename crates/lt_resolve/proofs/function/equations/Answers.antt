@@ -1,10 +1,7 @@
-use Rattle.std.proofs.Common.{◌-◌, ◌^◌, ◌++◌, min, ap, ◌∙◌}
-use Rattle.lt_resolve.specs.Uses.{sites_in, delays}
 use Rattle.lt_resolve.specs.Faults.{unknown_equation}
 use Rattle.lt_resolve.specs.Drafts.{IsDraftEquation}
 use Rattle.lt_resolve.proofs.Lists.{some_next}
 use Rattle.lt_resolve.proofs.Pairs.{along_more}
-use Rattle.lt_resolve.proofs.Used.{more_sites, more_delays}
 use Rattle.lt_resolve.proofs.function.equations.Goals as goal
 
 pub eqs-preserved : goal.eqs-preserved
@@ -14,11 +11,6 @@ eqs-preserved c =
     let items = c.as_slice-eq-items.result.now in
     record {
       rest = some_next (unknown_equation vars funcs) items c.eqs.eq-index c.eq-item.result c.eqs-test.true c.eq-item.is c.in_ok-equation.ensures.told c.eqs.invariant.rest;
-      sites = more_sites funcs c.args.caller items c.eqs.eq-index c.eq-item.result c.args.uses.now.calls.items c.eqs.uses.calls.items c.collect.new.calls.items c.eqs-test.true c.eq-item.is c.eqs.invariant.sites
-          (c.in_ok-collect.ensures ∙ ap (λ z. c.eqs.uses.calls.items ++ sites_in funcs c.args.caller z) c.right.ensures);
-      sum = more_delays items c.eqs.eq-index c.eq-item.result c.eqs.sum c.delays.result c.saturating_add-sum.result c.eqs-test.true c.eq-item.is c.eqs.invariant.sum
-          (c.delays.ensures ∙ ap (λ z. min (delays z) (2 ^ 64 - 1)) c.right-in-eqs.ensures) c.saturating_add-sum.ensures;
-      kept = c.eqs.invariant.kept;
       along = along_more (IsDraftEquation vars funcs) items c.eqs.eq-index c.eq-item.result c.eqs.list.items c.push.new.self.items c.in_ok-equation.field-0 c.eqs-test.true c.eq-item.is
           c.eqs.invariant.along c.in_ok-equation.ensures.named c.in_ok-push.ensures.items;
     }

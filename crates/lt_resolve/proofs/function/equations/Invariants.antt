@@ -1,7 +1,6 @@
-use Rattle.std.proofs.Common.{◌≡◌, ◌++◌, take, drop}
+use Rattle.std.proofs.Common.{◌≡◌, take, drop}
 use Rattle.lt_resolve.specs.Names.{first_some}
 use Rattle.lt_resolve.specs.Faults.{unknown_equation}
-use Rattle.lt_resolve.specs.Uses.{equation_sites, all_delays}
 use Rattle.lt_resolve.specs.Named.{Along}
 use Rattle.lt_resolve.specs.Drafts.{IsDraftEquation}
 use Rattle.lt_resolve.proofs.function.equations.Given as goal
@@ -9,8 +8,5 @@ use Rattle.lt_resolve.proofs.function.equations.Given as goal
 abbrev pub invariant-eqs : goal.invariant-eqs
 invariant-eqs l = record {
   rest : first_some (unknown_equation l.variables l.functions) (drop l.eq-index l.eq-items) ≡ first_some (unknown_equation l.variables l.functions) l.eq-items;
-  sites : l.uses.calls.items ++ equation_sites l.functions l.caller (drop l.eq-index l.eq-items) ≡ l.initial.uses.calls.items ++ equation_sites l.functions l.caller l.eq-items;
-  sum : l.sum ≡ all_delays (take l.eq-index l.eq-items);
-  kept : l.uses.delays.items ≡ l.initial.uses.delays.items;
   along : Along (IsDraftEquation l.variables l.functions) (take l.eq-index l.eq-items) l.list.items;
 }

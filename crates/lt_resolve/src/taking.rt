@@ -1,0 +1,192 @@
+// From a tree to its program, where the tree is taken apart: an equation is dropped once it is one of the program, so that tree and
+// program are never whole together.
+ghost use Rattle.std.specs.Prelude.{◌≡◌, ◌<◌, ◌^◌, [], None, Ok, Err, IfOk, MatchResult, length};
+ghost use Rattle.std.specs.List.{All};
+ghost use Rattle.std.specs.Option.{option_map};
+ghost use Rattle.lt_base.specs.Or.{ForFault};
+ghost use Rattle.lt_resolve.specs.Names.{repeated, first_some};
+ghost use Rattle.lt_resolve.specs.Scopes.{variables, functions};
+ghost use Rattle.lt_resolve.specs.Named.{Along, IsFunction};
+ghost use Rattle.lt_resolve.specs.Drafts.{IsDraft, IsDraftEquation};
+ghost use Rattle.lt_resolve.specs.Right.{IsRight};
+ghost use Rattle.lt_resolve.specs.Faults.{First, NoOtherFault, first_in, unknown_equation, unknown_in};
+ghost use Rattle.lt_resolve.specs.Told.{Shows};
+ghost use Rattle.lt_resolve.specs.Resolves.{Resolves};
+
+use crate::fault::{NameFault, NameKind};
+use crate::function::{Draft, draft_of, equation};
+use crate::names::Names;
+use crate::program::main_of;
+use crate::scope::Scope;
+use crate::tables::located;
+use lt_base::{Equation, Func, List, Memory, Name, Or, Program};
+use lt_syntax::{EqText, NodeText, Tree};
+use std::alloc::Global;
+
+/// Copies of the names of the functions.
+fn function_names(alloc: Global, t: &Tree) -> Result<List<Name>, Memory>
+    ensures { IfOk result (λ names. names ≡ functions t.now) }
+{
+    let nodes = t.nodes.as_slice();
+    let mut names = Vec::with_capacity(alloc, nodes.len())?;
+    'nodes: for node in nodes {
+        names.push(node.name.copy()?)?;
+    }
+    Ok(List::of(names))
+}
+
+/// The table of names of which none comes twice.
+fn table_of<'a>(alloc: Global, names: &'a List<Name>) -> Result<Names<'a>, Memory>
+    requires { repeated [] names.now ≡ None }
+    ensures { IfOk result (λ table. table ≡ names.now) }
+{
+    let mut table = Names::with_capacity(alloc, names.len())?;
+    'names: for name in names.as_slice() {
+        table.insert(name.as_str())?;
+    }
+    Ok(table)
+}
+
+/// The equation with its names replaced by numbers; refuses the first name that has no number.
+fn taken_equation(
+    alloc: Global,
+    variables: &Names,
+    functions: &Names,
+    place: usize,
+    eq: EqText,
+) -> Result<Equation, Or<NameFault>>
+    requires { place < 2 ^ 32 }
+    ensures shown { Shows NameKind.Unknown (λ o. o ≡ option_map (λ x. (place, x)) (unknown_equation variables.now functions.now eq)) result }
+    ensures named { IfOk result (λ e. IsDraftEquation variables.now functions.now eq e) }
+{
+    match equation(alloc, variables, functions, &eq) {
+        Ok(named) => Ok(named),
+        Err(error) => Err(located(alloc, NameKind::Unknown, place, error)),
+    }
+}
+
+/// The equations, each dropped once its names are replaced by numbers; refuses the first name that has no number.
+fn taken_equations(
+    alloc: Global,
+    variables: &Names,
+    functions: &Names,
+    place: usize,
+    eqs: Vec<EqText>,
+) -> Result<Vec<Equation>, Or<NameFault>>
+    requires { place < 2 ^ 32 }
+    ensures shown { Shows NameKind.Unknown (λ o. o ≡ option_map (λ x. (place, x)) (first_some (unknown_equation variables.now functions.now) eqs.items)) result }
+    ensures named { IfOk result (λ list. Along (IsDraftEquation variables.now functions.now) eqs.items list.items) }
+{
+    let mut list = Vec::with_capacity(alloc, eqs.len())?;
+    'eqs: for eq in eqs {
+        list.push(taken_equation(alloc, variables, functions, place, eq)?)?;
+    }
+    Ok(list)
+}
+
+/// A function, of which no variable is declared twice, with the table of its variables.
+fn scope_of<'a>(alloc: Global, head: &'a NodeText) -> Result<Scope<'a>, Memory>
+    requires { repeated [] (variables head.now) ≡ None }
+    ensures { IfOk result (λ s. s ≡ head.now) }
+{
+    match Scope::of(alloc, head) {
+        Ok(scope) => Ok(scope),
+        Err(Or::Memory) => Err(Memory),
+        Err(Or::Fault(_)) => unreachable!(),
+    }
+}
+
+/// The draft of a function; refuses the first name that has no number.
+fn located_draft<'a>(
+    alloc: Global,
+    functions: &Names,
+    place: usize,
+    scope: &Scope<'a>,
+) -> Result<Draft<'a>, Or<NameFault>>
+    requires { place < 2 ^ 32 }
+    ensures shown { Shows NameKind.Unknown (λ o. o ≡ option_map (λ x. (place, x)) (unknown_in functions.now scope.now)) result }
+    ensures node { IfOk result (λ d. d.node.now ≡ scope.now) }
+    ensures draft { IfOk result (IsDraft functions.now) }
+{
+    match draft_of(alloc, functions, scope) {
+        Ok(draft) => Ok(draft),
+        Err(error) => Err(located(alloc, NameKind::Unknown, place, error)),
+    }
+}
+
+/// The function of a node that is without its equations, and of these.
+fn function_with(
+    alloc: Global,
+    functions: &Names,
+    place: usize,
+    head: &NodeText,
+    eqs: Vec<EqText>,
+) -> Result<Func, Or<NameFault>>
+    requires place { place < 2 ^ 32 }
+    requires none { head.now.eqs ≡ [] }
+    requires apart { repeated [] (variables head.now) ≡ None }
+    requires right { let node = record head.now { eqs = eqs.items } in unknown_in functions.now node ≡ None → IsRight functions.now node }
+    ensures shown { Shows NameKind.Unknown (λ o. o ≡ option_map (λ x. (place, x)) (unknown_in functions.now (record head.now { eqs = eqs.items }))) result }
+    ensures function { IfOk result (IsFunction functions.now (record head.now { eqs = eqs.items })) }
+{
+    let scope = scope_of(alloc, head)?;
+    let draft = located_draft(alloc, functions, place, &scope)?;
+    let taken = taken_equations(alloc, scope.variables(), functions, place, eqs)?;
+    Ok(draft.with_equations(taken).function(alloc)?)
+}
+
+/// The function of a node whose variables are declared once; refuses the first name that has no number.
+fn taken_function(
+    alloc: Global,
+    functions: &Names,
+    place: usize,
+    node: NodeText,
+) -> Result<Func, Or<NameFault>>
+    requires place { place < 2 ^ 32 }
+    requires apart { repeated [] (variables node) ≡ None }
+    requires right { unknown_in functions.now node ≡ None → IsRight functions.now node }
+    ensures shown { Shows NameKind.Unknown (λ o. o ≡ option_map (λ x. (place, x)) (unknown_in functions.now node)) result }
+    ensures function { IfOk result (IsFunction functions.now node) }
+{
+    let head = NodeText {
+        name: node.name,
+        ins: node.ins,
+        outs: node.outs,
+        locals: node.locals,
+        eqs: List::new(alloc),
+    };
+    function_with(alloc, functions, place, &head, node.eqs.into_vec())
+}
+
+/// The functions of a tree's nodes; refuses the first name that has no number.
+fn taken_functions(
+    alloc: Global,
+    functions: &Names,
+    nodes: Vec<NodeText>,
+) -> Result<Vec<Func>, Or<NameFault>>
+    requires room { length nodes.items < 2 ^ 32 }
+    requires apart { All (λ n. repeated [] (variables n) ≡ None) nodes.items }
+    requires right { All (λ n. unknown_in functions.now n ≡ None → IsRight functions.now n) nodes.items }
+    ensures shown { Shows NameKind.Unknown (λ o. o ≡ first_in (λ _. unknown_in functions.now) 0 nodes.items) result }
+    ensures functions { IfOk result (λ fs. Along (IsFunction functions.now) nodes.items fs.items) }
+{
+    let mut funcs = Vec::with_capacity(alloc, nodes.len())?;
+    'nodes: for node in nodes {
+        let place = funcs.len();
+        funcs.push(taken_function(alloc, functions, place, node)?)?;
+    }
+    Ok(funcs)
+}
+
+/// The program of a tree in which at most names that are not declared are at fault, or the first of these.
+pub fn taken_program(alloc: Global, t: Tree) -> Result<Program, Or<NameFault>>
+    requires room { length t < 2 ^ 32 }
+    requires others { NoOtherFault t }
+    ensures { MatchResult result (λ p. Resolves t (Ok p)) (λ e. ForFault e (λ f. Resolves t (Err f))) }
+{
+    t.kept();
+    let names = function_names(alloc, &t)?;
+    let functions = table_of(alloc, &names)?;
+    let funcs = taken_functions(alloc, &functions, t.nodes.into_vec())?;
+    Ok(Program::new(List::of(funcs), main_of(&functions)))
+}
