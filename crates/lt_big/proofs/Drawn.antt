@@ -1,17 +1,23 @@
 -- What is drawn for what was loaded, written into a sink that fails nowhere.
-use Rattle.std.proofs.Common.{◌≡◌, ◌<◌, ◌≤◌, ℕ, List, [], ◌++◌, length, Ok, Err, IsTrue, ◌∙◌, ap, subst, arith}
+use Rattle.std.proofs.Common.{◌≡◌, ◌<◌, ◌≤◌, ℕ, List, [], ◌++◌, length, Ok, Err, IsTrue, refl, ◌∙◌, ap, subst, arith}
+use Rattle.lt_base.specs.Or.{ForFault, MapsFault}
+use Rattle.lt_base.specs.declared.memory.Or.{Or}
+use Rattle.lt_base.specs.declared.memory.Or.TheVariants.{Fault, Memory}
 use Rattle.lt_arch.specs.declared.event.Event.{Event}
 use Rattle.lt_arch.specs.declared.limits.TheConstants.{GREATEST_TIME}
 use Rattle.lt_io.specs.SinkState.{SinkState}
 use Rattle.lt_rows.specs.Limits.{most_events}
 use Rattle.lt_judge.specs.Verdict.{verdict}
+use Rattle.lt_answer.specs.Answered.{Refuses}
 use Rattle.lt_replay.specs.Sound.{IsSound, AreSound}
 use Rattle.lt_load.specs.declared.fault.CommandFault.{CommandFault}
 use Rattle.lt_load.specs.Plan.{LoadedPlan, IsLoaded}
+use Rattle.lt_sim.specs.declared.fault.SimFault.{SimFault}
+use Rattle.lt_sim.specs.declared.fault.SimFault.TheVariants.{Write, TooMany}
 use Rattle.lt_sim.specs.Drawn.{drawn}
 use Rattle.lt_sim.specs.File.{file_text}
 use Rattle.lt_sim.specs.Laws.{DrawsSound, ReadsBack}
-use Rattle.lt_sim.specs.Recorded.{IsRecorded, IsBroken, IsTooMany}
+use Rattle.lt_sim.specs.Recorded.{IsRecorded, IsBroken, IsTooMany, Records}
 use Rattle.lt_big.specs.Texts.{horizon_of}
 use Rattle.lt_big.specs.Big.{events_of, too_many}
 use Rattle.lt_big.specs.Stage.{drawn_verdict}
@@ -19,6 +25,10 @@ use Rattle.lt_big.specs.Stage.{drawn_verdict}
 -- a loaded program's nodes can be drawn for
 pub loaded_sound : (k : LoadedPlan) → IsLoaded k → AreSound → IsSound k.layout k.shape k.timing (length k.inputs.rows)
 loaded_sound k kept sound = sound k.checked.flat k.layout k.shape k.timing (length k.inputs.rows) kept.placed (k.pace, kept.paced) kept.timed kept.accepted
+
+-- a sink that fails nowhere is not broken
+unbroken : (k : LoadedPlan) (es : List Event) (old new : SinkState) → new.faults ≡ old.faults → IsBroken k.shape es old new → ⊥
+unbroken k es old new steady is = omega (arith, is.written.counted, steady)
 
 module _ (k j : LoadedPlan) (view : k ≡ j) (instants rows horizon : ℕ) (counted : rows ≡ length k.inputs.rows) (until : horizon ≡ horizon_of instants) where
   abbrev list : (rows horizon : ℕ) → List Event
@@ -46,10 +56,20 @@ module _ (k j : LoadedPlan) (view : k ≡ j) (instants rows horizon : ℕ) (coun
       })
 
   -- it has too many events
-  pub drawn_too_many : (old new : SinkState) → IsTooMany (list rows horizon) old new → (fault : CommandFault) → fault ≡ too_many → drawn_verdict instants j (Err fault)
+  drawn_too_many : (old new : SinkState) → IsTooMany (list rows horizon) old new → (fault : CommandFault) → fault ≡ too_many → drawn_verdict instants j (Err fault)
   drawn_too_many old new is fault same_fault =
       subst (λ (p : LoadedPlan). drawn_verdict instants p (Err fault)) view (same (λ es. most_events < length es) is.many, same_fault)
 
--- a sink that fails nowhere is not broken
-pub unbroken : (k : LoadedPlan) (es : List Event) (old new : SinkState) → new.faults ≡ old.faults → IsBroken k.shape es old new → ⊥
-unbroken k es old new steady is = omega (arith, is.written.counted, steady)
+  module _ (old new : SinkState) (steady : new.faults ≡ old.faults) where
+    -- into a sink that fails nowhere it is refused for too many events alone
+    pub only_many : (e : Or SimFault) → Records k.shape (list rows horizon) old new (Err e) → ForFault e (λ f. f ≡ TooMany)
+    only_many (Fault Write) is = absurd (unbroken k (list rows horizon) old new steady is)
+    only_many (Fault TooMany) is = refl
+    only_many Memory is = tt
+
+    pub not_drawn : (e : Or SimFault) (g : Or CommandFault) → MapsFault e g (λ f h. h ≡ too_many) → Records k.shape (list rows horizon) old new (Err e) → Refuses (drawn_verdict instants j) g
+    not_drawn (Fault Write) g is broken = absurd (unbroken k (list rows horizon) old new steady broken)
+    not_drawn (Fault TooMany) (Fault h) is many = drawn_too_many old new many h is
+    not_drawn (Fault TooMany) Memory is many = absurd is
+    not_drawn Memory (Fault h) is front = absurd is
+    not_drawn Memory Memory is front = tt

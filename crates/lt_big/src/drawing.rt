@@ -39,18 +39,20 @@ pub(crate) fn draw(
         &mut sink,
     ) {
         Ok(_) => Ok(sink.into_bytes()),
-        Err(Or::Fault(SimFault::TooMany)) => Err(Or::Fault(too_many())),
-        Err(Or::Fault(SimFault::Write)) => unreachable!(),
-        Err(Or::Memory) => Err(Or::Memory),
+        Err(fault) => Err(fault.map(of_sim)),
     }
 }
 
-// The refusal of the first event past the limit.
-fn too_many() -> CommandFault
+// The refusal of a list that was not written, into a sink that fails nowhere: that of the first event past the limit.
+fn of_sim(fault: SimFault) -> CommandFault
+    requires { fault ≡ SimFault.TooMany }
     ensures { result ≡ too_many }
 {
-    CommandFault::Row {
-        row: 5_000_001,
-        fault: RowFault::TooMany,
+    match fault {
+        SimFault::TooMany => CommandFault::Row {
+            row: 5_000_001,
+            fault: RowFault::TooMany,
+        },
+        SimFault::Write => unreachable!(),
     }
 }
