@@ -2,6 +2,7 @@ pub mod Lengths
 pub mod Rooms
 pub mod Outcomes
 pub mod Refused
+pub mod Printed
 pub mod OneProgram
 pub mod OneFault
 pub mod FlatSizes

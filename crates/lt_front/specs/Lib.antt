@@ -4,3 +4,4 @@ pub mod Front
 pub mod Limits
 pub mod Flattened
 pub mod Checked
+pub mod Printed

@@ -18,10 +18,10 @@ use lt_syntax::{Tree, parse};
 use std::alloc::Global;
 
 /// The most that `main` may weigh, with all functions that it calls.
-const GREATEST_WEIGHT: u64 = 4_096;
+pub(crate) const GREATEST_WEIGHT: u64 = 4_096;
 
 /// The most expression parts of `main`, with all functions that it calls.
-const MOST_PARTS: u64 = 262_144;
+pub(crate) const MOST_PARTS: u64 = 262_144;
 
 /// The program of a text: syntax, names, types, clocks, the causality of each function and the sizes are checked in this order.
 #[tactic(auto, unfolding(crate::specs::Front::examine_verdict))]

@@ -7,6 +7,7 @@ mod checks;
 mod examined;
 mod fault;
 mod flattening;
+mod printing;
 mod refusals;
 
 pub use checked::Checked;
@@ -14,3 +15,4 @@ pub use checks::examine;
 pub use examined::Examined;
 pub use fault::ProgramFault;
 pub use flattening::front;
+pub use printing::print_examined;

@@ -1,0 +1,122 @@
+// The canonical text of a program that passes all checks, for which tree and program are never whole together.
+ghost use Rattle.std.specs.Prelude.{◌≡◌, ◌<◌, ◌↔◌, ◌^◌, IfOk, IfSome, IsTrue, length};
+ghost use Rattle.lt_base.specs.Clocking.{ClockedProgram};
+ghost use Rattle.lt_base.specs.Dependence.{CausalProgram};
+ghost use Rattle.lt_answer.specs.Answered.{Settles};
+ghost use Rattle.lt_front.specs.Examined.{HasRoom, IsWithin};
+ghost use Rattle.lt_front.specs.Printed.{IsOfTree, IsPassing, IsPassingText, printed_verdict};
+
+use crate::causality::causality;
+use crate::checks::{GREATEST_WEIGHT, MOST_PARTS};
+use crate::{ProgramFault, examine};
+use lt_base::{List, Memory, Or, Program};
+use lt_check::{clocks, sizes, types};
+use lt_print::print;
+use lt_resolve::into_program;
+use lt_syntax::{Tree, parse};
+use std::alloc::Global;
+use std::mem::forget;
+
+/// The canonical text of the program of a text, after the checks of `examine`. The tree is printed before its names are resolved, and
+/// then taken apart; where a check fails `examine` goes over the bytes again, and its fault has the tree that it speaks of.
+pub fn print_examined(alloc: Global, bytes: &[u8]) -> Result<List<u8>, Or<ProgramFault>>
+    requires { length bytes.now < 2 ^ 32 }
+    ensures { Settles (printed_verdict bytes.now) result }
+{
+    match passing_text(alloc, bytes)? {
+        Some(text) => Ok(text),
+        None => examined_text(alloc, bytes),
+    }
+}
+
+// The same without taking the tree apart.
+fn examined_text(alloc: Global, bytes: &[u8]) -> Result<List<u8>, Or<ProgramFault>>
+    requires { length bytes.now < 2 ^ 32 }
+    ensures { Settles (printed_verdict bytes.now) result }
+{
+    let examined = examine(alloc, bytes)?;
+    Ok(print(alloc, &examined.tree)?)
+}
+
+// The canonical text, if all checks pass.
+fn passing_text(alloc: Global, bytes: &[u8]) -> Result<Option<List<u8>>, Memory>
+    requires { length bytes.now < 2 ^ 32 }
+    ensures { IfOk result (λ o. IfSome o (λ text. Settles (printed_verdict bytes.now) (Ok text))) }
+{
+    match parse(alloc, bytes) {
+        Ok(tree) => passing_tree(alloc, tree),
+        Err(Or::Fault(_)) => Ok(None),
+        Err(Or::Memory) => Err(Memory),
+    }
+}
+
+// The canonical text of a tree, if its program passes all checks.
+fn passing_tree(alloc: Global, tree: Tree) -> Result<Option<List<u8>>, Memory>
+    requires { HasRoom tree }
+    ensures { IfOk result (λ o. IfSome o (IsPassingText tree)) }
+{
+    let text = print(alloc, &tree)?;
+    match into_program(alloc, tree) {
+        Ok(program) => passing_program(alloc, program, text),
+        Err(Or::Fault(_)) => Ok(None),
+        Err(Or::Memory) => Err(Memory),
+    }
+}
+
+// The text, if the program passes the checks behind names.
+fn passing_program(
+    alloc: Global,
+    program: Program,
+    text: List<u8>,
+) -> Result<Option<List<u8>>, Memory>
+    requires { IsOfTree program }
+    ensures { IfOk result (λ o. IfSome o (λ shown. IsPassing program × (shown ≡ text))) }
+{
+    let passes = passes(alloc, &program)?;
+    // The call that prints is nearly over, and to take a large program apart takes time.
+    forget(program);
+    Ok(if passes { Some(text) } else { None })
+}
+
+// Whether a program passes the checks behind names.
+fn passes(alloc: Global, p: &Program) -> Result<bool, Memory>
+    requires { IsOfTree p.now }
+    ensures { IfOk result (λ b. IsTrue b ↔ IsPassing p.now) }
+{
+    match types(p) {
+        Ok(()) => clocks_pass(alloc, p),
+        Err(_) => Ok(false),
+    }
+}
+
+// Whether a typed program passes the checks behind types.
+fn clocks_pass(alloc: Global, p: &Program) -> Result<bool, Memory>
+    requires { IsOfTree p.now }
+    ensures { IfOk result (λ b. IsTrue b ↔ (ClockedProgram p.now × (CausalProgram p.now × IsWithin p.now))) }
+{
+    match clocks(alloc, p) {
+        Ok(()) => order_passes(alloc, p),
+        Err(Or::Fault(_)) => Ok(false),
+        Err(Or::Memory) => Err(Memory),
+    }
+}
+
+// Whether the causality and the sizes pass.
+fn order_passes(alloc: Global, p: &Program) -> Result<bool, Memory>
+    requires { IsOfTree p.now }
+    ensures { IfOk result (λ b. IsTrue b ↔ (CausalProgram p.now × IsWithin p.now)) }
+{
+    match causality(alloc, p) {
+        Ok(()) => fits(alloc, p),
+        Err(Or::Fault(_)) => Ok(false),
+        Err(Or::Memory) => Err(Memory),
+    }
+}
+
+// Whether the sizes are within their limits.
+fn fits(alloc: Global, p: &Program) -> Result<bool, Memory>
+    ensures { IfOk result (λ b. IsTrue b ↔ IsWithin p.now) }
+{
+    let sizes = sizes(alloc, p)?;
+    Ok(sizes.weight <= GREATEST_WEIGHT && sizes.parts <= MOST_PARTS)
+}
