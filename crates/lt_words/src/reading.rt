@@ -153,10 +153,7 @@ fn watch<'a>(matches: &ArgMatches<'a>) -> Command<'a>
 fn read<'a>(alloc: Global, words: &'a [String]) -> Result<Option<Command<'a>>, Memory>
     ensures { Told (map string_bytes words.entry.now) result }
 {
-    let command = match program(alloc) {
-        Ok(command) => command,
-        Err(_) => return Err(Memory),
-    };
+    let command = program(alloc)?;
     match command.try_get_matches_from(words) {
         Ok(matches) => match matches.subcommand() {
             Some((name, inner)) => Ok(Some(command_of(name, inner))),
