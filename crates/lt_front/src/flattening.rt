@@ -7,7 +7,7 @@ ghost use Rattle.lt_front.specs.Flattened.{KeepsMain, flat_of};
 use crate::{Checked, Examined, ProgramFault, examine};
 use lt_base::{Memory, Or};
 use lt_expand::expand;
-use lt_norm::{Flat, normal};
+use lt_norm::{Flat, into_normal};
 use std::alloc::Global;
 
 /// The program of a text with its flat form: all checks of `examine`, and then `flatten`.
@@ -44,7 +44,7 @@ fn flat_form(alloc: Global, checked: &Examined) -> Result<Flat, Memory>
     let program = &checked.program;
     program.kept();
     match expand(alloc, program) {
-        Ok(whole) => normal(alloc, &whole),
+        Ok(whole) => into_normal(alloc, whole),
         Err(Or::Memory) => Err(Memory),
         Err(Or::Fault(_)) => unreachable!(),
     }
