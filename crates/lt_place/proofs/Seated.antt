@@ -126,6 +126,9 @@ module _ (f : Originated) (h : HasOrigins f) (named : NamedNodes) (each : List (
   pub nodes_are : map seat_node each ≡ nodes_of f P
   nodes_are = ap (map seat_node) e ∙ nodes_by f.origin
 
+pub seats_length : (f : Originated) (named : NamedNodes) (each : List (Option Seat)) → each ≡ seats_of f (listings_from 0 named.nodes) f.origin → length each ≡ length f.origin
+seats_length f named each e = ap length e ∙ length-map f.origin (λ x. seat_of (listings_from 0 named.nodes) (name_of f x))
+
 -- ---- the maps that the code makes
 
 pub each_is : {S : Type 0} (f : Originated) (named : NamedNodes) (m : HashMap (Bor (List ℕ)) Seat S) (nodes : List NamedNode) → nodes ≡ named.nodes → HasSeats m (listings_from 0 nodes) → (each : List (Option Seat)) → ((ls : List Listing) → HasSeats m ls → each ≡ seats_of f ls f.origin) → each ≡ seats_of f (listings_from 0 named.nodes) f.origin

@@ -2,6 +2,7 @@
 
 ghost use Rattle.std.specs.Prelude.{◌≡◌, ℕ, ◌<◌, ◌^◌, ◌↔◌, List, length, map, IfOk, IfErr, IsTrue, OnOk, MatchOption, replicate, slice_index};
 ghost use Rattle.lt_base.specs.Or.{ForFault};
+ghost use Rattle.lt_place.specs.declared.nodes.NamedNodes.{NamedNodes as Listed};
 ghost use Rattle.lt_place.specs.declared.placement.Placement.TheVariants.{All as OnOne, Named as OnListed};
 ghost use Rattle.lt_place.specs.Placement.{node_names};
 ghost use Rattle.lt_place.specs.Origins.{HasOrigins, count};
@@ -138,6 +139,52 @@ fn on_one(alloc: Global, f: &Flat) -> Result<Vec<u32>, Memory>
     Ok(nodes)
 }
 
+// The seat of each variable on these lists.
+fn listed_seats(alloc: Global, f: &Flat, named: &NamedNodes) -> Result<Vec<Option<Seat>>, Memory>
+    requires origins { HasOrigins f.now }
+    requires nodes { length named.now.nodes < 2 ^ 32 }
+    ensures { IfOk result (λ each. each.items ≡ seats_of f.now (listings (OnListed named.now)) f.now.origin) }
+{
+    let nodes = named.nodes.as_slice();
+    let seats = seats(alloc, nodes)?;
+    let each = seat_each(alloc, f, &seats)?;
+    Ok(each)
+}
+
+// Passes where each variable of `main` has one seat. Else the first that has none, and if each has one, the first that has two.
+fn seat_once(f: &Flat, each: &[Option<Seat>]) -> Result<(), PlaceFault>
+    requires origins { HasOrigins f.now }
+    requires variables { count f.now < 2 ^ 32 }
+    requires size { length each.now ≡ length f.now.origin }
+    ensures once { (named : Listed) → each.now ≡ seats_of f.now (listings (OnListed named)) f.now.origin → OnOk result (AllOnce f.now (OnListed named)) }
+    ensures fault { (named : Listed) → each.now ≡ seats_of f.now (listings (OnListed named)) f.now.origin → IfErr result (IsFirstFault f.now (OnListed named)) }
+{
+    let origin = origins(f);
+    if let Some(var) = first_vacant(origin, each) {
+        return Err(PlaceFault::Unplaced { var });
+    }
+    if let Some(var) = first_again(origin, each) {
+        return Err(PlaceFault::PlacedTwice { var });
+    }
+    Ok(())
+}
+
+// Passes where each listed name is that of a variable of `main`. Else the first that is not.
+fn know_all(alloc: Global, f: &Flat, named: &NamedNodes) -> Result<(), Or<PlaceFault>>
+    requires origins { HasOrigins f.now }
+    requires variables { count f.now < 2 ^ 32 }
+    ensures known { OnOk result (EachKnown f.now (listings (OnListed named.now))) }
+    ensures fault { AllOnce f.now (OnListed named.now) → IfErr result (λ e. ForFault e (IsFirstFault f.now (OnListed named.now))) }
+{
+    let nodes = named.nodes.as_slice();
+    let known = known(alloc, f)?;
+    if let Some(name) = first_unknown(&known, nodes) {
+        let name = name.copy()?;
+        return Err(Or::Fault(PlaceFault::UnknownName { name }));
+    }
+    Ok(())
+}
+
 // Every variable on the node that lists its origin.
 fn on_listed(alloc: Global, f: &Flat, named: &NamedNodes) -> Result<Vec<u32>, Or<PlaceFault>>
     requires origins { HasOrigins f.now }
@@ -148,21 +195,11 @@ fn on_listed(alloc: Global, f: &Flat, named: &NamedNodes) -> Result<Vec<u32>, Or
     ensures known { OnOk result (EachKnown f.now (listings (OnListed named.now))) }
     ensures fault { IfErr result (λ e. ForFault e (IsFirstFault f.now (OnListed named.now))) }
 {
-    let nodes = named.nodes.as_slice();
-    let seats = seats(alloc, nodes)?;
-    let each = seat_each(alloc, f, &seats)?;
-    let origin = origins(f);
-    if let Some(var) = first_vacant(origin, each.as_slice()) {
-        return Err(Or::Fault(PlaceFault::Unplaced { var }));
+    let each = listed_seats(alloc, f, named)?;
+    if let Err(fault) = seat_once(f, each.as_slice()) {
+        return Err(Or::Fault(fault));
     }
-    if let Some(var) = first_again(origin, each.as_slice()) {
-        return Err(Or::Fault(PlaceFault::PlacedTwice { var }));
-    }
-    let known = known(alloc, f)?;
-    if let Some(name) = first_unknown(&known, nodes) {
-        let name = name.copy()?;
-        return Err(Or::Fault(PlaceFault::UnknownName { name }));
-    }
+    know_all(alloc, f, named)?;
     let nodes = seat_nodes(alloc, each.as_slice())?;
     Ok(nodes)
 }

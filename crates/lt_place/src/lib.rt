@@ -4,7 +4,6 @@
 mod assign;
 mod crossings;
 mod fault;
-mod forms;
 mod judge;
 pub mod laws;
 mod layout;

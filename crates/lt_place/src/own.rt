@@ -7,64 +7,63 @@ ghost use Rattle.lt_base.specs.Calls.{EachCall};
 ghost use Rattle.lt_base.specs.Placed.{renamed, below};
 ghost use Rattle.lt_place.specs.Spread.{no_decl, own_of, own_decl, own_equation, stays};
 
-use crate::forms::{arrow, binary, choose, delayed, follow, imported, merged, sampled, unary};
 use lt_base::{Clock, Decl, Equation, Expr, Memory};
 use std::alloc::Global;
 
-/// An expression without calls, with these numbers for its variables.
-fn own_right(alloc: Global, own: &[u32], e: &Expr) -> Result<Expr, Memory>
+// Gives the variables of an expression without calls these numbers.
+fn renumber(own: &[u32], e: &mut Expr)
+    requires callless { EachCall (λ g. ⊥) (shape e.old) }
+    requires inside { VarsBelow (length own.now) (shape e.old) }
+    ensures { shape e.new ≡ renamed (own_of own.now) (shape e.old) }
+{
+    match e {
+        Expr::Lit(_) => {}
+        Expr::Var(x) => *x = own[*x as usize],
+        Expr::Un(_, a) => renumber(own, a),
+        Expr::When(a, x, _) => {
+            *x = own[*x as usize];
+            renumber(own, a);
+        }
+        Expr::Merge(x, a, b) => {
+            *x = own[*x as usize];
+            renumber(own, a);
+            renumber(own, b);
+        }
+        Expr::Fby(_, a) => renumber(own, a),
+        Expr::Bin(_, a, b) => {
+            renumber(own, a);
+            renumber(own, b);
+        }
+        Expr::Imported(_, a, b) => {
+            renumber(own, a);
+            renumber(own, b);
+        }
+        Expr::Follow(a, b) => {
+            renumber(own, a);
+            renumber(own, b);
+        }
+        Expr::Arrow(a, b) => {
+            renumber(own, a);
+            renumber(own, b);
+        }
+        Expr::If(c, a, b) => {
+            renumber(own, c);
+            renumber(own, a);
+            renumber(own, b);
+        }
+        Expr::Call(_, _) => unreachable!(),
+    }
+}
+
+// An expression without calls, with these numbers for its variables.
+fn own_right(own: &[u32], e: &Expr) -> Result<Expr, Memory>
     requires callless { EachCall (λ g. ⊥) (shape e.now) }
     requires inside { VarsBelow (length own.now) (shape e.now) }
     ensures { IfOk result (λ r. shape r ≡ renamed (own_of own.now) (shape e.now)) }
 {
-    match e {
-        Expr::Lit(v) => Ok(Expr::Lit(*v)),
-        Expr::Var(x) => Ok(Expr::Var(own[*x as usize])),
-        Expr::Un(op, a) => {
-            let a = own_right(alloc, own, a)?;
-            unary(alloc, *op, a)
-        }
-        Expr::Bin(op, a, b) => {
-            let a = own_right(alloc, own, a)?;
-            let b = own_right(alloc, own, b)?;
-            binary(alloc, *op, a, b)
-        }
-        Expr::Imported(op, a, b) => {
-            let a = own_right(alloc, own, a)?;
-            let b = own_right(alloc, own, b)?;
-            imported(alloc, *op, a, b)
-        }
-        Expr::If(c, a, b) => {
-            let c = own_right(alloc, own, c)?;
-            let a = own_right(alloc, own, a)?;
-            let b = own_right(alloc, own, b)?;
-            choose(alloc, c, a, b)
-        }
-        Expr::When(a, x, polarity) => {
-            let a = own_right(alloc, own, a)?;
-            sampled(alloc, a, own[*x as usize], *polarity)
-        }
-        Expr::Merge(x, a, b) => {
-            let a = own_right(alloc, own, a)?;
-            let b = own_right(alloc, own, b)?;
-            merged(alloc, own[*x as usize], a, b)
-        }
-        Expr::Fby(v, a) => {
-            let a = own_right(alloc, own, a)?;
-            delayed(alloc, *v, a)
-        }
-        Expr::Follow(a, b) => {
-            let a = own_right(alloc, own, a)?;
-            let b = own_right(alloc, own, b)?;
-            follow(alloc, a, b)
-        }
-        Expr::Arrow(a, b) => {
-            let a = own_right(alloc, own, a)?;
-            let b = own_right(alloc, own, b)?;
-            arrow(alloc, a, b)
-        }
-        Expr::Call(_, _) => unreachable!(),
-    }
+    let mut right = e.copy()?;
+    renumber(own, &mut right);
+    Ok(right)
 }
 
 /// The clock with these numbers for its variables.
@@ -131,7 +130,7 @@ pub(crate) fn own_equations(
     for equation in equations {
         let left = equation.left() as usize;
         if nodes[left] == n && !fed[left] {
-            let right = own_right(alloc, own, equation.right())?;
+            let right = own_right(own, equation.right())?;
             new.push(Equation::new(own[left], right))?;
         }
     }

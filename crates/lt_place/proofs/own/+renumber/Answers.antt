@@ -1,5 +1,5 @@
 use Rattle.lt_place.proofs.Vars.{no_call}
-use Rattle.lt_place.proofs.own.+own_right.Goals as goal
+use Rattle.lt_place.proofs.own.+renumber.Goals as goal
 
 pub unreachable-requires : goal.unreachable-requires
 unreachable-requires t c = no_call (λ g. ⊥) _ _ _ c.in-Call.is c.requires.callless
