@@ -3,6 +3,7 @@ ghost use Rattle.std.specs.Prelude.{◌≡◌, ◌<◌, ◌-◌, ◌^◌, [], Al
 ghost use Rattle.lt_io.specs.MemFiles.{mem_files_state};
 ghost use Rattle.lt_io.specs.MemSink.{mem_sink_state};
 
+use crate::drift::DriftFabric;
 use crate::texts::bytes;
 use lt_base::{List, Memory, Name};
 use lt_cli::{Status, ltta};
@@ -39,8 +40,8 @@ pub const ACROSS: Texts = Texts {
 };
 
 /// What goes wrong in a call: on each object whose name stands in `whose`, of `files`, `fabric`, `out` and `err`, the call of
-/// this number, counted from 1. With `send` the send of this number finds no memory, and with `flip` the fabric changes what
-/// it carries.
+/// this number, counted from 1. With `send` the send of this number finds no memory, with `flip` the fabric changes what it
+/// carries, and with `drift` it changes each message by another number.
 #[derive(Clone, Copy)]
 pub struct Fails<'a> {
     pub whose: &'a str,
@@ -138,6 +139,10 @@ pub fn call_into<O: Sink>(
 {
     if fails.whose == "flip" {
         let mut fabric = FlipFabric::new(alloc);
+        return call_over(alloc, line, texts, fails, &mut fabric, out);
+    }
+    if fails.whose == "drift" {
+        let mut fabric = DriftFabric::new(MemFabric::new(alloc, List::new(alloc)));
         return call_over(alloc, line, texts, fails, &mut fabric, out);
     }
     if fails.whose == "send" {

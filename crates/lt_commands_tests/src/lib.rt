@@ -6,6 +6,8 @@ mod calls;
 #[cfg(test)]
 mod drawn;
 #[cfg(test)]
+mod drift;
+#[cfg(test)]
 mod fronts;
 #[cfg(test)]
 mod limits;

@@ -20,6 +20,11 @@ s time,event,place/0,act,a/0,act,b/3,loseack,a>b/3,ack,b>a/10,act,a/10,act,b/12,
 0 u: 1 11/v: 10/
 > check p c
 0 node main(x: int) returns (u: int; v: int)/let/  u = x + (0 fby v);/  v = 10 + (0 fby u);/tel/
+- message 1 of a is the third delivery and, again, the seventh, each of which changes it by its number: b runs on the last one
+s time,event,place/0,act,a/0,act,b/3,loseack,a>b/3,ack,b>a/10,act,a/10,act,b/12,data,a>b/12,ack,a>b/12,ack,b>a/20,act,a/20,act,b/22,data,b>a/24,data,a>b/24,ack,a>b/24,ack,b>a/30,act,a/30,act,b/30,end,/
+> run p i s c
+x drift 0 0
+0 u: 1 17/v: 10 18/
 - one more than may be lost in a row
 s time,event,place/0,act,a/0,act,b/3,loseack,a>b/3,ack,b>a/10,act,a/10,act,b/12,loseack,a>b/12,data,a>b/
 > run p i s c
