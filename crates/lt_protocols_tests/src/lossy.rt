@@ -1,6 +1,6 @@
 // A watch over two nodes whose links lose at most one message in a row.
-ghost use Rattle.std.specs.Prelude.{◌≡◌, ◌<◌, length, IfOk};
-ghost use Rattle.lt_arch.specs.Shapes.{HaveSameNodes};
+ghost use Rattle.std.specs.Prelude.{◌≡◌, ◌<◌, [], length, IfOk};
+ghost use Rattle.lt_lossy.specs.Times.{queue_at, losses_at};
 
 use crate::architecture::linked;
 use lt_arch::{Event, Offence};
@@ -11,6 +11,14 @@ use std::marker::Brand;
 use std::sync::ledger::{Blank, Ledger};
 use std::test::Fail;
 
+// A watch over these nodes, before anything happened.
+fn watch_of_two(alloc: Global) -> Result<LossyWatch, Memory>
+    ensures { IfOk result (λ watch. (length watch.lasts ≡ 2) × (length watch.queues ≡ 2) × (queue_at watch 0 ≡ []) × (losses_at watch 0 ≡ 0) × (watch.limit ≡ 1)) }
+{
+    let (shape, timing) = linked(alloc)?;
+    LossyWatch::start(alloc, &shape, &timing, 1)
+}
+
 // What the watch says of losses from a to b: before anything happened; of the message that a sent at 10; of the one that it sent at
 // 19, once the first is lost; and of its delivery.
 fn judged<L: Ledger>(alloc: Global, blank: Blank) -> Result<[Option<LossyOffence>; 4], Memory>
@@ -19,8 +27,7 @@ fn judged<L: Ledger>(alloc: Global, blank: Blank) -> Result<[Option<LossyOffence
     requires some { 0 < blank.parts }
 {
     let mut steps = Steps::<L>::new(blank);
-    let (shape, timing) = linked(alloc)?;
-    let mut watch = LossyWatch::start(alloc, &shape, &timing, 1)?;
+    let mut watch = watch_of_two(alloc)?;
     let nothing_sent = watch.judge(&LossyEvent::Lose(0, 0), &mut steps);
     watch.acted(0, 10, &mut steps);
     watch.acted(1, 10, &mut steps);
