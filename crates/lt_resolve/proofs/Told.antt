@@ -5,13 +5,17 @@ use Rattle.std.specs.Option.{option_or}
 use Rattle.lt_base.specs.declared.memory.Or.{Or}
 use Rattle.lt_base.specs.declared.memory.Or.TheVariants.{Fault, Memory}
 use Rattle.lt_resolve.specs.Names.{Name, first_some}
-use Rattle.lt_resolve.specs.Told.{Refuses, Tells}
+use Rattle.lt_resolve.specs.Told.{NeedsNoMemory, Refuses, Tells}
 use Rattle.lt_resolve.proofs.Lists.{or_none, or_some, some_here}
 
 -- an error that is handed on
 pub tells_on : {T : Type 0} (o : Option Name) (e : Or (Bor Name)) (r : Result T (Or (Bor Name))) → IsErrAnd r (λ f. f ≡ e) → Refuses o e → Tells o r
 tells_on o e (Ok x) h t = absurd h
 tells_on o e (Err f) h t = subst (Refuses o) (sym h) t
+
+pub needs_none_on : {T E : Type 0} (e : Or E) (r : Result T (Or E)) → IsErrAnd r (λ f. f ≡ e) → NeedsNoMemory {T = T} (Err e) → NeedsNoMemory r
+needs_none_on e (Ok x) h n = absurd h
+needs_none_on {T = T} e (Err f) h n = subst (λ g. NeedsNoMemory {T = T} (Err g)) (sym h) n
 
 -- what is found at place i is the first
 pub tells_at : {A T : Type 0} (f : A → Option Name) (xs : List A) (i : ℕ) (x : A) (e : Or (Bor Name)) (r : Result T (Or (Bor Name))) → i < length xs → x ≡ get_or xs i x → first_some f (drop i xs) ≡ first_some f xs → IsErrAnd r (λ g. g ≡ e) → Refuses (f x) e → Tells (first_some f xs) r

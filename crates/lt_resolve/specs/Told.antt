@@ -20,6 +20,12 @@ abbrev pub Tells : {T : Type 0} → Option Name → Result T (Or (Bor Name)) →
 Tells o (Ok x) = o ≡ None
 Tells o (Err e) = Refuses o e
 
+-- the answer never is that memory was wanting
+abbrev pub NeedsNoMemory : {T E : Type 0} → Result T (Or E) → Type 0
+NeedsNoMemory (Ok x) = Unit {0}
+NeedsNoMemory (Err (Fault e)) = Unit {0}
+NeedsNoMemory (Err Memory) = ⊥
+
 -- a fault of the kind shows the occurrence, or memory was wanting
 abbrev pub Blames : NameKind → (Option Occurrence → Type 0) → Or NameFault → Type 0
 Blames kind P (Fault f) = (f.kind ≡ kind) × P (Some (f.func, f.name))

@@ -1,6 +1,7 @@
 // The calls of a tree, and their faults.
 ghost use Rattle.std.specs.Prelude.{◌≡◌, ◌++◌, ◌<◌, ◌^◌, IfOk, OnOk, length, map};
 ghost use Rattle.std.specs.List.{All};
+ghost use Rattle.lt_syntax.specs.Tree as tree;
 ghost use Rattle.lt_syntax.specs.Tree.{tms};
 ghost use Rattle.lt_syntax.specs.Views.{tm_of};
 ghost use Rattle.lt_graph.specs.Edges.{AreWithin};
@@ -13,7 +14,7 @@ ghost use Rattle.lt_resolve.specs.Checks.{Locates, ShowsSite};
 use crate::fault::{NameFault, NameKind};
 use crate::names::Names;
 use crate::tables::{Tables, located};
-use lt_base::{List, Memory, Or};
+use lt_base::{List, Memory, Name, Or};
 use lt_graph::first_circular;
 use lt_syntax::{EqText, Term};
 use std::alloc::Global;
@@ -59,40 +60,54 @@ pub fn collect<'a>(
         Term::Lit(_) => Ok(()),
         Term::Var(_) => Ok(()),
         Term::Un(_, a) => collect(functions, caller, a, calls),
-        Term::Bin(_, a, b) => {
-            collect(functions, caller, a, calls)?;
-            collect(functions, caller, b, calls)
-        }
+        Term::Bin(_, a, b) => collect_pair(functions, caller, a, b, calls),
         Term::If(c, a, b) => {
             collect(functions, caller, c, calls)?;
-            collect(functions, caller, a, calls)?;
-            collect(functions, caller, b, calls)
+            collect_pair(functions, caller, a, b, calls)
         }
         Term::When(a, _, _) => collect(functions, caller, a, calls),
-        Term::Merge(_, a, b) => {
-            collect(functions, caller, a, calls)?;
-            collect(functions, caller, b, calls)
-        }
+        Term::Merge(_, a, b) => collect_pair(functions, caller, a, b, calls),
         Term::Fby(_, a) => collect(functions, caller, a, calls),
-        Term::Follow(a, b) => {
-            collect(functions, caller, a, calls)?;
-            collect(functions, caller, b, calls)
-        }
-        Term::Arrow(a, b) => {
-            collect(functions, caller, a, calls)?;
-            collect(functions, caller, b, calls)
-        }
-        Term::Call(f, args) => {
-            let name = f.as_str();
-            calls.push(Call {
-                caller,
-                name,
-                callee: functions.number(name),
-                arguments: args.len(),
-            })?;
-            collect_arguments(functions, caller, args, calls)
-        }
+        Term::Follow(a, b) => collect_pair(functions, caller, a, b, calls),
+        Term::Arrow(a, b) => collect_pair(functions, caller, a, b, calls),
+        Term::Call(f, args) => collect_call(functions, caller, f, args, calls),
     }
+}
+
+/// Appends the calls in two terms.
+#[cycle(collect)]
+fn collect_pair<'a>(
+    functions: &Names,
+    caller: u32,
+    a: &'a Term,
+    b: &'a Term,
+    calls: &mut Vec<Call<'a>>,
+) -> Result<(), Memory>
+    ensures { OnOk result (calls.new.items ≡ calls.old.items ++ (sites_in functions.now caller (tm_of a.now) ++ sites_in functions.now caller (tm_of b.now))) }
+{
+    collect(functions, caller, a, calls)?;
+    collect(functions, caller, b, calls)
+}
+
+/// Appends a call, and the calls in its arguments.
+#[cycle(collect)]
+fn collect_call<'a>(
+    functions: &Names,
+    caller: u32,
+    f: &'a Name,
+    args: &'a [Term],
+    calls: &mut Vec<Call<'a>>,
+) -> Result<(), Memory>
+    ensures { OnOk result (calls.new.items ≡ calls.old.items ++ sites_in functions.now caller (tree.Call f.now (tms (map tm_of args.now)))) }
+{
+    let name = f.as_str();
+    calls.push(Call {
+        caller,
+        name,
+        callee: functions.number(name),
+        arguments: args.len(),
+    })?;
+    collect_arguments(functions, caller, args, calls)
 }
 
 #[cycle(collect)]

@@ -2,7 +2,7 @@
 ghost use Rattle.std.specs.Prelude.{◌≡◌, ◌<◌, ◌^◌, ◌-◌, length, map};
 ghost use Rattle.lt_resolve.specs.Scopes.{functions};
 ghost use Rattle.lt_resolve.specs.Faults.{first_in, above, number, no_main, functions_limit};
-ghost use Rattle.lt_resolve.specs.Told.{Tells, Shows, Cleared, Passes};
+ghost use Rattle.lt_resolve.specs.Told.{NeedsNoMemory, Tells, Shows, Cleared, Passes};
 ghost use Rattle.lt_resolve.specs.Uses.{all_delays};
 ghost use Rattle.lt_resolve.specs.Checks.{found, kind_of, variables_limit, IsWhole};
 
@@ -35,7 +35,8 @@ fn kind_of(check: Check) -> NameKind
 
 /// Refuses a quantity above its limit, by its word.
 fn within<'a>(limit: u64, quantity: u64, word: &'a str) -> Result<(), Or<&'a str>>
-    ensures { Tells (above limit quantity word.now) result }
+    ensures told { Tells (above limit quantity word.now) result }
+    ensures memory { NeedsNoMemory result }
 {
     if quantity > limit {
         Err(Or::Fault(word))

@@ -1,15 +1,16 @@
 // Names to numbers in expressions.
 ghost use Rattle.std.specs.Prelude.{◌≡◌, IfOk, length, map, vec_len};
 ghost use Rattle.lt_base.specs.Expression.{shape, arguments_of};
+ghost use Rattle.lt_syntax.specs.Tree as tree;
 ghost use Rattle.lt_syntax.specs.Tree.{tms};
 ghost use Rattle.lt_syntax.specs.Views.{tm_of};
 ghost use Rattle.lt_resolve.specs.Named.{operator_of};
 ghost use Rattle.lt_resolve.specs.Uses.{if_uncallable, unknown, unknown_argument};
-ghost use Rattle.lt_resolve.specs.Told.{Tells};
+ghost use Rattle.lt_resolve.specs.Told.{NeedsNoMemory, Tells};
 ghost use Rattle.lt_resolve.specs.Known.{StandsFor, IsOperation, IsCalled, IsTranslated, AreTranslated};
 
 use crate::names::Names;
-use lt_base::{Expr, Imp, Memory, Or, Value};
+use lt_base::{Bin, Expr, Imp, Memory, Name, Or, Un, Value};
 use lt_syntax::Term;
 use std::alloc::Global;
 
@@ -38,6 +39,7 @@ fn operator_of(name: &str) -> Option<Imp>
 /// The function of this name or, without one, the imported operator; refuses a name that is neither.
 fn callee_of<'t>(functions: &Names, name: &'t str) -> Result<Callee, Or<&'t str>>
     ensures told { Tells (if_uncallable functions.now name.now) result }
+    ensures memory { NeedsNoMemory result }
     ensures found { IfOk result (StandsFor functions.now name.now) }
 {
     match functions.number(name) {
@@ -73,19 +75,6 @@ fn call(alloc: Global, callee: Callee, args: Vec<Expr>) -> Result<Expr, Memory>
     }
 }
 
-#[cycle(expression)]
-fn boxed<'t>(
-    alloc: Global,
-    variables: &Names,
-    functions: &Names,
-    term: &'t Term,
-) -> Result<Box<Expr>, Or<&'t str>>
-    ensures told { Tells (unknown variables.now functions.now (tm_of term.now)) result }
-    ensures named { IfOk result (λ e. IsTranslated variables.now functions.now (tm_of term.now) (shape e.value)) }
-{
-    Ok(Box::new(alloc, expression(alloc, variables, functions, term)?)?)
-}
-
 /// The expression of a term, in which each variable and each function has its number; refuses the first name that has
 /// none.
 #[cycle(expression)]
@@ -101,45 +90,185 @@ pub fn expression<'t>(
     match term {
         Term::Lit(v) => Ok(Expr::Lit(*v)),
         Term::Var(x) => Ok(Expr::Var(variables.find(x.as_str())?)),
-        Term::Un(o, a) => Ok(Expr::Un(*o, boxed(alloc, variables, functions, a)?)),
-        Term::Bin(o, a, b) => {
-            let a = boxed(alloc, variables, functions, a)?;
-            let b = boxed(alloc, variables, functions, b)?;
-            Ok(Expr::Bin(*o, a, b))
-        }
-        Term::If(c, a, b) => {
-            let c = boxed(alloc, variables, functions, c)?;
-            let a = boxed(alloc, variables, functions, a)?;
-            let b = boxed(alloc, variables, functions, b)?;
-            Ok(Expr::If(c, a, b))
-        }
-        Term::When(a, c, polarity) => {
-            let a = boxed(alloc, variables, functions, a)?;
-            Ok(Expr::When(a, variables.find(c.as_str())?, *polarity))
-        }
-        Term::Merge(c, a, b) => {
-            let c = variables.find(c.as_str())?;
-            let a = boxed(alloc, variables, functions, a)?;
-            let b = boxed(alloc, variables, functions, b)?;
-            Ok(Expr::Merge(c, a, b))
-        }
-        Term::Fby(v, a) => Ok(Expr::Fby(*v, boxed(alloc, variables, functions, a)?)),
-        Term::Follow(a, b) => {
-            let a = boxed(alloc, variables, functions, a)?;
-            let b = boxed(alloc, variables, functions, b)?;
-            Ok(Expr::Follow(a, b))
-        }
-        Term::Arrow(a, b) => {
-            let a = boxed(alloc, variables, functions, a)?;
-            let b = boxed(alloc, variables, functions, b)?;
-            Ok(Expr::Arrow(a, b))
-        }
-        Term::Call(f, args) => {
-            let callee = callee_of(functions, f.as_str())?;
-            let args = arguments(alloc, variables, functions, args)?;
-            Ok(call(alloc, callee, args)?)
-        }
+        Term::Un(o, a) => unary(alloc, variables, functions, *o, a),
+        Term::Bin(o, a, b) => binary(alloc, variables, functions, *o, a, b),
+        Term::If(c, a, b) => choice(alloc, variables, functions, c, a, b),
+        Term::When(a, c, polarity) => sampled(alloc, variables, functions, a, c, *polarity),
+        Term::Merge(c, a, b) => merged(alloc, variables, functions, c, a, b),
+        Term::Fby(v, a) => delayed(alloc, variables, functions, *v, a),
+        Term::Follow(a, b) => followed(alloc, variables, functions, a, b),
+        Term::Arrow(a, b) => arrow(alloc, variables, functions, a, b),
+        Term::Call(f, args) => called(alloc, variables, functions, f, args),
     }
+}
+
+/// The same in a box.
+#[cycle(expression)]
+fn boxed<'t>(
+    alloc: Global,
+    variables: &Names,
+    functions: &Names,
+    term: &'t Term,
+) -> Result<Box<Expr>, Or<&'t str>>
+    ensures told { Tells (unknown variables.now functions.now (tm_of term.now)) result }
+    ensures named { IfOk result (λ e. IsTranslated variables.now functions.now (tm_of term.now) (shape e.value)) }
+{
+    Ok(Box::new(alloc, expression(alloc, variables, functions, term)?)?)
+}
+
+/// An operator on one operand.
+#[cycle(expression)]
+fn unary<'t>(
+    alloc: Global,
+    variables: &Names,
+    functions: &Names,
+    o: Un,
+    a: &'t Term,
+) -> Result<Expr, Or<&'t str>>
+    ensures told { Tells (unknown variables.now functions.now (tree.Unary o (tm_of a.now))) result }
+    ensures named { IfOk result (λ e. IsTranslated variables.now functions.now (tree.Unary o (tm_of a.now)) (shape e)) }
+{
+    Ok(Expr::Un(o, boxed(alloc, variables, functions, a)?))
+}
+
+/// An operator between two operands.
+#[cycle(expression)]
+fn binary<'t>(
+    alloc: Global,
+    variables: &Names,
+    functions: &Names,
+    o: Bin,
+    a: &'t Term,
+    b: &'t Term,
+) -> Result<Expr, Or<&'t str>>
+    ensures told { Tells (unknown variables.now functions.now (tree.Binary o (tm_of a.now) (tm_of b.now))) result }
+    ensures named { IfOk result (λ e. IsTranslated variables.now functions.now (tree.Binary o (tm_of a.now) (tm_of b.now)) (shape e)) }
+{
+    let a = boxed(alloc, variables, functions, a)?;
+    let b = boxed(alloc, variables, functions, b)?;
+    Ok(Expr::Bin(o, a, b))
+}
+
+/// A choice.
+#[cycle(expression)]
+fn choice<'t>(
+    alloc: Global,
+    variables: &Names,
+    functions: &Names,
+    c: &'t Term,
+    a: &'t Term,
+    b: &'t Term,
+) -> Result<Expr, Or<&'t str>>
+    ensures told { Tells (unknown variables.now functions.now (tree.Choice (tm_of c.now) (tm_of a.now) (tm_of b.now))) result }
+    ensures named { IfOk result (λ e. IsTranslated variables.now functions.now (tree.Choice (tm_of c.now) (tm_of a.now) (tm_of b.now)) (shape e)) }
+{
+    let c = boxed(alloc, variables, functions, c)?;
+    let a = boxed(alloc, variables, functions, a)?;
+    let b = boxed(alloc, variables, functions, b)?;
+    Ok(Expr::If(c, a, b))
+}
+
+/// An operand where a variable has this value.
+#[cycle(expression)]
+fn sampled<'t>(
+    alloc: Global,
+    variables: &Names,
+    functions: &Names,
+    a: &'t Term,
+    c: &'t Name,
+    polarity: bool,
+) -> Result<Expr, Or<&'t str>>
+    ensures told { Tells (unknown variables.now functions.now (tree.Sampled (tm_of a.now) c.now polarity)) result }
+    ensures named { IfOk result (λ e. IsTranslated variables.now functions.now (tree.Sampled (tm_of a.now) c.now polarity) (shape e)) }
+{
+    let a = boxed(alloc, variables, functions, a)?;
+    let c = variables.find(c.as_str())?;
+    Ok(Expr::When(a, c, polarity))
+}
+
+/// A merge of two branches by a variable.
+#[cycle(expression)]
+fn merged<'t>(
+    alloc: Global,
+    variables: &Names,
+    functions: &Names,
+    c: &'t Name,
+    a: &'t Term,
+    b: &'t Term,
+) -> Result<Expr, Or<&'t str>>
+    ensures told { Tells (unknown variables.now functions.now (tree.Merged c.now (tm_of a.now) (tm_of b.now))) result }
+    ensures named { IfOk result (λ e. IsTranslated variables.now functions.now (tree.Merged c.now (tm_of a.now) (tm_of b.now)) (shape e)) }
+{
+    let c = variables.find(c.as_str())?;
+    let a = boxed(alloc, variables, functions, a)?;
+    let b = boxed(alloc, variables, functions, b)?;
+    Ok(Expr::Merge(c, a, b))
+}
+
+/// A delay that begins with a literal.
+#[cycle(expression)]
+fn delayed<'t>(
+    alloc: Global,
+    variables: &Names,
+    functions: &Names,
+    v: Value,
+    a: &'t Term,
+) -> Result<Expr, Or<&'t str>>
+    ensures told { Tells (unknown variables.now functions.now (tree.Delayed v (tm_of a.now))) result }
+    ensures named { IfOk result (λ e. IsTranslated variables.now functions.now (tree.Delayed v (tm_of a.now)) (shape e)) }
+{
+    Ok(Expr::Fby(v, boxed(alloc, variables, functions, a)?))
+}
+
+/// A delay that begins with an expression.
+#[cycle(expression)]
+fn followed<'t>(
+    alloc: Global,
+    variables: &Names,
+    functions: &Names,
+    a: &'t Term,
+    b: &'t Term,
+) -> Result<Expr, Or<&'t str>>
+    ensures told { Tells (unknown variables.now functions.now (tree.Followed (tm_of a.now) (tm_of b.now))) result }
+    ensures named { IfOk result (λ e. IsTranslated variables.now functions.now (tree.Followed (tm_of a.now) (tm_of b.now)) (shape e)) }
+{
+    let a = boxed(alloc, variables, functions, a)?;
+    let b = boxed(alloc, variables, functions, b)?;
+    Ok(Expr::Follow(a, b))
+}
+
+/// The two sides of `->`.
+#[cycle(expression)]
+fn arrow<'t>(
+    alloc: Global,
+    variables: &Names,
+    functions: &Names,
+    a: &'t Term,
+    b: &'t Term,
+) -> Result<Expr, Or<&'t str>>
+    ensures told { Tells (unknown variables.now functions.now (tree.Arrow (tm_of a.now) (tm_of b.now))) result }
+    ensures named { IfOk result (λ e. IsTranslated variables.now functions.now (tree.Arrow (tm_of a.now) (tm_of b.now)) (shape e)) }
+{
+    let a = boxed(alloc, variables, functions, a)?;
+    let b = boxed(alloc, variables, functions, b)?;
+    Ok(Expr::Arrow(a, b))
+}
+
+/// A call with its arguments; its name is looked up first.
+#[cycle(expression)]
+fn called<'t>(
+    alloc: Global,
+    variables: &Names,
+    functions: &Names,
+    name: &'t Name,
+    args: &'t [Term],
+) -> Result<Expr, Or<&'t str>>
+    ensures told { Tells (unknown variables.now functions.now (tree.Call name.now (tms (map tm_of args.now)))) result }
+    ensures named { IfOk result (λ e. IsTranslated variables.now functions.now (tree.Call name.now (tms (map tm_of args.now))) (shape e)) }
+{
+    let callee = callee_of(functions, name.as_str())?;
+    let args = arguments(alloc, variables, functions, args)?;
+    Ok(call(alloc, callee, args)?)
 }
 
 #[cycle(expression)]

@@ -1,7 +1,7 @@
 // Tables of names.
 ghost use Rattle.std.specs.Prelude.{◌≡◌, ◌++◌, ◌∷◌, [], not, Some, IfOk, OnOk, if◌then◌else◌};
 ghost use Rattle.lt_resolve.specs.Names.{number_of, among, if_missing};
-ghost use Rattle.lt_resolve.specs.Told.{Tells};
+ghost use Rattle.lt_resolve.specs.Told.{NeedsNoMemory, Tells};
 
 use indexmap::IndexSet;
 use lt_base::{Memory, Or};
@@ -67,6 +67,7 @@ impl<'a> Names<'a> {
     /// The number of a name; refuses a name that is not there.
     pub fn find<'t>(&self, name: &'t str) -> Result<u32, Or<&'t str>>
         ensures told { Tells (if_missing self.now name.now) result }
+        ensures memory { NeedsNoMemory result }
         ensures number { IfOk result (λ i. number_of self.now name.now ≡ Some i) }
     {
         match self.number(name) {
@@ -77,7 +78,8 @@ impl<'a> Names<'a> {
 
     /// Refuses a name that is not there.
     pub fn check<'t>(&self, name: &'t str) -> Result<(), Or<&'t str>>
-        ensures { Tells (if_missing self.now name.now) result }
+        ensures told { Tells (if_missing self.now name.now) result }
+        ensures memory { NeedsNoMemory result }
     {
         if self.has(name) {
             Ok(())

@@ -1,12 +1,13 @@
 // From a tree to its program.
 ghost use Rattle.std.specs.Prelude.{◌≡◌, ◌<◌, ◌^◌, Ok, Err, Some, length, MatchResult, IfOk};
 ghost use Rattle.lt_base.specs.Or.{ForFault};
+ghost use Rattle.lt_syntax.specs.Program.{IsSpelled};
 ghost use Rattle.lt_resolve.specs.Names.{number_of};
 ghost use Rattle.lt_resolve.specs.Named.{main, Named};
 ghost use Rattle.lt_resolve.specs.Known.{HasNumber};
 ghost use Rattle.lt_resolve.specs.Drafts.{AreDrafts};
 ghost use Rattle.lt_resolve.specs.Faults.{First, NoOtherFault};
-ghost use Rattle.lt_resolve.specs.Told.{Passes};
+ghost use Rattle.lt_resolve.specs.Told.{Cleared, Passes};
 ghost use Rattle.lt_resolve.specs.Right.{IsRightTree};
 ghost use Rattle.lt_resolve.specs.Resolves.{Resolves};
 
@@ -55,6 +56,33 @@ fn check_others(alloc: Global, tables: &Tables) -> Result<(), Or<NameFault>>
     check_limits(alloc, tables, &uses.delays)
 }
 
+/// The program of the drafts of a tree, or the first fault of the kinds that come behind unknown names.
+fn program_of_drafts(
+    alloc: Global,
+    tables: &Tables,
+    drafts: Vec<Draft>,
+) -> Result<Program, Or<NameFault>>
+    requires room { length tables.now < 2 ^ 32 }
+    requires spelled { IsSpelled tables.now }
+    requires cleared { Cleared tables.now 0 2 }
+    requires drafts { AreDrafts tables.now drafts.items }
+    ensures { MatchResult result (λ p. Resolves tables.now (Ok p)) (λ e. ForFault e (λ f. Resolves tables.now (Err f))) }
+{
+    check_others(alloc, tables)?;
+    Ok(program(alloc, tables, drafts)?)
+}
+
+/// The program of a tree in which no name is declared twice, or the tree's first fault.
+fn program_of_tables(alloc: Global, tables: &Tables) -> Result<Program, Or<NameFault>>
+    requires room { length tables.now < 2 ^ 32 }
+    requires spelled { IsSpelled tables.now }
+    requires cleared { Cleared tables.now 0 1 }
+    ensures { MatchResult result (λ p. Resolves tables.now (Ok p)) (λ e. ForFault e (λ f. Resolves tables.now (Err f))) }
+{
+    let drafts = drafts(alloc, tables)?;
+    program_of_drafts(alloc, tables, drafts)
+}
+
 /// The program of the tree, in which each name is replaced by the number of its declaration, or the tree's first fault.
 /// The kinds of faults are tried in their order over the whole tree.
 pub fn resolve(alloc: Global, t: &Tree) -> Result<Program, Or<NameFault>>
@@ -65,9 +93,7 @@ pub fn resolve(alloc: Global, t: &Tree) -> Result<Program, Or<NameFault>>
 {
     t.kept();
     let tables = Tables::of(alloc, t)?;
-    let drafts = drafts(alloc, &tables)?;
-    check_others(alloc, &tables)?;
-    Ok(program(alloc, &tables, drafts)?)
+    program_of_tables(alloc, &tables)
 }
 
 /// Refuses a fault of any kind but that of unknown names, if there is one. It need not be the first fault.

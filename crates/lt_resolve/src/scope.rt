@@ -4,7 +4,7 @@ ghost use Rattle.lt_resolve.specs.Names.{among, if_missing, if_among, repeated, 
 ghost use Rattle.lt_resolve.specs.Scopes.{names_of, variables, lefts};
 ghost use Rattle.lt_resolve.specs.Faults.{no_equation_in, two_equations_in, input_equation_in, size};
 ghost use Rattle.lt_resolve.specs.Uses.{all_delays};
-ghost use Rattle.lt_resolve.specs.Told.{Tells};
+ghost use Rattle.lt_resolve.specs.Told.{NeedsNoMemory, Tells};
 
 use crate::names::Names;
 use lt_base::{List, Memory, Or};
@@ -61,7 +61,8 @@ fn table_of_lefts<'a>(alloc: Global, eqs: &'a List<EqText>) -> Result<Names<'a>,
 
 /// Refuses the first declared name that is not in the table.
 fn all_among<'t>(names: &Names, decls: &'t List<DeclText>) -> Result<(), Or<&'t str>>
-    ensures { Tells (first_some (if_missing names.now) (names_of decls.now)) result }
+    ensures told { Tells (first_some (if_missing names.now) (names_of decls.now)) result }
+    ensures memory { NeedsNoMemory result }
 {
     'decls: for decl in decls.as_slice() {
         names.check(decl.name.as_str())?;
@@ -130,7 +131,8 @@ impl<'a> Scope<'a> {
 
     /// Refuses the first equation of an input.
     pub fn input_equation(&self) -> Result<(), Or<&'a str>>
-        ensures { Tells (input_equation_in self.now) result }
+        ensures told { Tells (input_equation_in self.now) result }
+        ensures memory { NeedsNoMemory result }
     {
         'eqs: for eq in self.node.eqs.as_slice() {
             let name = eq.left().as_str();

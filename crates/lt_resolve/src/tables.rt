@@ -2,6 +2,7 @@
 ghost use Rattle.std.specs.Prelude.{◌≡◌, ◌++◌, ◌∷◌, [], ◌<◌, ◌^◌, IfOk, OnOk, length};
 ghost use Rattle.std.specs.Option.{option_or};
 ghost use Rattle.lt_resolve.specs.Names.{if_among, repeated};
+ghost use Rattle.lt_resolve.specs.Scopes as names;
 ghost use Rattle.lt_resolve.specs.Scopes.{variables, functions};
 ghost use Rattle.lt_resolve.specs.Faults.{First};
 ghost use Rattle.lt_resolve.specs.Told.{Tells, Shows};
@@ -74,6 +75,29 @@ fn next<'a>(
     Scope::of(alloc, node)
 }
 
+/// The functions with their variables; their names are put into a table without any. Refuses a second function, or a
+/// second variable of a function, of one name.
+fn scopes_of<'a>(
+    alloc: Global,
+    functions: &mut Names<'a>,
+    nodes: &'a [NodeText],
+) -> Result<Vec<Scope<'a>>, Or<NameFault>>
+    requires room { length nodes.now < 2 ^ 32 }
+    requires none { functions.old ≡ [] }
+    ensures shown { Shows NameKind.Twice (First nodes.now NameKind.Twice) result }
+    ensures scopes { IfOk result (λ scopes. scopes.items ≡ nodes.now) }
+    ensures names { OnOk result (functions.new ≡ names.functions nodes.now) }
+{
+    let mut scopes = Vec::with_capacity(alloc, nodes.len())?;
+    'nodes: for (i, node) in nodes.iter().enumerate() {
+        match next(alloc, functions, node) {
+            Ok(scope) => scopes.push(scope)?,
+            Err(error) => return Err(located(alloc, NameKind::Twice, i, error)),
+        }
+    }
+    Ok(scopes)
+}
+
 impl<'a> Tables<'a> {
     /// The tables of a tree; refuses a second function, or a second variable of a function, of one name.
     pub fn of(alloc: Global, t: &'a Tree) -> Result<Tables<'a>, Or<NameFault>>
@@ -83,13 +107,7 @@ impl<'a> Tables<'a> {
     {
         let nodes = t.nodes.as_slice();
         let mut functions = Names::with_capacity(alloc, nodes.len())?;
-        let mut scopes = Vec::with_capacity(alloc, nodes.len())?;
-        'nodes: for (i, node) in nodes.iter().enumerate() {
-            match next(alloc, &mut functions, node) {
-                Ok(scope) => scopes.push(scope)?,
-                Err(error) => return Err(located(alloc, NameKind::Twice, i, error)),
-            }
-        }
+        let scopes = scopes_of(alloc, &mut functions, nodes)?;
         Ok(Tables { functions, scopes })
     }
 

@@ -1,5 +1,6 @@
-use Rattle.std.proofs.Common.{◌≡◌, take, drop, vec_len}
+use Rattle.std.proofs.Common.{◌≡◌, ◌+◌, ◌*◌, max, take, drop, vec_len}
 use Rattle.lt_base.specs.Expression.{shape}
+use Rattle.lt_syntax.proofs.term.Term.TheLaws.{the_size}
 use Rattle.lt_syntax.specs.Views.{tm_of}
 use Rattle.lt_resolve.specs.Names.{first_some}
 use Rattle.lt_resolve.specs.Named.{Along}
@@ -13,3 +14,39 @@ invariant-arguments-arguments l = record {
   many : vec_len l.exprs ≡ l.a-index;
   along : Along (λ a e. IsTranslated l.variables l.functions (tm_of a) (shape e)) (take l.a-index l.args) l.exprs.items;
 }
+
+abbrev pub decreases-expression : goal.decreases-expression
+decreases-expression l = 3 * the_size l.term.now
+
+abbrev pub decreases-boxed : goal.decreases-boxed
+decreases-boxed l = 3 * the_size l.term.now + 1
+
+abbrev pub decreases-arguments : goal.decreases-arguments
+decreases-arguments l = 3 * goal.size-arguments l + 1
+
+abbrev pub decreases-unary : goal.decreases-unary
+decreases-unary l = 3 * the_size l.a.now + 2
+
+abbrev pub decreases-sampled : goal.decreases-sampled
+decreases-sampled l = 3 * the_size l.a.now + 2
+
+abbrev pub decreases-delayed : goal.decreases-delayed
+decreases-delayed l = 3 * the_size l.a.now + 2
+
+abbrev pub decreases-binary : goal.decreases-binary
+decreases-binary l = 3 * max (the_size l.a.now) (the_size l.b.now) + 2
+
+abbrev pub decreases-merged : goal.decreases-merged
+decreases-merged l = 3 * max (the_size l.a.now) (the_size l.b.now) + 2
+
+abbrev pub decreases-followed : goal.decreases-followed
+decreases-followed l = 3 * max (the_size l.a.now) (the_size l.b.now) + 2
+
+abbrev pub decreases-arrow : goal.decreases-arrow
+decreases-arrow l = 3 * max (the_size l.a.now) (the_size l.b.now) + 2
+
+abbrev pub decreases-choice : goal.decreases-choice
+decreases-choice l = 3 * max (the_size l.c.now) (max (the_size l.a.now) (the_size l.b.now)) + 2
+
+abbrev pub decreases-called : goal.decreases-called
+decreases-called l = 3 * goal.size-called l + 2

@@ -16,8 +16,8 @@ module _ (n m : NodeText) (eqs : List (Name × Tm)) (same : m ≡ n) (is : eqs �
 if_there : (names : List Name) (x y : Name) (b : Bool) → y ≡ x → b ≡ true → b ≡ among names y → if_among names x ≡ Some y
 if_there names x y b e t h = (λ i. if_among names (sym e i)) ∙ ap (λ c. if c then Some y else None) (sym h ∙ t)
 
-pub returns-then-is_input : goal.returns-then-is_input
-returns-then-is_input c =
+pub returns-then-is_input-clause-told : goal.returns-then-is_input-clause-told
+returns-then-is_input-clause-told c =
     let n = c.args.self.now in
     let eqs = c.as_slice-eq-items.result.now in
     of_lefts n c.self.inside.node.now eqs c.self.view_is c.as_slice-eq-items.ensures
@@ -25,8 +25,8 @@ returns-then-is_input c =
     (if_there (names_of n.ins) c.eq-item.result.0 c.as_str-name.result.now c.is_input.result (c.as_str-name.ensures ∙ c.left.ensures) c.if-is_input.true c.is_input.ensures)
     c.eqs.invariant
 
-pub returns : goal.returns
-returns c =
+pub returns-clause-told : goal.returns-clause-told
+returns-clause-told c =
     let n = c.args.self.now in
     let eqs = c.as_slice-eq-items.result.now in
     of_lefts n c.self.inside.node.now eqs c.self.view_is c.as_slice-eq-items.ensures

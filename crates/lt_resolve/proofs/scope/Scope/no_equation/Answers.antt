@@ -25,9 +25,9 @@ module _ (n m : NodeText) (table : List Name) (same : m ≡ n) (is : (x : Name) 
 pub returns-in_err-all_among : goal.returns-in_err-all_among
 returns-in_err-all_among c =
     tells_as _ _ _ (parts c.args.self.now c.self.inside.node.now c.in_ok-lefts.lefts c.self.view_is c.in_ok-lefts.ensures)
-    (tells_on _ c.in_err-all_among.field-0.0 _ c.from_residual-in_err-all_among.ensures.1 (refuses_first _ _ _ c.in_err-all_among.ensures))
+    (tells_on _ c.in_err-all_among.field-0.0 _ c.from_residual-in_err-all_among.ensures.1 (refuses_first _ _ _ c.in_err-all_among.ensures.told))
 
 pub returns : goal.returns
 returns c =
     tells_as _ _ _ (parts c.args.self.now c.self.inside.node.now c.in_ok-lefts.lefts c.self.view_is c.in_ok-lefts.ensures)
-    (tells_then _ _ _ c.in_ok-all_among.ensures c.all_among-2.ensures)
+    (tells_then _ _ _ c.in_ok-all_among.ensures.told c.all_among-2.ensures.told)

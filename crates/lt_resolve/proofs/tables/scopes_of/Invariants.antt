@@ -1,7 +1,7 @@
 use Rattle.std.proofs.Common.{◌≡◌, take, drop}
 use Rattle.lt_resolve.specs.Scopes.{functions}
 use Rattle.lt_resolve.specs.Faults.{first_in, twice_in}
-use Rattle.lt_resolve.proofs.tables.Tables.of.Given as goal
+use Rattle.lt_resolve.proofs.tables.scopes_of.Given as goal
 
 abbrev pub invariant-nodes : goal.invariant-nodes
 invariant-nodes l = record {

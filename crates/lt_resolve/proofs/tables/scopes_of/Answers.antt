@@ -1,29 +1,25 @@
-use Rattle.std.proofs.Common.{◌≡◌, List, [], sym, subst, ◌∙◌}
+use Rattle.std.proofs.Common.{◌≡◌, [], sym, subst, ◌∙◌}
 use Rattle.std.specs.Option.{option_or}
-use Rattle.lt_syntax.specs.declared.tree.NodeText.{NodeText}
 use Rattle.lt_resolve.specs.Names.{if_among, repeated}
 use Rattle.lt_resolve.specs.declared.fault.NameKind.TheVariants.{Twice}
 use Rattle.lt_resolve.specs.Scopes.{variables, functions}
-use Rattle.lt_resolve.specs.Faults.{first_in, twice_in}
-use Rattle.lt_resolve.specs.Told.{Refuses, Blames}
+use Rattle.lt_resolve.specs.Faults.{twice_in}
+use Rattle.lt_resolve.specs.Told.{Refuses}
 use Rattle.lt_resolve.proofs.Lists.{in_next}
 use Rattle.lt_resolve.proofs.Located.{blames_at, twice_at, functions_more, one_more}
-use Rattle.lt_resolve.proofs.tables.Tables.of.Goals as goal
+use Rattle.lt_resolve.proofs.tables.scopes_of.Goals as goal
 
 pub returns-in-Err-clause-shown : goal.returns-in-Err-clause-shown
 returns-in-Err-clause-shown c =
-    let t = c.as_slice-nodes.result.now in
+    let t = c.args.nodes.now in
     let n = c.index-nodes-i.result in
     let twice : option_or (if_among c.nodes.functions n.name) (repeated [] (variables n)) ≡ twice_in (functions t) c.nodes.i n = twice_at t c.nodes.i n c.nodes.functions c.nodes.invariant.table in
-    subst
-    (λ (tree : List NodeText). Blames Twice (λ o. o ≡ first_in (twice_in (functions tree)) 0 tree) c.located.result)
-    (c.as_slice-nodes.ensures ∙ c.t.view_is)
     (blames_at Twice (twice_in (functions t)) t c.nodes.i n c.in-Err.error c.located.result c.nodes-test.true c.index-nodes-i.is c.nodes.invariant.rest c.located.ensures
     (subst (λ o. Refuses o c.in-Err.error) twice c.in-Err.ensures.told))
 
 pub nodes-preserved : goal.nodes-preserved
 nodes-preserved c =
-    let t = c.as_slice-nodes.result.now in
+    let t = c.args.nodes.now in
     let n = c.index-nodes-i.result in
     let at = c.index-nodes-i.is in
     record {
