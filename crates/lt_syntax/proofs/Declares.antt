@@ -1,5 +1,5 @@
 -- Declarations, and phases other than a body.
-use Rattle.std.proofs.Common.{◌≡◌, ℕ, Bool, List, [], ◌∷◌, ◌++◌, refl, ap, ap₂, ◌∙◌, append_assoc}
+use Rattle.std.proofs.Common.{◌≡◌, ℕ, Bool, List, [], ◌∷◌, ◌++◌, refl, sym, ap, ap₂, ◌∙◌, subst, append_assoc}
 use Rattle.std.specs.Global.{Box}
 use Rattle.lt_base.specs.declared.value.Ty.{Ty}
 use Rattle.lt_tokens.specs.declared.token.Token.{Token}
@@ -10,7 +10,7 @@ use Rattle.lt_syntax.specs.declared.header.Phase.TheVariants as phase
 use Rattle.lt_syntax.specs.Machine as machine
 use Rattle.lt_syntax.specs.Program.{declared}
 use Rattle.lt_syntax.specs.Parser.{move, finish, step_on}
-use Rattle.lt_syntax.specs.Phases.{phase_of}
+use Rattle.lt_syntax.specs.Phases.{phase_of, IsIn}
 
 declared_snoc : (xs : List (List ℕ)) (x : List ℕ) (ty : Ty) (c : List (List ℕ × Bool)) → declared xs ty c ++ record { name = x; ty = ty; clock = c } ∷ [] ≡ declared (xs ++ x ∷ []) ty c
 declared_snoc [] x ty c = refl
@@ -44,3 +44,7 @@ elsewhere (phase.HasOuts n) fs m g h done t = refl
 elsewhere (phase.HasHead n) fs m g h done t = refl
 elsewhere (phase.HasLocals n) fs m g h done t = refl
 elsewhere (phase.HasLeft n x) fs m g h done t = refl
+
+-- no right side of an equation is begun in an equal phase
+pub not_in : (p q : Phase) → p ≡ q → (IsIn q → ⊥) → (n : Box NodeText) (x : List ℕ) → p ≡ phase.In n x → ⊥
+not_in p q e h n x f = h (subst IsIn (sym f ∙ e) tt)

@@ -1,5 +1,5 @@
 -- The loop over the bytes.
-use Rattle.std.proofs.Common.{◌≡◌, ℕ, ◌+◌, ◌≤◌, List, [], ◌∷◌, ◌++◌, length, Result, Ok, Err, Some, None, refl, sym, ap, ◌∙◌, subst, append-nil, append_assoc}
+use Rattle.std.proofs.Common.{◌≡◌, ℕ, ◌+◌, ◌≤◌, List, [], ◌∷◌, ◌++◌, length, Result, Ok, Err, refl, sym, ap, ◌∙◌, subst, append-nil, append_assoc}
 use Rattle.lt_base.specs.declared.memory.Or.{Or}
 use Rattle.lt_base.specs.declared.memory.Or.TheVariants as or
 use Rattle.lt_tokens.specs.declared.token.Token.{Token}
@@ -12,7 +12,7 @@ use Rattle.lt_syntax.specs.declared.tree.NodeText.{NodeText}
 use Rattle.lt_syntax.specs.Program.{Program, Spells}
 use Rattle.lt_syntax.specs.Faults.{Begins, Offends, IsFault}
 use Rattle.lt_syntax.specs.Parser.{State, Kind, Unexpected, TooDeep, step, on, run, start}
-use Rattle.lt_syntax.specs.Reads.{Answers, Finds, syntax_kind, EndsWith}
+use Rattle.lt_syntax.specs.Reads.{Answers, Finds, syntax_kind, Ends, IsWrong}
 use Rattle.lt_syntax.proofs.Whole.{run_on, begins_at, breaks_at, exceeds_at, program_at, none_at, one_tree}
 
 -- one more token is cut off
@@ -41,21 +41,18 @@ module _ (limit : ℕ) (one : 1 ≤ limit) (bytes rest : List ℕ) (s : State) (
   fault : (f : SyntaxFault) (n : Front) → front (skip rest) ≡ n → f.at + length (skip rest) ≡ length bytes → Offends limit f.kind g.tokens n → IsFault limit bytes f
   fault f n e p o = record { tokens = g.tokens; rest = rest; cut = g.cut; place = p; before = begins_at limit one g.tokens s g.ran; offends = subst (Offends limit f.kind g.tokens) (sym e) o }
 
-  pub stops : (f : SyntaxFault) (t : Token) (after : List ℕ) (k : Kind) → front (skip rest) ≡ text.Begins t after → f.at + length (skip rest) ≡ length bytes → f.kind ≡ syntax_kind k → step limit s t ≡ Err k → IsFault limit bytes f
+  stops : (f : SyntaxFault) (t : Token) (after : List ℕ) (k : Kind) → front (skip rest) ≡ text.Begins t after → f.at + length (skip rest) ≡ length bytes → f.kind ≡ syntax_kind k → step limit s t ≡ Err k → IsFault limit bytes f
   stops f t after Unexpected e p q r = fault f (text.Begins t after) e p (subst (λ z. Offends limit z g.tokens (text.Begins t after)) (sym q) (breaks_at limit one g.tokens s t g.ran r))
   stops f t after TooDeep e p q r = fault f (text.Begins t after) e p (subst (λ z. Offends limit z g.tokens (text.Begins t after)) (sym q) (exceeds_at limit one g.tokens s t g.ran r))
 
-  pub bad_byte : (at : ℕ) → front (skip rest) ≡ text.BadByte → at + length (skip rest) ≡ length bytes → IsFault limit bytes (record { at = at; kind = kind.BadByte })
-  bad_byte at e p = fault (record { at = at; kind = kind.BadByte }) text.BadByte e p tt
+  pub wrong : (f : SyntaxFault) (n : Front) → front (skip rest) ≡ n → f.at + length (skip rest) ≡ length bytes → IsWrong limit s n f.kind → IsFault limit bytes f
+  wrong f text.BadByte e p w = fault f text.BadByte e p (subst (λ z. Offends limit z g.tokens text.BadByte) (sym w) tt)
+  wrong f text.BadNumber e p w = fault f text.BadNumber e p (subst (λ z. Offends limit z g.tokens text.BadNumber) (sym w) tt)
+  wrong f text.Over e p w = fault f text.Over e p (subst (λ z. Offends limit z g.tokens text.Over) (sym w.0) (λ t q. none_at limit one g.tokens s g.ran (λ a b. w.1 (a, b)) t q))
+  wrong f (text.Begins t after) e p w = stops f t after w.0 e p w.1 w.2
 
-  pub bad_number : (at : ℕ) → front (skip rest) ≡ text.BadNumber → at + length (skip rest) ≡ length bytes → IsFault limit bytes (record { at = at; kind = kind.BadNumber })
-  bad_number at e p = fault (record { at = at; kind = kind.BadNumber }) text.BadNumber e p tt
-
-  pub over_none : (at : ℕ) → front (skip rest) ≡ text.Over → at + length (skip rest) ≡ length bytes → EndsWith s None → IsFault limit bytes (record { at = at; kind = kind.Unexpected })
-  over_none at e p h = fault (record { at = at; kind = kind.Unexpected }) text.Over e p (λ t q. none_at limit one g.tokens s g.ran h t q)
-
-  pub over_some : (t : List NodeText) → front (skip rest) ≡ text.Over → EndsWith s (Some t) → Spells limit bytes t
-  over_some t e h = record { tokens = g.tokens; rest = rest; cut = g.cut; ended = e; program = subst (Program limit g.tokens) (sym h.0) (program_at limit one g.tokens s g.ran h.1 h.2) }
+  pub over : Ends s → front (skip rest) ≡ text.Over → Spells limit bytes s.done
+  over h e = record { tokens = g.tokens; rest = rest; cut = g.cut; ended = e; program = program_at limit one g.tokens s g.ran h.0 h.1 }
 
 -- a text is cut in one way, also from a place in it
 cuts_split : (ts us : List Token) (bytes r s : List ℕ) → Cuts bytes ts r → Cuts bytes us s → front (skip s) ≡ text.Over → (more : List Token) × (us ≡ ts ++ more) × Cuts r more s

@@ -1,7 +1,8 @@
 -- How a proof tells two terms apart.
 use Rattle.std.specs.Prelude.{◌≡◌, ℕ, List}
-use Rattle.std.proofs.Common.{ap}
-use base.Stored.{Gv, gnil, gnum, gcons}
+use Rattle.std.proofs.Common.{ap, refl}
+use Rattle.std.proofs.lemmas.Bool.{eqb-false}
+use base.Stored.{Gv, gnil, gnum, gcons, num}
 use Rattle.std.specs.Coded.{Coded, coded_bool, coded_list, coded_ℕ}
 use Rattle.lt_base.specs.contracts.value.Value.{the_row as value_row}
 use Rattle.lt_base.specs.contracts.operators.Un.{the_row as un_row}
@@ -17,6 +18,10 @@ abbrev rest : Gv → Gv
 rest gnil = gnil
 rest (gnum n) = gnil
 rest (gcons a b) = b
+
+-- the number of a term's form
+abbrev form : Gv → ℕ
+form g = num (first g)
 
 abbrev name : Coded (List ℕ)
 name = coded_list coded_ℕ
@@ -52,7 +57,7 @@ mutual
   tm_inj (Followed a b) (Followed a' b') p = λ i. Followed (tm_inj a a' (ap (λ g. first (rest g)) p) i) (tm_inj b b' (ap (λ g. rest (rest g)) p) i)
   tm_inj (Arrow a b) (Arrow a' b') p = λ i. Arrow (tm_inj a a' (ap (λ g. first (rest g)) p) i) (tm_inj b b' (ap (λ g. rest (rest g)) p) i)
   tm_inj (Call f xs) (Call f' xs') p = λ i. Call (name.inj f f' (ap (λ g. first (rest g)) p) i) (tms_inj xs xs' (ap (λ g. rest (rest g)) p) i)
-  tm_inj x y p = cc
+  tm_inj x y p = absurd (eqb-false (form (tm_code x)) (form (tm_code y)) refl (ap form p))
 
   pub tms_inj : (x y : Tms) → tms_code x ≡ tms_code y → x ≡ y
   tms_inj Nil Nil p = λ i. Nil

@@ -45,11 +45,25 @@ abbrev pub IsIn : Phase → Type 0
 IsIn (phase.In n x) = Unit {0}
 IsIn _ = ⊥
 
--- the next phase, in which no form is begun, unless memory ran out
+-- The next phase, in which no form is begun. Want of memory may stand in place of a phase, and never of a fault.
 abbrev pub Moves : Result Phase (Or Kind) → Result parser.Phase parser.Kind → Type 0
 Moves (Ok p) r = r ≡ Ok (phase_of p [] machine.Want)
 Moves (Err (or.Fault k)) r = r ≡ Err (kind_of k)
-Moves (Err or.Memory) r = Unit {0}
+Moves (Err or.Memory) (Ok p) = Unit {0}
+Moves (Err or.Memory) (Err k) = ⊥
+
+-- the parser is in the next state, and want of memory stands in place of no fault
+abbrev pub Proceeds : Result (Unit {0}) (Or Kind) → parser.State → Result parser.State parser.Kind → Type 0
+Proceeds (Ok done) s r = r ≡ Ok s
+Proceeds (Err (or.Fault k)) s r = r ≡ Err (kind_of k)
+Proceeds (Err or.Memory) s (Ok s') = Unit {0}
+Proceeds (Err or.Memory) s (Err k) = ⊥
+
+-- a result that is no want of memory, of a function that takes none
+abbrev pub NeedsNoMemory : {T E : Type 0} → Result T (Or E) → Type 0
+NeedsNoMemory (Ok x) = Unit {0}
+NeedsNoMemory (Err (or.Fault k)) = Unit {0}
+NeedsNoMemory (Err or.Memory) = ⊥
 
 -- the parser is in the next state, unless memory ran out
 abbrev pub Steps : Result (Unit {0}) (Or Kind) → parser.State → Result parser.State parser.Kind → Type 0

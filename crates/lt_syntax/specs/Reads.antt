@@ -1,7 +1,9 @@
 -- What reading a text answers.
-use Rattle.std.specs.Prelude.{ℕ, ◌≡◌, List, Result, Ok, Err, Option, Some, None, ⊤}
+use Rattle.std.specs.Prelude.{ℕ, ◌≡◌, ◌≤◌, List, drop, length, Result, Ok, Err, Option, Some, None, ⊤}
 use Rattle.lt_base.specs.declared.memory.Or.{Or}
 use Rattle.lt_base.specs.declared.memory.Or.TheVariants as or
+use Rattle.lt_tokens.specs.declared.token.Token.{Token}
+use Rattle.lt_tokens.specs.Text as text
 use Rattle.lt_syntax.specs.declared.fault.SyntaxFault.{SyntaxFault}
 use Rattle.lt_syntax.specs.declared.fault.SyntaxKind.{SyntaxKind}
 use Rattle.lt_syntax.specs.declared.fault.SyntaxKind.TheVariants as code
@@ -32,7 +34,25 @@ StepsAt at (Ok done) s r = r ≡ Ok s
 StepsAt at (Err (or.Fault f)) s r = (f.at ≡ at) × (k : parser.Kind) × (f.kind ≡ syntax_kind k) × (r ≡ Err k)
 StepsAt at (Err or.Memory) s r = ⊤
 
--- the whole nodes, where the text may end here
-abbrev pub EndsWith : parser.State → Option (List NodeText) → Type 0
-EndsWith s (Some t) = (t ≡ s.done) × parser.Ends s.phase × NotEmpty s.done
-EndsWith s None = parser.Ends s.phase → NotEmpty s.done → ⊥
+-- behind at least one node, where the text may end
+abbrev pub Ends : parser.State → Type 0
+Ends s = parser.Ends s.phase × NotEmpty s.done
+
+-- the fault of this kind stands here: what begins no token, a token that is no step, or an end where the text may not end
+abbrev pub IsWrong : ℕ → parser.State → text.Front → SyntaxKind → Type 0
+IsWrong limit s text.BadByte kind = kind ≡ code.BadByte
+IsWrong limit s text.BadNumber kind = kind ≡ code.BadNumber
+IsWrong limit s text.Over kind = (kind ≡ code.Unexpected) × (Ends s → ⊥)
+IsWrong limit s (text.Begins t after) kind = (k : parser.Kind) × (kind ≡ syntax_kind k) × (parser.step limit s t ≡ Err k)
+
+-- What is taken of a text without blanks at its front, at this place: a token of so many bytes, which is a step; the end; or the fault there.
+abbrev pub Takes : ℕ → ℕ → List ℕ → parser.State → parser.State → Result (Option ℕ) (Or SyntaxFault) → Type 0
+Takes limit at here s s' (Ok (Some n)) = (t : Token) × (text.front here ≡ text.Begins t (drop n here)) × (parser.step limit s t ≡ Ok s') × (1 ≤ n) × (n ≤ length here)
+Takes limit at here s s' (Ok None) = (text.front here ≡ text.Over) × Ends s × (s' ≡ s)
+Takes limit at here s s' (Err (or.Fault f)) = (f.at ≡ at) × IsWrong limit s (text.front here) f.kind
+Takes limit at here s s' (Err or.Memory) = ⊤
+
+-- these nodes are spelled by the bytes, and a fault is the first one
+abbrev pub Spelled : ℕ → List ℕ → List NodeText → Result (Unit {0}) (Or SyntaxFault) → Type 0
+Spelled limit bytes t (Ok done) = Spells limit bytes t
+Spelled limit bytes t (Err e) = Answers limit bytes (Err e)

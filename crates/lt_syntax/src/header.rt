@@ -1,5 +1,5 @@
 // The parser of programs: what each token does to what is begun.
-ghost use Rattle.std.specs.Prelude.{◌≡◌, ◌++◌, ◌∷◌, [], ℕ, List, IfOk, OnOk, IsTrue, ◌↔◌, Ok, Err, Result, if◌then◌else◌};
+ghost use Rattle.std.specs.Prelude.{◌≡◌, ◌++◌, ◌∷◌, [], ℕ, List, IfOk, IfErr, OnOk, IsTrue, ◌↔◌, Ok, Err, Result, if◌then◌else◌};
 ghost use Rattle.lt_tokens.specs.declared.token.Token.TheVariants as token;
 ghost use Rattle.lt_tokens.specs.Fronts.{IsSmall};
 ghost use Rattle.lt_syntax.specs.Machine as machine;
@@ -7,14 +7,17 @@ ghost use Rattle.lt_syntax.specs.Parser as parser;
 ghost use Rattle.lt_syntax.specs.declared.header.Phase.TheVariants as phases;
 ghost use Rattle.lt_syntax.specs.declared.tree.NodeText.{NodeText as OneNode};
 ghost use Rattle.lt_syntax.specs.Program.{declared};
-ghost use Rattle.lt_syntax.specs.Views.{mode_of, operand_of, stack_of, next_of};
+ghost use Rattle.lt_syntax.specs.Views.{mode_of, operand_of, stack_of, next_of, tm_of};
 ghost use Rattle.std.specs.Global.{Box};
-ghost use Rattle.lt_syntax.specs.Phases.{phase_of, state_of, IsIn, Moves, Steps, Fits};
+ghost use Rattle.lt_base.specs.declared.memory.Or.TheVariants as or;
+ghost use Rattle.lt_syntax.specs.declared.header.Kind.TheVariants as kinds;
+ghost use Rattle.lt_syntax.specs.Phases.{phase_of, state_of, IsIn, Moves, Proceeds, Steps, Fits, NeedsNoMemory};
 
 use crate::expression::go;
 use crate::frame::{Frame, Mode, Next, Operand};
 use crate::section::Section;
 use crate::stack::{LIMIT, fits};
+use crate::term::Term;
 use crate::tree::{DeclText, EqText, NodeText};
 use lt_base::{Bin, List, Memory, Name, Or, Ty};
 use lt_tokens::{Infix, Token};
@@ -84,7 +87,7 @@ pub fn may_end(p: &Parser) -> bool
 }
 
 fn wrong() -> Or<Kind>
-    ensures { Moves (Err result) (Err parser.Unexpected) }
+    ensures { result ≡ or.Fault kinds.Unexpected }
 {
     Or::Fault(Kind::Unexpected)
 }
@@ -133,7 +136,8 @@ fn add(
 }
 
 fn idle(t: Token) -> Result<Phase, Or<Kind>>
-    ensures { Moves result (parser.move LIMIT parser.Idle t) }
+    ensures moves { Moves result (parser.move LIMIT parser.Idle t) }
+    ensures memory { NeedsNoMemory result }
 {
     match t {
         Token::Node => Ok(Phase::WantNode),
@@ -142,7 +146,8 @@ fn idle(t: Token) -> Result<Phase, Or<Kind>>
 }
 
 fn told(t: Token) -> Result<Phase, Or<Kind>>
-    ensures { Moves result (parser.move LIMIT parser.Told t) }
+    ensures moves { Moves result (parser.move LIMIT parser.Told t) }
+    ensures memory { NeedsNoMemory result }
 {
     match t {
         Token::Node => Ok(Phase::WantNode),
@@ -152,7 +157,8 @@ fn told(t: Token) -> Result<Phase, Or<Kind>>
 }
 
 fn want_node(t: Token) -> Result<Phase, Or<Kind>>
-    ensures { Moves result (parser.move LIMIT parser.WantNode t) }
+    ensures moves { Moves result (parser.move LIMIT parser.WantNode t) }
+    ensures memory { NeedsNoMemory result }
 {
     match t {
         Token::Ident(x) => Ok(Phase::HasNode(x)),
@@ -206,7 +212,8 @@ fn want_name(n: Box<NodeText>, s: Section, xs: List<Name>, t: Token) -> Result<P
 }
 
 fn has_name(n: Box<NodeText>, s: Section, xs: List<Name>, t: Token) -> Result<Phase, Or<Kind>>
-    ensures { Moves result (parser.move LIMIT (parser.HasName n.value s xs) t) }
+    ensures moves { Moves result (parser.move LIMIT (parser.HasName n.value s xs) t) }
+    ensures memory { NeedsNoMemory result }
 {
     match t {
         Token::Comma => Ok(Phase::WantName(n, s, xs)),
@@ -222,7 +229,8 @@ fn want_type(
     xs: List<Name>,
     t: Token,
 ) -> Result<Phase, Or<Kind>>
-    ensures { Moves result (parser.move LIMIT (parser.WantType n.value s xs) t) }
+    ensures moves { Moves result (parser.move LIMIT (parser.WantType n.value s xs) t) }
+    ensures memory { NeedsNoMemory result }
 {
     match t {
         Token::Type(ty) => Ok(Phase::HasGroup(n, s, xs, ty, List::new(alloc))),
@@ -237,7 +245,8 @@ fn group_when(
     ty: Ty,
     c: List<(Name, bool)>,
 ) -> Result<Phase, Or<Kind>>
-    ensures { Moves result (parser.end_group token.When n.value s xs ty c) }
+    ensures moves { Moves result (parser.end_group token.When n.value s xs ty c) }
+    ensures memory { NeedsNoMemory result }
 {
     match s {
         Section::Ins => Err(wrong()),
@@ -339,7 +348,8 @@ fn want_variable(
 }
 
 fn has_ins(n: Box<NodeText>, t: Token) -> Result<Phase, Or<Kind>>
-    ensures { Moves result (parser.move LIMIT (parser.HasIns n.value) t) }
+    ensures moves { Moves result (parser.move LIMIT (parser.HasIns n.value) t) }
+    ensures memory { NeedsNoMemory result }
 {
     match t {
         Token::Returns => Ok(Phase::Returning(n)),
@@ -348,7 +358,8 @@ fn has_ins(n: Box<NodeText>, t: Token) -> Result<Phase, Or<Kind>>
 }
 
 fn returning(alloc: Global, n: Box<NodeText>, t: Token) -> Result<Phase, Or<Kind>>
-    ensures { Moves result (parser.move LIMIT (parser.Returning n.value) t) }
+    ensures moves { Moves result (parser.move LIMIT (parser.Returning n.value) t) }
+    ensures memory { NeedsNoMemory result }
 {
     match t {
         Token::Open => Ok(Phase::WantName(n, Section::Outs, List::new(alloc))),
@@ -357,7 +368,8 @@ fn returning(alloc: Global, n: Box<NodeText>, t: Token) -> Result<Phase, Or<Kind
 }
 
 fn has_outs(alloc: Global, n: Box<NodeText>, t: Token) -> Result<Phase, Or<Kind>>
-    ensures { Moves result (parser.move LIMIT (parser.HasOuts n.value) t) }
+    ensures moves { Moves result (parser.move LIMIT (parser.HasOuts n.value) t) }
+    ensures memory { NeedsNoMemory result }
 {
     match t {
         Token::Semicolon => Ok(Phase::HasHead(n)),
@@ -368,7 +380,8 @@ fn has_outs(alloc: Global, n: Box<NodeText>, t: Token) -> Result<Phase, Or<Kind>
 }
 
 fn has_head(alloc: Global, n: Box<NodeText>, t: Token) -> Result<Phase, Or<Kind>>
-    ensures { Moves result (parser.move LIMIT (parser.HasHead n.value) t) }
+    ensures moves { Moves result (parser.move LIMIT (parser.HasHead n.value) t) }
+    ensures memory { NeedsNoMemory result }
 {
     match t {
         Token::Var => Ok(Phase::WantName(n, Section::Locals, List::new(alloc))),
@@ -388,7 +401,8 @@ fn has_locals(alloc: Global, n: Box<NodeText>, t: Token) -> Result<Phase, Or<Kin
 }
 
 fn has_left(n: Box<NodeText>, x: Name, t: Token) -> Result<Phase, Or<Kind>>
-    ensures { Moves result (parser.move LIMIT (parser.HasLeft n.value x) t) }
+    ensures moves { Moves result (parser.move LIMIT (parser.HasLeft n.value x) t) }
+    ensures memory { NeedsNoMemory result }
 {
     match t {
         Token::Infix(Infix::Operator(Bin::Eq)) => Ok(Phase::In(n, x)),
@@ -398,7 +412,8 @@ fn has_left(n: Box<NodeText>, x: Name, t: Token) -> Result<Phase, Or<Kind>>
 
 /// A name begins an equation.
 fn body(n: Box<NodeText>, t: Token) -> Result<Phase, Or<Kind>>
-    ensures { Moves result (parser.move LIMIT (parser.Body n.value) t) }
+    ensures moves { Moves result (parser.move LIMIT (parser.Body n.value) t) }
+    ensures memory { NeedsNoMemory result }
 {
     match t {
         Token::Ident(x) => Ok(Phase::HasLeft(n, x)),
@@ -436,30 +451,32 @@ fn move_on(alloc: Global, phase: Phase, t: Token) -> Result<Phase, Or<Kind>>
 
 /// The next phase, in which no form is begun.
 fn moved(p: &mut Parser, phase: Result<Phase, Or<Kind>>) -> Result<(), Or<Kind>>
-    ensures { (next : Result parser.Phase parser.Kind) → Moves phase next → Steps result (state_of p.new) (parser.finish p.old.nodes next) }
+    ensures proceeds { (next : Result parser.Phase parser.Kind) → Moves phase next → Proceeds result (state_of p.new) (parser.finish p.old.nodes next) }
+    ensures same { IfErr result (λ e. phase ≡ Err e) }
 {
-    match phase {
-        Ok(phase) => {
-            p.phase = phase;
-            p.frames.clear();
-            p.mode = Mode::Want;
-            Ok(())
-        }
-        Err(Or::Fault(kind)) => Err(Or::Fault(kind)),
-        Err(Or::Memory) => Err(Or::Memory),
-    }
+    p.phase = phase?;
+    p.frames.clear();
+    p.mode = Mode::Want;
+    Ok(())
+}
+
+/// The node is whole.
+fn end_node(p: &mut Parser, n: Box<NodeText>) -> Result<(), Or<Kind>>
+    ensures { Proceeds result (state_of p.new) (Ok (record { done = p.old.nodes ++ n.value ∷ []; phase = parser.Told })) }
+{
+    p.nodes.push(Box::into_inner(n))?;
+    p.phase = Phase::Told;
+    Ok(())
 }
 
 /// `tel`, or an equation.
 fn end_body(p: &mut Parser, n: Box<NodeText>, t: Token) -> Result<(), Or<Kind>>
-    ensures { Steps result (state_of p.new) (parser.step_on LIMIT p.old.nodes (parser.Body n.value) t) }
+    ensures { Proceeds result (state_of p.new) (parser.step_on LIMIT p.old.nodes (parser.Body n.value) t) }
 {
-    if let Token::Tel = t {
-        p.nodes.push(Box::into_inner(n))?;
-        p.phase = Phase::Told;
-        return Ok(());
+    match t {
+        Token::Tel => end_node(p, n),
+        t => moved(p, body(n, t)),
     }
-    moved(p, body(n, t))
 }
 
 /// A form is begun that can't fit the greatest height.
@@ -479,7 +496,8 @@ fn is_too_deep(frames: &[Frame], mode: &Mode) -> bool
 
 /// The right side of an equation goes on.
 fn goes_on(p: &mut Parser, mode: Mode) -> Result<(), Or<Kind>>
-    ensures { (n : Box OneNode) (x : List ℕ) → p.old.phase ≡ phases.In n x → Steps result (state_of p.new) (parser.finish p.old.nodes (parser.checked LIMIT n.value x (machine.Go (stack_of p.old.frames.items) (mode_of mode)))) }
+    ensures proceeds { (n : Box OneNode) (x : List ℕ) → p.old.phase ≡ phases.In n x → Proceeds result (state_of p.new) (parser.finish p.old.nodes (parser.checked LIMIT n.value x (machine.Go (stack_of p.old.frames.items) (mode_of mode)))) }
+    ensures memory { NeedsNoMemory result }
 {
     if is_too_deep(&p.frames, &mode) {
         return Err(Or::Fault(Kind::TooDeep));
@@ -488,17 +506,24 @@ fn goes_on(p: &mut Parser, mode: Mode) -> Result<(), Or<Kind>>
     Ok(())
 }
 
+/// Behind an equation with this right side.
+fn with_equation(n: Box<NodeText>, x: Name, right: Box<Term>) -> Result<Phase, Or<Kind>>
+    ensures { Moves result (Ok (parser.Body (parser.add_equation n.value x (tm_of right.value)))) }
+{
+    let mut n = n;
+    n.eqs.push(EqText::new(x, Box::into_inner(right)))?;
+    Ok(Phase::Body(n))
+}
+
 /// The right side of an equation ends.
 fn ends(p: &mut Parser, a: Operand) -> Result<(), Or<Kind>>
     requires { IsIn p.old.phase }
-    ensures { (n : Box OneNode) (x : List ℕ) → p.old.phase ≡ phases.In n x → Steps result (state_of p.new) (parser.finish p.old.nodes (Ok (parser.Body (parser.add_equation n.value x (operand_of a).tree)))) }
+    ensures { (n : Box OneNode) (x : List ℕ) → p.old.phase ≡ phases.In n x → Proceeds result (state_of p.new) (parser.finish p.old.nodes (Ok (parser.Body (parser.add_equation n.value x (operand_of a).tree)))) }
 {
-    let Phase::In(mut n, x) = replace(&mut p.phase, Phase::Told) else {
-        unreachable!()
-    };
-    n.eqs.push(EqText::new(x, Box::into_inner(a.term)))?;
-    p.phase = Phase::Body(n);
-    Ok(())
+    match replace(&mut p.phase, Phase::Told) {
+        Phase::In(n, x) => moved(p, with_equation(n, x, a.term)),
+        _ => unreachable!(),
+    }
 }
 
 /// A token in the right side of an equation.
@@ -529,6 +554,17 @@ fn name_in_equation(alloc: Global, p: &mut Parser, x: Name) -> Result<(), Or<Kin
     in_equation(alloc, p, Token::Ident(x))
 }
 
+/// A token outside the right sides of equations.
+fn step_outside(alloc: Global, p: &mut Parser, t: Token) -> Result<(), Or<Kind>>
+    requires { IsIn p.old.phase → ⊥ }
+    ensures { Proceeds result (state_of p.new) (parser.step LIMIT (state_of p.old) t) }
+{
+    match replace(&mut p.phase, Phase::Told) {
+        Phase::Body(n) => end_body(p, n, t),
+        phase => moved(p, move_on(alloc, phase, t)),
+    }
+}
+
 /// Takes one token. Behind an error the parser is of no use.
 pub fn step(alloc: Global, p: &mut Parser, t: Token) -> Result<(), Or<Kind>>
     requires small { IsSmall t }
@@ -541,8 +577,5 @@ pub fn step(alloc: Global, p: &mut Parser, t: Token) -> Result<(), Or<Kind>>
             t => in_equation(alloc, p, t),
         };
     }
-    match replace(&mut p.phase, Phase::Told) {
-        Phase::Body(n) => end_body(p, n, t),
-        phase => moved(p, move_on(alloc, phase, t)),
-    }
+    step_outside(alloc, p, t)
 }

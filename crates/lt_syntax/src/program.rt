@@ -62,7 +62,6 @@ pub fn parse(alloc: Global, bytes: &[u8]) -> Result<Tree, Or<SyntaxFault>>
 {
     match read(alloc, bytes) {
         Ok(nodes) => Ok(Tree { nodes }),
-        Err(Or::Fault(fault)) => Err(Or::Fault(fault)),
-        Err(Or::Memory) => Err(Or::Memory),
+        Err(error) => Err(error),
     }
 }

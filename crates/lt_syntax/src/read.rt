@@ -1,9 +1,11 @@
 // One pass over the bytes.
-ghost use Rattle.std.specs.Prelude.{◌≡◌, List};
+ghost use Rattle.std.specs.Prelude.{◌≡◌, ◌↔◌, ℕ, List, IsTrue};
+ghost use Rattle.lt_tokens.specs.Text as text;
+ghost use Rattle.lt_base.specs.Or.{MapsFault};
 ghost use Rattle.lt_tokens.specs.Fronts.{IsSmall};
 ghost use Rattle.lt_syntax.specs.Parser as parser;
-ghost use Rattle.lt_syntax.specs.Phases.{state_of, Fits};
-ghost use Rattle.lt_syntax.specs.Reads.{Answers, StepsAt, EndsWith};
+ghost use Rattle.lt_syntax.specs.Phases.{state_of, kind_of, Fits};
+ghost use Rattle.lt_syntax.specs.Reads.{Answers, StepsAt, Ends, Takes, Spelled, syntax_kind};
 
 use crate::fault::{SyntaxFault, SyntaxKind};
 use crate::header::{Kind, Parser, may_end, start, step};
@@ -13,6 +15,28 @@ use lt_base::{List, Or};
 use lt_tokens::{Front, Token, read_front, skip};
 use std::alloc::Global;
 
+fn syntax_kind(kind: Kind) -> SyntaxKind
+    ensures { result ≡ syntax_kind (kind_of kind) }
+{
+    match kind {
+        Kind::Unexpected => SyntaxKind::Unexpected,
+        Kind::TooDeep => SyntaxKind::TooDeep,
+    }
+}
+
+/// A token's fault at its place.
+fn placed(at: usize, error: Or<Kind>) -> Or<SyntaxFault>
+    ensures { MapsFault error result (λ k f. f ≡ record { at = at; kind = syntax_kind (kind_of k) }) }
+{
+    match error {
+        Or::Fault(kind) => {
+            let kind = syntax_kind(kind);
+            Or::Fault(SyntaxFault { at, kind })
+        }
+        Or::Memory => Or::Memory,
+    }
+}
+
 fn step_at(alloc: Global, p: &mut Parser, t: Token, at: usize) -> Result<(), Or<SyntaxFault>>
     requires small { IsSmall t }
     requires room { Fits LIMIT (state_of p.old).phase }
@@ -20,26 +44,68 @@ fn step_at(alloc: Global, p: &mut Parser, t: Token, at: usize) -> Result<(), Or<
 {
     match step(alloc, p, t) {
         Ok(()) => Ok(()),
-        Err(Or::Fault(Kind::Unexpected)) => {
-            let kind = SyntaxKind::Unexpected;
-            Err(Or::Fault(SyntaxFault { at, kind }))
-        }
-        Err(Or::Fault(Kind::TooDeep)) => {
-            let kind = SyntaxKind::TooDeep;
-            Err(Or::Fault(SyntaxFault { at, kind }))
-        }
-        Err(Or::Memory) => Err(Or::Memory),
+        Err(error) => Err(placed(at, error)),
     }
 }
 
-/// The whole nodes, where the text may end.
-fn whole(p: Parser) -> Option<List<NodeText>>
-    ensures { EndsWith (state_of p) result }
+/// The text may end here.
+fn is_whole(p: &Parser) -> bool
+    ensures { IsTrue result ↔ Ends (state_of p.now) }
 {
-    if p.nodes.is_empty() || !may_end(&p) {
-        return None;
+    may_end(p) && !p.nodes.is_empty()
+}
+
+/// The end of the text.
+fn end_at(p: &Parser, at: usize) -> Result<Option<usize>, Or<SyntaxFault>>
+    ensures { (here : List ℕ) → text.front here ≡ text.Over → Takes LIMIT at here (state_of p.now) (state_of p.now) result }
+{
+    if is_whole(p) {
+        return Ok(None);
     }
-    Some(p.nodes)
+    let kind = SyntaxKind::Unexpected;
+    Err(Or::Fault(SyntaxFault { at, kind }))
+}
+
+/// Takes a token at the front of a text without blanks there, and answers the number of its bytes; none where the text ends.
+fn take_token(
+    alloc: Global,
+    p: &mut Parser,
+    here: &[u8],
+    at: usize,
+) -> Result<Option<usize>, Or<SyntaxFault>>
+    requires { Fits LIMIT (state_of p.old).phase }
+    ensures { Takes LIMIT at here.now (state_of p.old) (state_of p.new) result }
+{
+    match read_front(alloc, here)? {
+        Front::Begins(t, n) => {
+            step_at(alloc, p, t, at)?;
+            Ok(Some(n))
+        }
+        Front::Over => end_at(p, at),
+        Front::BadByte => {
+            let kind = SyntaxKind::BadByte;
+            Err(Or::Fault(SyntaxFault { at, kind }))
+        }
+        Front::BadNumber => {
+            let kind = SyntaxKind::BadNumber;
+            Err(Or::Fault(SyntaxFault { at, kind }))
+        }
+    }
+}
+
+/// Takes all tokens of a text.
+fn take_tokens(alloc: Global, p: &mut Parser, bytes: &[u8]) -> Result<(), Or<SyntaxFault>>
+    requires { state_of p.old ≡ parser.start }
+    ensures { Spelled LIMIT bytes.now p.new.nodes result }
+{
+    let mut rest = bytes;
+    'text: loop {
+        let here = skip(rest);
+        match take_token(alloc, p, here, bytes.len() - here.len())? {
+            Some(n) => rest = &here[n..],
+            None => return Ok(()),
+        }
+    }
 }
 
 /// The nodes that the bytes spell, or the first offending place.
@@ -47,33 +113,6 @@ pub fn read(alloc: Global, bytes: &[u8]) -> Result<List<NodeText>, Or<SyntaxFaul
     ensures { Answers LIMIT bytes.now result }
 {
     let mut p = start(alloc);
-    let mut rest = bytes;
-    'text: loop {
-        let here = skip(rest);
-        let at = bytes.len() - here.len();
-        match read_front(alloc, here)? {
-            Front::Begins(t, n) => {
-                match step_at(alloc, &mut p, t, at) {
-                    Ok(()) => {}
-                    Err(e) => return Err(e),
-                }
-                rest = &here[n..];
-            }
-            Front::Over => {
-                let kind = SyntaxKind::Unexpected;
-                return match whole(p) {
-                    Some(nodes) => Ok(nodes),
-                    None => Err(Or::Fault(SyntaxFault { at, kind })),
-                };
-            }
-            Front::BadByte => {
-                let kind = SyntaxKind::BadByte;
-                return Err(Or::Fault(SyntaxFault { at, kind }));
-            }
-            Front::BadNumber => {
-                let kind = SyntaxKind::BadNumber;
-                return Err(Or::Fault(SyntaxFault { at, kind }));
-            }
-        }
-    }
+    take_tokens(alloc, &mut p, bytes)?;
+    Ok(p.nodes)
 }

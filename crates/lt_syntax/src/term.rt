@@ -1,5 +1,5 @@
 // Expressions with names.
-ghost use Rattle.std.specs.Prelude.{◌≡◌, IfOk, map};
+ghost use Rattle.std.specs.Prelude.{◌≡◌, IfOk, Ok, map};
 ghost use Rattle.lt_syntax.specs.Views.{tm_of};
 
 use lt_base::{Bin, Memory, Name, Un, Value};
@@ -35,35 +35,35 @@ impl Term {
             Term::Var(x) => Ok(Term::Var(x.copy()?)),
             Term::Un(o, a) => Ok(Term::Un(*o, twin(a)?)),
             Term::Bin(o, a, b) => {
-                let a = twin(a)?;
-                Ok(Term::Bin(*o, a, twin(b)?))
+                let (a, b) = both(twin(a), twin(b))?;
+                Ok(Term::Bin(*o, a, b))
             }
             Term::If(c, a, b) => {
                 let c = twin(c)?;
-                let a = twin(a)?;
-                Ok(Term::If(c, a, twin(b)?))
+                let (a, b) = both(twin(a), twin(b))?;
+                Ok(Term::If(c, a, b))
             }
             Term::When(a, c, b) => {
-                let a = twin(a)?;
-                Ok(Term::When(a, c.copy()?, *b))
+                let c = c.copy()?;
+                Ok(Term::When(twin(a)?, c, *b))
             }
             Term::Merge(c, a, b) => {
-                let a = twin(a)?;
-                let b = twin(b)?;
-                Ok(Term::Merge(c.copy()?, a, b))
+                let c = c.copy()?;
+                let (a, b) = both(twin(a), twin(b))?;
+                Ok(Term::Merge(c, a, b))
             }
             Term::Fby(v, a) => Ok(Term::Fby(*v, twin(a)?)),
             Term::Follow(a, b) => {
-                let a = twin(a)?;
-                Ok(Term::Follow(a, twin(b)?))
+                let (a, b) = both(twin(a), twin(b))?;
+                Ok(Term::Follow(a, b))
             }
             Term::Arrow(a, b) => {
-                let a = twin(a)?;
-                Ok(Term::Arrow(a, twin(b)?))
+                let (a, b) = both(twin(a), twin(b))?;
+                Ok(Term::Arrow(a, b))
             }
             Term::Call(f, args) => {
-                let args = twins(args)?;
-                Ok(Term::Call(f.copy()?, args))
+                let f = f.copy()?;
+                Ok(Term::Call(f, twins(args)?))
             }
         }
     }
@@ -87,4 +87,15 @@ fn twins(terms: &Vec<Term>) -> Result<Vec<Term>, Memory>
         copies.push(term.copy()?)?;
     }
     Ok(copies)
+}
+
+// Two copies, where both were made.
+fn both(
+    a: Result<Box<Term>, Memory>,
+    b: Result<Box<Term>, Memory>,
+) -> Result<(Box<Term>, Box<Term>), Memory>
+    ensures { IfOk result (λ copies. (a ≡ Ok copies.0) × (b ≡ Ok copies.1)) }
+{
+    let first = a?;
+    Ok((first, b?))
 }

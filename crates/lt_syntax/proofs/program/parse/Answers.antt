@@ -1,6 +1,4 @@
-use Rattle.std.proofs.Common.{Ok, Err, arith, subst}
-use Rattle.lt_base.specs.declared.memory.Or.TheVariants as or
-use Rattle.lt_syntax.specs.Reads.{Answers}
+use Rattle.std.proofs.Common.{Ok, Err, arith}
 use Rattle.lt_syntax.proofs.Reading.{only_read}
 use Rattle.lt_syntax.proofs.program.parse.Goals as goal
 
@@ -10,7 +8,5 @@ invariant_of-result c = (c.args.bytes.now, c.in-Ok.ensures)
 pub returns-in-Ok-clause-only : goal.returns-in-Ok-clause-only
 returns-in-Ok-clause-only c = only_read 200 (omega arith) c.args.bytes.now (Ok c.in-Ok.nodes) c.in-Ok.ensures
 
-pub returns-in-Err-Fault-clause-only : goal.returns-in-Err-Fault-clause-only
-returns-in-Err-Fault-clause-only c =
-    let f = or.Fault c.in-Err-Fault.fault in
-    only_read 200 (omega arith) c.args.bytes.now (Err f) (subst (λ z. Answers 200 c.args.bytes.now (Err z)) c.in-Err-Fault.field-0-is c.in-Err-Fault.ensures)
+pub returns-in-Err-clause-only : goal.returns-in-Err-clause-only
+returns-in-Err-clause-only c = only_read 200 (omega arith) c.args.bytes.now (Err c.in-Err.error) c.in-Err.ensures

@@ -1,7 +1,7 @@
 use Rattle.std.proofs.Common.{◌≤◌, length}
 use Rattle.lt_syntax.specs.Phases.{state_of}
 use Rattle.lt_syntax.proofs.Reading.{SoFar}
-use Rattle.lt_syntax.proofs.read.read.Given as goal
+use Rattle.lt_syntax.proofs.read.take_tokens.Given as goal
 
 abbrev pub invariant-text : goal.invariant-text
 invariant-text l = record {
