@@ -14,7 +14,7 @@ use Rattle.lt_arch.specs.State.{State, Phase}
 use Rattle.lt_arch.specs.Readers.{node_count, chan_count}
 use Rattle.lt_arch.specs.Deeds.{all_below, some_below}
 use Rattle.lt_arch.specs.Step.{offence_of, sends_on}
-use Rattle.lt_arch.specs.Times.{HasTimes}
+use Rattle.lt_arch.specs.Times.{Times, HasTimes}
 use Rattle.lt_io.specs.FabricState.{FabricState}
 use Rattle.lt_net.specs.Net.{NetState, plant_of}
 use Rattle.lt_net.specs.Event.{IsTaken, Holds}
@@ -25,7 +25,8 @@ use Rattle.lt_plant.specs.Freshness.{fresh_or_other, fresh_one}
 use Rattle.lt_plant.specs.Sends.{is_from}
 use Rattle.lt_plant.specs.Wakes.{Wakes, AreConfigured}
 use Rattle.lt_plant.specs.Executes.{CanExecute, Executes}
-use Rattle.lt_net.specs.Ran.{SameRest, Acknowledges}
+use Rattle.lt_net.specs.Ran.{SameRest}
+use Rattle.lt_net.specs.Sends.{SendsUpTo, message_on}
 use Rattle.lt_plant.proofs.SizesStay.{space_ran}
 use Rattle.lt_net.proofs.Plants.{sizes_of, space_of, room_by}
 use Rattle.lt_net.proofs.IdleActivation.{free_now, empty_now, configured_still, controls_length}
@@ -53,7 +54,7 @@ module _ {C M : Type 0} (phase : C → Phase) (protocol : C → Protocol) (send 
     b : Begins net
     b = subst Begins (sym is) begins
 
-    row_given : (r : List Value) × (row ≡ Some r) × FitsPart net.layout n r
+    pub row_given : (r : List Value) × (row ≡ Some r) × FitsPart net.layout n r
     row_given = b.5 (more_rows phase protocol send execute stands made left net b.0 b.1 n at timely b.2 b.3 cs d wakes executes)
 
     -- nothing is in transit where it sends
@@ -110,14 +111,15 @@ module _ {C M : Type 0} (phase : C → Phase) (protocol : C → Protocol) (send 
             (room_by (record net { watch = new.watch; controllers = cs; machines = set net.machines n ex.after; executed = new.executed; inboxes = new.inboxes; tracks = new.tracks; buffers = new.buffers })
             (space_ran (plant_of net) (sizes_of net b.0.sized) cs (controls_length phase protocol send execute stands made left net b.0 b.1 n at timely b.2 b.3 cs d wakes) stands made left n r (plant_of new) ex (space_of net b.4)))
 
-        pub ran_taken : (old fabric : FabricState) → Holds now old → Acknowledges (record net { controllers = cs }) new n at old fabric → IsTaken phase stands made left now new (Act n at) row old fabric
-        ran_taken old fabric holds acks =
+        pub ran_taken : (old fabric : FabricState) → Holds now old → (noted : Times) → SendsUpTo (length net.shape.channels) (is_from net.shape.channels n false) (message_on new.buffers new.inboxes) at old fabric net.watch noted →
+            new.watch ≡ record noted { lasts = set noted.lasts n (Some at); latest = Some at } → IsTaken phase stands made left now new (Act n at) row old fabric
+        ran_taken old fabric holds noted sent watch =
             let h : Holds net old = subst (λ z. Holds z old) (sym is) holds in
             subst (λ z. IsTaken phase stands made left z new (Act n at) row old fabric) is
             (subst (λ x. IsTaken phase stands made left net new (Act n at) x old fabric) (sym r_is)
             (subst (λ z. IsTaken phase stands made left net z (Act n at) (Some r) old fabric) (sym new_is) (record {
-              kept = execute_kept phase protocol send execute stands made left net b.0 b.1 n at timely b.2 b.3 cs d wakes executes b.4 r fits new ex old fabric h acks.noted acks.sent new.watch acks.watch;
-              happens = execute_happens phase protocol send execute stands made left net b.0 b.1 n at timely b.2 b.3 cs d wakes executes b.4 r fits new ex old fabric h acks.noted acks.sent new.watch acks.watch;
-              holds = execute_holds phase protocol send execute stands made left net b.0 b.1 n at timely b.2 b.3 cs d wakes executes b.4 r fits new ex old fabric h acks.noted acks.sent new.watch acks.watch;
-              kinds = acks.sent.sends.kinds;
+              kept = execute_kept phase protocol send execute stands made left net b.0 b.1 n at timely b.2 b.3 cs d wakes executes b.4 r fits new ex old fabric h noted sent new.watch watch;
+              happens = execute_happens phase protocol send execute stands made left net b.0 b.1 n at timely b.2 b.3 cs d wakes executes b.4 r fits new ex old fabric h noted sent new.watch watch;
+              holds = execute_holds phase protocol send execute stands made left net b.0 b.1 n at timely b.2 b.3 cs d wakes executes b.4 r fits new ex old fabric h noted sent new.watch watch;
+              kinds = sent.sends.kinds;
             })))

@@ -1,12 +1,13 @@
 -- What stands after a fault.
 use Rattle.std.proofs.Common.{◌≡◌, inl, ℕ, List, Option, Some, None, refl, sym, subst}
-use Rattle.std.specs.Prelude.{Result, Ok, Err, OnErr}
+use Rattle.std.specs.Prelude.{Result, Ok, Err, OnErr, IsErrOf}
 use Rattle.lt_base.specs.declared.value.Value.{Value}
 use Rattle.lt_base.specs.Program.{Function}
 use Rattle.lt_arch.specs.declared.event.Event.{Event}
 use Rattle.lt_arch.specs.declared.event.Event.TheVariants.{Act, Del, End}
 use Rattle.lt_arch.specs.State.{Phase}
 use Rattle.lt_arch.specs.Times.{Times}
+use Rattle.lt_link.specs.Inbox.{InboxState}
 use Rattle.lt_net.specs.Net.{NetState, Lists}
 use Rattle.lt_plant.specs.Standing.{HasRun}
 use Rattle.lt_net.specs.Stands.{Stands}
@@ -26,10 +27,14 @@ module _ {C M : Type 0} (phase : C → Phase) (stands : M → Function → List 
   pub same_halted : (old new : NetState C M) → new ≡ old → Stands phase stands made left old ls → HasHalted stands made new ls e row
   same_halted old new same s = subst (λ z. HasHalted stands made z ls e row) (sym same) (stays old s.plant.ran)
 
-  -- where only a controller and the watch were
-  pub idle_halted : (net now : NetState C M) → net ≡ now → (w : Times) (cs : List C) → Stands phase stands made left now ls → HasHalted stands made (record net { watch = w; controllers = cs }) ls e row
-  idle_halted net now is w cs s = stays (record net { watch = w; controllers = cs }) (subst (λ z. Stands phase stands made left z ls) (sym is) s).plant.ran
+  -- where only controllers, inboxes and the watch were
+  pub idle_halted : (net now : NetState C M) → net ≡ now → (w : Times) (cs : List C) (boxes : List InboxState) → Stands phase stands made left now ls → HasHalted stands made (record net { watch = w; controllers = cs; inboxes = boxes }) ls e row
+  idle_halted net now is w cs boxes s = stays (record net { watch = w; controllers = cs; inboxes = boxes }) (subst (λ z. Stands phase stands made left z ls) (sym is) s).plant.ran
 
 pub on_err_any : {T E P : Type 0} (r : Result T E) → P → OnErr r P
 on_err_any (Ok x) p = tt
 on_err_any (Err e) p = p
+
+-- an answer is no error
+pub no_error : {T E : Type 0} (x : T) (e : E) → IsErrOf (Ok x) e → ⊥
+no_error x e is = absurd (cc)

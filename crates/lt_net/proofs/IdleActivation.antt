@@ -6,7 +6,6 @@ use Rattle.std.proofs.lemmas.Option.{slice_get_within, slice_get-get_or}
 use Rattle.lt_base.specs.declared.value.Value.{Value}
 use Rattle.lt_base.specs.Program.{Function}
 use Rattle.lt_arch.specs.declared.event.Deed.{Deed}
-use Rattle.lt_arch.specs.declared.chan.Chan.{Chan}
 use Rattle.lt_arch.specs.declared.event.Deed.TheVariants.{Nothing, Execute, Send}
 use Rattle.lt_arch.specs.declared.event.Event.TheVariants.{Act}
 use Rattle.lt_arch.specs.declared.shape.Shape.{Shape}
@@ -299,22 +298,6 @@ module _ {C M : Type 0} (phase : C → Phase) (protocol : C → Protocol) (send 
     pub send_empty : (old : FabricState) → Holds net old → (c : ℕ) → c < chan_count net.shape → is_from net.shape.channels n true c ≡ true → old.transit c ≡ []
     unfolding chan_of
     send_empty old holds c h on = empty_now old holds c h (ap (λ x. sends_on net.shape net.timing n x c) sending ∙ or_false (is_from net.shape.channels n true c) ∙ on)
-
--- what was woken, by the slices that code hands over
-pub wakes_of : {C : Type 0} (phase : C → Phase) (protocol : C → Protocol) (send execute : C → ℕ) (old new : List C) (n rows : ℕ) (d : Deed) (cs cs' : List Chan) (bs bs' : List InboxState) (es es' : List ℕ) → cs' ≡ cs → bs' ≡ bs → es' ≡ es →
-    Wakes phase protocol send execute old new n (all_below (fresh_or_other cs' bs' n true) (length cs')) (some_below (fresh_one cs' bs' n true) (length cs')) (all_below (fresh_or_other cs' bs' n false) (length cs')) (nat_lt (slice_index_or es' n 0) rows) d →
-    Wakes phase protocol send execute old new n (all_below (fresh_or_other cs bs n true) (length cs)) (some_below (fresh_one cs bs n true) (length cs)) (all_below (fresh_or_other cs bs n false) (length cs)) (nat_lt (slice_index_or es n 0) rows) d
-wakes_of phase protocol send execute old new n rows d cs cs' bs bs' es es' a b e w =
-    subst (λ cs. Wakes phase protocol send execute old new n (all_below (fresh_or_other cs bs n true) (length cs)) (some_below (fresh_one cs bs n true) (length cs)) (all_below (fresh_or_other cs bs n false) (length cs)) (nat_lt (slice_index_or es n 0) rows) d) a
-    (subst (λ bs. Wakes phase protocol send execute old new n (all_below (fresh_or_other cs' bs n true) (length cs')) (some_below (fresh_one cs' bs n true) (length cs')) (all_below (fresh_or_other cs' bs n false) (length cs')) (nat_lt (slice_index_or es n 0) rows) d) b
-    (subst (λ es. Wakes phase protocol send execute old new n (all_below (fresh_or_other cs' bs' n true) (length cs')) (some_below (fresh_one cs' bs' n true) (length cs')) (all_below (fresh_or_other cs' bs' n false) (length cs')) (nat_lt (slice_index_or es n 0) rows) d) e w))
-
-pub upto_of : (cs cs' : List Chan) (ps ps' : List (List Value)) (bs bs' : List InboxState) → cs' ≡ cs → ps' ≡ ps → bs' ≡ bs → (n at : ℕ) (kind : Bool) (old new : FabricState) (w w1 : Times) →
-    SendsUpTo (length cs') (is_from cs' n kind) (message_on ps' bs') at old new w w1 → SendsUpTo (length cs) (is_from cs n kind) (message_on ps bs) at old new w w1
-upto_of cs cs' ps ps' bs bs' a p b n at kind old new w w1 u =
-    subst (λ cs. SendsUpTo (length cs) (is_from cs n kind) (message_on ps bs) at old new w w1) a
-    (subst (λ ps. SendsUpTo (length cs') (is_from cs' n kind) (message_on ps bs) at old new w w1) p
-    (subst (λ bs. SendsUpTo (length cs') (is_from cs' n kind) (message_on ps' bs) at old new w w1) b u))
 
 -- what code has of an activation: the parts of the net before it
 module _ {C M : Type 0} (phase : C → Phase) (protocol : C → Protocol) (send execute : C → ℕ) (stands : M → Function → List (List Value) → Type 0) (made left : M → ℕ) (net now : NetState C M) (is : net ≡ now) where

@@ -4,6 +4,10 @@ use Rattle.lt_base.specs.declared.value.Value.{Value}
 use Rattle.lt_base.specs.Program.{Function}
 use Rattle.lt_arch.specs.declared.event.Event.{Event}
 use Rattle.lt_arch.specs.declared.event.Event.TheVariants.{Act, Del, End}
+use Rattle.lt_io.specs.declared.fault.LinkErr.{LinkErr}
+use Rattle.lt_io.specs.declared.fault.LinkErr.TheVariants as link
+use Rattle.lt_net.specs.declared.fault.First.{First}
+use Rattle.lt_net.specs.declared.fault.First.TheVariants as first
 use Rattle.lt_net.specs.declared.fault.NetFault.{NetFault}
 use Rattle.lt_net.specs.declared.fault.NetFault.TheVariants.{Offence as Refused, Link, Memory as NoMemory, Stopped}
 use Rattle.lt_net.specs.Net.{NetState, Lists}
@@ -34,3 +38,21 @@ pub record HasHalted {C M : Type 0} (stands : M → Function → List (List Valu
   pub rows : ℕ → List (List Value)
   pub may_take : MayTake e row ls.inputs rows
   pub ran : HasRun stands made net.layout net.shape net.machines net.executed net.tracks rows ls.got
+
+-- a failed call on the fabric stops a net
+abbrev pub first_of : LinkErr → First
+first_of link.Failed = first.Link
+first_of link.Memory = first.Memory
+
+abbrev pub fault_of : LinkErr → NetFault
+fault_of link.Failed = Link
+fault_of link.Memory = NoMemory
+
+-- why a net stands still after an answer of its plant, and what it answers
+abbrev pub stopped_by : Result (Unit {0}) LinkErr → Option First → Option First
+stopped_by (Ok x) before = before
+stopped_by (Err e) before = Some (first_of e)
+
+abbrev pub answer_by : Result (Unit {0}) LinkErr → Result (Unit {0}) NetFault
+answer_by (Ok x) = Ok x
+answer_by (Err e) = Err (fault_of e)

@@ -12,9 +12,7 @@ impl<C: Controller, M: Machine> Plant<C, M> {
         ensures machines { result.0.items ≡ self.machines }
         ensures tracks { result.1.items ≡ self.tracks }
     {
-        drop((self.layout, self.shape, self.timing, self.watch));
-        drop((self.executed, self.inboxes, self.buffers));
-        drop((self.routes, self.exits, self.ports));
-        (self.machines, self.tracks)
+        drop((self.timing, self.watch));
+        self.bench.into_ends()
     }
 }

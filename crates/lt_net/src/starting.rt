@@ -19,6 +19,7 @@ use lt_arch::{Controller, Shape, Timing, Watch};
 use lt_base::Memory;
 use lt_machine::Machine;
 use lt_place::Layout;
+use lt_plant::Bench;
 use lt_plant::initial::Initial;
 use std::alloc::Global;
 
@@ -73,12 +74,10 @@ impl<C: Controller, M: Machine> Plant<C, M> {
             tables,
             space,
         } = initial;
-        Ok(Plant {
+        let bench = Bench {
             layout,
             shape,
-            timing,
             rows,
-            watch,
             machines,
             controllers,
             executed,
@@ -90,6 +89,11 @@ impl<C: Controller, M: Machine> Plant<C, M> {
             ports: tables.ports,
             values: space.values,
             outs: space.outs,
+        };
+        Ok(Plant {
+            bench,
+            timing,
+            watch,
         })
     }
 }
