@@ -10,6 +10,7 @@ use crate::finder::Finder;
 use crate::places::{
     after, chan_at, chan_named, is, is_between, is_of_kind, node_name, node_named,
 };
+use crate::print::print_event;
 use crate::read::read_by;
 use crate::written::{message, timed};
 use lt_arch::{Chan, ChanKind, Event, Shape};
@@ -21,6 +22,9 @@ const SLOTS: u32 = 1_024;
 
 const TRIES: u32 = 64;
 
+// The slots for rows.
+const ROWS: u32 = 4_096;
+
 // The most nodes of a shape for whose channels there is a table.
 const MOST_NODES: u32 = 64;
 
@@ -28,6 +32,8 @@ const MOST_NODES: u32 = 64;
 /// where it is wrong the shape is searched; so a table of another shape costs time alone.
 #[derive(Drop)]
 pub struct PlaceTable {
+    // a node or a channel for the mark of each row
+    rows: Vec<u32>,
     // what the sum of a name begins with
     seed: u32,
     // a node for each sum
@@ -46,6 +52,7 @@ impl PlaceTable {
     {
         let width = width_of(shape);
         let mut table = PlaceTable {
+            rows: zeros(alloc, ROWS)?,
             seed: 0,
             nodes: zeros(alloc, SLOTS)?,
             data: zeros(alloc, width * width)?,
@@ -59,6 +66,7 @@ impl PlaceTable {
             }
         }
         table.note_channels(shape.channels.as_slice());
+        note_rows(alloc, &mut table.rows, shape)?;
         Ok(table)
     }
 
@@ -90,35 +98,26 @@ impl PlaceTable {
         requires { time ≤ GREATEST_TIME }
         ensures { IfSome result (IsWritten shape.now rest.now time) }
     {
+        let guess = at(&self.rows, mark(rest));
         if let Some(name) = after(rest, b"act,") {
-            return Some(Event::Act(self.guessed_node(shape, name)?, time));
+            return Some(Event::Act(tried_node(shape, guess, name)?, time));
         }
         let (kind, ends) = message(rest)?;
-        Some(Event::Del(self.guessed_chan(shape, kind, ends)?, time))
+        Some(Event::Del(tried_chan(shape, guess, kind, ends)?, time))
     }
 
     // The node of this name, where it is guessed right.
     fn guessed_node(&self, shape: &Shape, name: &[u8]) -> Option<u32>
         ensures { IfSome result (IsNodeOf shape.now name.now) }
     {
-        let guess = self.node_guess(name);
-        if is_node(shape, guess, name) {
-            Some(guess)
-        } else {
-            None
-        }
+        tried_node(shape, self.node_guess(name), name)
     }
 
     // The channel of this kind and these ends, where it is guessed right.
     fn guessed_chan(&self, shape: &Shape, kind: ChanKind, ends: &[u8]) -> Option<u32>
         ensures { IfSome result (IsChanOf shape.now kind ends.now) }
     {
-        let guess = self.chan_guess(kind, ends);
-        if is_chan(shape, guess, kind, ends) {
-            Some(guess)
-        } else {
-            None
-        }
+        tried_chan(shape, self.chan_guess(kind, ends), kind, ends)
     }
 }
 
@@ -185,6 +184,28 @@ impl Finder for PlaceTable {
     }
 }
 
+// This node, where it has this name.
+fn tried_node(shape: &Shape, node: u32, name: &[u8]) -> Option<u32>
+    ensures { IfSome result (IsNodeOf shape.now name.now) }
+{
+    if is_node(shape, node, name) {
+        Some(node)
+    } else {
+        None
+    }
+}
+
+// This channel, where it is of this kind and has these ends.
+fn tried_chan(shape: &Shape, chan: u32, kind: ChanKind, ends: &[u8]) -> Option<u32>
+    ensures { IfSome result (IsChanOf shape.now kind ends.now) }
+{
+    if is_chan(shape, chan, kind, ends) {
+        Some(chan)
+    } else {
+        None
+    }
+}
+
 // Whether the node of this number has this name.
 fn is_node(shape: &Shape, node: u32, name: &[u8]) -> bool
     ensures { IsTrue result → IsNodeOf shape.now name.now node }
@@ -204,6 +225,65 @@ fn is_chan(shape: &Shape, chan: u32, kind: ChanKind, ends: &[u8]) -> bool
     }
     let own = chan_at(shape, chan);
     is_of_kind(kind, own.kind) && is_between(shape, &own, ends)
+}
+
+// Puts each node and each channel into the slot of its row.
+fn note_rows(alloc: Global, rows: &mut Vec<u32>, shape: &Shape) -> Result<(), Memory>
+    requires nodes { length shape.now.nodes < 2 ^ 32 }
+    requires channels { length shape.now.channels < 2 ^ 32 }
+{
+    for node in 0..shape.nodes.len() as u32 {
+        let row = print_event(alloc, &Event::Act(node, 0), shape)?;
+        put(rows, mark(behind_time(row.as_slice())), node);
+    }
+    for chan in 0..shape.channels.len() as u32 {
+        let row = print_event(alloc, &Event::Del(chan, 0), shape)?;
+        put(rows, mark(behind_time(row.as_slice())), chan);
+    }
+    Ok(())
+}
+
+// What stands behind the time of a row that ends with its line feed.
+fn behind_time(row: &[u8]) -> &[u8] {
+    match row {
+        [line @ .., _] => match timed(line) {
+            Some((_, rest)) => rest,
+            None => row,
+        },
+        [] => row,
+    }
+}
+
+// The slot of a row, by the first and the last eight bytes of what stands behind its time.
+fn mark(rest: &[u8]) -> usize {
+    match (rest.first_chunk::<8>(), rest.last_chunk::<8>()) {
+        (Some(first), Some(last)) => slot_of_ends(
+            u64::from_le_bytes(*first),
+            u64::from_le_bytes(*last),
+        ),
+        _ => short_mark(rest),
+    }
+}
+
+// The slot of a row of which less than eight bytes stand behind its time, by the first and the last four.
+fn short_mark(rest: &[u8]) -> usize {
+    match (rest.first_chunk::<4>(), rest.last_chunk::<4>()) {
+        (Some(first), Some(last)) => {
+            slot_of_ends(
+                u64::from(u32::from_le_bytes(*first)),
+                u64::from(u32::from_le_bytes(*last)),
+            )
+        }
+        _ => 0,
+    }
+}
+
+// The first twelve bits of a sum of both.
+fn slot_of_ends(first: u64, last: u64) -> usize {
+    let sum = first
+        .wrapping_mul(0x9e37_79b9_7f4a_7c15)
+        .wrapping_add(last.wrapping_mul(0xc2b2_ae3d_27d4_eb4f));
+    (sum / (1 << 52)) as usize
 }
 
 fn zeros(alloc: Global, count: u32) -> Result<Vec<u32>, Memory> {
