@@ -1,5 +1,5 @@
 -- A schedule that was taken to its end, and what is told of it.
-use Rattle.std.proofs.Common.{◌≡◌, ◌∙◌, ℕ, List, [], Option, Result, Ok, Err, sym, subst}
+use Rattle.std.proofs.Common.{◌≡◌, ◌∙◌, ℕ, List, [], Option, Result, Ok, Err, sym, ap, subst}
 use Rattle.std.proofs.lemmas.List.{append-nil}
 use Rattle.std.specs.Prelude.{IsErrAnd}
 use Rattle.lt_base.specs.declared.memory.Or.{Or}
@@ -49,7 +49,7 @@ module _ (k : Scene) (a : AuditState) (sel : Selection) (q : Shape) (text : List
   audited (Ok told) is first =
       told_on k.shape k.timing k.rows Before (IsAudited k) file A B told (λ bytes events reads before. is_audited k a bytes events reads (stands_here events before) told is shape) first
   audited (Err (Fault e)) is first =
-      unreached k.shape k.timing k.rows Before (IsAudited k) file A B e is.1 (λ bytes events reads before. not_too_many k a bytes events reads (stands_here events before) is.0) first
+      unreached k.shape k.timing k.rows Before (IsAudited k) file A B e (ap command_blame is.1) (λ bytes events reads before. not_too_many k a bytes events reads (stands_here events before) is.0) first
   audited (Err Memory) is first = short_on k.shape k.timing k.rows Before (IsAudited k) file A B first
 
   -- the text

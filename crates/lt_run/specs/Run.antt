@@ -1,5 +1,5 @@
 -- A run of a program along a schedule: what is right of it, given the files' bytes and what the fabric holds at its end.
-use Rattle.std.specs.Prelude.{◌≡◌, ℕ, IsTrue, List, length, Option, Result, IfErr}
+use Rattle.std.specs.Prelude.{◌≡◌, ℕ, IsTrue, List, length, Option, Result, Err, IfErr}
 use Rattle.lt_base.specs.declared.value.Value.{Value}
 use Rattle.lt_base.specs.Program.{WholeProgram}
 use Rattle.lt_arch.specs.declared.shape.Shape.{Shape}
@@ -92,3 +92,7 @@ ordered_verdict named program inputs schedule config fabric = AndThen (load_verd
 -- and where it is the schedule that is refused, its file was read to at most a piece past the row that is refused
 abbrev pub run_verdict : (named : List ℕ → Option (List ℕ)) (program inputs schedule : List ℕ) (config : Option (List ℕ)) → (new : World) → Verdict Outputs CommandFault
 run_verdict named program inputs schedule config new = ReadNear (named schedule) new.files.place (ordered_verdict named program inputs schedule config new.fabric)
+
+-- where the program, the setup or the inputs are refused, the fabric is as it was
+abbrev pub LeavesUnloaded : (files : FilesState) (program inputs : List ℕ) (config : Option (List ℕ)) → (old new : FabricState) → Type 0
+LeavesUnloaded files program inputs config old new = IsTrue files.told → (e : CommandFault) → load_verdict files.named program inputs config (Err e) → new ≡ old

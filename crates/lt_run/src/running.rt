@@ -6,7 +6,7 @@ ghost use Rattle.lt_load.specs.Blamed.{command_blame};
 ghost use Rattle.lt_judge.specs.Errand.{schedule_errand};
 ghost use Rattle.lt_run.specs.Errands.{run_errands};
 ghost use Rattle.lt_run.specs.Near.{IsNearCommand};
-ghost use Rattle.lt_run.specs.Run.{AsCommand, along_loaded, run_verdict};
+ghost use Rattle.lt_run.specs.Run.{AsCommand, LeavesUnloaded, along_loaded, run_verdict};
 
 use crate::replaying::replay_code;
 use crate::{Outputs, RunFault};
@@ -19,7 +19,7 @@ use std::alloc::Global;
 /// Runs a program on the nodes of a setup, or on one node without a setup: each node's machine makes a step for each instant that
 /// the node executes along the schedule, and what crosses between nodes is sent over the fabric, which has no channel yet. Each
 /// output is given with a cell for each instant that its node executed. The files are read in this order: the program, the setup,
-/// the inputs and the schedule.
+/// the inputs and the schedule. The channels are opened once the inputs are read.
 pub fn run<F: Files, W: Fabric>(
     alloc: Global,
     files: &mut F,
@@ -32,8 +32,9 @@ pub fn run<F: Files, W: Fabric>(
     requires count { (F.state files.old).faults < 2 ^ 64 - 1 }
     requires link_count { (W.state fabric.old).faults < 2 ^ 64 - 1 }
     requires empty { (W.state fabric.old).kinds ≡ [] }
-    ensures { Answered command_blame (run_errands program.now inputs.now schedule.now (option_map (λ s. s.now) config.entry)) (run_verdict (F.state files.old).named program.now inputs.now schedule.now (option_map (λ s. s.now) config.entry) (world (F.state files.new) (W.state fabric.new)))
+    ensures answered { Answered command_blame (run_errands program.now inputs.now schedule.now (option_map (λ s. s.now) config.entry)) (run_verdict (F.state files.old).named program.now inputs.now schedule.now (option_map (λ s. s.now) config.entry) (world (F.state files.new) (W.state fabric.new)))
         (world (F.state files.old) (W.state fabric.old)) (world (F.state files.new) (W.state fabric.new)) result }
+    ensures untouched { LeavesUnloaded (F.state files.old) program.now inputs.now (option_map (λ s. s.now) config.entry) (W.state fabric.old) (W.state fabric.new) }
 {
     let loaded = load(alloc, files, program, inputs, config)?;
     run_loaded(alloc, files, fabric, &loaded, schedule)
