@@ -1,5 +1,5 @@
 // Which channels lead to a node, and from it.
-ghost use Rattle.std.specs.Prelude.{◌≡◌, ◌<◌, ◌+◌, ◌*◌, ◌^◌, ◌==◌, ◌&&◌, ℕ, true, length, IfOk, OnOk, slice_index_or};
+ghost use Rattle.std.specs.Prelude.{◌≡◌, ◌<◌, ◌+◌, ◌*◌, ◌^◌, ◌==◌, ◌&&◌, ℕ, true, false, length, IfOk, OnOk, Ok, slice_index_or};
 ghost use Rattle.lt_arch.specs.Readers.{is_data, node_count, chan_count};
 ghost use Rattle.lt_plant.specs.Local.{firsts};
 ghost use Rattle.lt_plant.specs.Sends.{is_from, same_truth};
@@ -25,8 +25,10 @@ fn is_outgoing(channel: &Chan, node: u32, kind: bool) -> bool
     channel.from == node && carries_data(channel.kind) == kind
 }
 
+// Where nothing is appended, no memory is wanted.
 fn push_number(has: bool, number: u32, numbers: &mut List<u32>) -> Result<(), Memory>
-    ensures { OnOk result (numbers.new ≡ push_number has number numbers.old) }
+    ensures pushed { OnOk result (numbers.new ≡ push_number has number numbers.old) }
+    ensures nothing { has ≡ false → result ≡ Ok tt }
 {
     if has {
         numbers.push(number)?;

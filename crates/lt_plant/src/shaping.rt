@@ -1,5 +1,5 @@
 // The shape of a network: its nodes and channels, by the layout and the protocol.
-ghost use Rattle.std.specs.Prelude.{◌≡◌, ◌<◌, ◌^◌, [], length, IfOk, OnOk};
+ghost use Rattle.std.specs.Prelude.{◌≡◌, ◌<◌, ◌^◌, [], false, length, IfOk, OnOk, Ok};
 ghost use Rattle.std.specs.List.{list_any};
 ghost use Rattle.lt_norm.specs.Flat.{Originated};
 ghost use Rattle.lt_place.specs.Layout.{IsPlaced};
@@ -36,8 +36,10 @@ fn has_channel(cross: &[Crossing], protocol: Protocol, kind: ChanKind, from: u32
     }
 }
 
+// Where nothing is appended, no memory is wanted.
 fn push_if(has: bool, chan: Chan, channels: &mut List<Chan>) -> Result<(), Memory>
-    ensures { OnOk result (channels.new ≡ push_if has chan channels.old) }
+    ensures pushed { OnOk result (channels.new ≡ push_if has chan channels.old) }
+    ensures nothing { has ≡ false → result ≡ Ok tt }
 {
     if has {
         channels.push(chan)?;

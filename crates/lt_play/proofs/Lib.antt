@@ -3,3 +3,4 @@ pub mod AtEnd
 pub mod Outcomes
 pub mod FirstPlay
 pub mod RowsRead
+pub mod Stopping

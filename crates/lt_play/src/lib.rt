@@ -3,6 +3,7 @@
 
 mod fault;
 pub mod feeding;
+pub mod opening;
 mod playback;
 mod playing;
 

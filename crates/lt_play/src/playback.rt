@@ -1,24 +1,28 @@
 // A net, as it takes the events of a schedule.
-ghost use Rattle.std.specs.Prelude.{◌≡◌, ◌<◌, ◌+◌, ◌-◌, ◌*◌, ◌^◌, ℕ, IsTrue, [], length, IfOk, OnOk};
+ghost use Rattle.std.specs.Prelude.{◌≡◌, ◌≢◌, ◌<◌, ◌+◌, ◌-◌, ◌*◌, ◌^◌, IsTrue, [], length, IfOk};
 ghost use Rattle.lt_base.specs.Behaviour.{RowsFit};
 ghost use Rattle.lt_arch.specs.Readers.{node_count, chan_count};
 ghost use Rattle.lt_arch.specs.Schedule.{OnePlace};
 ghost use Rattle.lt_arch.specs.Shapes.{HaveSameNodes};
 ghost use Rattle.lt_io.specs.Counts.{LinkCounted};
-ghost use Rattle.lt_io.specs.FabricState.{KeepsPromises, OpensFabric};
+ghost use Rattle.lt_io.specs.FabricState.{KeepsPromises};
 ghost use Rattle.lt_judge.specs.Verdict.{rules_of};
 ghost use Rattle.lt_judge.specs.Long.{long_line};
 ghost use Rattle.lt_norm.specs.Flat.{Originated};
 ghost use Rattle.lt_step.specs.Run.{HasRowValues};
 ghost use Rattle.lt_place.specs.Layout.{IsPlaced};
 ghost use Rattle.lt_plant.specs.Channels.{FitsLayout};
-ghost use Rattle.lt_plant.specs.Starts.{AreReady, AreAtStart, kinds_for};
+ghost use Rattle.lt_plant.specs.Starts.{AreReady, AreAtStart};
 ghost use Rattle.lt_net.specs.Starts.{IsMadeOf};
 ghost use Rattle.lt_plant.specs.Wakes.{AreConfigured};
+ghost use Rattle.lt_net.specs.declared.fault.First.{First};
+ghost use Rattle.lt_net.specs.declared.fault.NetFault.TheVariants.{Stopped};
+ghost use Rattle.lt_play.specs.Blamed.{IsStopOf};
 ghost use Rattle.lt_play.specs.Plays.{IsPlaying, KeepsPlay};
 ghost use Rattle.lt_play.specs.Keeping.{keeps_itself, keeps_on};
 
-use crate::feeding::{given, read_next, room_for};
+use crate::feeding::{given, read_next};
+use crate::opening::open;
 use lt_arch::{Controller, Event, Offence, Shape, Timing};
 use lt_base::{Inputs, Steps, Value};
 use lt_io::{Fabric, LinkErr};
@@ -26,7 +30,6 @@ use lt_judge::{Replica, Stop};
 use lt_machine::Machine;
 use lt_net::{Net, NetFault};
 use lt_place::Layout;
-use lt_plant::literals::kinds_of;
 use lt_rows::PlaceTable;
 use std::alloc::Global;
 use std::sync::ledger::Ledger;
@@ -87,30 +90,6 @@ impl<'a, C: Controller, M: Machine> Playback<'a, C, M> {
     }
 }
 
-// Opens the channels of a layout, and takes room for reading its events and a row so wide.
-fn open<W: Fabric>(
-    alloc: Global,
-    layout: &Layout,
-    shape: &Shape,
-    width: u32,
-    fabric: &mut W,
-) -> Result<(PlaceTable, Vec<Value>), LinkErr>
-    requires numbered { 2 * (node_count shape.now + chan_count shape.now) < 2 ^ 32 }
-    requires count { (W.state fabric.old).faults < 2 ^ 64 - 1 }
-    requires empty { (W.state fabric.old).kinds ≡ [] }
-    ensures room { IfOk result (λ room. length room.1.items ≡ width) }
-    ensures opened { OnOk result (OpensFabric (W.state fabric.old) (W.state fabric.new) (kinds_for layout.now shape.now)) }
-    ensures cause { LinkCounted (W.state fabric.old).faults (W.state fabric.new).faults result }
-    ensures keeps { KeepsPromises (W.state fabric.old) (W.state fabric.new) }
-    ensures sound { IsTrue (W.state fabric.old).sound → (W.state fabric.new).faults ≡ (W.state fabric.old).faults }
-{
-    let places = PlaceTable::new(alloc, shape)?;
-    let row = room_for(alloc, width)?;
-    let kinds = kinds_of(alloc, layout, shape)?;
-    fabric.open(kinds.as_slice())?;
-    Ok((places, row))
-}
-
 impl<C: Controller, M: Machine, W: Fabric> Replica<W> for Playback<'_, C, M> {
     type Event = Event;
 
@@ -139,10 +118,7 @@ impl<C: Controller, M: Machine, W: Fabric> Replica<W> for Playback<'_, C, M> {
                 let row = given(has, &self.row);
                 match self.net.event(e, row, outside, steps) {
                     Ok(()) => Ok(()),
-                    Err(NetFault::Offence(offence)) => Err(Stop::Offence(offence)),
-                    Err(NetFault::Link) => Err(Stop::Link),
-                    Err(NetFault::Memory) => Err(Stop::Memory),
-                    Err(NetFault::Stopped(_)) => unreachable!(),
+                    Err(fault) => Err(stop_by(fault)),
                 }
             }
         }
@@ -165,4 +141,17 @@ impl<C: Controller, M: Machine, W: Fabric> Replica<W> for Playback<'_, C, M> {
     ghost keeps_rules = { λ a v b w x. λ i. rules_of (x.fixed.shape i) (x.fixed.timing i) (x.fixed.rows i) };
 
     ghost keeps_prompt = { λ a v b w x prompt. x.fabric_kept.prompt prompt };
+}
+
+// Why a line is not taken that a running net answers with this fault.
+fn stop_by(fault: NetFault) -> Stop<Offence>
+    requires { (f : First) → fault ≢ Stopped f }
+    ensures { IsStopOf fault result }
+{
+    match fault {
+        NetFault::Offence(offence) => Stop::Offence(offence),
+        NetFault::Link => Stop::Link,
+        NetFault::Memory => Stop::Memory,
+        NetFault::Stopped(_) => unreachable!(),
+    }
 }
