@@ -4,3 +4,4 @@ pub mod Along
 pub mod Plainly
 pub mod Held
 pub mod Drawn
+pub mod Undrawn

@@ -65,3 +65,7 @@ along_verdict instants fabric plan outcome =
 -- the files, and then the list that is drawn for them
 unfoldable pub big_verdict : (instants : ℕ) → FabricState → Verdict Outputs CommandFault
 big_verdict instants fabric = AndThen (loaded_verdict instants) (λ plan. along_verdict instants fabric plan)
+
+-- where it is refused, the fabric is as it was
+abbrev pub LeavesRefused : (instants : ℕ) → (old new : FabricState) → Type 0
+LeavesRefused instants old new = (e : CommandFault) → big_verdict instants new (Err e) → new ≡ old

@@ -47,3 +47,7 @@ along_list instants fabric k = played_verdict instants fabric k.checked.program 
 -- and along the bytes of a schedule file
 abbrev pub along_bytes : (bytes : List ℕ) → FabricState → LoadedPlan → Verdict Outputs CommandFault
 along_bytes bytes fabric k = along_loaded fabric k (Some bytes)
+
+-- where the list has too many events, the fabric is as it was
+abbrev pub LeavesUndrawn : (instants : ℕ) → LoadedPlan → (old new : FabricState) → Type 0
+LeavesUndrawn instants k old new = most_events < length (events_of instants k.shape k.timing (length k.inputs.rows)) → new ≡ old

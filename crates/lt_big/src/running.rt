@@ -1,8 +1,8 @@
 // A run of the large input.
 ghost use Rattle.std.specs.Prelude.{◌≡◌, ◌<◌, ◌-◌, ◌^◌, []};
 ghost use Rattle.lt_config.specs.declared.pace.Pace.TheVariants.{Plain};
-ghost use Rattle.lt_big.specs.Big.{big_verdict};
-ghost use Rattle.lt_big.specs.Stage.{AnsweredAlone, along_list};
+ghost use Rattle.lt_big.specs.Big.{LeavesRefused, big_verdict};
+ghost use Rattle.lt_big.specs.Stage.{AnsweredAlone, LeavesUndrawn, along_list};
 
 use crate::drawing::draw;
 use crate::loading::load;
@@ -26,7 +26,8 @@ pub fn big<W: Fabric>(
 ) -> Result<Outputs, Or<CommandFault>>
     requires count { (W.state fabric.old).faults < 2 ^ 64 - 1 }
     requires empty { (W.state fabric.old).kinds ≡ [] }
-    ensures { AnsweredAlone (big_verdict instants (W.state fabric.new)) (W.state fabric.old) (W.state fabric.new) result }
+    ensures answered { AnsweredAlone (big_verdict instants (W.state fabric.new)) (W.state fabric.old) (W.state fabric.new) result }
+    ensures untouched { LeavesRefused instants (W.state fabric.old) (W.state fabric.new) }
 {
     let loaded = load(alloc, instants)?;
     run(alloc, fabric, &loaded, instants)
@@ -42,7 +43,8 @@ fn run<W: Fabric>(
     requires count { (W.state fabric.old).faults < 2 ^ 64 - 1 }
     requires empty { (W.state fabric.old).kinds ≡ [] }
     requires plain { loaded.now.pace ≡ Plain }
-    ensures { AnsweredAlone (along_list instants (W.state fabric.new) loaded.now) (W.state fabric.old) (W.state fabric.new) result }
+    ensures answered { AnsweredAlone (along_list instants (W.state fabric.new) loaded.now) (W.state fabric.old) (W.state fabric.new) result }
+    ensures untouched { LeavesUndrawn instants loaded.now (W.state fabric.old) (W.state fabric.new) }
 {
     let schedule = draw(alloc, loaded, instants)?;
     play(alloc, fabric, loaded, schedule)

@@ -1,7 +1,8 @@
 -- A run of a program that an observer watches: what is right of it, given the files' bytes and what the fabric holds at its end.
-use Rattle.std.specs.Prelude.{◌≡◌, ℕ, List, Option, Result, Ok, Err}
+use Rattle.std.specs.Prelude.{◌≡◌, ℕ, IsTrue, List, Option, Result, Ok, Err}
 use Rattle.lt_base.specs.declared.value.Value.{Value}
 use Rattle.lt_base.specs.Program.{Function, WholeProgram}
+use Rattle.lt_io.specs.FilesState.{FilesState}
 use Rattle.lt_io.specs.FabricState.{FabricState}
 use Rattle.lt_answer.specs.World.{World}
 use Rattle.lt_answer.specs.Answered.{Verdict, AndThen}
@@ -69,3 +70,15 @@ followed_along schedule new k o = AndThen (InCommand (run_along schedule new k))
 -- the observer, and then the run
 abbrev pub loaded_watch_verdict : (named : List ℕ → Option (List ℕ)) (schedule observer : List ℕ) → (new : World) → LoadedPlan → Verdict Watched WatchFault
 loaded_watch_verdict named schedule observer new k = AndThen (observer_verdict (main_in k.checked.program) (named observer)) (λ o. followed_along (named schedule) new k o)
+
+-- what a watched run is of, and then its observer
+unfoldable pub observed_load_verdict : (named : List ℕ → Option (List ℕ)) (program inputs observer : List ℕ) (config : Option (List ℕ)) → Verdict Observing WatchFault
+observed_load_verdict named program inputs observer config = AndThen (InCommand (load_verdict named program inputs config)) (λ plan. observer_verdict (main_in plan.checked.program) (named observer))
+
+-- where the observer is refused, the fabric is as it was
+abbrev pub LeavesUnobserved : (files : FilesState) → Function → (observer : List ℕ) → (old new : FabricState) → Type 0
+LeavesUnobserved files main observer old new = IsTrue files.told → (e : WatchFault) → observer_verdict main (files.named observer) (Err e) → new ≡ old
+
+-- where the program, the setup, the inputs or the observer are refused, it is so too
+abbrev pub LeavesUnwatched : (files : FilesState) (program inputs observer : List ℕ) (config : Option (List ℕ)) → (old new : FabricState) → Type 0
+LeavesUnwatched files program inputs observer config old new = IsTrue files.told → (e : WatchFault) → observed_load_verdict files.named program inputs observer config (Err e) → new ≡ old

@@ -3,9 +3,10 @@ ghost use Rattle.std.specs.Prelude.{◌≡◌, ◌++◌, ◌<◌, ◌-◌, ◌^�
 ghost use Rattle.lt_answer.specs.Answered.{Answered};
 ghost use Rattle.lt_play.specs.Played.{world};
 ghost use Rattle.lt_judge.specs.Errand.{schedule_errand};
+ghost use Rattle.lt_load.specs.Main.{main_in};
 ghost use Rattle.lt_watch.specs.Blamed.{watch_blame};
 ghost use Rattle.lt_watch.specs.Errands.{observer_errand, watch_errands};
-ghost use Rattle.lt_watch.specs.Watch.{InCommand, followed_along, loaded_watch_verdict, run_along, watch_verdict};
+ghost use Rattle.lt_watch.specs.Watch.{InCommand, LeavesUnobserved, LeavesUnwatched, followed_along, loaded_watch_verdict, run_along, watch_verdict};
 
 use crate::judging::judge;
 use crate::loading::{load_observer, load_run};
@@ -32,8 +33,9 @@ pub fn watch<F: Files, W: Fabric>(
     requires count { (F.state files.old).faults < 2 ^ 64 - 1 }
     requires link_count { (W.state fabric.old).faults < 2 ^ 64 - 1 }
     requires empty { (W.state fabric.old).kinds ≡ [] }
-    ensures { Answered watch_blame (watch_errands program.now inputs.now schedule.now observer.now (option_map (λ s. s.now) config.entry)) (watch_verdict (F.state files.old).named program.now inputs.now schedule.now observer.now (option_map (λ s. s.now) config.entry) (world (F.state files.new) (W.state fabric.new)))
+    ensures answered { Answered watch_blame (watch_errands program.now inputs.now schedule.now observer.now (option_map (λ s. s.now) config.entry)) (watch_verdict (F.state files.old).named program.now inputs.now schedule.now observer.now (option_map (λ s. s.now) config.entry) (world (F.state files.new) (W.state fabric.new)))
         (world (F.state files.old) (W.state fabric.old)) (world (F.state files.new) (W.state fabric.new)) result }
+    ensures untouched { LeavesUnwatched (F.state files.old) program.now inputs.now observer.now (option_map (λ s. s.now) config.entry) (W.state fabric.old) (W.state fabric.new) }
 {
     let loaded = load_run(alloc, files, program, inputs, config)?;
     watch_loaded(alloc, files, fabric, &loaded, schedule, observer)
@@ -51,8 +53,9 @@ fn watch_loaded<F: Files, W: Fabric>(
     requires count { (F.state files.old).faults < 2 ^ 64 - 1 }
     requires link_count { (W.state fabric.old).faults < 2 ^ 64 - 1 }
     requires empty { (W.state fabric.old).kinds ≡ [] }
-    ensures { Answered watch_blame (observer_errand observer.now ++ schedule_errand schedule.now) (loaded_watch_verdict (F.state files.old).named schedule.now observer.now (world (F.state files.new) (W.state fabric.new)) loaded.now)
+    ensures answered { Answered watch_blame (observer_errand observer.now ++ schedule_errand schedule.now) (loaded_watch_verdict (F.state files.old).named schedule.now observer.now (world (F.state files.new) (W.state fabric.new)) loaded.now)
         (world (F.state files.old) (W.state fabric.old)) (world (F.state files.new) (W.state fabric.new)) result }
+    ensures untouched { LeavesUnobserved (F.state files.old) (main_in loaded.now.checked.program) observer.now (W.state fabric.old) (W.state fabric.new) }
 {
     let checked = &loaded.checked;
     let observer = load_observer(alloc, files, observer, main_of(&checked.program))?;
