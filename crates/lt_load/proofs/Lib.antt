@@ -1,4 +1,5 @@
 pub mod Steps
+pub mod Texts
 pub mod Wholes
 pub mod Mains
 pub mod Flats

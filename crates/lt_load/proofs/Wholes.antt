@@ -1,8 +1,7 @@
 -- A whole file as a step.
-use Rattle.std.proofs.Common.{◌≡◌, ◌<◌, ◌+◌, ℕ, List, [], ◌∷◌, false, inl, inr, length, Option, Some, None, Result, Ok, Err, IsTrue, refl, sym, ap, subst, arith, ◌≤◌}
+use Rattle.std.proofs.Common.{◌≡◌, ◌<◌, ◌+◌, ℕ, List, [], ◌∷◌, false, inl, inr, length, Option, Some, None, Result, Ok, Err, IsTrue, refl, ap, subst, arith, ◌≤◌}
 use Rattle.std.specs.Prelude.{is_ok, IfOk, IsSomeAnd, IsNone, IsSome}
 use Rattle.std.proofs.lemmas.Bool.Decides.{leb_tells}
-use Rattle.lt_base.specs.Or.{MapsFault}
 use Rattle.lt_base.specs.declared.memory.Or.{Or}
 use Rattle.lt_base.specs.declared.memory.Or.TheVariants.{Fault, Memory}
 use Rattle.lt_io.specs.declared.fault.Failed.{Failed}
@@ -14,13 +13,13 @@ use Rattle.lt_io.proofs.Visiting.{visited_any}
 use Rattle.lt_io.specs.Counts.{OrCounted}
 use Rattle.lt_io.specs.Transfer.{whole_of}
 use Rattle.lt_load.specs.declared.fault.What.{What}
-use Rattle.lt_load.specs.declared.fault.CommandFault.{CommandFault}
 use Rattle.lt_load.specs.declared.fault.CommandFault.TheVariants.{Limit, Read}
 use Rattle.lt_answer.specs.World.{KeepsWorld, alone}
 use Rattle.lt_answer.specs.Answered.{Answered, RefusesReading}
 use Rattle.lt_load.specs.Blamed.{command_blame}
 use Rattle.lt_load.specs.Errands.{whole_errand}
 use Rattle.lt_load.specs.Loaded.{limit_of, whole_verdict, within}
+use Rattle.lt_load.specs.Found.{fetched}
 use Rattle.lt_answer.proofs.Stages.{keeps_itself}
 
 -- what reading a whole file says
@@ -78,8 +77,8 @@ past what None bytes is long = absurd is
 past what (Some whole) bytes is long = let read = held what (Some whole) bytes is in absurd (omega (arith, read.short, ap length read.same, long))
 
 -- the file's bytes
-fetched : (what : What) (old new : FilesState) (name bytes : List ℕ) → IsRead what old new name (Ok (Bytes bytes)) → Answered command_blame (whole_errand what name) (whole_verdict what (old.named name)) (alone old) (alone new) (Ok bytes)
-fetched what old new name bytes read =
+fetched_bytes : (what : What) (old new : FilesState) (name bytes : List ℕ) → IsRead what old new name (Ok (Bytes bytes)) → Answered command_blame (whole_errand what name) (whole_verdict what (old.named name)) (alone old) (alone new) (Ok bytes)
+fetched_bytes what old new name bytes read =
     record {
       keeps = keeps_alone old new read.keeps;
       visits = read.visits;
@@ -133,16 +132,22 @@ fetched_past what old new name bytes read long =
       sound = λ told sound rose. missing_alone what old new (old.named name) (read.sound sound) rose;
     }
 
--- what was read of it
-pub fetched_whole : (what : What) (old new : FilesState) (name : List ℕ) (whole : Whole) → IsRead what old new name (Ok whole) → Answered command_blame (whole_errand what name) (whole_verdict what (old.named name)) (alone old) (alone new) (within what whole)
+-- a whole file
+fetched_whole : (what : What) (old new : FilesState) (name : List ℕ) (whole : Whole) → IsRead what old new name (Ok whole) → Answered command_blame (whole_errand what name) (whole_verdict what (old.named name)) (alone old) (alone new) (within what whole)
 fetched_whole what old new name TooLong read = fetched_too_long what old new name read
 fetched_whole what old new name (Bytes bytes) read =
     elim (leb_tells (length bytes) (limit_of what)) [
-      | inl small ↦ rw small.0 (fetched what old new name bytes read)
+      | inl small ↦ rw small.0 (fetched_bytes what old new name bytes read)
       | inr large ↦ rw large.0 (fetched_past what old new name bytes read large.1)
     ]
 
-pub within_limit : (what : What) (whole : Whole) → IfOk (within what whole) (λ bytes. length bytes ≤ limit_of what)
+-- what was read of it
+pub is_fetched : (what : What) (old new : FilesState) (name : List ℕ) (read : Result Whole (Or Failed)) → IsRead what old new name read → Answered command_blame (whole_errand what name) (whole_verdict what (old.named name)) (alone old) (alone new) (fetched what read)
+is_fetched what old new name (Ok whole) is = fetched_whole what old new name whole is
+is_fetched what old new name (Err (Fault failed)) is = fetch_failed what old new name failed is
+is_fetched what old new name (Err Memory) is = fetch_short what old new name is
+
+within_limit : (what : What) (whole : Whole) → IfOk (within what whole) (λ bytes. length bytes ≤ limit_of what)
 within_limit what TooLong = tt
 within_limit what (Bytes bytes) =
     elim (leb_tells (length bytes) (limit_of what)) [
@@ -150,10 +155,7 @@ within_limit what (Bytes bytes) =
       | inr large ↦ rw large.0 tt
     ]
 
--- a call on the files failed, or no memory was found
-pub not_fetched : (what : What) (old new : FilesState) (name : List ℕ) (e : Or Failed) (g : Or CommandFault) → MapsFault e g (λ failed f. f ≡ Read) → IsRead what old new name (Err e) → Answered command_blame (whole_errand what name) (whole_verdict what (old.named name)) (alone old) (alone new) (Err g)
-not_fetched what old new name (Fault failed) (Fault f) is read =
-    subst (λ (h : CommandFault). Answered command_blame (whole_errand what name) (whole_verdict what (old.named name)) (alone old) (alone new) (Err (Fault h))) (sym is) (fetch_failed what old new name failed read)
-not_fetched what old new name (Fault failed) Memory is read = absurd is
-not_fetched what old new name Memory (Fault f) is read = absurd is
-not_fetched what old new name Memory Memory is read = fetch_short what old new name read
+pub fetched_short : (what : What) (read : Result Whole (Or Failed)) → IfOk (fetched what read) (λ bytes. length bytes ≤ limit_of what)
+fetched_short what (Ok whole) = within_limit what whole
+fetched_short what (Err (Fault failed)) = tt
+fetched_short what (Err Memory) = tt

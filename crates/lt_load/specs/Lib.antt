@@ -1,6 +1,7 @@
 pub mod Main
 pub mod Blamed
 pub mod Loaded
+pub mod Found
 pub mod Errands
 pub mod Setups
 pub mod Plan

@@ -13,8 +13,10 @@ mod sites;
 
 pub use fault::{CommandFault, What};
 pub use loaded::Loaded;
-pub use loading::{fetch_within, load_config, load_flat, load_inputs, load_program, main_of};
+pub use loading::{
+    fetch_within, load_config, load_flat, load_inputs, load_program, load_text, main_of,
+};
 pub use pacing::{load_plain, load_plain_config};
 pub use planning::load;
-pub use setups::check;
+pub use setups::check_with;
 pub use sites::layout_of;

@@ -2,16 +2,19 @@
 ghost use Rattle.std.specs.Prelude.{◌≡◌, ◌≤◌, ◌<◌, ◌-◌, ◌^◌, IfOk, length};
 ghost use Rattle.lt_answer.specs.World.{alone};
 ghost use Rattle.lt_answer.specs.Answered.{Answered};
+ghost use Rattle.lt_verdict.specs.Rules.{Shown};
+ghost use Rattle.lt_front.specs.Printed.{canonical_text};
 ghost use Rattle.lt_meaning.specs.Streams.{InputsFitMain};
 ghost use Rattle.lt_load.specs.Blamed.{command_blame};
 ghost use Rattle.lt_load.specs.Errands.{whole_errand, program_errand, config_errand, inputs_errand};
 ghost use Rattle.lt_load.specs.Loaded.{Flattened, limit_of, whole_verdict, within, program_verdict, config_verdict, inputs_verdict};
+ghost use Rattle.lt_load.specs.Found.{fetched};
 ghost use Rattle.lt_load.specs.Main.{main_in};
 
 use crate::{CommandFault, What};
 use lt_base::{Func, Inputs, List, Or, Program};
 use lt_config::{Config, read_config};
-use lt_front::{Checked, Examined, examine};
+use lt_front::{Checked, Examined, examine, print_examined};
 use lt_inputs::read_inputs;
 use lt_io::{Failed, Files, Whole, read_file};
 use std::alloc::Global;
@@ -42,9 +45,18 @@ pub fn fetch_within<F: Files>(
     ensures answered { Answered command_blame (whole_errand what name.now) (whole_verdict what ((F.state files.old).named name.now)) (alone (F.state files.old)) (alone (F.state files.new)) result }
     ensures short { IfOk result (λ bytes. length bytes ≤ limit_of what) }
 {
-    match read_file(alloc, files, name, what.limit()) {
+    let read = read_file(alloc, files, name, what.limit());
+    fetched(what, read)
+}
+
+// What was read of a file, as a command's.
+fn fetched(what: What, read: Result<Whole, Or<Failed>>) -> Result<List<u8>, Or<CommandFault>>
+    ensures { result ≡ fetched what read }
+{
+    match read {
         Ok(whole) => within(what, whole),
-        Err(e) => Err(e.map(unread)),
+        Err(Or::Fault(_)) => Err(Or::Fault(CommandFault::Read)),
+        Err(Or::Memory) => Err(Or::Memory),
     }
 }
 
@@ -63,13 +75,6 @@ fn within(what: What, whole: Whole) -> Result<List<u8>, Or<CommandFault>>
     }
 }
 
-// The refusal for a call on the files that failed.
-fn unread(_failed: Failed) -> CommandFault
-    ensures { result ≡ CommandFault.Read }
-{
-    CommandFault::Read
-}
-
 /// Reads a program's file, and the program through all checks.
 pub fn load_program<F: Files>(
     alloc: Global,
@@ -82,6 +87,23 @@ pub fn load_program<F: Files>(
     let bytes = fetch_within(alloc, files, name, What::ProgramBytes)?;
     match examine(alloc, bytes.as_slice()) {
         Ok(checked) => Ok(checked),
+        Err(e) => Err(e.map(CommandFault::Program)),
+    }
+}
+
+/// The canonical text of the program of a file that passes all checks. Neither its tree nor the program is kept, so this takes less memory
+/// than to print what `load_program` answers.
+pub fn load_text<F: Files>(
+    alloc: Global,
+    files: &mut F,
+    name: &str,
+) -> Result<List<u8>, Or<CommandFault>>
+    requires { (F.state files.old).faults < 2 ^ 64 - 1 }
+    ensures { Answered command_blame (program_errand name.now) (Shown canonical_text (program_verdict ((F.state files.old).named name.now))) (alone (F.state files.old)) (alone (F.state files.new)) result }
+{
+    let bytes = fetch_within(alloc, files, name, What::ProgramBytes)?;
+    match print_examined(alloc, bytes.as_slice()) {
+        Ok(text) => Ok(text),
         Err(e) => Err(e.map(CommandFault::Program)),
     }
 }

@@ -1,16 +1,17 @@
 // A program with its setup.
-ghost use Rattle.std.specs.Prelude.{◌++◌, ◌<◌, ◌-◌, ◌^◌, option_map};
+ghost use Rattle.std.specs.Prelude.{◌≡◌, ◌++◌, ◌<◌, ◌-◌, ◌^◌};
 ghost use Rattle.lt_front.specs.Checked.{examined_part};
 ghost use Rattle.lt_answer.specs.World.{alone};
 ghost use Rattle.lt_answer.specs.Answered.{Answered, Settles};
 ghost use Rattle.lt_load.specs.Blamed.{command_blame};
-ghost use Rattle.lt_load.specs.Errands.{program_errand, config_errand, check_errands};
-ghost use Rattle.lt_load.specs.Setups.{IsOutsideWindow, Passes, accepted_verdict, check_verdict, fitted_verdict, fitting_verdict, placed_verdict, timed_verdict, windowed_verdict, with_setup_verdict};
+ghost use Rattle.lt_load.specs.Errands.{program_errand, config_errand};
+ghost use Rattle.lt_load.specs.Found.{fitted};
+ghost use Rattle.lt_load.specs.Setups.{IsOutsideWindow, Passes, accepted_verdict, fitted_verdict, fitting_verdict, placed_verdict, timed_verdict, windowed_verdict, with_setup_verdict};
 ghost use Rattle.lt_lossy.specs.Window.{HasWindow};
 
 use crate::loading::{load_flat, main_of};
 use crate::placing::as_place;
-use crate::{CommandFault, load_config, load_program};
+use crate::{CommandFault, load_config};
 use lt_base::Or;
 use lt_config::{Config, Pace};
 use lt_front::{Checked, Examined};
@@ -20,25 +21,9 @@ use lt_place::legal_nodes;
 use lt_timing::accepts;
 use std::alloc::Global;
 
-/// A program that passes all checks; with the file of a setup, its placement is legal, its timing is accepted, and it has the window
-/// where links lose messages. The files are read in this order.
-pub fn check<F: Files>(
-    alloc: Global,
-    files: &mut F,
-    program: &str,
-    config: Option<&str>,
-) -> Result<Examined, Or<CommandFault>>
-    requires { (F.state files.old).faults < 2 ^ 64 - 1 }
-    ensures { Answered command_blame (check_errands program.now (option_map (λ s. s.now) config.entry)) (check_verdict (F.state files.old).named program.now (option_map (λ s. s.now) config.entry))
-        (alone (F.state files.old)) (alone (F.state files.new)) result }
-{
-    match config {
-        Some(config) => check_with(alloc, files, program, config),
-        None => load_program(alloc, files, program),
-    }
-}
-
-fn check_with<F: Files>(
+/// A program that passes all checks and that the file of a setup fits: its placement is legal, its timing is accepted, and it has the
+/// window where links lose messages. The program is read before the setup.
+pub fn check_with<F: Files>(
     alloc: Global,
     files: &mut F,
     program: &str,
@@ -49,8 +34,21 @@ fn check_with<F: Files>(
         (alone (F.state files.old)) (alone (F.state files.new)) result }
 {
     let checked = load_flat(alloc, files, program)?;
-    check_setup(alloc, files, &checked, config)?;
-    Ok(checked.examined())
+    let setup = check_setup(alloc, files, &checked, config);
+    fitted(checked, setup)
+}
+
+// The program, if a setup fits it.
+fn fitted(
+    checked: Checked,
+    setup: Result<Config, Or<CommandFault>>,
+) -> Result<Examined, Or<CommandFault>>
+    ensures { result ≡ fitted (examined_part checked) setup }
+{
+    match setup {
+        Ok(_) => Ok(checked.examined()),
+        Err(e) => Err(e),
+    }
 }
 
 // The setup of a file, for a program that passed all checks.
