@@ -9,3 +9,4 @@ pub mod AtTheEnd
 pub mod Outcomes
 pub mod Performed
 pub mod SoundNetworks
+pub mod Stopping

@@ -1,6 +1,6 @@
 -- What a play over links that lose messages answers.
 use Rattle.std.proofs.Common.{◌≡◌, ◌<◌, ℕ, true, false, List, length, Option, Some, None, Result, Ok, Err, IsTrue, refl, sym, ap, ◌∙◌, subst, arith}
-use Rattle.std.specs.Prelude.{IsSome, IsErrAnd}
+use Rattle.std.specs.Prelude.{IsSome, IsErrAnd, MatchResult, OnOk, is_ok}
 use Rattle.lt_base.specs.declared.value.Value.{Value}
 use Rattle.lt_base.specs.declared.memory.Or.{Or}
 use Rattle.lt_base.specs.declared.memory.Or.TheVariants.{Fault, Memory}
@@ -20,19 +20,20 @@ use Rattle.lt_judge.specs.declared.halt.Refusal.{Refusal}
 use Rattle.lt_judge.specs.declared.halt.Halt.{Halt}
 use Rattle.lt_judge.specs.declared.halt.Halt.TheVariants as halt
 use Rattle.lt_judge.specs.Errand.{schedule_errand}
-use Rattle.lt_judge.specs.Halted.{UnlessFailed, ReadCountedBy, LinkCountedBy}
+use Rattle.lt_judge.specs.Halted.{UnlessFailed, ReadCounted, ReadCountedBy, LinkCounted, LinkCountedBy}
 use Rattle.lt_judge.specs.Rules.{Rules, file_judged_by}
 use Rattle.lt_judge.specs.Replayed.{TakesFile, RefusesFile}
 use Rattle.lt_lossy_net.specs.NetModel.{StoppableLossy}
 use Rattle.lt_lossy_net.specs.Taken.{IsKeptLossy}
 use Rattle.lt_play.specs.Played.{world}
+use Rattle.lt_play.proofs.Outcomes.{stands_too}
 use Rattle.lt_replay.specs.declared.replayed.Replayed.{Replayed}
 use Rattle.lt_replay.proofs.Performed.{at_error}
 use Rattle.lt_lossy_replay.specs.declared.fault.LossyPlayFault.{LossyPlayFault}
 use Rattle.lt_lossy_replay.specs.declared.fault.LossyPlayFault.TheVariants.{Refused, Read}
 use Rattle.lt_lossy_replay.specs.Rules.{lossy_rules_of, lossy_blame, lossy_fault, IsNearLossy}
 use Rattle.lt_lossy_replay.specs.Replays.{IsLossyReplay, LossyEndsWith, lossy_replay_verdict, HasLossyReplayed}
-use Rattle.lt_lossy_replay.specs.Plays.{PlaysLossy, KeepsLossyPlay, IsTakenFrom}
+use Rattle.lt_lossy_replay.specs.Plays.{PlaysLossy, KeepsLossyPlay, IsTakenFrom, FinishesBy}
 use Rattle.lt_lossy_replay.proofs.AtTheEnd.{is_replay, stopped_at}
 
 module _ {C M : Type 0} (stands : M → Function → List (List Value) → Type 0) (made : M → ℕ) (old new : StoppableLossy C M) (inputs later : List (List Value)) (name : List ℕ) (files files' : FilesState) (fabric fabric' : FabricState)
@@ -184,3 +185,22 @@ module _ {C M : Type 0} (stands : M → Function → List (List Value) → Type 
           ended = (takes.events, at_last);
           near = λ told. tt;
         }
+
+    -- What the answer to the whole file comes to, where a net along the schedule takes its events.
+    module _ (playing : List LossyEvent → Type 0) (plays : (events : List LossyEvent) → playing events → PlaysLossy phase stands made left later events new fabric') where
+      abbrev Judged : Result (Unit {0}) (Halt LossyOffence) → Type 0
+      Judged r = MatchResult r (λ _. (steps : ℕ) × TakesFile (rules old.plant.rows) playing files.told (files.named name)) (UnlessFailed (λ refused. IsTrue files.told → RefusedBy refused))
+
+      taken_by : (x : Unit {0}) → Judged (Ok x) → Taken
+      taken_by x judged = stands_too (rules old.plant.rows) playing (λ before. PlaysLossy phase stands made left later before new fabric') plays files.told (files.named name) judged.1
+
+      pub ended_by : (r : Result (Unit {0}) (Halt LossyOffence)) → Visited (schedule_errand name) files.visits files'.visits (is_ok r) → ReadCounted files.faults files'.faults r → LinkCounted fabric.faults fabric'.faults r → Judged r →
+          OnOk r ((h : ℕ) × (new.plant.watch.horizon ≡ Some h))
+      ended_by (Ok x) visits calm link_calm judged = took_end (taken_by x judged) visits calm link_calm
+      ended_by (Err h) visits calm link_calm judged = tt
+
+      pub finished : (r : Result (Unit {0}) (Halt LossyOffence)) → Visited (schedule_errand name) files.visits files'.visits (is_ok r) → ReadCounted files.faults files'.faults r → LinkCounted fabric.faults fabric'.faults r → Judged r →
+          (IsTrue files.sound → IsSome (files.named name) → files'.faults ≡ files.faults) → IsKeptLossy new.plant → length new.plant.tracks ≡ length new.plant.layout.outs → (result : Result (Replayed M) (Or LossyPlayFault)) → FinishesBy new.plant r result → Replays result
+      finished (Ok x) visits calm link_calm judged found kept tracks (Ok taken) is = taken_so (taken_by x judged) visits calm link_calm kept tracks taken is
+      finished (Ok x) visits calm link_calm judged found kept tracks (Err fault) is = untaken (taken_by x judged) visits calm link_calm (Err fault) is
+      finished (Err h) visits calm link_calm judged found kept tracks result is = subst Replays (sym is) (halted h visits calm link_calm found judged)

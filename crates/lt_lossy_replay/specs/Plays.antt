@@ -1,6 +1,8 @@
 -- What a net along a schedule over links that lose messages keeps.
-use Rattle.std.specs.Prelude.{◌≡◌, ℕ, suc, ◌+◌, ◌<◌, ◌^◌, Bool, true, false, List, [], ◌∷◌, length, take, map, Option, Some, None, IsTrue, slice_get, slice_index_or}
+use Rattle.std.specs.Prelude.{◌≡◌, ℕ, suc, ◌+◌, ◌<◌, ◌^◌, Bool, true, false, List, [], ◌∷◌, length, take, map, Option, Some, None, IsTrue, Result, Ok, Err, slice_get, slice_index_or}
 use Rattle.lt_base.specs.declared.value.Value.{Value}
+use Rattle.lt_base.specs.declared.memory.Or.{Or}
+use Rattle.lt_base.specs.declared.memory.Or.TheVariants as either
 use Rattle.lt_base.specs.Program.{Function}
 use Rattle.lt_base.specs.Inputs.{InputTable}
 use Rattle.lt_arch.specs.declared.event.Event.TheVariants.{Act, Del, End}
@@ -11,6 +13,8 @@ use Rattle.lt_arch.specs.Readers.{node_count, chan_count, to_of, carries_data}
 use Rattle.lt_io.specs.declared.message.Message.{Message}
 use Rattle.lt_io.specs.FabricState.{FabricState, KeepsFabric}
 use Rattle.lt_link.specs.Bits.{bit_of}
+use Rattle.lt_judge.specs.declared.halt.Halt.{Halt}
+use Rattle.lt_lossy.specs.declared.event.LossyOffence.{LossyOffence}
 use Rattle.lt_lossy.specs.declared.event.LossyEvent.{LossyEvent}
 use Rattle.lt_lossy.specs.declared.event.LossyEvent.TheVariants.{Plain, Lose}
 use Rattle.lt_plant.specs.Given.{FitsPart}
@@ -25,6 +29,8 @@ use Rattle.lt_lossy_net.specs.Laws.{StandsWith}
 use Rattle.lt_lossy_net.specs.Taken.{HasLossyKinds, SameLossyStatic}
 use Rattle.lt_play.specs.Plays.{CanRead}
 use Rattle.lt_replay.specs.declared.replayed.Replayed.{Replayed}
+use Rattle.lt_lossy_replay.specs.declared.fault.LossyPlayFault.{LossyPlayFault}
+use Rattle.lt_lossy_replay.specs.Rules.{lossy_fault}
 use Rattle.lt_lossy_replay.specs.Told.{fates_of, came, without_copies, ExecutesAt, EndsInCopy}
 
 -- the row of the acting node's next instant
@@ -102,3 +108,9 @@ pub record IsTakenFrom {C M : Type 0} (net : LossyNetState C M) (taken : Replaye
   pub cells : taken.cells ≡ map (λ track. track.cells) net.tracks
   pub horizon : net.watch.horizon ≡ Some taken.horizon
   pub machines : taken.machines ≡ net.machines
+
+-- after an answer to a whole file: what is taken from the net, or want of memory; else the fault of the answer
+abbrev pub FinishesBy : {C M : Type 0} → LossyNetState C M → Result (Unit {0}) (Halt LossyOffence) → Result (Replayed M) (Or LossyPlayFault) → Type 0
+FinishesBy net (Ok x) (Ok taken) = IsTakenFrom net taken
+FinishesBy net (Ok x) (Err fault) = fault ≡ either.Memory
+FinishesBy net (Err halt) result = result ≡ Err (lossy_fault halt)

@@ -1,5 +1,5 @@
 -- What the rows of a schedule file read as where links lose messages, and whose fault it is that it is not played to its end.
-use Rattle.std.specs.Prelude.{ℕ, is_some, List, Option, Some, None, IfSome, if◌then◌else◌}
+use Rattle.std.specs.Prelude.{◌≡◌, ℕ, is_some, List, Option, Some, None, IfSome, if◌then◌else◌}
 use Rattle.lt_base.specs.declared.memory.Or.{Or}
 use Rattle.lt_base.specs.declared.memory.Or.TheVariants as either
 use Rattle.lt_arch.specs.declared.event.Offence.TheVariants.{NoEnd}
@@ -18,6 +18,10 @@ use Rattle.lt_lossy.specs.Schedule.{lossy_reached}
 use Rattle.lt_answer.specs.World.{Blame, Content, Reading, Linking}
 use Rattle.lt_judge.specs.declared.halt.Halt.{Halt}
 use Rattle.lt_judge.specs.declared.halt.Halt.TheVariants as halt
+use Rattle.lt_judge.specs.declared.halt.Stop.{Stop}
+use Rattle.lt_judge.specs.declared.halt.Stop.TheVariants as stop
+use Rattle.lt_lossy_net.specs.declared.fault.LossyFault.{LossyFault}
+use Rattle.lt_lossy_net.specs.declared.fault.LossyFault.TheVariants as net
 use Rattle.lt_judge.specs.Near.{IsNearIn}
 use Rattle.lt_judge.specs.Rules.{Rules}
 use Rattle.lt_lossy_replay.specs.declared.fault.LossyPlayFault.{LossyPlayFault}
@@ -59,3 +63,10 @@ IsNearLossy file place (either.Fault (Refused refusal)) = IfSome file (λ bytes.
 IsNearLossy file place (either.Fault Read) = Unit {0}
 IsNearLossy file place (either.Fault Link) = Unit {0}
 IsNearLossy file place either.Memory = Unit {0}
+
+-- a running net's fault, as why a line is not taken
+abbrev pub IsLossyStopOf : LossyFault → Stop LossyOffence → Type 0
+IsLossyStopOf (net.Offence offence) why = why ≡ stop.Offence offence
+IsLossyStopOf net.Link why = why ≡ stop.Link
+IsLossyStopOf net.Memory why = why ≡ stop.Memory
+IsLossyStopOf (net.Stopped first) why = ⊥

@@ -1,5 +1,5 @@
 // A net over links that lose messages, as it takes the events of a schedule.
-ghost use Rattle.std.specs.Prelude.{◌≡◌, ◌<◌, ◌-◌, ◌^◌, IsTrue, [], length, IfOk};
+ghost use Rattle.std.specs.Prelude.{◌≡◌, ◌≢◌, ◌<◌, ◌-◌, ◌^◌, IsTrue, [], length, IfOk};
 ghost use Rattle.lt_base.specs.Behaviour.{RowsFit};
 ghost use Rattle.lt_io.specs.Counts.{LinkCounted};
 ghost use Rattle.lt_io.specs.FabricState.{KeepsPromises};
@@ -8,7 +8,9 @@ ghost use Rattle.lt_step.specs.Run.{HasRowValues};
 ghost use Rattle.lt_place.specs.Layout.{IsPlaced};
 ghost use Rattle.lt_plant.specs.Starts.{AreReady};
 ghost use Rattle.lt_lossy_net.specs.Starts.{IsMadeOfLossy};
-ghost use Rattle.lt_lossy_replay.specs.Rules.{lossy_rules_of};
+ghost use Rattle.lt_net.specs.declared.fault.First.{First};
+ghost use Rattle.lt_lossy_net.specs.declared.fault.LossyFault.TheVariants.{Stopped};
+ghost use Rattle.lt_lossy_replay.specs.Rules.{lossy_rules_of, IsLossyStopOf};
 ghost use Rattle.lt_lossy_replay.specs.Sound.{IsLossySound};
 ghost use Rattle.lt_lossy_replay.specs.Plays.{IsPlayingLossy, KeepsLossyPlay};
 ghost use Rattle.lt_lossy_replay.specs.Keeping.{long_lossy_line, lossy_keeps_itself, lossy_keeps_on};
@@ -24,8 +26,8 @@ use lt_lossy::{LossyEvent, LossyOffence};
 use lt_lossy_net::{LossyFault, LossyNet};
 use lt_machine::Machine;
 use lt_place::Layout;
-use lt_plant::literals::kinds_of;
-use lt_play::feeding::{given, room_for};
+use lt_play::feeding::given;
+use lt_play::opening::open;
 use lt_rows::PlaceTable;
 use std::alloc::Global;
 use std::sync::ledger::Ledger;
@@ -68,13 +70,10 @@ impl<'a, M: Machine> LossyPlayback<'a, M> {
         ensures keeps { KeepsPromises (W.state fabric.old) (W.state fabric.new) }
         ensures sound { IsTrue (W.state fabric.old).sound → (W.state fabric.new).faults ≡ (W.state fabric.old).faults }
     {
-        let kinds = kinds_of(alloc, &layout, &shape)?;
-        let row = room_for(alloc, width)?;
-        let places = PlaceTable::new(alloc, &shape)?;
+        let (places, row) = open(alloc, &layout, &shape, width, fabric)?;
         let count = inputs.rows();
         let net = LossyNet::start(alloc, layout, shape, timing, losses, count, machines)?;
         net.kept();
-        fabric.open(kinds.as_slice())?;
         Ok(LossyPlayback {
             net,
             inputs,
@@ -114,10 +113,7 @@ impl<M: Machine, W: Fabric> Replica<W> for LossyPlayback<'_, M> {
                 let row = given(has, &self.row);
                 match self.net.event(e, row, outside, steps) {
                     Ok(()) => Ok(()),
-                    Err(LossyFault::Offence(offence)) => Err(Stop::Offence(offence)),
-                    Err(LossyFault::Link) => Err(Stop::Link),
-                    Err(LossyFault::Memory) => Err(Stop::Memory),
-                    Err(LossyFault::Stopped(_)) => unreachable!(),
+                    Err(fault) => Err(stop_by(fault)),
                 }
             }
         }
@@ -140,4 +136,17 @@ impl<M: Machine, W: Fabric> Replica<W> for LossyPlayback<'_, M> {
     ghost keeps_rules = { λ a v b w x. λ i. lossy_rules_of (x.fixed.shape i) (x.fixed.timing i) (x.fixed.limit i) (x.fixed.rows i) };
 
     ghost keeps_prompt = { λ a v b w x prompt. prompt };
+}
+
+// Why a line is not taken that a running net answers with this fault.
+fn stop_by(fault: LossyFault) -> Stop<LossyOffence>
+    requires { (f : First) → fault ≢ Stopped f }
+    ensures { IsLossyStopOf fault result }
+{
+    match fault {
+        LossyFault::Offence(offence) => Stop::Offence(offence),
+        LossyFault::Link => Stop::Link,
+        LossyFault::Memory => Stop::Memory,
+        LossyFault::Stopped(_) => unreachable!(),
+    }
 }

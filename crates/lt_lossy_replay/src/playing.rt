@@ -1,8 +1,8 @@
 // A whole schedule file.
-ghost use Rattle.std.specs.Prelude.{◌≡◌, ◌<◌, ◌-◌, ◌^◌, []};
+ghost use Rattle.std.specs.Prelude.{◌≡◌, ◌<◌, ◌-◌, ◌^◌, ℕ, [], Some, OnOk};
 ghost use Rattle.lt_rows.specs.Lines.{fresh};
 ghost use Rattle.lt_lossy_replay.specs.Rules.{lossy_fault};
-ghost use Rattle.lt_lossy_replay.specs.Plays.{IsPlayingLossy};
+ghost use Rattle.lt_lossy_replay.specs.Plays.{IsPlayingLossy, FinishesBy};
 ghost use Rattle.lt_lossy_replay.specs.Replays.{HasLossyReplayed};
 
 use crate::LossyPlayFault;
@@ -14,6 +14,7 @@ use lt_bp::BackPressure;
 use lt_io::{Fabric, Files};
 use lt_judge::{Halt, replay_schedule};
 use lt_lossy::LossyOffence;
+use lt_lossy_net::LossyNet;
 use lt_machine::Machine;
 use lt_replay::Replayed;
 use lt_rows::Lines;
@@ -38,11 +39,22 @@ pub(crate) fn play<F: Files, W: Fabric, M: Machine>(
         (F.state files.old) (F.state files.new) (W.state fabric.old) (W.state fabric.new) result }
 {
     let mut playback = playback;
-    match replay_schedule(lines, files, name, &mut playback, fabric) {
-        Ok(()) => {
-            playback.net.kept();
-            Ok(take(alloc, playback.net)?)
-        }
+    let answer = replay_schedule(lines, files, name, &mut playback, fabric);
+    playback.net.kept();
+    finish(alloc, playback.net, answer)
+}
+
+// What a net comes to that has taken a file to its end, or why it has not.
+fn finish<M: Machine>(
+    alloc: Global,
+    net: LossyNet<M>,
+    answer: Result<(), Halt<LossyOffence>>,
+) -> Result<Replayed<M>, Or<LossyPlayFault>>
+    requires { OnOk answer ((h : ℕ) × (net.plant.watch.horizon ≡ Some h)) }
+    ensures { FinishesBy net.plant answer result }
+{
+    match answer {
+        Ok(()) => Ok(take(alloc, net)?),
         Err(halt) => Err(lossy_fault(halt)),
     }
 }

@@ -1,9 +1,11 @@
-use Rattle.std.proofs.Common.{◌≡◌, List, if◌then◌else◌, Some, None, Ok, Err, sym, ◌∙◌, ap, subst}
+use Rattle.std.proofs.Common.{◌≡◌, List, if◌then◌else◌, Some, None, Ok, sym, ◌∙◌, ap, subst}
 use Rattle.lt_base.specs.declared.value.Value.{Value}
 use Rattle.lt_lossy.specs.Events.{IsLossyPlacedIn, lossy_event_of}
 use Rattle.lt_net.specs.Event.{given}
+use Rattle.lt_lossy_replay.specs.Rules.{lossy_rules_of}
 use Rattle.lt_lossy_replay.proofs.NextLists.{row_fits}
 use Rattle.lt_lossy_replay.proofs.OneMore.{offence_by, free_of, plays_on}
+use Rattle.lt_lossy_replay.proofs.Stopping.{runs_on, counted, stops}
 use Rattle.lt_lossy_replay.proofs.playback.LossyPlaybackReplica.take_line.Goals as goal
 
 pub event-requires-clause-row : goal.event-requires-clause-row
@@ -12,11 +14,8 @@ event-requires-clause-row g c = λ none.
     (subst (λ s. IsLossyPlacedIn s c.in-Ok.e) c.shape.ensures c.in-Ok.ensures.of_shape.placed) (given c.given-row.result)
     (c.given-row.ensures ∙ ap (λ (r : List Value). if c.read_next-has.result then Some r else None) c.deref.ensures.value ∙ c.read_next-has.ensures.row)
 
-pub unreachable-requires : goal.unreachable-requires
-unreachable-requires g c =
-    let stopped = (c.event.ensures.stopped c.in-Err-Stopped.field-0-0).0 (c.in-Err-Stopped.is ∙ ap (λ f. Err f) c.in-Err-Stopped.field-0-is) in
-    let none : None ≡ Some c.in-Err-Stopped.field-0-0 = sym (c.requires.stands).1.plays.running ∙ stopped in
-    cc
+pub stop_by-requires : goal.stop_by-requires
+stop_by-requires g c = runs_on c.event.result c.in-Err-event.fault c.in-Err-event.is c.args.self.now.net.stopped (c.requires.stands).1.plays.running (λ f. (c.event.ensures.stopped f).0)
 
 pub returns-in-Ok-event-clause-takes : goal.returns-in-Ok-event-clause-takes
 returns-in-Ok-event-clause-takes g c = λ before p.
@@ -35,10 +34,14 @@ returns-in-Ok-event-clause-takes g c = λ before p.
       };
     }
 
-pub returns-in-Err-Offence-clause-takes : goal.returns-in-Err-Offence-clause-takes
-returns-in-Err-Offence-clause-takes g c = λ before p. (
-  c.in-Ok.e,
-  sym (subst (λ s. Ok c.in-Ok.e ≡ lossy_event_of s c.args.line.now) c.shape.ensures c.in-Ok.ensures.event),
-  offence_by _ g.M.Machine.stands g.M.Machine.made g.M.Machine.left c.args.self.now.inputs.now.rows before c.args.self.now.net (g.W.Fabric.state c.args.outside.now) p.plays
-      c.in-Ok.e c.event.result c.in-Err-Offence.offence (c.in-Err-Offence.is ∙ ap (λ f. Err f) c.in-Err-Offence.field-0-is) (c.event.ensures.offence p.plays.running),
-)
+pub returns-in-Err-event-clause-cause : goal.returns-in-Err-event-clause-cause
+returns-in-Err-event-clause-cause g c = counted c.event.result c.in-Err-event.fault c.stop_by.result c.in-Err-event.is c.stop_by.ensures _ _ c.event.ensures.link c.event.ensures.calm
+
+pub returns-in-Err-event-clause-takes : goal.returns-in-Err-event-clause-takes
+returns-in-Err-event-clause-takes g c = λ before p.
+    stops c.event.result (lossy_rules_of c.args.self.now.net.plant.shape c.args.self.now.net.plant.timing c.args.self.now.net.plant.watch.limit c.args.self.now.net.plant.rows) c.args.line.now before c.in-Err-event.fault c.stop_by.result c.in-Err-event.is c.stop_by.ensures (λ o is. (
+      c.in-Ok.e,
+      sym (subst (λ s. Ok c.in-Ok.e ≡ lossy_event_of s c.args.line.now) c.shape.ensures c.in-Ok.ensures.event),
+      offence_by _ g.M.Machine.stands g.M.Machine.made g.M.Machine.left c.args.self.now.inputs.now.rows before c.args.self.now.net (g.W.Fabric.state c.args.outside.now) p.plays
+          c.in-Ok.e c.event.result o is (c.event.ensures.offence p.plays.running),
+    ))
