@@ -3,7 +3,7 @@ use Rattle.std.proofs.Common.{◌≡◌, ℕ, ◌≤◌, List, ◌∷◌, ◌++�
 use Rattle.lt_arch.specs.declared.chan.ChanKind.{ChanKind}
 use Rattle.lt_arch.specs.declared.event.Event.{Event}
 use Rattle.lt_arch.specs.declared.shape.Shape.{Shape}
-use Rattle.lt_rows.specs.Events.{time_in, node_named, chan_named, event_of}
+use Rattle.lt_rows.specs.Events.{node_named, chan_named, event_of}
 use Rattle.lt_rows.specs.Texts.{place_text}
 use Rattle.lt_rows.specs.Written.{IsNodeOf, IsChanOf, IsTimed, IsWritten}
 use Rattle.lt_rows.proofs.Readback.{node_back, chan_back, reads_by_text}

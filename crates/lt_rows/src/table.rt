@@ -23,7 +23,7 @@ const SLOTS: u32 = 1_024;
 const TRIES: u32 = 64;
 
 // The slots for rows.
-const ROWS: u32 = 4_096;
+const ROWS: u32 = 16_384;
 
 // The most nodes of a shape for whose channels there is a table.
 const MOST_NODES: u32 = 64;
@@ -278,12 +278,12 @@ fn short_mark(rest: &[u8]) -> usize {
     }
 }
 
-// The first twelve bits of a sum of both.
+// The first fourteen bits of a sum of both.
 fn slot_of_ends(first: u64, last: u64) -> usize {
     let sum = first
         .wrapping_mul(0x9e37_79b9_7f4a_7c15)
         .wrapping_add(last.wrapping_mul(0xc2b2_ae3d_27d4_eb4f));
-    (sum / (1 << 52)) as usize
+    (sum / (1 << 50)) as usize
 }
 
 fn zeros(alloc: Global, count: u32) -> Result<Vec<u32>, Memory> {

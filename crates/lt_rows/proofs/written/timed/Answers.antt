@@ -1,4 +1,4 @@
-use Rattle.std.proofs.Common.{◌≡◌, ◌<◌, length, get_or, true, sym, ◌∙◌}
+use Rattle.std.proofs.Common.{◌≡◌, get_or, true, sym, ◌∙◌}
 use Rattle.lt_arch.specs.Names.{is_digit}
 use Rattle.lt_rows.proofs.Digits.{digits_on}
 use Rattle.lt_rows.proofs.written.timed.Goals as goal
