@@ -1,4 +1,4 @@
-use Rattle.std.proofs.Common.{◌≡◌, map, sym, subst, ◌∙◌, arith, vec_len}
+use Rattle.std.proofs.Common.{refl, ◌≡◌, map, sym, subst, ◌∙◌, arith, vec_len}
 use Rattle.lt_base.specs.Expression.{shape, arguments_of}
 use Rattle.lt_syntax.specs.Tree.{tms}
 use Rattle.lt_syntax.specs.Views.{tm_of}
@@ -6,8 +6,8 @@ use Rattle.lt_resolve.specs.Uses.{unknown, count}
 use Rattle.lt_resolve.specs.Told.{Tells}
 use Rattle.lt_resolve.specs.Known.{StandsFor, IsTranslated}
 use Rattle.lt_resolve.proofs.Pairs.{along_more, along_all}
-use Rattle.lt_resolve.proofs.Lists.{some_next, some_none}
-use Rattle.lt_resolve.proofs.Told.{tells_at}
+use Rattle.lt_resolve.proofs.Lists.{or_none, some_next, some_none}
+use Rattle.lt_resolve.proofs.Told.{refuses_first, refuses_then, tells_at, tells_on}
 use Rattle.lt_resolve.proofs.Sites.{count_is}
 use Rattle.lt_resolve.proofs.Terms.{unknown_arguments, translated_arguments, translated_call}
 use Rattle.lt_resolve.proofs.expression.+expression.Goals as goal
@@ -54,3 +54,54 @@ called-returns-clause-named t c =
     let many : vec_len c.in_ok-args.args ≡ count (tms (map tm_of args)) = c.in_ok-args.ensures.len ∙ sym (count_is args) in
     let stands = subst (λ x. StandsFor funcs x c.in_ok-callee.callee) c.as_str.ensures c.in_ok-callee.ensures.found in
     translated_call vars funcs f (tms (map tm_of args)) (vec_len c.in_ok-args.args) es many c.in_ok-args.ensures.named c.in_ok-callee.callee (shape c.in_ok-call.field-0) stands c.in_ok-call.ensures
+
+pub binary-returns-in_err-a-clause-told : goal.binary-returns-in_err-a-clause-told
+binary-returns-in_err-a-clause-told t c = tells_on _ c.in_err-a.field-0.0 _ c.from_residual.ensures.1 (refuses_first _ _ _ c.in_err-a.ensures.told)
+
+pub binary-returns-in_err-b-clause-told : goal.binary-returns-in_err-b-clause-told
+binary-returns-in_err-b-clause-told t c = tells_on _ c.in_err-b.field-0.0 _ c.from_residual-in_err-b.ensures.1 (refuses_then _ _ _ c.in_ok-a.ensures.told c.in_err-b.ensures.told)
+
+pub binary-returns-clause-told : goal.binary-returns-clause-told
+binary-returns-clause-told t c = or_none _ _ c.in_ok-a.ensures.told ∙ c.in_ok-b.ensures.told
+
+pub binary-returns-clause-named : goal.binary-returns-clause-named
+binary-returns-clause-named t c = λ k. (refl, c.in_ok-a.ensures.named k.0, c.in_ok-b.ensures.named k.1)
+
+pub followed-returns-in_err-a-clause-told : goal.followed-returns-in_err-a-clause-told
+followed-returns-in_err-a-clause-told t c = tells_on _ c.in_err-a.field-0.0 _ c.from_residual.ensures.1 (refuses_first _ _ _ c.in_err-a.ensures.told)
+
+pub followed-returns-in_err-b-clause-told : goal.followed-returns-in_err-b-clause-told
+followed-returns-in_err-b-clause-told t c = tells_on _ c.in_err-b.field-0.0 _ c.from_residual-in_err-b.ensures.1 (refuses_then _ _ _ c.in_ok-a.ensures.told c.in_err-b.ensures.told)
+
+pub followed-returns-clause-told : goal.followed-returns-clause-told
+followed-returns-clause-told t c = or_none _ _ c.in_ok-a.ensures.told ∙ c.in_ok-b.ensures.told
+
+pub followed-returns-clause-named : goal.followed-returns-clause-named
+followed-returns-clause-named t c = λ k. (c.in_ok-a.ensures.named k.0, c.in_ok-b.ensures.named k.1)
+
+pub arrow-returns-in_err-a-clause-told : goal.arrow-returns-in_err-a-clause-told
+arrow-returns-in_err-a-clause-told t c = tells_on _ c.in_err-a.field-0.0 _ c.from_residual.ensures.1 (refuses_first _ _ _ c.in_err-a.ensures.told)
+
+pub arrow-returns-in_err-b-clause-told : goal.arrow-returns-in_err-b-clause-told
+arrow-returns-in_err-b-clause-told t c = tells_on _ c.in_err-b.field-0.0 _ c.from_residual-in_err-b.ensures.1 (refuses_then _ _ _ c.in_ok-a.ensures.told c.in_err-b.ensures.told)
+
+pub arrow-returns-clause-told : goal.arrow-returns-clause-told
+arrow-returns-clause-told t c = or_none _ _ c.in_ok-a.ensures.told ∙ c.in_ok-b.ensures.told
+
+pub arrow-returns-clause-named : goal.arrow-returns-clause-named
+arrow-returns-clause-named t c = λ k. (c.in_ok-a.ensures.named k.0, c.in_ok-b.ensures.named k.1)
+
+pub choice-returns-in_err-c-clause-told : goal.choice-returns-in_err-c-clause-told
+choice-returns-in_err-c-clause-told t c = tells_on _ c.in_err-c.field-0.0 _ c.from_residual.ensures.1 (refuses_first _ _ _ c.in_err-c.ensures.told)
+
+pub choice-returns-in_err-a-clause-told : goal.choice-returns-in_err-a-clause-told
+choice-returns-in_err-a-clause-told t c = tells_on _ c.in_err-a.field-0.0 _ c.from_residual-in_err-a.ensures.1 (refuses_then _ _ _ c.in_ok-c.ensures.told (refuses_first _ _ _ c.in_err-a.ensures.told))
+
+pub choice-returns-in_err-b-clause-told : goal.choice-returns-in_err-b-clause-told
+choice-returns-in_err-b-clause-told t c = tells_on _ c.in_err-b.field-0.0 _ c.from_residual-in_err-b.ensures.1 (refuses_then _ _ _ c.in_ok-c.ensures.told (refuses_then _ _ _ c.in_ok-a.ensures.told c.in_err-b.ensures.told))
+
+pub choice-returns-clause-told : goal.choice-returns-clause-told
+choice-returns-clause-told t c = or_none _ _ c.in_ok-c.ensures.told ∙ (or_none _ _ c.in_ok-a.ensures.told ∙ c.in_ok-b.ensures.told)
+
+pub choice-returns-clause-named : goal.choice-returns-clause-named
+choice-returns-clause-named t c = λ k. (c.in_ok-c.ensures.named k.0, c.in_ok-a.ensures.named k.1, c.in_ok-b.ensures.named k.2)
