@@ -9,6 +9,10 @@ use Rattle.lt_judge.specs.Taken.{StopsAt, StopCountedBy}
 use Rattle.lt_net.specs.declared.fault.First.{First}
 use Rattle.lt_lossy_net.specs.declared.fault.LossyFault.{LossyFault}
 use Rattle.lt_lossy_net.specs.declared.fault.LossyFault.TheVariants as net
+use Rattle.lt_net.specs.declared.fault.First.TheVariants as first
+use Rattle.lt_lossy_net.specs.Halts.{RefusesLossy}
+use Rattle.lt_lossy_net.specs.NetModel.{StoppableLossy}
+use Rattle.lt_lossy_replay.specs.Plays.{LeavesNet}
 use Rattle.lt_lossy_replay.specs.Rules.{IsLossyStopOf}
 
 -- a net that runs was not stopped
@@ -30,3 +34,11 @@ module _ {T : Type 0} (r : Result T LossyFault) where
   stops rules line before net.Link why is same told = subst (StopsAt rules line before) (sym same) tt
   stops rules line before net.Memory why is same told = subst (StopsAt rules line before) (sym same) tt
   stops rules line before (net.Stopped f) why is same told = absurd same
+
+  -- what a fault leaves of the net
+  pub leaves : {C M : Type 0} (before after : StoppableLossy C M) (fault : LossyFault) (why : Stop LossyOffence) → r ≡ Err fault → IsLossyStopOf fault why → (RefusesLossy r → after ≡ before) →
+      (IsErrOf r net.Link → after.stopped ≡ Some first.Link) → (IsErrOf r net.Memory → after.stopped ≡ Some first.Memory) → LeavesNet before after (Err why)
+  leaves before after (net.Offence o) why is same refused link memory = subst (λ x. LeavesNet before after (Err x)) (sym same) (refused (subst RefusesLossy (sym is) tt))
+  leaves before after net.Link why is same refused link memory = subst (λ x. LeavesNet before after (Err x)) (sym same) (link is)
+  leaves before after net.Memory why is same refused link memory = subst (λ x. LeavesNet before after (Err x)) (sym same) (memory is)
+  leaves before after (net.Stopped f) why is same refused link memory = absurd same

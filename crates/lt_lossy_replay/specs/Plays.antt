@@ -14,6 +14,9 @@ use Rattle.lt_io.specs.declared.message.Message.{Message}
 use Rattle.lt_io.specs.FabricState.{FabricState, KeepsFabric}
 use Rattle.lt_link.specs.Bits.{bit_of}
 use Rattle.lt_judge.specs.declared.halt.Halt.{Halt}
+use Rattle.lt_judge.specs.declared.halt.Stop.{Stop}
+use Rattle.lt_judge.specs.declared.halt.Stop.TheVariants as stop
+use Rattle.lt_net.specs.declared.fault.First.TheVariants as first
 use Rattle.lt_lossy.specs.declared.event.LossyOffence.{LossyOffence}
 use Rattle.lt_lossy.specs.declared.event.LossyEvent.{LossyEvent}
 use Rattle.lt_lossy.specs.declared.event.LossyEvent.TheVariants.{Plain, Lose}
@@ -114,3 +117,11 @@ abbrev pub FinishesBy : {C M : Type 0} → LossyNetState C M → Result (Unit {0
 FinishesBy net (Ok x) (Ok taken) = IsTakenFrom net taken
 FinishesBy net (Ok x) (Err fault) = fault ≡ either.Memory
 FinishesBy net (Err halt) result = result ≡ Err (lossy_fault halt)
+
+-- a line that is taken leaves a net that runs; one that is refused leaves it as it was; a failed call or want of memory has stopped it
+abbrev pub LeavesNet : {C M : Type 0} → (old new : StoppableLossy C M) → Result (Unit {0}) (Stop LossyOffence) → Type 0
+LeavesNet old new (Ok x) = new.stopped ≡ None
+LeavesNet old new (Err (stop.Row fault)) = new ≡ old
+LeavesNet old new (Err (stop.Offence offence)) = new ≡ old
+LeavesNet old new (Err stop.Link) = new.stopped ≡ Some first.Link
+LeavesNet old new (Err stop.Memory) = new.stopped ≡ Some first.Memory

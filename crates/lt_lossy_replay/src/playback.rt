@@ -1,5 +1,7 @@
 // A net over links that lose messages, as it takes the events of a schedule.
-ghost use Rattle.std.specs.Prelude.{◌≡◌, ◌≢◌, ◌<◌, ◌-◌, ◌^◌, IsTrue, [], length, IfOk};
+ghost use Rattle.std.specs.Prelude.{◌≡◌, ◌≢◌, ◌<◌, ◌-◌, ◌^◌, IsTrue, [], List as Items, length, IfOk, MatchResult};
+ghost use Rattle.lt_judge.specs.Taken.{IsMemoryStop, StopCounted, StopsAt, TakesLine};
+ghost use Rattle.lt_lossy.specs.declared.event.LossyEvent.{LossyEvent as OfEvent};
 ghost use Rattle.lt_base.specs.Behaviour.{RowsFit};
 ghost use Rattle.lt_io.specs.Counts.{LinkCounted};
 ghost use Rattle.lt_io.specs.FabricState.{KeepsPromises};
@@ -12,7 +14,7 @@ ghost use Rattle.lt_net.specs.declared.fault.First.{First};
 ghost use Rattle.lt_lossy_net.specs.declared.fault.LossyFault.TheVariants.{Stopped};
 ghost use Rattle.lt_lossy_replay.specs.Rules.{lossy_rules_of, IsLossyStopOf};
 ghost use Rattle.lt_lossy_replay.specs.Sound.{IsLossySound};
-ghost use Rattle.lt_lossy_replay.specs.Plays.{IsPlayingLossy, KeepsLossyPlay};
+ghost use Rattle.lt_lossy_replay.specs.Plays.{IsPlayingLossy, KeepsLossyPlay, LeavesNet};
 ghost use Rattle.lt_lossy_replay.specs.Keeping.{long_lossy_line, lossy_keeps_itself, lossy_keeps_on};
 
 use crate::feeding::read_next;
@@ -105,7 +107,19 @@ impl<M: Machine, W: Fabric> Replica<W> for LossyPlayback<'_, M> {
         line: &[u8],
         outside: &mut W,
         steps: &mut Steps<L>,
-    ) -> Result<(), Stop<LossyOffence>> {
+    ) -> Result<(), Stop<LossyOffence>>
+        requires count { (W.state outside.old).faults < 2 ^ 64 - 1 }
+        requires stands { (before : Items OfEvent) × IsPlayingLossy ⟦<BackPressure as Controller>⟧.phase M.stands M.made M.left self.old.inputs.now self.old.width self.old.row.items before self.old.net (W.state outside.old) }
+        ensures cause { StopCounted (W.state outside.old).faults (W.state outside.new).faults result }
+        ensures prompt { ⊥ → ¬ IsMemoryStop result }
+        ensures keeps { KeepsLossyPlay self.old.net self.new.net self.old.inputs.now.rows self.new.inputs.now.rows (W.state outside.old) (W.state outside.new) }
+        ensures takes { (before : Items OfEvent) → IsPlayingLossy ⟦<BackPressure as Controller>⟧.phase M.stands M.made M.left self.old.inputs.now self.old.width self.old.row.items before self.old.net (W.state outside.old) → MatchResult result
+            (λ _. TakesLine (lossy_rules_of self.old.net.plant.shape self.old.net.plant.timing self.old.net.plant.watch.limit self.old.net.plant.rows) line.now (λ after. IsPlayingLossy ⟦<BackPressure as Controller>⟧.phase M.stands M.made M.left self.new.inputs.now self.new.width self.new.row.items after self.new.net (W.state outside.new)) before)
+            (StopsAt (lossy_rules_of self.old.net.plant.shape self.old.net.plant.timing self.old.net.plant.watch.limit self.old.net.plant.rows) line.now before) }
+
+        // A line that is refused leaves the net as it was; a failed call or want of memory has stopped it.
+        ensures leaves { LeavesNet self.old.net self.new.net result }
+    {
         match read_row(&self.places, line, self.net.shape()) {
             Err(fault) => Err(Stop::Row(fault)),
             Ok(e) => {

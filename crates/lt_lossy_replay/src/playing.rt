@@ -54,7 +54,7 @@ fn finish<M: Machine>(
     ensures { FinishesBy net.plant answer result }
 {
     match answer {
-        Ok(()) => Ok(take(alloc, net)?),
+        Ok(()) => take(alloc, net),
         Err(halt) => Err(lossy_fault(halt)),
     }
 }

@@ -1,17 +1,21 @@
 // What is taken from a net at the end of a schedule.
-ghost use Rattle.std.specs.Prelude.{◌≡◌, ℕ, Some, IfOk};
-ghost use Rattle.lt_lossy_replay.specs.Plays.{IsTakenFrom};
+ghost use Rattle.std.specs.Prelude.{◌≡◌, ℕ, Some, Ok};
+ghost use Rattle.lt_lossy_replay.specs.Plays.{FinishesBy};
 
-use lt_base::Memory;
+use crate::LossyPlayFault;
+use lt_base::Or;
 use lt_lossy_net::LossyNet;
 use lt_machine::Machine;
 use lt_replay::Replayed;
 use std::alloc::Global;
 
 /// The cells, the horizon and the machines of a net that took an end.
-pub(crate) fn take<M: Machine>(alloc: Global, net: LossyNet<M>) -> Result<Replayed<M>, Memory>
+pub(crate) fn take<M: Machine>(
+    alloc: Global,
+    net: LossyNet<M>,
+) -> Result<Replayed<M>, Or<LossyPlayFault>>
     requires { (h : ℕ) × (net.plant.watch.horizon ≡ Some h) }
-    ensures { IfOk result (IsTakenFrom net.plant) }
+    ensures { FinishesBy net.plant (Ok tt) result }
 {
     match net.reached() {
         Some(horizon) => {
