@@ -2,6 +2,7 @@
 use Rattle.std.proofs.Common.{◌≡◌, ◌⊎◌, ℕ, List, [], ◌∷◌, ◌++◌, Option, Some, None, true, refl, sym, ◌∙◌, ap, subst, inl, inr}
 use Rattle.std.specs.Prelude.{option_map}
 use Rattle.lt_io.proofs.Visiting.{visited_none, unvisited}
+use Rattle.lt_io.specs.FilesState.{FilesState}
 use Rattle.lt_io.specs.FabricState.{FabricState}
 use Rattle.lt_io.specs.SinkState.{SinkState}
 use Rattle.lt_answer.specs.World.{World}
@@ -20,17 +21,17 @@ use Rattle.lt_cli.specs.Ran.{Ran}
 use Rattle.lt_cli.proofs.Ends.{ran_refused, ran_short}
 use Rattle.lt_cli.proofs.Obeyed.{objects, visits_all, visits_some}
 
-leaves_itself : (said : Option Said) (w : FabricState) → LeavesFabric said w w
-leaves_itself None w = refl
-leaves_itself (Some (check program config)) w = refl
-leaves_itself (Some (meaning program inputs)) w = refl
-leaves_itself (Some (run program inputs schedule config)) w = tt
-leaves_itself (Some (plan config horizon)) w = refl
-leaves_itself (Some (sim program inputs config seed horizon)) w = refl
-leaves_itself (Some (big instants)) w = tt
-leaves_itself (Some (watch program inputs schedule observer config)) w = tt
-leaves_itself (Some (audit program inputs schedule config)) w = refl
-leaves_itself (Some (trace program inputs schedule config place from to)) w = refl
+leaves_itself : (said : Option Said) (files : FilesState) (w : FabricState) → LeavesFabric said files w w
+leaves_itself None files w = refl
+leaves_itself (Some (check program config)) files w = refl
+leaves_itself (Some (meaning program inputs)) files w = refl
+leaves_itself (Some (run program inputs schedule config)) files w = λ told e refused. refl
+leaves_itself (Some (plan config horizon)) files w = refl
+leaves_itself (Some (sim program inputs config seed horizon)) files w = refl
+leaves_itself (Some (big instants)) files w = λ e refused. refl
+leaves_itself (Some (watch program inputs schedule observer config)) files w = λ told e refused. refl
+leaves_itself (Some (audit program inputs schedule config)) files w = refl
+leaves_itself (Some (trace program inputs schedule config place from to)) files w = refl
 
 -- the words say a command
 pub some_asked : (words : List (List ℕ)) (o : Option Spoken) (command : Spoken) → option_map said_of o ≡ command_of words → o ≡ Some command → (old new : Objects) (ends : Status) → ObeysCommand (said_of command) old new ends
@@ -68,6 +69,6 @@ none_asked words s told is w o e e' ends written =
 pub not_read : (words : List (List ℕ)) (w : World) (o e : SinkState) → Asked words (objects w o e) (objects w o e) status.Memory
 not_read words w o e = record {
   ran = ran_short {es = []} (words_verdict w.files.named w words) w w o e (runs_short w);
-  by_said = record { words_only = λ at. cc; none_only = λ none. inr (inr refl); leaves = leaves_itself (command_of words) w.fabric };
+  by_said = record { words_only = λ at. cc; none_only = λ none. inr (inr refl); leaves = leaves_itself (command_of words) w.files w.fabric };
   visits = visits_some (asked_errands (command_of words)) (objects w o e) (objects w o e) status.Memory (unvisited (asked_errands (command_of words)) w.files.visits) (λ at. cc);
 }

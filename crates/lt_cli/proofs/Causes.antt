@@ -1,6 +1,7 @@
 -- Why a call of `ltta` ends as it does.
 use Rattle.std.proofs.Common.{◌≡◌, ◌≢◌, ◌⊎◌, ◌<◌, ℕ, List, Option, Some, ◌++◌, ◌∷◌, [], Result, Ok, Err, IsTrue, refl, sym, ◌∙◌, ap, subst, append-nil, arith, inl, inr}
 use Rattle.std.specs.Prelude.{codes}
+use Rattle.lt_io.specs.FilesState.{FilesState}
 use Rattle.lt_io.specs.FabricState.{FabricState}
 use Rattle.lt_answer.specs.Answered.{Verdict}
 use Rattle.lt_verdict.proofs.Decided.{HasOneKind}
@@ -126,5 +127,5 @@ unfolding words_verdict
 asked_ran words said old new ends is ran = subst (λ (s : Option Said). Ran (asked_verdict old.files.named (world_of new) s) old new ends) is ran
 
 -- only a run touches the fabric
-pub left_fabric : (words : List (List ℕ)) (said : Said) (old new : FabricState) → command_of words ≡ Some said → LeavesFabric (command_of words) old new → LeavesFabric (Some said) old new
-left_fabric words said old new is leaves = subst (λ (s : Option Said). LeavesFabric s old new) is leaves
+pub left_fabric : (words : List (List ℕ)) (said : Said) (files : FilesState) (old new : FabricState) → command_of words ≡ Some said → LeavesFabric (command_of words) files old new → LeavesFabric (Some said) files old new
+left_fabric words said files old new is leaves = subst (λ (s : Option Said). LeavesFabric s files old new) is leaves

@@ -130,13 +130,13 @@ module _ (asked : List (List ℕ)) (old new : Objects) (ends : Status) (did : As
         → IsMissingExact (check_verdict old.files.named program config) old new
     check_missing program config is sound enough =
         missing_exact checked_text (check_verdict old.files.named program config) (check_decided old.files.named program config) old new
-        (untouched (left_fabric asked (check program config) old.fabric new.fabric is did.by_said.leaves)) ends (tells sound) sound enough
+        (untouched (left_fabric asked (check program config) old.files old.fabric new.fabric is did.by_said.leaves)) ends (tells sound) sound enough
         (asked_ran asked (check program config) old new ends is did.ran)
 
     meaning_missing : (program inputs : List ℕ) → command_of asked ≡ Some (meaning program inputs) → IsTrue old.files.sound → ends ≢ status.Memory → IsMissingExact (meaning_verdict old.files.named program inputs) old new
     meaning_missing program inputs is sound enough =
         missing_exact printed_text (meaning_verdict old.files.named program inputs) (meaning_decided old.files.named program inputs) old new
-        (untouched (left_fabric asked (meaning program inputs) old.fabric new.fabric is did.by_said.leaves)) ends (tells sound) sound enough
+        (untouched (left_fabric asked (meaning program inputs) old.files old.fabric new.fabric is did.by_said.leaves)) ends (tells sound) sound enough
         (asked_ran asked (meaning program inputs) old new ends is did.ran)
 
     run_missing : (program inputs schedule : List ℕ) (config : Option (List ℕ)) → command_of asked ≡ Some (run program inputs schedule config) → IsTrue old.files.sound → ends ≢ status.Memory
@@ -148,14 +148,14 @@ module _ (asked : List (List ℕ)) (old new : Objects) (ends : Status) (did : As
     plan_missing : (config : List ℕ) (horizon : Option ℕ) → command_of asked ≡ Some (plan config horizon) → IsTrue old.files.sound → ends ≢ status.Memory → IsMissingExact (config_verdict (old.files.named config)) old new
     plan_missing config horizon is sound enough =
         missing_exact (λ setup. plan_of setup horizon) (config_verdict (old.files.named config)) (plan_decided (old.files.named config)) old new
-        (untouched (left_fabric asked (plan config horizon) old.fabric new.fabric is did.by_said.leaves)) ends (tells sound) sound enough
+        (untouched (left_fabric asked (plan config horizon) old.files old.fabric new.fabric is did.by_said.leaves)) ends (tells sound) sound enough
         (asked_ran asked (plan config horizon) old new ends is did.ran)
 
     sim_missing : (program inputs config : List ℕ) (seed horizon : ℕ) → command_of asked ≡ Some (sim program inputs config seed horizon) → IsTrue old.files.sound → ends ≢ status.Memory
         → IsMissingExact (sim_verdict old.files.named program inputs config seed horizon) old new
     sim_missing program inputs config seed horizon is sound enough =
         missing_exact drawing_text (sim_verdict old.files.named program inputs config seed horizon) (sim_decided old.files.named program inputs config seed horizon) old new
-        (untouched (left_fabric asked (sim program inputs config seed horizon) old.fabric new.fabric is did.by_said.leaves)) ends (tells sound) sound enough
+        (untouched (left_fabric asked (sim program inputs config seed horizon) old.files old.fabric new.fabric is did.by_said.leaves)) ends (tells sound) sound enough
         (asked_ran asked (sim program inputs config seed horizon) old new ends is did.ran)
 
     watch_missing : (program inputs schedule observer : List ℕ) (config : Option (List ℕ)) → command_of asked ≡ Some (watch program inputs schedule observer config) → IsTrue old.files.sound → ends ≢ status.Memory
@@ -169,14 +169,14 @@ module _ (asked : List (List ℕ)) (old new : Objects) (ends : Status) (did : As
         → IsMissingExact (audit_verdict old.files.named program inputs schedule config) old new
     audit_missing program inputs schedule config is sound enough =
         missing_exact audited_text (audit_verdict old.files.named program inputs schedule config) (audit_decided old.files.named program inputs schedule config) old new
-        (untouched (left_fabric asked (audit program inputs schedule config) old.fabric new.fabric is did.by_said.leaves)) ends (tells sound) sound enough
+        (untouched (left_fabric asked (audit program inputs schedule config) old.files old.fabric new.fabric is did.by_said.leaves)) ends (tells sound) sound enough
         (asked_ran asked (audit program inputs schedule config) old new ends is did.ran)
 
     trace_missing : (program inputs schedule config : List ℕ) (node : Option (List ℕ)) (from to : ℕ) → command_of asked ≡ Some (trace program inputs schedule config node from to) → IsTrue old.files.sound → ends ≢ status.Memory
         → IsMissingExact (trace_verdict old.files.named program inputs schedule config node from to) old new
     trace_missing program inputs schedule config node from to is sound enough =
         missing_exact (λ text. text) (trace_verdict old.files.named program inputs schedule config node from to) (trace_decided old.files.named program inputs schedule config node from to) old new
-        (untouched (left_fabric asked (trace program inputs schedule config node from to) old.fabric new.fabric is did.by_said.leaves)) ends (tells sound) sound enough
+        (untouched (left_fabric asked (trace program inputs schedule config node from to) old.files old.fabric new.fabric is did.by_said.leaves)) ends (tells sound) sound enough
         (asked_ran asked (trace program inputs schedule config node from to) old new ends is did.ran)
 
     pub performed : Performs asked old new ends

@@ -11,6 +11,9 @@ use Rattle.lt_answer.specs.Answered.{Verdict, Answered}
 use Rattle.lt_words.specs.Reading.{Said, check, meaning, run, plan, sim, big, watch, audit, trace, command_of}
 use Rattle.lt_load.specs.declared.fault.CommandFault.{CommandFault}
 use Rattle.lt_load.specs.Plan.{LoadedPlan}
+use Rattle.lt_run.specs.Run.{LeavesUnloaded}
+use Rattle.lt_big.specs.Big.{LeavesRefused}
+use Rattle.lt_watch.specs.Watch.{LeavesUnwatched}
 use Rattle.lt_cli.specs.declared.refusal.Refusal.{Refusal}
 use Rattle.lt_cli.specs.declared.refusal.Refusal.TheVariants.{Words, Command, Observer}
 use Rattle.lt_cli.specs.declared.status.Status.{Status}
@@ -31,18 +34,18 @@ IsOfCommand (Err (Fault (Command fault))) = Unit {0}
 IsOfCommand (Err (Fault (Observer fault))) = Unit {0}
 IsOfCommand (Err Memory) = Unit {0}
 
--- only a run touches the fabric, watched or not, or that of the large input
-abbrev pub LeavesFabric : Option Said → (old new : FabricState) → Type 0
-LeavesFabric None old new = new ≡ old
-LeavesFabric (Some (check program config)) old new = new ≡ old
-LeavesFabric (Some (meaning program inputs)) old new = new ≡ old
-LeavesFabric (Some (run program inputs schedule config)) old new = Unit {0}
-LeavesFabric (Some (plan config horizon)) old new = new ≡ old
-LeavesFabric (Some (sim program inputs config seed horizon)) old new = new ≡ old
-LeavesFabric (Some (big instants)) old new = Unit {0}
-LeavesFabric (Some (watch program inputs schedule observer config)) old new = Unit {0}
-LeavesFabric (Some (audit program inputs schedule config)) old new = new ≡ old
-LeavesFabric (Some (trace program inputs schedule config place from to)) old new = new ≡ old
+-- only a run touches the fabric, watched or not, or that of the large input; and only once all that it is of is loaded
+abbrev pub LeavesFabric : Option Said → (files : FilesState) → (old new : FabricState) → Type 0
+LeavesFabric None files old new = new ≡ old
+LeavesFabric (Some (check program config)) files old new = new ≡ old
+LeavesFabric (Some (meaning program inputs)) files old new = new ≡ old
+LeavesFabric (Some (run program inputs schedule config)) files old new = LeavesUnloaded files program inputs config old new
+LeavesFabric (Some (plan config horizon)) files old new = new ≡ old
+LeavesFabric (Some (sim program inputs config seed horizon)) files old new = new ≡ old
+LeavesFabric (Some (big instants)) files old new = LeavesRefused instants old new
+LeavesFabric (Some (watch program inputs schedule observer config)) files old new = LeavesUnwatched files program inputs observer config old new
+LeavesFabric (Some (audit program inputs schedule config)) files old new = new ≡ old
+LeavesFabric (Some (trace program inputs schedule config place from to)) files old new = new ≡ old
 
 -- the text of a value that is right, or the refusal that is
 pub record Answers {T E : Type 0} (raise : E → Refusal) (shown : T → List ℕ) (errands : List Errand) (V : Verdict T E) (old new : World) (result : Result (List ℕ) (Or Refusal)) : Type 0 where
@@ -99,7 +102,7 @@ pub record Obeys (errands : List Errand) (V : Verdict (List ℕ) Refusal) (old n
 -- what it does for a command; the last whether or not the objects tell what they hold
 pub record ObeysCommand (said : Said) (old new : Objects) (ends : Status) : Type 0 where
   pub obeys : Obeys (said_errands said) (command_verdict old.files.named (world_of new) said) old new ends
-  pub leaves : LeavesFabric (Some said) old.fabric new.fabric
+  pub leaves : LeavesFabric (Some said) old.files old.fabric new.fabric
 
 -- a call ends so where this is said, whether or not the objects tell what they hold
 pub record EndsBySaid (said : Option Said) (old new : Objects) (ends : Status) : Type 0 where
@@ -107,7 +110,7 @@ pub record EndsBySaid (said : Option Said) (old new : Objects) (ends : Status) :
   pub words_only : ends ≡ status.Words → said ≡ None
   -- and then no other status comes but those of a failed write and of want of memory
   pub none_only : said ≡ None → (ends ≡ status.Words) ⊎ (ends ≡ status.Write) ⊎ (ends ≡ status.Memory)
-  pub leaves : LeavesFabric said old.fabric new.fabric
+  pub leaves : LeavesFabric said old.files old.fabric new.fabric
 
 -- what a call does that is asked for this by its words
 pub record Asked (words : List (List ℕ)) (old new : Objects) (ends : Status) : Type 0 where

@@ -85,7 +85,7 @@ IsWriteCaused old new =
 -- what holds of a call of `ltta` that is asked for this by its words
 pub record Performs (asked : List (List ℕ)) (old new : Objects) (ends : Status) : Type 0 where
   -- the status says that the words are wrong only where they say no command, and then none but those of a failed write and of want
-  -- of memory comes in its place; only a run touches the fabric, and that of the large input
+  -- of memory comes in its place; only a run touches the fabric, and that of the large input, once all that it is of is loaded
   pub by_said : EndsBySaid (command_of asked) old new ends
   -- whether or not the files tell their bytes: the command's files are opened in their order, each once, and no more of each is read than
   -- its limit and what shows that it is passed

@@ -9,12 +9,12 @@ ghost use Rattle.lt_run.specs.Errands.{meaning_errands, run_errands};
 ghost use Rattle.lt_load.specs.Loaded.{config_verdict};
 ghost use Rattle.lt_load.specs.Setups.{check_verdict};
 ghost use Rattle.lt_run.specs.Meaning.{meaning_verdict};
-ghost use Rattle.lt_run.specs.Run.{run_verdict};
-ghost use Rattle.lt_big.specs.Big.{big_verdict};
+ghost use Rattle.lt_run.specs.Run.{LeavesUnloaded, run_verdict};
+ghost use Rattle.lt_big.specs.Big.{LeavesRefused, big_verdict};
 ghost use Rattle.lt_inspect.specs.Errands.{inspect_errands};
 ghost use Rattle.lt_inspect.specs.Inspected.{audit_verdict, trace_verdict};
 ghost use Rattle.lt_watch.specs.Errands.{watch_errands};
-ghost use Rattle.lt_watch.specs.Watch.{watch_verdict};
+ghost use Rattle.lt_watch.specs.Watch.{LeavesUnwatched, watch_verdict};
 ghost use Rattle.lt_cli.specs.Texts.{audited_text, watched_text};
 ghost use Rattle.lt_cli.specs.Commands.{checked_text, printed_text, summarized_text, watch_refusal};
 ghost use Rattle.lt_cli.specs.Asked.{Answers, AnswersText};
@@ -86,8 +86,9 @@ pub(crate) fn run_answer<F: Files, W: Fabric>(
     requires files { (F.state files.old).faults < 2 ^ 64 - 1 }
     requires fabric { (W.state fabric.old).faults < 2 ^ 64 - 1 }
     requires empty { (W.state fabric.old).kinds ≡ [] }
-    ensures { AnswersText printed_text (run_errands program.now inputs.now schedule.now (option_map (λ s. s.now) config.entry)) (run_verdict (F.state files.old).named program.now inputs.now schedule.now (option_map (λ s. s.now) config.entry) (world (F.state files.new) (W.state fabric.new)))
+    ensures answers { AnswersText printed_text (run_errands program.now inputs.now schedule.now (option_map (λ s. s.now) config.entry)) (run_verdict (F.state files.old).named program.now inputs.now schedule.now (option_map (λ s. s.now) config.entry) (world (F.state files.new) (W.state fabric.new)))
         (world (F.state files.old) (W.state fabric.old)) (world (F.state files.new) (W.state fabric.new)) result }
+    ensures untouched { LeavesUnloaded (F.state files.old) program.now inputs.now (option_map (λ s. s.now) config.entry) (W.state fabric.old) (W.state fabric.new) }
 {
     match run(alloc, files, fabric, program, inputs, schedule, config) {
         Ok(printed) => Ok(outputs_text(alloc, printed)?),
@@ -119,7 +120,8 @@ pub(crate) fn big_answer<W: Fabric>(
 ) -> Result<List<u8>, Or<Refusal>>
     requires fabric { (W.state fabric.old).faults < 2 ^ 64 - 1 }
     requires empty { (W.state fabric.old).kinds ≡ [] }
-    ensures { (files : FilesState) → AnswersText (summarized_text instants) [] (big_verdict instants (W.state fabric.new)) (world files (W.state fabric.old)) (world files (W.state fabric.new)) result }
+    ensures answers { (files : FilesState) → AnswersText (summarized_text instants) [] (big_verdict instants (W.state fabric.new)) (world files (W.state fabric.old)) (world files (W.state fabric.new)) result }
+    ensures untouched { LeavesRefused instants (W.state fabric.old) (W.state fabric.new) }
 {
     match big(alloc, fabric, instants) {
         Ok(printed) => {
@@ -144,8 +146,9 @@ pub(crate) fn watch_answer<F: Files, W: Fabric>(
     requires files { (F.state files.old).faults < 2 ^ 64 - 1 }
     requires fabric { (W.state fabric.old).faults < 2 ^ 64 - 1 }
     requires empty { (W.state fabric.old).kinds ≡ [] }
-    ensures { Answers watch_refusal watched_text (watch_errands program.now inputs.now schedule.now observer.now (option_map (λ s. s.now) config.entry)) (watch_verdict (F.state files.old).named program.now inputs.now schedule.now observer.now (option_map (λ s. s.now) config.entry) (world (F.state files.new) (W.state fabric.new)))
+    ensures answers { Answers watch_refusal watched_text (watch_errands program.now inputs.now schedule.now observer.now (option_map (λ s. s.now) config.entry)) (watch_verdict (F.state files.old).named program.now inputs.now schedule.now observer.now (option_map (λ s. s.now) config.entry) (world (F.state files.new) (W.state fabric.new)))
         (world (F.state files.old) (W.state fabric.old)) (world (F.state files.new) (W.state fabric.new)) result }
+    ensures untouched { LeavesUnwatched (F.state files.old) program.now inputs.now observer.now (option_map (λ s. s.now) config.entry) (W.state fabric.old) (W.state fabric.new) }
 {
     match watch(
         alloc, files, fabric, program, inputs, schedule, observer, config,

@@ -22,7 +22,7 @@ use std::alloc::Global;
 
 /// Does what the words say: reads the files that they name, and writes a text to `out` or a refusal's line to `err`.
 /// A run, watched or not, or that of the large input, opens the channels of its nodes on the fabric, which is empty before, and sends
-/// its messages there. No other command touches it.
+/// its messages there, once all that it is of is loaded. No other command touches it.
 pub fn ltta<F: Files, W: Fabric, O: Sink, E: Sink>(
     alloc: Global,
     words: &[String],
