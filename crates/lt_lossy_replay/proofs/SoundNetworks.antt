@@ -17,7 +17,7 @@ few_channels n c names same few low =
     let square : names * names ≤ 32 * 32 = mul-le names names 32 32 low low in
     omega (arith, same, few, low, square)
 
-is_sound : ShapesFit → (f : Originated) (l : Layout) (s : Shape) (t : Timing) → IsPlaced f l → t.protocol ≡ BackPressure → IsShapeOf l BackPressure s → length t.nodes ≡ length l.names → HasWindow t → length l.names ≤ 32 → IsLossySound l s t
+pub is_sound : ShapesFit → (f : Originated) (l : Layout) (s : Shape) (t : Timing) → IsPlaced f l → t.protocol ≡ BackPressure → IsShapeOf l BackPressure s → length t.nodes ≡ length l.names → HasWindow t → length l.names ≤ 32 → IsLossySound l s t
 is_sound shapes_fit f l s t placed protocol shaped timed window low =
     let fits : FitsLayout l t.protocol s = (shapes_fit f l t.protocol s placed (subst (λ p. IsShapeOf l p s) (sym protocol) shaped)).0 in
     record {
@@ -27,10 +27,3 @@ is_sound shapes_fit f l s t placed protocol shaped timed window low =
       window = window;
       numbered = few_channels (node_count s) (chan_count s) (length l.names) (ap length shaped.nodes) fits.few low;
     }
-
--- so is an equal one
-pub copies_are_sound : ShapesFit → (f : Originated) (l l' : Layout) (s s' : Shape) (t t' : Timing) → l' ≡ l → s' ≡ s → t' ≡ t → IsPlaced f l → t.protocol ≡ BackPressure → IsShapeOf l BackPressure s → length t.nodes ≡ length l.names → HasWindow t →
-    length l.names ≤ 32 → IsLossySound l' s' t'
-copies_are_sound shapes_fit f l l' s s' t t' same_layout same_shape same_timing placed protocol shaped timed window low =
-    subst (λ z. IsLossySound z s' t') (sym same_layout) (subst (λ z. IsLossySound l z t') (sym same_shape) (subst (λ z. IsLossySound l s z) (sym same_timing)
-    (is_sound shapes_fit f l s t placed protocol shaped timed window low)))

@@ -16,14 +16,12 @@ ghost use Rattle.lt_lossy_replay.specs.Rules.{lossy_link_fault};
 use crate::LossyPlayFault;
 use crate::playback::LossyPlayback;
 use crate::playing::play;
-use lt_arch::{Shape, Timing};
 use lt_base::{Inputs, Or};
 use lt_io::{Fabric, Files, LinkErr};
 use lt_machine::Machine;
-use lt_place::Layout;
 use lt_plant::laws::shapes_fit;
 use lt_replay::Replayed;
-use lt_replay::setup::{Setup, copies};
+use lt_replay::setup::Setup;
 use lt_rows::Lines;
 use std::alloc::Global;
 
@@ -80,7 +78,7 @@ fn perform<F: Files, W: Fabric, M: Machine>(
 
 /// Takes the nodes of a layout along a schedule file, over links of which each loses at most `losses` messages in a row. The fabric
 /// has no channels yet: its channels are those of the shape, which is that of the layout under back-pressure. There is a machine
-/// for each node, of its part, and `width` is the number of inputs of `main`.
+/// for each node, of its part, and `width` is the number of inputs of `main`. The setup is given away, since a network keeps its own.
 ///
 /// The schedule is refused at its first row or event that is refused. A failed call on the files or on the fabric ends the run.
 pub fn replay_lossy<F: Files, W: Fabric, M: Machine>(
@@ -88,9 +86,7 @@ pub fn replay_lossy<F: Files, W: Fabric, M: Machine>(
     files: &mut F,
     schedule: &str,
     fabric: &mut W,
-    layout: &Layout,
-    shape: &Shape,
-    timing: &Timing,
+    setup: Setup,
     losses: u64,
     inputs: &Inputs,
     width: u32,
@@ -99,21 +95,20 @@ pub fn replay_lossy<F: Files, W: Fabric, M: Machine>(
     requires count { (F.state files.old).faults < 2 ^ 64 - 1 }
     requires link_count { (W.state fabric.old).faults < 2 ^ 64 - 1 }
     requires empty { (W.state fabric.old).kinds ≡ [] }
-    requires placed { (f : Originated) × IsPlaced f layout.now × RowsFit f.func inputs.now.rows }
-    requires protocol { timing.now.protocol ≡ BackPressure }
-    requires shaped { IsShapeOf layout.now BackPressure shape.now }
-    requires timed { length timing.now.nodes ≡ length layout.now.names }
-    requires window { HasWindow timing.now }
-    requires few { length layout.now.names ≤ 32 }
+    requires placed { (f : Originated) × IsPlaced f setup.layout × RowsFit f.func inputs.now.rows }
+    requires protocol { setup.timing.protocol ≡ BackPressure }
+    requires shaped { IsShapeOf setup.layout BackPressure setup.shape }
+    requires timed { length setup.timing.nodes ≡ length setup.layout.names }
+    requires window { HasWindow setup.timing }
+    requires few { length setup.layout.names ≤ 32 }
     requires width { inputs.now.width ≡ width }
     requires wide { HasRowValues width inputs.now.rows }
-    requires machines { AreReady M.stands M.made M.left layout.now (length inputs.now.rows) machines.items }
-    ensures { HasLossyReplayed M.stands M.made layout.now shape.now timing.now losses inputs.now.rows schedule.now
+    requires machines { AreReady M.stands M.made M.left setup.layout (length inputs.now.rows) machines.items }
+    ensures { HasLossyReplayed M.stands M.made setup.layout setup.shape setup.timing losses inputs.now.rows schedule.now
         (F.state files.old) (F.state files.new) (W.state fabric.old) (W.state fabric.new) result }
 {
     shapes_fit();
     let mut lines = Lines::new(alloc)?;
-    let setup = copies(layout, shape, timing)?;
     perform(
         alloc, &mut lines, files, schedule, fabric, setup, losses, inputs, width, machines,
     )

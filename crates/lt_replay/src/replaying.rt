@@ -16,13 +16,12 @@ ghost use Rattle.lt_replay.specs.Replays.{HasReplayed, link_fault};
 use crate::Replayed;
 use crate::controllers::controllers_of;
 use crate::laws::networks_are_sound;
-use crate::setup::{Setup, copies};
+use crate::setup::Setup;
 use crate::taking::take;
-use lt_arch::{Controller, Shape, Timing};
+use lt_arch::Controller;
 use lt_base::{Inputs, Or};
 use lt_io::{Fabric, Files, LinkErr};
 use lt_machine::Machine;
-use lt_place::Layout;
 use lt_play::{PlayFault, Playback, play};
 use lt_rows::Lines;
 use std::alloc::Global;
@@ -84,7 +83,8 @@ fn perform<F: Files, W: Fabric, C: Controller, M: Machine>(
     }
 }
 
-/// Takes the nodes of a layout along a schedule file, over a fabric that has no channels yet: its channels are those of the shape.
+/// Takes the nodes of a layout along a schedule file, over a fabric that has no channels yet: its channels are those of the shape. The
+/// setup is given away, since a network keeps its own.
 /// There is a machine for each node, of its part, and `width` is the number of inputs of `main`.
 ///
 /// The schedule is refused at its first row or event that is refused. A failed call on the files or on the fabric ends the run.
@@ -93,9 +93,7 @@ pub fn replay<F: Files, W: Fabric, M: Machine>(
     files: &mut F,
     schedule: &str,
     fabric: &mut W,
-    layout: &Layout,
-    shape: &Shape,
-    timing: &Timing,
+    setup: Setup,
     inputs: &Inputs,
     width: u32,
     machines: Vec<M>,
@@ -103,21 +101,20 @@ pub fn replay<F: Files, W: Fabric, M: Machine>(
     requires count { (F.state files.old).faults < 2 ^ 64 - 1 }
     requires link_count { (W.state fabric.old).faults < 2 ^ 64 - 1 }
     requires empty { (W.state fabric.old).kinds ≡ [] }
-    requires placed { (f : Originated) × IsPlaced f layout.now × HasCodeRoom f.func × RowsFit f.func inputs.now.rows }
-    requires paced { IsPaced layout.now shape.now timing.now }
-    requires accepted { Accepts timing.now }
-    requires timed { length timing.now.nodes ≡ length layout.now.names }
-    requires few { length layout.now.names ≤ 32 }
+    requires placed { (f : Originated) × IsPlaced f setup.layout × HasCodeRoom f.func × RowsFit f.func inputs.now.rows }
+    requires paced { IsPaced setup.layout setup.shape setup.timing }
+    requires accepted { Accepts setup.timing }
+    requires timed { length setup.timing.nodes ≡ length setup.layout.names }
+    requires few { length setup.layout.names ≤ 32 }
     requires width { inputs.now.width ≡ width }
     requires wide { HasRowValues width inputs.now.rows }
-    requires machines { AreReady M.stands M.made M.left layout.now (length inputs.now.rows) machines.items }
-    ensures { HasReplayed M.stands M.made layout.now shape.now timing.now inputs.now.rows schedule.now
+    requires machines { AreReady M.stands M.made M.left setup.layout (length inputs.now.rows) machines.items }
+    ensures { HasReplayed M.stands M.made setup.layout setup.shape setup.timing inputs.now.rows schedule.now
         (F.state files.old) (F.state files.new) (W.state fabric.old) (W.state fabric.new) result }
 {
     networks_are_sound();
     let mut lines = Lines::new(alloc)?;
-    let controllers = controllers_of(alloc, timing)?;
-    let setup = copies(layout, shape, timing)?;
+    let controllers = controllers_of(alloc, &setup.timing)?;
     perform(
         alloc,
         &mut lines,

@@ -21,7 +21,7 @@ use Rattle.lt_load.specs.declared.fault.CommandFault.TheVariants as fault
 use Rattle.lt_load.specs.Blamed.{command_blame}
 use Rattle.lt_load.specs.Main.{main_in}
 use Rattle.lt_load.specs.Loaded.{setup_verdict, whole_verdict, program_verdict, config_verdict, inputs_verdict}
-use Rattle.lt_load.specs.Setups.{placed_verdict, accepted_verdict, fitting_verdict}
+use Rattle.lt_load.specs.Setups.{fitting_verdict}
 use Rattle.lt_load.specs.Plan.{Loads, chosen_setup_verdict, fitting_plan_verdict, inputs_plan_verdict, load_verdict, setup_plan_verdict}
 use Rattle.lt_load.proofs.Contents.{fitting_blames}
 use Rattle.lt_load.proofs.Steps.{IsContent, content_then, content_raised}

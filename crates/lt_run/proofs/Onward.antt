@@ -1,6 +1,6 @@
 -- A run: what was loaded, and then its replay.
 use Rattle.std.proofs.Common.{◌≡◌, ℕ, List, Option, Result, Ok, Err, refl, sym, subst, inl, inr}
-use Rattle.std.specs.Prelude.{IsErrAnd, length}
+use Rattle.std.specs.Prelude.{IfErr, IsErrAnd, IsTrue, length}
 use Rattle.lt_base.specs.declared.memory.Or.{Or}
 use Rattle.lt_base.specs.Or.{MapsFault}
 use Rattle.lt_base.specs.declared.memory.Or.TheVariants.{Fault, Memory}
@@ -33,6 +33,7 @@ use Rattle.lt_run.specs.declared.printed.Printed.{Printed}
 use Rattle.lt_run.specs.Errands.{run_errands}
 use Rattle.lt_run.specs.Fault.{run_blame}
 use Rattle.lt_run.specs.Kinds.{EventsBy}
+use Rattle.lt_run.specs.Near.{IsNearCommand}
 use Rattle.lt_run.specs.Printed.{HasPrinted, ReplayShows, ShowsAt, loaded_verdict}
 use Rattle.lt_run.specs.Run.{AsCommand, KeepsShape, HasOutputs, IsLaidOutBy, Shows, along_loaded, along_verdict, command_fault, placed_run_verdict, ordered_verdict}
 use Rattle.lt_run.proofs.Replays.{answered_value, answered_fault}
@@ -92,6 +93,14 @@ pub not_begun : (k : LoadedPlan) (name : List ℕ) (files : FilesState) (fabric 
 not_begun k name files fabric (Ok x) is = absurd is
 not_begun k name files fabric (Err f) is =
     subst (λ (g : Or RunFault). HasOutputs k name files files fabric fabric (Err g)) (sym is) (record { answered = runs_short (world files fabric); near = λ told. tt })
+
+-- no memory was found before the run
+pub not_run : (k : LoadedPlan) (name : List ℕ) (files : FilesState) (fabric : FabricState) (r : Result Outputs (Or CommandFault)) → IsErrAnd r (λ f. f ≡ Memory)
+    → (answered : Answered command_blame (schedule_errand name) (along_loaded fabric k (files.named name)) (world files fabric) (world files fabric) r) × (IsTrue files.told → IfErr r (IsNearCommand (files.named name) files.place))
+not_run k name files fabric (Ok x) is = absurd is
+not_run k name files fabric (Err f) is =
+    subst (λ (g : Or CommandFault). (answered : Answered command_blame (schedule_errand name) (along_loaded fabric k (files.named name)) (world files fabric) (world files fabric) (Err g)) × (IsTrue files.told → IsNearCommand (files.named name) files.place g)) (sym is)
+    (runs_short (world files fabric), λ told. tt)
 
 -- the same of an equal plan
 pub outputs_at : (k l : LoadedPlan) → k ≡ l → (name : List ℕ) (files files' : FilesState) (fabric fabric' : FabricState) (r : Result Outputs (Or RunFault)) → HasOutputs k name files files' fabric fabric' r → HasOutputs l name files files' fabric fabric' r

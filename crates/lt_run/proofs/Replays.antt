@@ -15,8 +15,10 @@ use Rattle.lt_io.specs.FabricState.{FabricState}
 use Rattle.lt_config.specs.declared.pace.Pace.{Pace}
 use Rattle.lt_answer.specs.World.{World}
 use Rattle.lt_answer.specs.Answered.{Answered, RefusesReading}
+use Rattle.lt_answer.proofs.Stages.{runs_short}
 use Rattle.lt_play.specs.Played.{world}
 use Rattle.lt_replay.specs.declared.replayed.Replayed.{Replayed}
+use Rattle.lt_replay.specs.declared.setup.Setup.{Setup}
 use Rattle.lt_front.specs.Checked.{IsChecked}
 use Rattle.lt_load.specs.Main.{main_in}
 use Rattle.lt_load.specs.Plan.{LoadedPlan, IsLoaded}
@@ -123,14 +125,25 @@ module _ {M : Type 0} (stands : M → Function → List (List Value) → Type 0)
     near = λ told. tt;
   }
 
+-- the setup of what was loaded
+abbrev pub setup_in : LoadedPlan → Setup
+setup_in k = record { layout = k.layout; shape = k.shape; timing = k.timing }
+
+-- with an equal setup it is the same
+pub with_setup : (k : LoadedPlan) (s : Setup) → s ≡ setup_in k → record { checked = k.checked; layout = s.layout; shape = s.shape; timing = s.timing; inputs = k.inputs; pace = k.pace } ≡ k
+with_setup k s is = ap (λ (z : Setup). record { checked = k.checked; layout = z.layout; shape = z.shape; timing = z.timing; inputs = k.inputs; pace = k.pace }) is
+
+-- no memory was found for a setup
+pub not_set_up : {M : Type 0} (stands : M → Function → List (List Value) → Type 0) (made : M → ℕ) (k : LoadedPlan) (name : List ℕ) (files : FilesState) (fabric : FabricState) (r : Result (Printed M) (Or RunFault))
+    → IsErrAnd r (λ f. f ≡ Memory) → HasPrinted stands made k name files files fabric fabric r
+not_set_up stands made k name files fabric (Ok x) is = absurd is
+not_set_up stands made k name files fabric (Err f) is =
+    subst (λ (g : Or RunFault). HasPrinted stands made k name files files fabric fabric (Err g)) (sym is) (record { answered = runs_short (world files fabric); ended = tt; near = λ told. tt })
+
 -- the same of an equal plan
 pub prints_at : {M : Type 0} (stands : M → Function → List (List Value) → Type 0) (made : M → ℕ) (k l : LoadedPlan) → k ≡ l → (name : List ℕ) (files files' : FilesState) (fabric fabric' : FabricState) (r : Result (Printed M) (Or RunFault))
     → HasPrinted stands made k name files files' fabric fabric' r → HasPrinted stands made l name files files' fabric fabric' r
 prints_at stands made k l is name files files' fabric fabric' r has = subst (λ (m : LoadedPlan). HasPrinted stands made m name files files' fabric fabric' r) is has
-
-pub takes_at : {M : Type 0} (stands : M → Function → List (List Value) → Type 0) (made : M → ℕ) (k l : LoadedPlan) → k ≡ l → (name : List ℕ) (files files' : FilesState) (fabric fabric' : FabricState) (r : Result (Replayed M) (Or RunFault))
-    → HasTaken stands made k.pace k.layout k.shape k.timing k.inputs.rows name files files' fabric fabric' r → HasTaken stands made l.pace l.layout l.shape l.timing l.inputs.rows name files files' fabric fabric' r
-takes_at stands made k l is name files files' fabric fabric' r has = subst (λ (m : LoadedPlan). HasTaken stands made m.pace m.layout m.shape m.timing m.inputs.rows name files files' fabric fabric' r) is has
 
 -- what a replay's cells show by the names of the outputs
 

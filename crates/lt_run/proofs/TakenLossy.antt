@@ -1,5 +1,5 @@
 -- What a network over links that lose messages answers, as a run.
-use Rattle.std.proofs.Common.{◌≡◌, ◌∙◌, ℕ, List, Option, Some, None, Result, Ok, Err, IsTrue, refl, ap, subst, sym}
+use Rattle.std.proofs.Common.{◌≡◌, ℕ, List, Option, Some, None, Result, Ok, Err, refl, ap, subst, sym}
 use Rattle.std.specs.Prelude.{length}
 use Rattle.lt_base.specs.Or.{MapsFault}
 use Rattle.lt_base.specs.declared.memory.Or.{Or}
@@ -13,12 +13,11 @@ use Rattle.lt_io.specs.FabricState.{FabricState}
 use Rattle.lt_place.specs.declared.layout.Layout.{Layout}
 use Rattle.lt_config.specs.declared.pace.Pace.{Pace}
 use Rattle.lt_config.specs.declared.pace.Pace.TheVariants.{Lossy as LosesMessages}
-use Rattle.lt_answer.specs.Answered.{Answered, OfFile, Verdict}
+use Rattle.lt_answer.specs.Answered.{OfFile, Verdict}
 use Rattle.lt_answer.proofs.Stages.{widened}
 use Rattle.lt_verdict.specs.Rules.{Raised}
 use Rattle.lt_judge.specs.declared.halt.Refusal.{Refusal}
 use Rattle.lt_judge.specs.declared.halt.Refusal.TheVariants as refusal
-use Rattle.lt_judge.specs.Errand.{schedule_errand}
 use Rattle.lt_judge.specs.Rules.{file_judged_by}
 use Rattle.lt_lossy.specs.declared.event.LossyEvent.{LossyEvent}
 use Rattle.lt_lossy.specs.declared.event.LossyOffence.{LossyOffence}

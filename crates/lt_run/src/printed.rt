@@ -5,8 +5,10 @@ ghost use Rattle.lt_run.specs.Main.{name_in};
 use crate::Outputs;
 use crate::outputs::output_names;
 use lt_base::{Cell, Func, List, Memory, Name};
+use lt_machine::StepMachine;
 use lt_replay::Replayed;
 use std::alloc::Global;
+use std::mem::forget;
 
 /// The outputs by name, each with a cell for each instant that its node executed, the horizon of the schedule in ticks, and the
 /// machine of each node, which made a step for each of these instants.
@@ -29,6 +31,23 @@ impl<M: Drop> Printed<M> {
             names: self.names,
             cells: self.cells,
         }
+    }
+}
+
+impl Printed<StepMachine> {
+    /// The outputs alone, at the end of a call: the machines are not taken apart.
+    pub(crate) fn shown(self) -> Outputs
+        ensures names { result.names ≡ self.names }
+        ensures cells { result.cells ≡ self.cells }
+    {
+        let Printed {
+            names,
+            cells,
+            machines,
+            ..
+        } = self;
+        forget(machines);
+        Outputs { names, cells }
     }
 }
 

@@ -1,24 +1,39 @@
 // A loaded program along a schedule.
-ghost use Rattle.std.specs.Prelude.{◌≡◌, ◌<◌, ◌-◌, ◌^◌, [], length, None};
+ghost use Rattle.std.specs.Prelude.{◌≡◌, ◌<◌, ◌≤◌, ◌-◌, ◌^◌, ℤ, [], length, None, IfOk, FitsSigned};
+ghost use Rattle.std.specs.Int.{w64};
+ghost use Rattle.lt_base.specs.declared.operators.Imp.{Imp as Operator};
+ghost use Rattle.lt_base.specs.Operators.{imp as imported};
+ghost use Rattle.lt_base.specs.Behaviour.{RowsFit};
+ghost use Rattle.lt_norm.specs.Flat.{Originated};
+ghost use Rattle.lt_timing.specs.Accepts.{Accepts};
+ghost use Rattle.lt_step.specs.Run.{HasRowValues};
+ghost use Rattle.lt_place.specs.Layout.{IsPlaced};
+ghost use Rattle.lt_place.specs.Sizes.{HasCodeRoom};
 ghost use Rattle.lt_plant.specs.Starts.{AreReady};
 ghost use Rattle.lt_config.specs.declared.pace.Pace.TheVariants.{Lossy};
 ghost use Rattle.lt_config.specs.Paced.{allowed_of};
+ghost use Rattle.lt_lead.specs.Paced.{KeepsPace};
+ghost use Rattle.lt_load.specs.Plan.{IsLoaded};
+ghost use Rattle.lt_load.specs.Setups.{HasWindowBy};
 ghost use Rattle.lt_run.specs.Printed.{HasPrinted, HasTaken};
 ghost use Rattle.lt_run.specs.Run.{HasOutputs};
 
 use crate::fault::{of_lossy, of_play};
 use crate::printed::name_outputs;
 use crate::{Outputs, Printed, RunFault};
-use lt_base::Or;
 use lt_base::tables::imp;
+use lt_base::{Imp, Inputs, Memory, Or};
 use lt_config::Pace;
+use lt_front::Checked;
 use lt_io::{Fabric, Files};
 use lt_load::{Loaded, main_of};
 use lt_lossy_replay::replay_lossy;
-use lt_machine::{Import, Machine};
+use lt_machine::{Import, Machine, StepMachine};
 use lt_norm::Flat;
+use lt_replay::setup::{Setup, copies};
 use lt_replay::{Replayed, machines_of};
 use std::alloc::Global;
+use std::mem::forget;
 
 /// Has the nodes of a loaded program take the events of a schedule file, row by row, over a fabric that has no channel yet. There is
 /// a machine for each node, of its part, which makes a step for each instant that the node executes.
@@ -38,23 +53,55 @@ pub fn replay<F: Files, W: Fabric, M: Machine>(
     requires machines { AreReady M.stands M.made M.left loaded.now.layout (length loaded.now.inputs.rows) machines.items }
     ensures { HasPrinted M.stands M.made loaded.now schedule.now (F.state files.old) (F.state files.new) (W.state fabric.old) (W.state fabric.new) result }
 {
-    let checked = &loaded.checked;
-    checked.program.kept();
-    let replayed = take(alloc, loaded, files, schedule, fabric, machines)?;
-    Ok(name_outputs(alloc, main_of(&checked.program), replayed)?)
+    let setup = copies(&loaded.layout, &loaded.shape, &loaded.timing)?;
+    replay_setup(
+        alloc,
+        &loaded.checked,
+        loaded.pace,
+        setup,
+        &loaded.inputs,
+        files,
+        schedule,
+        fabric,
+        machines,
+    )
 }
 
-// Who paces the rounds.
-fn pace_of(loaded: &Loaded) -> Pace
-    ensures { result ≡ loaded.now.pace }
+// A program along a schedule, with its setup, which is given away: what its outputs show.
+fn replay_setup<F: Files, W: Fabric, M: Machine>(
+    alloc: Global,
+    checked: &Checked,
+    pace: Pace,
+    setup: Setup,
+    inputs: &Inputs,
+    files: &mut F,
+    schedule: &str,
+    fabric: &mut W,
+    machines: Vec<M>,
+) -> Result<Printed<M>, Or<RunFault>>
+    requires loaded { IsLoaded (record { checked = checked.now; layout = setup.layout; shape = setup.shape; timing = setup.timing; inputs = inputs.now; pace = pace }) }
+    requires count { (F.state files.old).faults < 2 ^ 64 - 1 }
+    requires link_count { (W.state fabric.old).faults < 2 ^ 64 - 1 }
+    requires empty { (W.state fabric.old).kinds ≡ [] }
+    requires machines { AreReady M.stands M.made M.left setup.layout (length inputs.now.rows) machines.items }
+    ensures { HasPrinted M.stands M.made (record { checked = checked.now; layout = setup.layout; shape = setup.shape; timing = setup.timing; inputs = inputs.now; pace = pace }) schedule.now
+        (F.state files.old) (F.state files.new) (W.state fabric.old) (W.state fabric.new) result }
 {
-    loaded.pace
+    checked.program.kept();
+    let width = width_of(&checked.flat);
+    let replayed = take(
+        alloc, pace, setup, inputs, width, files, schedule, fabric, machines,
+    )?;
+    Ok(name_outputs(alloc, main_of(&checked.program), replayed)?)
 }
 
 // What the schedule comes to.
 fn take<F: Files, W: Fabric, M: Machine>(
     alloc: Global,
-    loaded: &Loaded,
+    pace: Pace,
+    setup: Setup,
+    inputs: &Inputs,
+    width: u32,
     files: &mut F,
     schedule: &str,
     fabric: &mut W,
@@ -63,46 +110,55 @@ fn take<F: Files, W: Fabric, M: Machine>(
     requires count { (F.state files.old).faults < 2 ^ 64 - 1 }
     requires link_count { (W.state fabric.old).faults < 2 ^ 64 - 1 }
     requires empty { (W.state fabric.old).kinds ≡ [] }
-    requires machines { AreReady M.stands M.made M.left loaded.now.layout (length loaded.now.inputs.rows) machines.items }
-    ensures { HasTaken M.stands M.made loaded.now.pace loaded.now.layout loaded.now.shape loaded.now.timing loaded.now.inputs.rows schedule.now (F.state files.old) (F.state files.new) (W.state fabric.old) (W.state fabric.new) result }
+    requires placed { (f : Originated) × IsPlaced f setup.layout × HasCodeRoom f.func × RowsFit f.func inputs.now.rows }
+    requires paced { KeepsPace setup.layout setup.shape setup.timing pace }
+    requires accepted { Accepts setup.timing }
+    requires windowed { HasWindowBy pace setup.timing }
+    requires timed { length setup.timing.nodes ≡ length setup.layout.names }
+    requires few { length setup.layout.names ≤ 32 }
+    requires width { inputs.now.width ≡ width }
+    requires wide { HasRowValues width inputs.now.rows }
+    requires machines { AreReady M.stands M.made M.left setup.layout (length inputs.now.rows) machines.items }
+    ensures { HasTaken M.stands M.made pace setup.layout setup.shape setup.timing inputs.now.rows schedule.now (F.state files.old) (F.state files.new) (W.state fabric.old) (W.state fabric.new) result }
 {
-    match pace_of(loaded) {
-        Pace::Lossy(losses) => {
-            take_lossy(alloc, loaded, losses, files, schedule, fabric, machines)
-        }
-        Pace::Plain => take_plain(alloc, loaded, files, schedule, fabric, machines),
-        Pace::Leader(_) => take_plain(alloc, loaded, files, schedule, fabric, machines),
+    match pace {
+        Pace::Lossy(losses) => take_lossy(
+            alloc, losses, setup, inputs, width, files, schedule, fabric, machines,
+        ),
+        Pace::Plain | Pace::Leader(_) => take_plain(
+            alloc, pace, setup, inputs, width, files, schedule, fabric, machines,
+        ),
     }
 }
 
 // The same where links lose nothing.
 fn take_plain<F: Files, W: Fabric, M: Machine>(
     alloc: Global,
-    loaded: &Loaded,
+    pace: Pace,
+    setup: Setup,
+    inputs: &Inputs,
+    width: u32,
     files: &mut F,
     schedule: &str,
     fabric: &mut W,
     machines: Vec<M>,
 ) -> Result<Replayed<M>, Or<RunFault>>
-    requires lossless { allowed_of loaded.now.pace ≡ None }
+    requires lossless { allowed_of pace ≡ None }
     requires count { (F.state files.old).faults < 2 ^ 64 - 1 }
     requires link_count { (W.state fabric.old).faults < 2 ^ 64 - 1 }
     requires empty { (W.state fabric.old).kinds ≡ [] }
-    requires machines { AreReady M.stands M.made M.left loaded.now.layout (length loaded.now.inputs.rows) machines.items }
-    ensures { HasTaken M.stands M.made loaded.now.pace loaded.now.layout loaded.now.shape loaded.now.timing loaded.now.inputs.rows schedule.now (F.state files.old) (F.state files.new) (W.state fabric.old) (W.state fabric.new) result }
+    requires placed { (f : Originated) × IsPlaced f setup.layout × HasCodeRoom f.func × RowsFit f.func inputs.now.rows }
+    requires paced { KeepsPace setup.layout setup.shape setup.timing pace }
+    requires accepted { Accepts setup.timing }
+    requires timed { length setup.timing.nodes ≡ length setup.layout.names }
+    requires few { length setup.layout.names ≤ 32 }
+    requires width { inputs.now.width ≡ width }
+    requires wide { HasRowValues width inputs.now.rows }
+    requires machines { AreReady M.stands M.made M.left setup.layout (length inputs.now.rows) machines.items }
+    ensures { HasTaken M.stands M.made pace setup.layout setup.shape setup.timing inputs.now.rows schedule.now (F.state files.old) (F.state files.new) (W.state fabric.old) (W.state fabric.new) result }
 {
-    let checked = &loaded.checked;
     match lt_replay::replay(
-        alloc,
-        files,
-        schedule,
-        fabric,
-        &loaded.layout,
-        &loaded.shape,
-        &loaded.timing,
-        &loaded.inputs,
-        width_of(&checked.flat),
-        machines,
+        alloc, files, schedule, fabric, setup, inputs, width, machines,
     ) {
         Ok(replayed) => Ok(replayed),
         Err(fault) => Err(fault.map(of_play)),
@@ -112,33 +168,30 @@ fn take_plain<F: Files, W: Fabric, M: Machine>(
 // The same over links that lose messages, of which so many may be lost in a row.
 fn take_lossy<F: Files, W: Fabric, M: Machine>(
     alloc: Global,
-    loaded: &Loaded,
     losses: u64,
+    setup: Setup,
+    inputs: &Inputs,
+    width: u32,
     files: &mut F,
     schedule: &str,
     fabric: &mut W,
     machines: Vec<M>,
 ) -> Result<Replayed<M>, Or<RunFault>>
-    requires lossy { loaded.now.pace ≡ Lossy losses }
     requires count { (F.state files.old).faults < 2 ^ 64 - 1 }
     requires link_count { (W.state fabric.old).faults < 2 ^ 64 - 1 }
     requires empty { (W.state fabric.old).kinds ≡ [] }
-    requires machines { AreReady M.stands M.made M.left loaded.now.layout (length loaded.now.inputs.rows) machines.items }
-    ensures { HasTaken M.stands M.made loaded.now.pace loaded.now.layout loaded.now.shape loaded.now.timing loaded.now.inputs.rows schedule.now (F.state files.old) (F.state files.new) (W.state fabric.old) (W.state fabric.new) result }
+    requires placed { (f : Originated) × IsPlaced f setup.layout × HasCodeRoom f.func × RowsFit f.func inputs.now.rows }
+    requires paced { KeepsPace setup.layout setup.shape setup.timing (Lossy losses) }
+    requires windowed { HasWindowBy (Lossy losses) setup.timing }
+    requires timed { length setup.timing.nodes ≡ length setup.layout.names }
+    requires few { length setup.layout.names ≤ 32 }
+    requires width { inputs.now.width ≡ width }
+    requires wide { HasRowValues width inputs.now.rows }
+    requires machines { AreReady M.stands M.made M.left setup.layout (length inputs.now.rows) machines.items }
+    ensures { HasTaken M.stands M.made (Lossy losses) setup.layout setup.shape setup.timing inputs.now.rows schedule.now (F.state files.old) (F.state files.new) (W.state fabric.old) (W.state fabric.new) result }
 {
-    let checked = &loaded.checked;
     match replay_lossy(
-        alloc,
-        files,
-        schedule,
-        fabric,
-        &loaded.layout,
-        &loaded.shape,
-        &loaded.timing,
-        losses,
-        &loaded.inputs,
-        width_of(&checked.flat),
-        machines,
+        alloc, files, schedule, fabric, setup, losses, inputs, width, machines,
     ) {
         Ok(replayed) => Ok(replayed),
         Err(fault) => Err(fault.map(of_lossy)),
@@ -150,6 +203,25 @@ fn width_of(flat: &Flat) -> u32
     ensures { result ≡ flat.now.func.n_in }
 {
     flat.func.n_in
+}
+
+// A machine of step code for each node, with this function for the imported operators.
+fn code_machines(
+    alloc: Global,
+    loaded: &Loaded,
+    operator: fn(Imp, i64, i64) -> i64,
+) -> Result<Vec<StepMachine>, Memory>
+    requires callable { IsAlwaysCallable operator }
+    requires answers { (o : Operator) (a b r : ℤ) → FitsSigned w64 a → FitsSigned w64 b → post operator o a b r → r ≡ imported o a b }
+    ensures { IfOk result (λ machines. AreReady ⟦<StepMachine as Machine>⟧.stands ⟦<StepMachine as Machine>⟧.made ⟦<StepMachine as Machine>⟧.left loaded.now.layout (length loaded.now.inputs.rows) machines.items) }
+{
+    loaded.kept();
+    let nodes = loaded.layout.nodes.len();
+    let mut imports = Vec::with_capacity(alloc, nodes)?;
+    for _node in 0..nodes {
+        imports.push(Import::new(operator))?;
+    }
+    machines_of(alloc, &loaded.layout, imports, loaded.inputs.rows())
 }
 
 /// Replays a loaded program by a machine of step code on each node, with the table of the imported operators: what its outputs
@@ -166,13 +238,43 @@ pub(crate) fn replay_code<F: Files, W: Fabric>(
     requires empty { (W.state fabric.old).kinds ≡ [] }
     ensures { HasOutputs loaded.now schedule.now (F.state files.old) (F.state files.new) (W.state fabric.old) (W.state fabric.new) result }
 {
-    loaded.kept();
-    let nodes = loaded.layout.nodes.len();
-    let mut imports = Vec::with_capacity(alloc, nodes)?;
-    for _node in 0..nodes {
-        imports.push(Import::new(imp))?;
-    }
-    let machines = machines_of(alloc, &loaded.layout, imports, loaded.inputs.rows())?;
+    let machines = code_machines(alloc, loaded, imp)?;
     let printed = replay(alloc, loaded, files, schedule, fabric, machines)?;
     Ok(printed.outputs())
+}
+
+/// Replays a loaded program as `replay_code` does, and gives it away: nothing of it is copied.
+pub(crate) fn replay_whole<F: Files, W: Fabric>(
+    alloc: Global,
+    loaded: Loaded,
+    files: &mut F,
+    schedule: &str,
+    fabric: &mut W,
+) -> Result<Outputs, Or<RunFault>>
+    requires count { (F.state files.old).faults < 2 ^ 64 - 1 }
+    requires link_count { (W.state fabric.old).faults < 2 ^ 64 - 1 }
+    requires empty { (W.state fabric.old).kinds ≡ [] }
+    ensures { HasOutputs loaded schedule.now (F.state files.old) (F.state files.new) (W.state fabric.old) (W.state fabric.new) result }
+{
+    let machines = code_machines(alloc, &loaded, imp)?;
+    loaded.kept();
+    let Loaded {
+        checked,
+        layout,
+        shape,
+        timing,
+        inputs,
+        pace,
+    } = loaded;
+    let setup = Setup {
+        layout,
+        shape,
+        timing,
+    };
+    let printed = replay_setup(
+        alloc, &checked, pace, setup, &inputs, files, schedule, fabric, machines,
+    )?;
+    // The call is nearly over: to take a large tree and its program apart would be a fifth of its time.
+    forget(checked);
+    Ok(printed.shown())
 }

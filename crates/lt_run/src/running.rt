@@ -8,7 +8,7 @@ ghost use Rattle.lt_run.specs.Errands.{run_errands};
 ghost use Rattle.lt_run.specs.Near.{IsNearCommand};
 ghost use Rattle.lt_run.specs.Run.{AsCommand, LeavesUnloaded, along_loaded, run_verdict};
 
-use crate::replaying::replay_code;
+use crate::replaying::{replay_code, replay_whole};
 use crate::{Outputs, RunFault};
 use lt_arch::Shape;
 use lt_base::Or;
@@ -37,7 +37,49 @@ pub fn run<F: Files, W: Fabric>(
     ensures untouched { LeavesUnloaded (F.state files.old) program.now inputs.now (option_map (λ s. s.now) config.entry) (W.state fabric.old) (W.state fabric.new) }
 {
     let loaded = load(alloc, files, program, inputs, config)?;
-    run_loaded(alloc, files, fabric, &loaded, schedule)
+    run_whole(alloc, files, fabric, loaded, schedule)
+}
+
+// Runs what was loaded along the schedule of a file, and gives it away: nothing of a program is copied.
+fn run_whole<F: Files, W: Fabric>(
+    alloc: Global,
+    files: &mut F,
+    fabric: &mut W,
+    loaded: Loaded,
+    schedule: &str,
+) -> Result<Outputs, Or<CommandFault>>
+    requires count { (F.state files.old).faults < 2 ^ 64 - 1 }
+    requires link_count { (W.state fabric.old).faults < 2 ^ 64 - 1 }
+    requires empty { (W.state fabric.old).kinds ≡ [] }
+    ensures answered { Answered command_blame (schedule_errand schedule.now) (along_loaded (W.state fabric.new) loaded ((F.state files.old).named schedule.now))
+        (world (F.state files.old) (W.state fabric.old)) (world (F.state files.new) (W.state fabric.new)) result }
+    ensures near { IsTrue (F.state files.old).told → IfErr result (IsNearCommand ((F.state files.old).named schedule.now) (F.state files.new).place) }
+{
+    let shape = loaded.shape.copy()?;
+    run_beside(alloc, files, fabric, loaded, &shape, schedule)
+}
+
+// The same beside a copy of its shape, whose nodes a fault names.
+fn run_beside<F: Files, W: Fabric>(
+    alloc: Global,
+    files: &mut F,
+    fabric: &mut W,
+    loaded: Loaded,
+    shape: &Shape,
+    schedule: &str,
+) -> Result<Outputs, Or<CommandFault>>
+    requires same { shape.now ≡ loaded.shape }
+    requires count { (F.state files.old).faults < 2 ^ 64 - 1 }
+    requires link_count { (W.state fabric.old).faults < 2 ^ 64 - 1 }
+    requires empty { (W.state fabric.old).kinds ≡ [] }
+    ensures answered { Answered command_blame (schedule_errand schedule.now) (along_loaded (W.state fabric.new) loaded ((F.state files.old).named schedule.now))
+        (world (F.state files.old) (W.state fabric.old)) (world (F.state files.new) (W.state fabric.new)) result }
+    ensures near { IsTrue (F.state files.old).told → IfErr result (IsNearCommand ((F.state files.old).named schedule.now) (F.state files.new).place) }
+{
+    match replay_whole(alloc, loaded, files, schedule, fabric) {
+        Ok(outputs) => Ok(outputs),
+        Err(fault) => Err(as_command(shape, fault)),
+    }
 }
 
 /// Runs what was loaded along the schedule of a file, as `run` does.

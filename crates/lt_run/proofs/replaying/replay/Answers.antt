@@ -1,36 +1,29 @@
-use Rattle.std.proofs.Common.{◌≡◌, ◌∙◌, map, length, Ok, sym, ap, subst}
-use Rattle.lt_base.specs.Program.{Function, GoodProgram}
-use Rattle.lt_front.specs.Checked.{CheckedText, IsChecked}
-use Rattle.lt_load.specs.Main.{main_in}
-use Rattle.lt_load.specs.Plan.{LoadedPlan}
-use Rattle.lt_run.specs.Main.{name_in}
-use Rattle.lt_run.proofs.Replays.{has_columns, named, not_named, not_replayed, prints_at, shows_too, takes_at}
+use Rattle.std.proofs.Common.{◌≡◌, ◌∙◌, length, sym, subst}
+use Rattle.lt_plant.specs.Starts.{AreReady}
+use Rattle.lt_load.specs.Plan.{LoadedPlan, IsLoaded}
+use Rattle.lt_run.proofs.Replays.{not_set_up, prints_at, setup_in, with_setup}
 use Rattle.lt_run.proofs.replaying.replay.Goals as goal
 
-pub returns-in_err-replayed : goal.returns-in_err-replayed
-returns-in_err-replayed g c = not_replayed _ _ c.args.loaded.now _ _ _ _ _ _ _ c.from_residual.ensures.1 c.in_err-replayed.ensures
+pub returns-in_err-setup : goal.returns-in_err-setup
+returns-in_err-setup g c = not_set_up _ _ c.args.loaded.now c.args.schedule.now _ _ _ c.from_residual.ensures.1
 
-pub name_outputs-requires : goal.name_outputs-requires
-name_outputs-requires g c =
+pub replay_setup-requires-clause-loaded : goal.replay_setup-requires-clause-loaded
+replay_setup-requires-clause-loaded g c =
     let k : LoadedPlan = record { checked = c.loaded.inside.checked; layout = c.loaded.inside.layout; shape = c.loaded.inside.shape; timing = c.loaded.inside.timing; inputs = c.loaded.inside.inputs; pace = c.loaded.inside.pace } in
-    let good : GoodProgram k.checked.program = subst (λ (t : CheckedText). GoodProgram t.program) c.checked.view_is c.kept.ensures in
-    let checked : IsChecked k.checked = subst IsChecked c.checked.view_is c.checked.invariant in
-    let main : c.main_of.result.now ≡ main_in k.checked.program = c.main_of.ensures ∙ ap (λ (t : CheckedText). main_in t.program) c.checked.view_is in
-    let taken = takes_at _ _ c.args.loaded.now k (sym c.loaded.view_is) _ _ _ _ _ (Ok c.in_ok-replayed.replayed) c.in_ok-replayed.ensures in
-    record { width = has_columns _ _ k good checked c.loaded.invariant _ c.in_ok-replayed.replayed taken.ended ∙ ap (λ (f : Function). length f.outs) (sym main) }
+    let copy = c.in_ok-setup.ensures in
+    let is : c.in_ok-setup.setup ≡ setup_in k = λ i. record { layout = copy.layout i; shape = copy.shape i; timing = copy.timing i } in
+    subst IsLoaded (sym (with_setup k c.in_ok-setup.setup is)) c.loaded.invariant
+
+pub replay_setup-requires-clause-machines : goal.replay_setup-requires-clause-machines
+replay_setup-requires-clause-machines g c =
+    let k : LoadedPlan = record { checked = c.loaded.inside.checked; layout = c.loaded.inside.layout; shape = c.loaded.inside.shape; timing = c.loaded.inside.timing; inputs = c.loaded.inside.inputs; pace = c.loaded.inside.pace } in
+    let copy = c.in_ok-setup.ensures in
+    let is : c.in_ok-setup.setup ≡ setup_in k = λ i. record { layout = copy.layout i; shape = copy.shape i; timing = copy.timing i } in
+    subst (λ (q : LoadedPlan). AreReady g.M.Machine.stands g.M.Machine.made g.M.Machine.left q.layout (length q.inputs.rows) c.args.machines.items) (sym (with_setup k c.in_ok-setup.setup is ∙ c.loaded.view_is)) c.requires.machines
 
 pub returns : goal.returns
 returns g c =
     let k : LoadedPlan = record { checked = c.loaded.inside.checked; layout = c.loaded.inside.layout; shape = c.loaded.inside.shape; timing = c.loaded.inside.timing; inputs = c.loaded.inside.inputs; pace = c.loaded.inside.pace } in
-    let good : GoodProgram k.checked.program = subst (λ (t : CheckedText). GoodProgram t.program) c.checked.view_is c.kept.ensures in
-    let checked : IsChecked k.checked = subst IsChecked c.checked.view_is c.checked.invariant in
-    let main : c.main_of.result.now ≡ main_in k.checked.program = c.main_of.ensures ∙ ap (λ (t : CheckedText). main_in t.program) c.checked.view_is in
-    let names = c.in_ok-name_outputs.ensures.names ∙ ap (λ (f : Function). map (name_in f) f.outs) main in
-    let told = c.in_ok-name_outputs.ensures in
-    let taken = takes_at _ _ c.args.loaded.now k (sym c.loaded.view_is) _ _ _ _ _ (Ok c.in_ok-replayed.replayed) c.in_ok-replayed.ensures in
-    prints_at _ _ k c.args.loaded.now c.loaded.view_is _ _ _ _ _ _
-    (named _ _ k _ _ _ _ _ c.in_ok-replayed.replayed c.in_ok-name_outputs.field-0
-    (shows_too _ _ k good checked c.loaded.invariant _ c.in_ok-replayed.replayed c.in_ok-name_outputs.field-0 names told.cells told.horizon told.machines) taken)
-
-pub returns-in_err-name_outputs : goal.returns-in_err-name_outputs
-returns-in_err-name_outputs g c = not_named _ _ c.args.loaded.now _ _ _ _ _ c.in_ok-replayed.replayed _ c.from_residual-in_err-name_outputs.ensures.1 c.in_ok-replayed.ensures
+    let copy = c.in_ok-setup.ensures in
+    let is : c.in_ok-setup.setup ≡ setup_in k = λ i. record { layout = copy.layout i; shape = copy.shape i; timing = copy.timing i } in
+    prints_at _ _ _ c.args.loaded.now (with_setup k c.in_ok-setup.setup is ∙ c.loaded.view_is) _ _ _ _ _ _ c.replay_setup.ensures

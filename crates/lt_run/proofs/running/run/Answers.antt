@@ -15,8 +15,8 @@ returns-in_err-loaded-clause-answered g c =
     (not_loaded c.args.program.now c.args.inputs.now c.args.schedule.now config _ _ _ _ _ c.from_residual.ensures.1 c.in_err-loaded.ensures)
     (λ told. near_error _ _ _ _ c.from_residual.ensures.1 (not_loaded_near c.args.program.now c.args.inputs.now config _ _ _ _ told _ c.in_err-loaded.ensures))
 
-pub run_loaded-requires-clause-count : goal.run_loaded-requires-clause-count
-run_loaded-requires-clause-count g c = counts_on _ _ c.in_ok-loaded.ensures.cause.files c.requires.count
+pub run_whole-requires-clause-count : goal.run_whole-requires-clause-count
+run_whole-requires-clause-count g c = counts_on _ _ c.in_ok-loaded.ensures.cause.files c.requires.count
 
 pub returns-clause-answered : goal.returns-clause-answered
 returns-clause-answered g c =
@@ -24,8 +24,8 @@ returns-clause-answered g c =
     let named = (g.F.Files.state c.args.files.now).named in
     let first = c.in_ok-loaded.ensures in
     answered_near _ _ (ordered_verdict named c.args.program.now c.args.inputs.now c.args.schedule.now config _) _ _ _
-    (loaded_run c.args.program.now c.args.inputs.now c.args.schedule.now config _ _ _ c.in_ok-loaded.loaded _ _ _ first c.run_loaded.ensures.answered)
-    (λ told. near_names _ _ c.args.schedule.now _ _ first.keeps.files.named (c.run_loaded.ensures.near (first.keeps.files.told ∙ told)))
+    (loaded_run c.args.program.now c.args.inputs.now c.args.schedule.now config _ _ _ c.in_ok-loaded.loaded _ _ _ first c.run_whole.ensures.answered)
+    (λ told. near_names _ _ c.args.schedule.now _ _ first.keeps.files.named (c.run_whole.ensures.near (first.keeps.files.told ∙ told)))
 
 pub returns-clause-untouched : goal.returns-clause-untouched
 returns-clause-untouched g c told e refused =

@@ -1,0 +1,17 @@
+use Rattle.std.proofs.Common.{subst}
+use Rattle.lt_arch.specs.declared.shape.Shape.{Shape}
+use Rattle.lt_run.specs.Run.{AsCommand}
+use Rattle.lt_run.proofs.Elsewhere.{near_as_command}
+use Rattle.lt_run.proofs.Onward.{shown_by, fault_of}
+use Rattle.lt_run.proofs.running.run_beside.Goals as goal
+
+pub returns-in-Ok : goal.returns-in-Ok
+returns-in-Ok g c = record { answered = shown_by c.args.loaded c.args.schedule.now _ _ _ _ c.in-Ok.outputs c.in-Ok.ensures; near = λ told. tt }
+
+pub returns-in-Err : goal.returns-in-Err
+returns-in-Err g c =
+    let is = subst (λ (s : Shape). AsCommand s c.in-Err.fault c.as_command.result) c.requires.same c.as_command.ensures in
+    record {
+      answered = fault_of c.args.loaded c.args.schedule.now _ _ _ _ c.in-Err.fault _ is c.in-Err.ensures;
+      near = λ told. near_as_command c.args.loaded.shape _ _ c.in-Err.fault c.as_command.result is (c.in-Err.ensures.near told);
+    }
