@@ -1,5 +1,6 @@
 -- What the printer writes, piece by piece.
-use Rattle.std.proofs.Common.{◌≡◌, ℕ, zero, suc, ◌+◌, ◌<◌, Bool, List, [], ◌∷◌, ◌++◌, length, map, take, get_or, codes, nat_lt, if◌then◌else◌, refl, sym, ap, ◌∙◌, arith, append_assoc, append-nil, add-one, take-suc, lt-ltb}
+use Rattle.std.proofs.Common.{◌≡◌, ℕ, zero, suc, ◌+◌, ◌<◌, Bool, List, [], ◌∷◌, ◌++◌, length, map, take, get_or, codes, nat_lt, if◌then◌else◌, Result, Ok, Err, OnOk, refl, sym, ap, ◌∙◌, subst, arith, append_assoc, append-nil, add-one, take-suc, lt-ltb}
+use Rattle.lt_base.specs.declared.memory.Memory.{Memory}
 use Rattle.lt_syntax.specs.declared.term.Term.{Term}
 use Rattle.lt_syntax.specs.declared.tree.DeclText.{DeclText}
 use Rattle.lt_syntax.specs.declared.tree.NodeText.{NodeText}
@@ -88,3 +89,20 @@ node_pieces n o h x d y e p q r s t =
     let c : e ≡ h ++ u = b ∙ ap (λ z. z ++ v) q ∙ append_assoc h (codes ") returns (") v in
     c ∙ ap (λ z. z ++ u) p ∙ append_assoc o (head_text n) u
     ∙ ap (λ z. o ++ (codes "node " ++ z)) (append_assoc n.name (codes "(" ++ decls_text n.ins) u)
+
+-- a piece, and then the rest
+pub and_then : (r : Result (Unit {0}) Memory) (o m n p q : List ℕ) → m ≡ o ++ p → OnOk r (n ≡ m ++ q) → OnOk r (n ≡ o ++ (p ++ q))
+and_then (Ok x) o m n p q e h = h ∙ ap (λ z. z ++ q) e ∙ append_assoc o p q
+and_then (Err x) o m n p q e h = tt
+
+-- a piece with what stands before it
+pub behind : (r : Result (Unit {0}) Memory) (m n l q : List ℕ) → OnOk r (n ≡ (m ++ l) ++ q) → OnOk r (n ≡ m ++ (l ++ q))
+behind (Ok x) m n l q h = h ∙ append_assoc m l q
+behind (Err x) m n l q h = tt
+
+-- a term in two pieces, and in three
+pub in_two : (r : Result (Unit {0}) Memory) (t u : Tm) (o a n p q : List ℕ) → t ≡ u → text (bare u) ≡ p ++ q → a ≡ o ++ p → OnOk r (n ≡ a ++ q) → OnOk r (n ≡ o ++ text (bare t))
+in_two r t u o a n p q e w f h = subst (λ z. OnOk r (n ≡ o ++ z)) (sym (ap (λ t. text (bare t)) e ∙ w)) (and_then r o a n p q f h)
+
+pub in_three : (r : Result (Unit {0}) Memory) (t u : Tm) (o a b n p q s : List ℕ) → t ≡ u → text (bare u) ≡ p ++ (q ++ s) → a ≡ o ++ p → b ≡ a ++ q → OnOk r (n ≡ b ++ s) → OnOk r (n ≡ o ++ text (bare t))
+in_three r t u o a b n p q s e w f g h = in_two r t u o a n p (q ++ s) e w f (and_then r a b n q s g h)

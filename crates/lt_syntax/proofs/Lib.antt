@@ -10,3 +10,4 @@ pub mod Whole
 pub mod Reading
 pub mod Declares
 pub mod Loop
+pub mod Copies
