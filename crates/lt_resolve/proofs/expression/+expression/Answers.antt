@@ -1,7 +1,8 @@
-use Rattle.std.proofs.Common.{refl, ◌≡◌, map, sym, subst, ◌∙◌, arith, vec_len}
+use Rattle.std.proofs.Common.{Some, None, refl, ◌≡◌, map, sym, subst, ◌∙◌, arith, vec_len}
 use Rattle.lt_base.specs.Expression.{shape, arguments_of}
 use Rattle.lt_syntax.specs.Tree.{tms}
 use Rattle.lt_syntax.specs.Views.{tm_of}
+use Rattle.lt_resolve.specs.Names.{number_of, if_missing}
 use Rattle.lt_resolve.specs.Uses.{unknown, count}
 use Rattle.lt_resolve.specs.Told.{Tells}
 use Rattle.lt_resolve.specs.Known.{StandsFor, IsTranslated}
@@ -105,3 +106,53 @@ choice-returns-clause-told t c = or_none _ _ c.in_ok-c.ensures.told ∙ (or_none
 
 pub choice-returns-clause-named : goal.choice-returns-clause-named
 choice-returns-clause-named t c = λ k. (c.in_ok-c.ensures.named k.0, c.in_ok-a.ensures.named k.1, c.in_ok-b.ensures.named k.2)
+
+pub unary-returns-in_err-boxed-clause-told : goal.unary-returns-in_err-boxed-clause-told
+unary-returns-in_err-boxed-clause-told t c =
+    tells_on _ c.in_err-boxed.field-0.0 _ c.from_residual.ensures.1 c.in_err-boxed.ensures.told
+
+pub unary-returns-clause-named : goal.unary-returns-clause-named
+unary-returns-clause-named t c =
+    λ k. (refl, c.in_ok-boxed.ensures.named k)
+
+pub delayed-returns-in_err-boxed-clause-told : goal.delayed-returns-in_err-boxed-clause-told
+delayed-returns-in_err-boxed-clause-told t c =
+    tells_on _ c.in_err-boxed.field-0.0 _ c.from_residual.ensures.1 c.in_err-boxed.ensures.told
+
+pub delayed-returns-clause-named : goal.delayed-returns-clause-named
+delayed-returns-clause-named t c =
+    λ k. (refl, c.in_ok-boxed.ensures.named k)
+
+pub merged-returns-in_err-a-clause-told : goal.merged-returns-in_err-a-clause-told
+merged-returns-in_err-a-clause-told t c =
+    let known : if_missing c.args.variables.now c.args.c.now ≡ None = subst (λ x. if_missing c.args.variables.now x ≡ None) c.as_str.ensures c.in_ok-c.ensures.told in
+    tells_on _ c.in_err-a.field-0.0 _ c.from_residual-in_err-a.ensures.1 (refuses_then _ _ _ known (refuses_first _ _ _ c.in_err-a.ensures.told))
+
+pub merged-returns-in_err-b-clause-told : goal.merged-returns-in_err-b-clause-told
+merged-returns-in_err-b-clause-told t c =
+    let known : if_missing c.args.variables.now c.args.c.now ≡ None = subst (λ x. if_missing c.args.variables.now x ≡ None) c.as_str.ensures c.in_ok-c.ensures.told in
+    tells_on _ c.in_err-b.field-0.0 _ c.from_residual-in_err-b.ensures.1 (refuses_then _ _ _ known (refuses_then _ _ _ c.in_ok-a.ensures.told c.in_err-b.ensures.told))
+
+pub merged-returns-clause-told : goal.merged-returns-clause-told
+merged-returns-clause-told t c =
+    let known : if_missing c.args.variables.now c.args.c.now ≡ None = subst (λ x. if_missing c.args.variables.now x ≡ None) c.as_str.ensures c.in_ok-c.ensures.told in
+    or_none _ _ known ∙ (or_none _ _ c.in_ok-a.ensures.told ∙ c.in_ok-b.ensures.told)
+
+pub merged-returns-clause-named : goal.merged-returns-clause-named
+merged-returns-clause-named t c =
+    let number : number_of c.args.variables.now c.args.c.now ≡ Some c.in_ok-c.c = subst (λ x. number_of c.args.variables.now x ≡ Some c.in_ok-c.c) c.as_str.ensures c.in_ok-c.ensures.number in
+    λ k. (number, c.in_ok-a.ensures.named k.1, c.in_ok-b.ensures.named k.2)
+
+pub sampled-returns-in_err-a-clause-told : goal.sampled-returns-in_err-a-clause-told
+sampled-returns-in_err-a-clause-told t c =
+    tells_on _ c.in_err-a.field-0.0 _ c.from_residual.ensures.1 (refuses_first _ _ _ c.in_err-a.ensures.told)
+
+pub sampled-returns-clause-told : goal.sampled-returns-clause-told
+sampled-returns-clause-told t c =
+    let known : if_missing c.args.variables.now c.args.c.now ≡ None = subst (λ x. if_missing c.args.variables.now x ≡ None) c.as_str.ensures c.in_ok-c.ensures.told in
+    or_none _ _ c.in_ok-a.ensures.told ∙ known
+
+pub sampled-returns-clause-named : goal.sampled-returns-clause-named
+sampled-returns-clause-named t c =
+    let number : number_of c.args.variables.now c.args.c.now ≡ Some c.in_ok-c.c = subst (λ x. number_of c.args.variables.now x ≡ Some c.in_ok-c.c) c.as_str.ensures c.in_ok-c.ensures.number in
+    λ k. (c.in_ok-a.ensures.named k.0, number, refl)
