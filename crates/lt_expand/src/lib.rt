@@ -10,4 +10,4 @@ mod paste;
 mod program;
 mod raised;
 
-pub use program::{TooMany, expand};
+pub use program::{TooMany, expand, expand_within};

@@ -7,7 +7,7 @@ ghost use Rattle.lt_expand.specs.Copies.{expansion};
 ghost use Rattle.lt_expand.specs.Expansion.{ProgramExpansion, WithinLimits, IsTooMany};
 
 use crate::library::expand_main;
-use lt_base::{Or, Program, Sizes, Whole};
+use lt_base::{Memory, Or, Program, Sizes, Whole};
 use lt_check::sizes;
 use std::alloc::Global;
 
@@ -39,4 +39,14 @@ pub fn expand(alloc: Global, p: &Program) -> Result<Whole, Or<TooMany>>
     }
     let whole = expand_main(alloc, p)?;
     Ok(whole)
+}
+
+/// The expansion of a checked program that is within its limits, as `expand` answers it: no sizes are computed.
+pub fn expand_within(alloc: Global, p: &Program) -> Result<Whole, Memory>
+    requires checked { CheckedProgram p.now }
+    requires within { WithinLimits p.now }
+    ensures form { IfOk result (λ whole. whole.func ≡ expansion p.now) }
+    ensures keeps { IfOk result (λ whole. ProgramExpansion p.now whole.func whole.origin) }
+{
+    expand_main(alloc, p)
 }

@@ -6,7 +6,7 @@ ghost use Rattle.lt_front.specs.Flattened.{KeepsMain, flat_of};
 
 use crate::{Checked, Examined, ProgramFault, examine};
 use lt_base::{Memory, Or};
-use lt_expand::expand;
+use lt_expand::expand_within;
 use lt_norm::{Flat, into_normal};
 use std::alloc::Global;
 
@@ -43,9 +43,6 @@ fn flat_form(alloc: Global, checked: &Examined) -> Result<Flat, Memory>
     checked.kept();
     let program = &checked.program;
     program.kept();
-    match expand(alloc, program) {
-        Ok(whole) => into_normal(alloc, whole),
-        Err(Or::Memory) => Err(Memory),
-        Err(Or::Fault(_)) => unreachable!(),
-    }
+    let whole = expand_within(alloc, program)?;
+    into_normal(alloc, whole)
 }

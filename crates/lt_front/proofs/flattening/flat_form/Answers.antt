@@ -6,14 +6,17 @@ use Rattle.lt_front.proofs.Flattens.{flat_if, keeps_if}
 use Rattle.lt_front.proofs.flattening.flat_form.Goals as goal
 
 pub into_normal-requires-clause-room : goal.into_normal-requires-clause-room
-into_normal-requires-clause-room c = let same = c.in-Ok.ensures.keeps.weight in let few = c.checked.invariant.within.weight in omega (arith, same, few)
+into_normal-requires-clause-room c = let same = c.in_ok-whole.ensures.keeps.weight in let few = c.checked.invariant.within.weight in omega (arith, same, few)
 
-pub returns-in-Ok-clause-form : goal.returns-in-Ok-clause-form
-returns-in-Ok-clause-form c =
+pub returns-clause-form : goal.returns-clause-form
+returns-clause-form c =
     subst (λ (t : ExaminedText). IfOk c.into_normal.result (λ flat. flat ≡ flat_of t.program)) c.checked.view_is
-    (flat_if c.checked.inside.program c.in-Ok.whole c.in-Ok.ensures.form c.in-Ok.ensures.keeps c.into_normal.result c.into_normal.ensures.form c.into_normal.ensures.keeps)
+    (flat_if c.checked.inside.program c.in_ok-whole.whole c.in_ok-whole.ensures.form c.in_ok-whole.ensures.keeps c.into_normal.result c.into_normal.ensures.form c.into_normal.ensures.keeps)
 
-pub returns-in-Ok-clause-keeps : goal.returns-in-Ok-clause-keeps
-returns-in-Ok-clause-keeps c =
+pub returns-clause-keeps : goal.returns-clause-keeps
+returns-clause-keeps c =
     subst (λ (t : ExaminedText). IfOk c.into_normal.result (KeepsMain t.program)) c.checked.view_is
-    (keeps_if c.checked.inside.program c.in-Ok.whole c.in-Ok.ensures.form c.in-Ok.ensures.keeps c.kept-2.ensures c.checked.invariant.checked c.checked.invariant.within c.into_normal.result c.into_normal.ensures.form c.into_normal.ensures.keeps)
+    (keeps_if c.checked.inside.program c.in_ok-whole.whole c.in_ok-whole.ensures.form c.in_ok-whole.ensures.keeps c.kept-2.ensures c.checked.invariant.checked c.checked.invariant.within c.into_normal.result c.into_normal.ensures.form c.into_normal.ensures.keeps)
+
+pub expand_within-requires-clause-within : goal.expand_within-requires-clause-within
+expand_within-requires-clause-within c = (c.checked.invariant.within.weight, c.checked.invariant.within.parts)
