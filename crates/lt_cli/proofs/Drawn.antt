@@ -1,5 +1,5 @@
 -- A drawn schedule, from what was loaded and what was written.
-use Rattle.std.proofs.Common.{◌≡◌, ℕ, ◌<◌, ◌≤◌, nat_lt, Bool, true, false, List, [], ◌∷◌, ◌++◌, length, Option, Some, Result, Ok, Err, refl, sym, ◌∙◌, subst, arith, inl, inr}
+use Rattle.std.proofs.Common.{◌≡◌, ℕ, ◌<◌, ◌≤◌, nat_lt, Bool, true, false, List, [], ◌∷◌, ◌++◌, length, Option, Some, None, Result, Ok, Err, refl, sym, ◌∙◌, subst, arith, inl, inr}
 use Rattle.std.specs.Prelude.{if◌then◌else◌}
 use Rattle.lt_base.specs.declared.memory.Or.{Or}
 use Rattle.lt_base.specs.declared.memory.Or.TheVariants.{Fault, Memory}
@@ -22,7 +22,9 @@ use Rattle.lt_load.specs.Plan.{LoadedPlan, IsLoadedFrom, Plan, Loads}
 use Rattle.lt_load.specs.Pacing.{plain_load_verdict}
 use Rattle.lt_sim.specs.Drawn.{drawn}
 use Rattle.lt_sim.specs.File.{file_text, text_of}
-use Rattle.lt_sim.specs.Recorded.{IsRecorded, IsBroken, IsTooMany, TakesFront}
+use Rattle.lt_sim.specs.declared.fault.SimFault.{SimFault}
+use Rattle.lt_sim.specs.declared.fault.SimFault.TheVariants as sim
+use Rattle.lt_sim.specs.Recorded.{IsRecorded, IsBroken, IsTooMany, Records, TakesFront}
 use Rattle.lt_cli.specs.declared.refusal.Refusal.{Refusal}
 use Rattle.lt_cli.specs.declared.refusal.Refusal.TheVariants.{Command}
 use Rattle.lt_cli.specs.declared.status.Status.{Status}
@@ -31,7 +33,7 @@ use Rattle.lt_cli.specs.Blamed.{blame_of}
 use Rattle.lt_cli.specs.Texts.{status_of, refusal_status, line_of, drawing_text}
 use Rattle.lt_cli.specs.Written.{Written}
 use Rattle.lt_cli.specs.Objects.{Objects, world_of}
-use Rattle.lt_cli.specs.Draws.{Drawing, too_many, drawing, plan_drawn_verdict, sim_verdict}
+use Rattle.lt_cli.specs.Draws.{Drawing, too_many, drawing, plan_drawn_verdict, recorded_status, sim_verdict}
 use Rattle.lt_cli.specs.Commands.{text_verdict}
 use Rattle.lt_cli.specs.Ran.{Reported, OutcomeBlames}
 use Rattle.lt_cli.specs.Ran.{printed, both_whole, out_broke, err_broke, both_short}
@@ -203,23 +205,45 @@ module _ (k j : LoadedPlan) (view : k ≡ j) (rows : ℕ) (counted : rows ≡ le
   abbrev list : ℕ → List Event
   list n = drawn k.shape k.timing n seed horizon
 
-  pub recorded_of : (count : ℕ) → IsRecorded k.shape (list rows) o o' count → KeepsSink o o' → IsReported (drawn_outcome j seed horizon) o o' e e status.Ok
+  recorded_of : (count : ℕ) → IsRecorded k.shape (list rows) o o' count → KeepsSink o o' → IsReported (drawn_outcome j seed horizon) o o' e e status.Ok
   recorded_of count is keeps =
       subst (λ (p : LoadedPlan). IsReported (drawn_outcome p seed horizon) o o' e e status.Ok) view
       (recorded k seed horizon o o' e count (subst (λ (n : ℕ). IsRecorded k.shape (list n) o o' count) counted is) keeps)
 
-  pub broken_of : IsBroken k.shape (list rows) o o' → KeepsSink o o' → IsReported (drawn_outcome j seed horizon) o o' e e status.Write
+  broken_of : IsBroken k.shape (list rows) o o' → KeepsSink o o' → IsReported (drawn_outcome j seed horizon) o o' e e status.Write
   broken_of is keeps =
       subst (λ (p : LoadedPlan). IsReported (drawn_outcome p seed horizon) o o' e e status.Write) view
       (broken k seed horizon o o' e (subst (λ (n : ℕ). IsBroken k.shape (list n) o o') counted is) keeps)
 
-  pub short_of : TakesFront (text_of k.shape (list rows)) o o' → KeepsSink o o' → IsReported (drawn_outcome j seed horizon) o o' e e status.Memory
+  short_of : TakesFront (text_of k.shape (list rows)) o o' → KeepsSink o o' → IsReported (drawn_outcome j seed horizon) o o' e e status.Memory
   short_of front keeps =
       subst (λ (p : LoadedPlan). IsReported (drawn_outcome p seed horizon) o o' e e status.Memory) view
       (short k seed horizon o o' e (subst (λ (n : ℕ). TakesFront (text_of k.shape (list n)) o o') counted front) keeps)
 
-  pub refused_of : (e' : SinkState) (refusal : Refusal) (ends : Status) → refusal ≡ Command too_many → IsTooMany (list rows) o o' → Written (refusal_status refusal) (line_of refusal ++ 10 ∷ []) e e' ends
+  refused_of : (e' : SinkState) (refusal : Refusal) (ends : Status) → refusal ≡ Command too_many → IsTooMany (list rows) o o' → Written (refusal_status refusal) (line_of refusal ++ 10 ∷ []) e e' ends
       → IsReported (drawn_outcome j seed horizon) o o' e e' ends
   refused_of e' refusal ends same is written =
       subst (λ (p : LoadedPlan). IsReported (drawn_outcome p seed horizon) o o' e e' ends) view
       (refused k seed horizon o o' e e' refusal ends same (subst (λ (n : ℕ). IsTooMany (list n) o o') counted is) written)
+
+  abbrev ReportsAll : Status → Type 0
+  ReportsAll ends = IsReported (drawn_outcome j seed horizon) o o' e e ends
+
+  -- the status that is left
+  at_status : (s ends : Status) → ReportsAll s → Some s ≡ Some ends → ReportsAll ends
+  at_status s ends reports is = let same : s ≡ ends = cc in subst ReportsAll same reports
+
+  -- it was written, whole or in part
+  pub recorded_ends : (r : Result ℕ (Or SimFault)) (ends : Status) → Records k.shape (list rows) o o' r → KeepsSink o o' → recorded_status r ≡ Some ends → ReportsAll ends
+  recorded_ends (Ok count) ends records keeps is = at_status status.Ok ends (recorded_of count records keeps) is
+  recorded_ends (Err (Fault sim.Write)) ends records keeps is = at_status status.Write ends (broken_of records keeps) is
+  recorded_ends (Err (Fault sim.TooMany)) ends records keeps is = absurd (cc)
+  recorded_ends (Err Memory) ends records keeps is = at_status status.Memory ends (short_of records keeps) is
+
+  -- it is refused
+  pub refusal_ends : (r : Result ℕ (Or SimFault)) (e' : SinkState) (refusal : Refusal) (ends : Status) → Records k.shape (list rows) o o' r → recorded_status r ≡ None → refusal ≡ Command too_many
+      → Written (refusal_status refusal) (line_of refusal ++ 10 ∷ []) e e' ends → IsReported (drawn_outcome j seed horizon) o o' e e' ends
+  refusal_ends (Ok count) e' refusal ends records is same written = absurd (cc)
+  refusal_ends (Err (Fault sim.Write)) e' refusal ends records is same written = absurd (cc)
+  refusal_ends (Err (Fault sim.TooMany)) e' refusal ends records is same written = refused_of e' refusal ends same records written
+  refusal_ends (Err Memory) e' refusal ends records is same written = absurd (cc)

@@ -1,4 +1,5 @@
 pub mod Lines
+pub mod Sinks
 pub mod Ends
 pub mod Obeyed
 pub mod Drawn

@@ -9,6 +9,8 @@ use Rattle.lt_io.proofs.Visiting.{visited_any}
 use Rattle.lt_answer.specs.Answered.{Verdict}
 use Rattle.lt_answer.specs.World.{World, Blame, Blames}
 use Rattle.lt_answer.specs.Answered.{Answered, RefusesReading}
+use Rattle.lt_answer.proofs.Stages.{widened}
+use Rattle.lt_verdict.specs.Rules.{Shown}
 use Rattle.lt_load.specs.Blamed.{command_blame}
 use Rattle.lt_load.specs.declared.fault.CommandFault.{CommandFault}
 use Rattle.lt_cli.specs.declared.refusal.Refusal.{Refusal}
@@ -19,7 +21,7 @@ use Rattle.lt_watch.specs.declared.fault.WatchFault.TheVariants as watch
 use Rattle.lt_watch.specs.Blamed.{watch_blame}
 use Rattle.lt_cli.specs.Commands.{answer_verdict, watch_refusal}
 use Rattle.lt_cli.proofs.Refusals.{watch_blames}
-use Rattle.lt_cli.specs.Asked.{Answers, AnswersText, IsOfCommand}
+use Rattle.lt_cli.specs.Asked.{Answers, AnswersText, IsOfCommand, IsTextOf}
 
 -- faults as refusals that blame the same, none of them that of the words
 pub record IsRaise {E : Type 0} (raise : E → Refusal) (blame : E → Blame) : Type 0 where
@@ -90,6 +92,24 @@ module _ {T : Type 0} (shown : T → List ℕ) (V : Verdict T CommandFault) (a b
 
   pub not_shown : {es : List Errand} (x : T) (r : Result (List ℕ) (Or Refusal)) → IsErrAnd r (λ f. f ≡ Memory) → Answered command_blame es V a b (Ok x) → AnswersText shown es V a b r
   not_shown x r is ran = answer_not_shown (λ fault. Command fault) command_blame command_raise shown V a b x r is ran
+
+  -- the answer that is made of a step's
+  pub is_text_of : {es : List Errand} (r : Result T (Or CommandFault)) (r' : Result (List ℕ) (Or Refusal)) → IsTextOf shown r r' → Answered command_blame es V a b r → AnswersText shown es V a b r'
+  is_text_of (Ok x) (Ok text) is ran = text_shown x text ran is
+  is_text_of (Ok x) (Err (Fault refusal)) is ran = absurd is
+  is_text_of (Ok x) (Err Memory) is ran = not_shown x (Err Memory) refl ran
+  is_text_of (Err e) (Ok text) is ran = absurd is
+  is_text_of (Err e) (Err f) is ran = text_refused e f is ran
+
+-- a step that answers a text itself
+
+module _ {T E : Type 0} (raise : E → Refusal) (shown : T → List ℕ) (V : Verdict T E) where
+  shown_once : (o : Result (List ℕ) Refusal) → answer_verdict raise (λ text. text) (Shown shown V) o → answer_verdict raise shown V o
+  shown_once (Ok text) q = (q.1.0, q.1.1, q.2 ∙ q.1.2)
+  shown_once (Err refusal) q = (q.0, q.1, q.2)
+
+  pub text_of_text : {es : List Errand} (a b : World) (r : Result (List ℕ) (Or Refusal)) → Answers raise (λ text. text) es (Shown shown V) a b r → Answers raise shown es V a b r
+  text_of_text a b r answers = record { answered = widened (answer_verdict raise (λ text. text) (Shown shown V)) (answer_verdict raise shown V) a b r shown_once answers.answered; of_command = answers.of_command }
 
 -- those of a watched run
 pub watch_raise : IsRaise watch_refusal watch_blame

@@ -1,7 +1,9 @@
 -- What a command does, and a call of `ltta` that is asked for it.
-use Rattle.std.specs.Prelude.{◌≡◌, ◌⊎◌, ℕ, List, [], ◌∷◌, ◌++◌, length, Option, Some, None, Result, Ok, Err, true, false}
+use Rattle.std.specs.Prelude.{◌≡◌, ◌⊎◌, ℕ, List, [], ◌∷◌, ◌++◌, length, Option, Some, None, Result, Ok, Err, MatchResult, true, false}
 use Rattle.lt_base.specs.declared.memory.Or.{Or}
 use Rattle.lt_base.specs.declared.memory.Or.TheVariants.{Fault, Memory}
+use Rattle.lt_base.specs.Or.{MapsFault}
+use Rattle.lt_io.specs.Counts.{IsMemory}
 use Rattle.lt_io.specs.Visits.{Errand, Visited}
 use Rattle.lt_io.specs.FabricState.{FabricState}
 use Rattle.lt_io.specs.FilesState.{FilesState}
@@ -54,6 +56,12 @@ pub record Answers {T E : Type 0} (raise : E → Refusal) (shown : T → List �
 
 abbrev pub AnswersText : {T : Type 0} (shown : T → List ℕ) (errands : List Errand) (V : Verdict T CommandFault) (old new : World) (result : Result (List ℕ) (Or Refusal)) → Type 0
 AnswersText shown errands V old new result = Answers (λ fault. Command fault) shown errands V old new result
+
+-- a step's answer as a command's: the text of its value, unless no memory was found for it, or its fault as a refusal
+abbrev pub IsTextOf : {T : Type 0} (shown : T → List ℕ) → Result T (Or CommandFault) → Result (List ℕ) (Or Refusal) → Type 0
+IsTextOf shown (Ok x) result = MatchResult result (λ text. text ≡ shown x) IsMemory
+IsTextOf shown (Err e) (Ok text) = ⊥
+IsTextOf shown (Err e) (Err f) = MapsFault e f (λ fault refusal. refusal ≡ Command fault)
 
 -- an answer ends a call: `out` takes its text, or `err` its refusal's line
 abbrev pub Finishes : Result (List ℕ) (Or Refusal) → (out out' err err' : SinkState) → (ends : Status) → Type 0

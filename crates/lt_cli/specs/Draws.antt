@@ -1,5 +1,7 @@
 -- A schedule that is drawn for a program, its inputs and a setup.
-use Rattle.std.specs.Prelude.{◌≡◌, ℕ, nat_lt, List, length, Option, Result, Ok, Err, if◌then◌else◌}
+use Rattle.std.specs.Prelude.{◌≡◌, ℕ, nat_lt, List, length, Option, Some, None, Result, Ok, Err, if◌then◌else◌}
+use Rattle.lt_base.specs.declared.memory.Or.{Or}
+use Rattle.lt_base.specs.declared.memory.Or.TheVariants.{Fault, Memory}
 use Rattle.lt_arch.specs.declared.event.Event.{Event}
 use Rattle.lt_arch.specs.declared.shape.Shape.{Shape}
 use Rattle.lt_arch.specs.declared.timing.Timing.{Timing}
@@ -11,7 +13,11 @@ use Rattle.lt_load.specs.declared.fault.CommandFault.TheVariants as fault
 use Rattle.lt_load.specs.Plan.{Plan}
 use Rattle.lt_load.specs.Pacing.{plain_load_verdict}
 use Rattle.lt_run.specs.Run.{IsLaidOutBy}
+use Rattle.lt_sim.specs.declared.fault.SimFault.{SimFault}
+use Rattle.lt_sim.specs.declared.fault.SimFault.TheVariants.{Write, TooMany}
 use Rattle.lt_sim.specs.Drawn.{drawn}
+use Rattle.lt_cli.specs.declared.status.Status.{Status}
+use Rattle.lt_cli.specs.declared.status.Status.TheVariants as status
 
 -- events over a shape
 pub record Drawing : Type 0 where
@@ -33,6 +39,13 @@ limited s events = if nat_lt most_drawn (length events) then Err too_many else O
 -- what the seed draws up to the horizon
 abbrev pub drawing : Shape → Timing → (rows seed horizon : ℕ) → Result Drawing CommandFault
 drawing s t rows seed horizon = limited s (drawn s t rows seed horizon)
+
+-- how a call ends by how its schedule was recorded; one with too many events is refused
+abbrev pub recorded_status : Result ℕ (Or SimFault) → Option Status
+recorded_status (Ok count) = Some status.Ok
+recorded_status (Err (Fault Write)) = Some status.Write
+recorded_status (Err (Fault TooMany)) = None
+recorded_status (Err Memory) = Some status.Memory
 
 -- a plan: the schedule over the channels of its nodes
 unfoldable pub plan_drawn_verdict : (seed horizon : ℕ) → Plan → Verdict Drawing CommandFault

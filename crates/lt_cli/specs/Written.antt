@@ -1,5 +1,7 @@
 -- How a text reaches one sink.
-use Rattle.std.specs.Prelude.{◌≡◌, ℕ, List}
+use Rattle.std.specs.Prelude.{◌≡◌, ℕ, List, Result, Ok, Err}
+use Rattle.lt_io.specs.declared.fault.SinkErr.{SinkErr}
+use Rattle.lt_io.specs.declared.fault.SinkErr.TheVariants as sink
 use Rattle.lt_io.specs.SinkState.{SinkState, KeepsSink}
 use Rattle.lt_cli.specs.declared.status.Status.{Status}
 use Rattle.lt_cli.specs.declared.status.Status.TheVariants.{Write, Memory}
@@ -14,3 +16,9 @@ pub data Reaches (done : Status) (text : List ℕ) (old new : SinkState) (ends :
 pub record Written (done : Status) (text : List ℕ) (old new : SinkState) (ends : Status) : Type 0 where
   pub keeps : KeepsSink old new
   pub reaches : Reaches done text old new ends
+
+-- how a call ends that was to end so, by the answer of the sink that its text was written to
+abbrev pub written_status : (done : Status) → Result (Unit {0}) SinkErr → Status
+written_status done (Ok written) = done
+written_status done (Err sink.Failed) = Write
+written_status done (Err sink.Memory) = Memory

@@ -1,13 +1,13 @@
 // What is printed for a command.
-ghost use Rattle.std.specs.Prelude.{◌≡◌, ◌<◌, ◌-◌, ◌^◌, [], option_map};
+ghost use Rattle.std.specs.Prelude.{◌≡◌, ◌<◌, ◌-◌, ◌^◌, ◌++◌, [], option_map};
 ghost use Rattle.lt_io.specs.FilesState.{FilesState};
 ghost use Rattle.lt_answer.specs.World.{alone};
 ghost use Rattle.lt_play.specs.Played.{world};
 ghost use Rattle.lt_plan.specs.Text.{plan_of};
-ghost use Rattle.lt_load.specs.Errands.{config_errand, check_errands};
+ghost use Rattle.lt_load.specs.Errands.{program_errand, config_errand, check_errands};
 ghost use Rattle.lt_run.specs.Errands.{meaning_errands, run_errands};
-ghost use Rattle.lt_load.specs.Loaded.{config_verdict};
-ghost use Rattle.lt_load.specs.Setups.{check_verdict};
+ghost use Rattle.lt_load.specs.Loaded.{program_verdict, config_verdict};
+ghost use Rattle.lt_load.specs.Setups.{check_verdict, with_setup_verdict};
 ghost use Rattle.lt_run.specs.Meaning.{meaning_verdict};
 ghost use Rattle.lt_run.specs.Run.{LeavesUnloaded, run_verdict};
 ghost use Rattle.lt_big.specs.Big.{LeavesRefused, big_verdict};
@@ -17,7 +17,7 @@ ghost use Rattle.lt_watch.specs.Errands.{watch_errands};
 ghost use Rattle.lt_watch.specs.Watch.{LeavesUnwatched, watch_verdict};
 ghost use Rattle.lt_cli.specs.Texts.{audited_text, watched_text};
 ghost use Rattle.lt_cli.specs.Commands.{checked_text, printed_text, summarized_text, watch_refusal};
-ghost use Rattle.lt_cli.specs.Asked.{Answers, AnswersText};
+ghost use Rattle.lt_cli.specs.Asked.{Answers, AnswersText, IsTextOf};
 
 use crate::Refusal;
 use crate::judgement::{audited_text, watched_text};
@@ -26,9 +26,11 @@ use crate::refusal::watch_refusal;
 use crate::summary::summary_text;
 use lt_base::{List, Or};
 use lt_big::big;
+use lt_config::Config;
+use lt_front::Examined;
 use lt_inspect::{audit, trace};
 use lt_io::{Fabric, Files};
-use lt_load::{check, load_config};
+use lt_load::{CommandFault, check_with, load_config, load_text};
 use lt_plan::plan_text;
 use lt_print::print;
 use lt_run::{meaning, run};
@@ -46,7 +48,57 @@ pub(crate) fn check_answer<F: Files>(
     requires { (F.state files.old).faults < 2 ^ 64 - 1 }
     ensures { AnswersText checked_text (check_errands program.now (option_map (λ s. s.now) config.entry)) (check_verdict (F.state files.old).named program.now (option_map (λ s. s.now) config.entry)) (alone (F.state files.old)) (alone (F.state files.new)) result }
 {
-    match check(alloc, files, program, config) {
+    match config {
+        Some(config) => fitting_answer(alloc, files, program, config),
+        None => text_answer(alloc, files, program),
+    }
+}
+
+// The canonical text of a program that passes all checks.
+fn text_answer<F: Files>(
+    alloc: Global,
+    files: &mut F,
+    program: &str,
+) -> Result<List<u8>, Or<Refusal>>
+    requires { (F.state files.old).faults < 2 ^ 64 - 1 }
+    ensures { AnswersText checked_text (program_errand program.now) (program_verdict ((F.state files.old).named program.now)) (alone (F.state files.old)) (alone (F.state files.new)) result }
+{
+    let text = load_text(alloc, files, program);
+    handed_on(text)
+}
+
+// The text of a step, or its fault as a refusal.
+fn handed_on(answer: Result<List<u8>, Or<CommandFault>>) -> Result<List<u8>, Or<Refusal>>
+    ensures { IsTextOf (λ text. text) answer result }
+{
+    match answer {
+        Ok(text) => Ok(text),
+        Err(e) => Err(e.map(Refusal::Command)),
+    }
+}
+
+// The canonical text of a program that passes all checks and that a setup fits.
+fn fitting_answer<F: Files>(
+    alloc: Global,
+    files: &mut F,
+    program: &str,
+    config: &str,
+) -> Result<List<u8>, Or<Refusal>>
+    requires { (F.state files.old).faults < 2 ^ 64 - 1 }
+    ensures { AnswersText checked_text (program_errand program.now ++ config_errand config.now) (with_setup_verdict (F.state files.old).named program.now config.now) (alone (F.state files.old)) (alone (F.state files.new)) result }
+{
+    let checked = check_with(alloc, files, program, config);
+    printed(alloc, checked)
+}
+
+// The canonical text of a program, or the fault of the step that was to read it.
+fn printed(
+    alloc: Global,
+    found: Result<Examined, Or<CommandFault>>,
+) -> Result<List<u8>, Or<Refusal>>
+    ensures { IsTextOf checked_text found result }
+{
+    match found {
         Ok(checked) => {
             let text = print(alloc, &checked.tree)?;
             // The call is nearly over: to take a large tree and its program apart would be a sixth of its time.
@@ -106,8 +158,20 @@ pub(crate) fn plan_answer<F: Files>(
     requires { (F.state files.old).faults < 2 ^ 64 - 1 }
     ensures { AnswersText (λ setup. plan_of setup horizon) (config_errand config.now) (config_verdict ((F.state files.old).named config.now)) (alone (F.state files.old)) (alone (F.state files.new)) result }
 {
-    match load_config(alloc, files, config) {
-        Ok(config) => Ok(plan_text(alloc, &config, horizon)?),
+    let setup = load_config(alloc, files, config);
+    planned(alloc, setup, horizon)
+}
+
+// The plan of a setup, or the fault of the step that was to read it.
+fn planned(
+    alloc: Global,
+    found: Result<Config, Or<CommandFault>>,
+    horizon: Option<u64>,
+) -> Result<List<u8>, Or<Refusal>>
+    ensures { IsTextOf (λ setup. plan_of setup horizon) found result }
+{
+    match found {
+        Ok(setup) => Ok(plan_text(alloc, &setup, horizon)?),
         Err(e) => Err(e.map(Refusal::Command)),
     }
 }

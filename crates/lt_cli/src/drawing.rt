@@ -1,6 +1,7 @@
 // A drawn schedule, written to `out` as it is drawn.
 ghost use Rattle.std.specs.Prelude.{◌≡◌, ◌<◌, ◌≤◌, ◌-◌, ◌^◌};
 ghost use Rattle.lt_arch.specs.declared.limits.TheConstants.{GREATEST_TIME};
+ghost use Rattle.lt_cli.specs.Draws.{recorded_status};
 ghost use Rattle.lt_cli.specs.Asked.{FinishesDrawn, IsReported, drawn_outcome};
 
 use crate::top::refuse;
@@ -49,7 +50,7 @@ fn draw_loaded<O: Sink, E: Sink>(
 {
     loaded.kept();
     networks_are_sound();
-    match record(
+    let recorded = record(
         alloc,
         &loaded.shape,
         &loaded.timing,
@@ -57,11 +58,22 @@ fn draw_loaded<O: Sink, E: Sink>(
         seed,
         horizon,
         out,
-    ) {
-        Ok(_) => Status::Ok,
-        Err(Or::Fault(SimFault::Write)) => Status::Write,
-        Err(Or::Fault(SimFault::TooMany)) => refuse(alloc, err, &too_many()),
-        Err(Or::Memory) => Status::Memory,
+    );
+    match recorded_status(recorded) {
+        Some(status) => status,
+        None => refuse(alloc, err, &too_many()),
+    }
+}
+
+// How a call ends by how its schedule was recorded, unless that is refused.
+fn recorded_status(recorded: Result<u64, Or<SimFault>>) -> Option<Status>
+    ensures { result ≡ recorded_status recorded }
+{
+    match recorded {
+        Ok(_) => Some(Status::Ok),
+        Err(Or::Fault(SimFault::Write)) => Some(Status::Write),
+        Err(Or::Fault(SimFault::TooMany)) => None,
+        Err(Or::Memory) => Some(Status::Memory),
     }
 }
 

@@ -6,7 +6,7 @@ ghost use Rattle.lt_words.specs.Reading.{said_of};
 ghost use Rattle.lt_words.specs.Ranges.{HasRanges};
 ghost use Rattle.lt_cli.specs.Asked.{Asked, Finishes, ObeysCommand};
 ghost use Rattle.lt_cli.specs.Texts.{refusal_status, line_of};
-ghost use Rattle.lt_cli.specs.Written.{Written};
+ghost use Rattle.lt_cli.specs.Written.{Written, written_status};
 
 use crate::answer::{
     audit_answer, big_answer, check_answer, meaning_answer, plan_answer, run_answer, trace_answer,
@@ -172,18 +172,27 @@ fn finish<O: Sink, E: Sink>(
     ensures { Finishes answer (O.state out.old) (O.state out.new) (E.state err.old) (E.state err.new) result }
 {
     match answer {
-        Ok(text) => print(out, &text),
+        Ok(text) => write(out, &text, Status::Ok),
         Err(Or::Fault(refusal)) => refuse(alloc, err, &refusal),
         Err(Or::Memory) => Status::Memory,
     }
 }
 
-fn print<O: Sink>(out: &mut O, text: &List<u8>) -> Status
-    requires { (O.state out.old).faults < 2 ^ 64 - 1 }
-    ensures { Written Status.Ok text.now (O.state out.old) (O.state out.new) result }
+// Writes a text, behind which the call ends so.
+fn write<S: Sink>(sink: &mut S, text: &List<u8>, done: Status) -> Status
+    requires { (S.state sink.old).faults < 2 ^ 64 - 1 }
+    ensures { Written done text.now (S.state sink.old) (S.state sink.new) result }
 {
-    match write_all(out, text.as_slice()) {
-        Ok(()) => Status::Ok,
+    let written = write_all(sink, text.as_slice());
+    ended(done, written)
+}
+
+// How a call ends that was to end so, by how its text was written.
+fn ended(done: Status, written: Result<(), SinkErr>) -> Status
+    ensures { result ≡ written_status done written }
+{
+    match written {
+        Ok(()) => done,
         Err(SinkErr::Failed) => Status::Write,
         Err(SinkErr::Memory) => Status::Memory,
     }
@@ -197,11 +206,7 @@ pub(crate) fn refuse<E: Sink>(alloc: Global, err: &mut E, refusal: &Refusal) -> 
     let Ok(line) = whole_line(alloc, refusal) else {
         return Status::Memory;
     };
-    match write_all(err, line.as_slice()) {
-        Ok(()) => refusal.status(),
-        Err(SinkErr::Failed) => Status::Write,
-        Err(SinkErr::Memory) => Status::Memory,
-    }
+    write(err, &line, refusal.status())
 }
 
 // The refusal's line with its line feed.
