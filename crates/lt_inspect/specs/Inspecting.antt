@@ -8,11 +8,15 @@ use Rattle.lt_judge.specs.declared.halt.Refusal.{Refusal}
 use Rattle.lt_judge.specs.declared.halt.Refusal.TheVariants as refusal
 use Rattle.lt_judge.specs.declared.halt.Halt.{Halt}
 use Rattle.lt_judge.specs.declared.halt.Halt.TheVariants as halt
+use Rattle.lt_judge.specs.declared.halt.Stop.{Stop}
+use Rattle.lt_judge.specs.declared.halt.Stop.TheVariants as stop
 use Rattle.lt_judge.specs.Verdict.{fault_of}
 use Rattle.lt_base.specs.declared.memory.Or.{Or}
 use Rattle.lt_base.specs.declared.memory.Or.TheVariants.{Fault, Memory}
 use Rattle.lt_load.specs.declared.fault.CommandFault.{CommandFault}
 use Rattle.lt_load.specs.declared.fault.CommandFault.TheVariants as fault
+use Rattle.lt_audit.specs.declared.fault.AuditFault.{AuditFault}
+use Rattle.lt_audit.specs.declared.fault.AuditFault.TheVariants as audit
 use Rattle.lt_audit.specs.declared.selection.Selection.{Selection}
 use Rattle.lt_audit.specs.Audit.{AuditState}
 use Rattle.lt_audit.specs.Selected.{selected}
@@ -29,6 +33,11 @@ pub record IsInspected (a : AuditState) (sel : Selection) (s : Shape) (text : Li
   pub stands : Stands a a.shape a.watch.timing a.rows events
   pub text_is : text ≡ trace_text sel s events
   pub tapped : s ≡ a.shape
+
+-- an auditor's refusal, as why a line is not taken
+abbrev pub stop_by : AuditFault → Stop arch.Offence
+stop_by (audit.Offence offence) = stop.Offence offence
+stop_by audit.Memory = stop.Memory
 
 -- a refusal that names an event
 abbrev pub IsOffence : Refusal arch.Offence → Type 0

@@ -8,7 +8,7 @@ ghost use Rattle.lt_judge.specs.Long.{long_line};
 ghost use Rattle.lt_judge.specs.Verdict.{rules_of};
 ghost use Rattle.lt_audit.specs.Standing.{Judges};
 ghost use Rattle.lt_inspect.specs.Grounded.{IsGrounded};
-ghost use Rattle.lt_inspect.specs.Inspecting.{IsInspected, added};
+ghost use Rattle.lt_inspect.specs.Inspecting.{IsInspected, added, stop_by};
 ghost use Rattle.lt_inspect.specs.Traces.{header_text};
 
 use lt_arch::{Event, Offence, Shape, Timing};
@@ -134,8 +134,7 @@ impl Replica<()> for Inspection {
             Err(fault) => Err(Stop::Row(fault)),
             Ok(e) => match self.take(e, steps) {
                 Ok(()) => Ok(()),
-                Err(AuditFault::Offence(offence)) => Err(Stop::Offence(offence)),
-                Err(AuditFault::Memory) => Err(Stop::Memory),
+                Err(fault) => Err(stop_by(fault)),
             },
         }
     }
@@ -157,4 +156,14 @@ impl Replica<()> for Inspection {
     ghost keeps_rules = { λ a v b w x. λ i. rules_of (x.0 i) (x.1 i) (x.2 i) };
 
     ghost keeps_prompt = { λ a v b w x prompt. prompt };
+}
+
+// Why a line is not taken whose event an auditor refuses.
+fn stop_by(fault: AuditFault) -> Stop<Offence>
+    ensures { result ≡ stop_by fault }
+{
+    match fault {
+        AuditFault::Offence(offence) => Stop::Offence(offence),
+        AuditFault::Memory => Stop::Memory,
+    }
 }
