@@ -122,6 +122,7 @@ fn boxed<'t>(
 
 /// Two operands, in boxes.
 #[cycle(expression)]
+#[inline(always)]
 fn operands<'t>(
     alloc: Global,
     variables: &Names,
