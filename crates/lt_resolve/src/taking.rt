@@ -4,7 +4,9 @@ ghost use Rattle.std.specs.Prelude.{◌≡◌, ◌<◌, ◌^◌, [], None, Ok, E
 ghost use Rattle.std.specs.List.{All};
 ghost use Rattle.std.specs.Option.{option_map};
 ghost use Rattle.lt_base.specs.Or.{ForFault};
+ghost use Rattle.lt_syntax.specs.Program.{IsSpelled};
 ghost use Rattle.lt_resolve.specs.Names.{repeated, first_some};
+ghost use Rattle.lt_resolve.specs.Scopes as scopes;
 ghost use Rattle.lt_resolve.specs.Scopes.{variables, functions};
 ghost use Rattle.lt_resolve.specs.Named.{Along, IsFunction};
 ghost use Rattle.lt_resolve.specs.Drafts.{IsDraft, IsDraftEquation};
@@ -235,6 +237,23 @@ fn taken_functions(
     Ok(funcs)
 }
 
+/// The program of the tree that these nodes are, in which at most names that are not declared are at fault, or the first
+/// of these.
+fn program_of_nodes(
+    alloc: Global,
+    functions: &Names,
+    nodes: Vec<NodeText>,
+) -> Result<Program, Or<NameFault>>
+    requires room { length nodes.items < 2 ^ 32 }
+    requires spelled { IsSpelled nodes.items }
+    requires names { functions.now ≡ scopes.functions nodes.items }
+    requires others { NoOtherFault nodes.items }
+    ensures { MatchResult result (λ p. Resolves nodes.items (Ok p)) (λ e. ForFault e (λ f. Resolves nodes.items (Err f))) }
+{
+    let funcs = taken_functions(alloc, functions, nodes)?;
+    Ok(Program::new(List::of(funcs), main_of(functions)))
+}
+
 /// The program of a tree in which at most names that are not declared are at fault, or the first of these.
 pub fn taken_program(alloc: Global, t: Tree) -> Result<Program, Or<NameFault>>
     requires room { length t < 2 ^ 32 }
@@ -244,6 +263,5 @@ pub fn taken_program(alloc: Global, t: Tree) -> Result<Program, Or<NameFault>>
     t.kept();
     let names = function_names(alloc, &t)?;
     let functions = table_of(alloc, &names)?;
-    let funcs = taken_functions(alloc, &functions, t.nodes.into_vec())?;
-    Ok(Program::new(List::of(funcs), main_of(&functions)))
+    program_of_nodes(alloc, &functions, t.nodes.into_vec())
 }
