@@ -1,5 +1,5 @@
 -- The calls of a tree.
-use Rattle.std.proofs.Common.{◌≡◌, ℕ, ◌<◌, Bool, false, List, [], ◌∷◌, ◌++◌, length, get_or, drop, map, Option, Some, Result, Ok, Err, refl, sym, ap, ◌∙◌, arith}
+use Rattle.std.proofs.Common.{◌≡◌, ℕ, ◌<◌, Bool, false, List, [], ◌∷◌, ◌++◌, length, get_or, drop, map, Option, None, Some, Result, Ok, Err, refl, sym, ap, ◌∙◌, arith}
 use Rattle.std.specs.Prelude.{nat_eq}
 use Rattle.std.specs.Result.{OnOk}
 use Rattle.std.proofs.lemmas.Bool.Decides.{nat_tests}
@@ -25,6 +25,13 @@ blames_site kind test ss i s (Fault f) l e k h w =
     let pair : ◌≡◌ {A = Option Occurrence} (Some (s.caller, s.name)) (Some (f.func, f.name)) = λ j. Some (sym w.1 j, sym w.2 j) in
     (w.0, sym (some_here (λ c. unless (test c) c) ss i s (s.caller, s.name) l e found k ∙ pair))
 blames_site kind test ss i s Memory l e k h w = tt
+
+-- a call that fails the test is found
+pub found_site : (test : Site → Bool) (ss : List Site) (i : ℕ) (s : Site) → i < length ss → s ≡ get_or ss i s → first_some (λ c. unless (test c) c) (drop i ss) ≡ first_some (λ c. unless (test c) c) ss → test s ≡ false → None ≡ first_some (λ c. unless (test c) c) ss → ⊥
+found_site test ss i s l e k h none =
+    let found : unless (test s) s ≡ Some (s.caller, s.name) = ap (λ b. unless b s) h in
+    let here = some_here (λ c. unless (test c) c) ss i s (s.caller, s.name) l e found k in
+    cc
 
 pub not_equal : (m n : ℕ) → (m ≡ n → ⊥) → nat_eq m n ≡ false
 not_equal m n h = grind (arith, nat_tests)

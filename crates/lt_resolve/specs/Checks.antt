@@ -39,6 +39,12 @@ IsWhole Inputs = ⊥
 IsWhole Outputs = ⊥
 IsWhole _ = Unit {0}
 
+-- the check looks at names and lengths that are there already, without a table of its own
+abbrev pub NeedsNoTable : Check → Type 0
+NeedsNoTable NoEquation = ⊥
+NeedsNoTable TwoEquations = ⊥
+NeedsNoTable _ = Unit {0}
+
 -- the name's fault, or memory was wanting
 abbrev pub Locates : NameKind → ℕ → Or (Bor Name) → Or NameFault → Type 0
 Locates kind i (Fault x) (Fault f) = (f.kind ≡ kind) × (f.func ≡ i) × (f.name ≡ x.now)

@@ -1,5 +1,5 @@
 // The calls of a tree, and their faults.
-ghost use Rattle.std.specs.Prelude.{◌≡◌, ◌++◌, ◌<◌, ◌^◌, IfOk, OnOk, length, map};
+ghost use Rattle.std.specs.Prelude.{◌≡◌, ◌++◌, ◌<◌, ◌^◌, None, IsOk, IfOk, OnOk, length, map};
 ghost use Rattle.std.specs.List.{All};
 ghost use Rattle.lt_syntax.specs.Tree as tree;
 ghost use Rattle.lt_syntax.specs.Tree.{tms};
@@ -154,7 +154,8 @@ fn answered(tables: &Tables, callee: Option<u32>) -> usize
 /// Refuses the first call with a wrong number of arguments.
 fn right_counts(alloc: Global, tables: &Tables, calls: &[Call]) -> Result<(), Or<NameFault>>
     requires { calls.now ≡ sites tables.now }
-    ensures { Shows NameKind.WrongCount (First tables.now NameKind.WrongCount) result }
+    ensures shown { Shows NameKind.WrongCount (First tables.now NameKind.WrongCount) result }
+    ensures fine { First tables.now NameKind.WrongCount None → IsOk result }
 {
     'calls: for call in calls {
         if call.arguments != wanted(tables, call.callee) {
@@ -167,7 +168,8 @@ fn right_counts(alloc: Global, tables: &Tables, calls: &[Call]) -> Result<(), Or
 /// Refuses the first call of a function with other than one output.
 fn one_output(alloc: Global, tables: &Tables, calls: &[Call]) -> Result<(), Or<NameFault>>
     requires { calls.now ≡ sites tables.now }
-    ensures { Shows NameKind.NotOneOutput (First tables.now NameKind.NotOneOutput) result }
+    ensures shown { Shows NameKind.NotOneOutput (First tables.now NameKind.NotOneOutput) result }
+    ensures fine { First tables.now NameKind.NotOneOutput None → IsOk result }
 {
     'calls: for call in calls {
         if answered(tables, call.callee) != 1 {

@@ -1,10 +1,10 @@
 // The faults that are looked for in one function after another.
-ghost use Rattle.std.specs.Prelude.{◌≡◌, ◌<◌, ◌^◌, ◌-◌, length, map};
+ghost use Rattle.std.specs.Prelude.{◌≡◌, ◌<◌, ◌^◌, ◌-◌, None, IsOk, length, map};
 ghost use Rattle.lt_resolve.specs.Scopes.{functions};
-ghost use Rattle.lt_resolve.specs.Faults.{first_in, above, number, no_main, functions_limit};
+ghost use Rattle.lt_resolve.specs.Faults.{First, first_in, above, number, no_main, functions_limit};
 ghost use Rattle.lt_resolve.specs.Told.{NeedsNoMemory, Tells, Shows, Cleared, Passes};
 ghost use Rattle.lt_resolve.specs.Uses.{all_delays};
-ghost use Rattle.lt_resolve.specs.Checks.{found, kind_of, variables_limit, IsWhole};
+ghost use Rattle.lt_resolve.specs.Checks.{found, kind_of, variables_limit, IsWhole, NeedsNoTable};
 
 use crate::fault::{NameFault, NameKind};
 use crate::scope::Scope;
@@ -47,7 +47,8 @@ fn within<'a>(limit: u64, quantity: u64, word: &'a str) -> Result<(), Or<&'a str
 
 /// Refuses what the check finds in a function.
 fn check_one<'a>(alloc: Global, check: Check, scope: &Scope<'a>) -> Result<(), Or<&'a str>>
-    ensures { Tells (found check scope.now) result }
+    ensures told { Tells (found check scope.now) result }
+    ensures memory { NeedsNoTable check → NeedsNoMemory result }
 {
     match check {
         Check::NoEquation => scope.no_equation(alloc),
@@ -61,7 +62,8 @@ fn check_one<'a>(alloc: Global, check: Check, scope: &Scope<'a>) -> Result<(), O
 /// Refuses what the check finds first.
 fn check_all(alloc: Global, check: Check, tables: &Tables) -> Result<(), Or<NameFault>>
     requires { length tables.now < 2 ^ 32 }
-    ensures { Shows (kind_of check) (λ o. o ≡ first_in (λ _. found check) 0 tables.now) result }
+    ensures shown { Shows (kind_of check) (λ o. o ≡ first_in (λ _. found check) 0 tables.now) result }
+    ensures fine { NeedsNoTable check → first_in (λ _. found check) 0 tables.now ≡ None → IsOk result }
 {
     'scopes: for (i, scope) in tables.scopes().iter().enumerate() {
         match check_one(alloc, check, scope) {
@@ -77,14 +79,16 @@ fn pass(alloc: Global, check: Check, tables: &Tables) -> Result<(), Or<NameFault
     requires room { length tables.now < 2 ^ 32 }
     requires whole { IsWhole check }
     requires cleared { Cleared tables.now 2 (number (kind_of check) - 1) }
-    ensures { Passes tables.now 2 (number (kind_of check)) result }
+    ensures passes { Passes tables.now 2 (number (kind_of check)) result }
+    ensures fine { NeedsNoTable check → first_in (λ _. found check) 0 tables.now ≡ None → IsOk result }
 {
     check_all(alloc, check, tables)
 }
 
 /// Refuses a tree without a function `main`.
 fn has_main(alloc: Global, tables: &Tables) -> Result<(), Or<NameFault>>
-    ensures { Shows NameKind.NoMain (λ o. o ≡ no_main (functions tables.now)) result }
+    ensures shown { Shows NameKind.NoMain (λ o. o ≡ no_main (functions tables.now)) result }
+    ensures fine { no_main (functions tables.now) ≡ None → IsOk result }
 {
     match tables.functions().check("main") {
         Ok(()) => Ok(()),
@@ -104,7 +108,8 @@ pub fn check_functions(alloc: Global, tables: &Tables) -> Result<(), Or<NameFaul
 }
 
 fn few_functions(alloc: Global, tables: &Tables) -> Result<(), Or<NameFault>>
-    ensures { Shows NameKind.Limit (λ o. o ≡ functions_limit tables.now) result }
+    ensures shown { Shows NameKind.Limit (λ o. o ≡ functions_limit tables.now) result }
+    ensures fine { functions_limit tables.now ≡ None → IsOk result }
 {
     match within(64, tables.scopes().len() as u64, "functions") {
         Ok(()) => Ok(()),
@@ -116,7 +121,8 @@ fn few_functions(alloc: Global, tables: &Tables) -> Result<(), Or<NameFault>>
 fn few_variables(alloc: Global, tables: &Tables, delays: &[u64]) -> Result<(), Or<NameFault>>
     requires room { length tables.now < 2 ^ 32 }
     requires delays { delays.now ≡ map (λ n. all_delays n.eqs) tables.now }
-    ensures { Shows NameKind.Limit (λ o. o ≡ first_in (λ _. variables_limit) 0 tables.now) result }
+    ensures shown { Shows NameKind.Limit (λ o. o ≡ first_in (λ _. variables_limit) 0 tables.now) result }
+    ensures fine { first_in (λ _. variables_limit) 0 tables.now ≡ None → IsOk result }
 {
     'scopes: for (i, scope) in tables.scopes().iter().enumerate() {
         match within(4096, scope.size(delays[i]), "variables") {
@@ -132,7 +138,8 @@ pub fn check_limits(alloc: Global, tables: &Tables, delays: &[u64]) -> Result<()
     requires room { length tables.now < 2 ^ 32 }
     requires delays { delays.now ≡ map (λ n. all_delays n.eqs) tables.now }
     requires cleared { Cleared tables.now 2 9 }
-    ensures { Passes tables.now 2 10 result }
+    ensures passes { Passes tables.now 2 10 result }
+    ensures fine { First tables.now NameKind.Limit None → IsOk result }
 {
     few_functions(alloc, tables)?;
     few_variables(alloc, tables, delays)?;

@@ -1,5 +1,6 @@
 // Names to numbers in expressions.
 ghost use Rattle.std.specs.Prelude.{◌≡◌, IfOk, length, map, vec_len};
+ghost use Rattle.std.specs.Option.{option_or};
 ghost use Rattle.lt_base.specs.Expression.{shape, arguments_of};
 ghost use Rattle.lt_syntax.specs.Tree as tree;
 ghost use Rattle.lt_syntax.specs.Tree.{tms};
@@ -113,7 +114,28 @@ fn boxed<'t>(
     ensures told { Tells (unknown variables.now functions.now (tm_of term.now)) result }
     ensures named { IfOk result (λ e. IsTranslated variables.now functions.now (tm_of term.now) (shape e.value)) }
 {
-    Ok(Box::new(alloc, expression(alloc, variables, functions, term)?)?)
+    match expression(alloc, variables, functions, term) {
+        Ok(e) => Ok(Box::new(alloc, e)?),
+        Err(error) => Err(error),
+    }
+}
+
+/// Two operands, in boxes.
+#[cycle(expression)]
+#[inline(always)]
+fn operands<'t>(
+    alloc: Global,
+    variables: &Names,
+    functions: &Names,
+    a: &'t Term,
+    b: &'t Term,
+) -> Result<(Box<Expr>, Box<Expr>), Or<&'t str>>
+    ensures told { Tells (option_or (unknown variables.now functions.now (tm_of a.now)) (unknown variables.now functions.now (tm_of b.now))) result }
+    ensures named { IfOk result (λ p. IsTranslated variables.now functions.now (tm_of a.now) (shape p.0.value) × IsTranslated variables.now functions.now (tm_of b.now) (shape p.1.value)) }
+{
+    let a = boxed(alloc, variables, functions, a)?;
+    let b = boxed(alloc, variables, functions, b)?;
+    Ok((a, b))
 }
 
 /// An operator on one operand.
@@ -128,7 +150,10 @@ fn unary<'t>(
     ensures told { Tells (unknown variables.now functions.now (tree.Unary o (tm_of a.now))) result }
     ensures named { IfOk result (λ e. IsTranslated variables.now functions.now (tree.Unary o (tm_of a.now)) (shape e)) }
 {
-    Ok(Expr::Un(o, boxed(alloc, variables, functions, a)?))
+    match boxed(alloc, variables, functions, a) {
+        Ok(a) => Ok(Expr::Un(o, a)),
+        Err(error) => Err(error),
+    }
 }
 
 /// An operator between two operands.
@@ -144,9 +169,10 @@ fn binary<'t>(
     ensures told { Tells (unknown variables.now functions.now (tree.Binary o (tm_of a.now) (tm_of b.now))) result }
     ensures named { IfOk result (λ e. IsTranslated variables.now functions.now (tree.Binary o (tm_of a.now) (tm_of b.now)) (shape e)) }
 {
-    let a = boxed(alloc, variables, functions, a)?;
-    let b = boxed(alloc, variables, functions, b)?;
-    Ok(Expr::Bin(o, a, b))
+    match operands(alloc, variables, functions, a, b) {
+        Ok((a, b)) => Ok(Expr::Bin(o, a, b)),
+        Err(error) => Err(error),
+    }
 }
 
 /// A choice.
@@ -163,9 +189,10 @@ fn choice<'t>(
     ensures named { IfOk result (λ e. IsTranslated variables.now functions.now (tree.Choice (tm_of c.now) (tm_of a.now) (tm_of b.now)) (shape e)) }
 {
     let c = boxed(alloc, variables, functions, c)?;
-    let a = boxed(alloc, variables, functions, a)?;
-    let b = boxed(alloc, variables, functions, b)?;
-    Ok(Expr::If(c, a, b))
+    match operands(alloc, variables, functions, a, b) {
+        Ok((a, b)) => Ok(Expr::If(c, a, b)),
+        Err(error) => Err(error),
+    }
 }
 
 /// An operand where a variable has this value.
@@ -200,9 +227,10 @@ fn merged<'t>(
     ensures named { IfOk result (λ e. IsTranslated variables.now functions.now (tree.Merged c.now (tm_of a.now) (tm_of b.now)) (shape e)) }
 {
     let c = variables.find(c.as_str())?;
-    let a = boxed(alloc, variables, functions, a)?;
-    let b = boxed(alloc, variables, functions, b)?;
-    Ok(Expr::Merge(c, a, b))
+    match operands(alloc, variables, functions, a, b) {
+        Ok((a, b)) => Ok(Expr::Merge(c, a, b)),
+        Err(error) => Err(error),
+    }
 }
 
 /// A delay that begins with a literal.
@@ -217,7 +245,10 @@ fn delayed<'t>(
     ensures told { Tells (unknown variables.now functions.now (tree.Delayed v (tm_of a.now))) result }
     ensures named { IfOk result (λ e. IsTranslated variables.now functions.now (tree.Delayed v (tm_of a.now)) (shape e)) }
 {
-    Ok(Expr::Fby(v, boxed(alloc, variables, functions, a)?))
+    match boxed(alloc, variables, functions, a) {
+        Ok(a) => Ok(Expr::Fby(v, a)),
+        Err(error) => Err(error),
+    }
 }
 
 /// A delay that begins with an expression.
@@ -232,9 +263,10 @@ fn followed<'t>(
     ensures told { Tells (unknown variables.now functions.now (tree.Followed (tm_of a.now) (tm_of b.now))) result }
     ensures named { IfOk result (λ e. IsTranslated variables.now functions.now (tree.Followed (tm_of a.now) (tm_of b.now)) (shape e)) }
 {
-    let a = boxed(alloc, variables, functions, a)?;
-    let b = boxed(alloc, variables, functions, b)?;
-    Ok(Expr::Follow(a, b))
+    match operands(alloc, variables, functions, a, b) {
+        Ok((a, b)) => Ok(Expr::Follow(a, b)),
+        Err(error) => Err(error),
+    }
 }
 
 /// The two sides of `->`.
@@ -249,9 +281,10 @@ fn arrow<'t>(
     ensures told { Tells (unknown variables.now functions.now (tree.Arrow (tm_of a.now) (tm_of b.now))) result }
     ensures named { IfOk result (λ e. IsTranslated variables.now functions.now (tree.Arrow (tm_of a.now) (tm_of b.now)) (shape e)) }
 {
-    let a = boxed(alloc, variables, functions, a)?;
-    let b = boxed(alloc, variables, functions, b)?;
-    Ok(Expr::Arrow(a, b))
+    match operands(alloc, variables, functions, a, b) {
+        Ok((a, b)) => Ok(Expr::Arrow(a, b)),
+        Err(error) => Err(error),
+    }
 }
 
 /// A call with its arguments; its name is looked up first.

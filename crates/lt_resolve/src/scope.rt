@@ -48,6 +48,31 @@ fn declare<'a>(names: &mut Names<'a>, decls: &'a List<DeclText>) -> Result<(), O
     Ok(())
 }
 
+/// Puts the variables of a function into a table without any names; refuses one that is there.
+fn declare_all<'a>(names: &mut Names<'a>, node: &'a NodeText) -> Result<(), Or<&'a str>>
+    requires { names.old ≡ [] }
+    ensures told { Tells (repeated [] (variables node.now)) result }
+    ensures ok { OnOk result (names.new ≡ variables node.now) }
+{
+    declare(names, &node.ins)?;
+    declare(names, &node.outs)?;
+    declare(names, &node.locals)?;
+    Ok(())
+}
+
+/// Appends the left sides of equations; refuses one that is there.
+fn insert_lefts<'a>(names: &mut Names<'a>, eqs: &'a List<EqText>) -> Result<(), Or<&'a str>>
+    ensures { Tells (repeated names.old (map (λ q. q.0) eqs.now)) result }
+{
+    'eqs: for eq in eqs.as_slice() {
+        let name = eq.left().as_str();
+        if !names.insert(name)? {
+            return Err(Or::Fault(name));
+        }
+    }
+    Ok(())
+}
+
 /// The left sides of equations, each once.
 fn table_of_lefts<'a>(alloc: Global, eqs: &'a List<EqText>) -> Result<Names<'a>, Memory>
     ensures { IfOk result (λ names. (x : List ℕ) → among names x ≡ among (map (λ q. q.0) eqs.now) x) }
@@ -79,9 +104,7 @@ impl<'a> Scope<'a> {
         let many = node.ins.len().saturating_add(node.outs.len());
         let many = many.saturating_add(node.locals.len());
         let mut variables = Names::with_capacity(alloc, many)?;
-        declare(&mut variables, &node.ins)?;
-        declare(&mut variables, &node.outs)?;
-        declare(&mut variables, &node.locals)?;
+        declare_all(&mut variables, node)?;
         Ok(Scope { node, variables })
     }
 
@@ -111,13 +134,7 @@ impl<'a> Scope<'a> {
         ensures { Tells (two_equations_in self.now) result }
     {
         let mut names = Names::with_capacity(alloc, self.node.eqs.len())?;
-        'eqs: for eq in self.node.eqs.as_slice() {
-            let name = eq.left().as_str();
-            if !names.insert(name)? {
-                return Err(Or::Fault(name));
-            }
-        }
-        Ok(())
+        insert_lefts(&mut names, &self.node.eqs)
     }
 
     fn is_input(&self, name: &str) -> bool

@@ -1,10 +1,12 @@
 // From a tree to its program, where the tree is taken apart: an equation is dropped once it is one of the program, so that tree and
 // program are never whole together.
-ghost use Rattle.std.specs.Prelude.{◌≡◌, ◌<◌, ◌^◌, [], None, Ok, Err, IfOk, MatchResult, length};
+ghost use Rattle.std.specs.Prelude.{◌≡◌, ◌<◌, ◌^◌, [], None, Ok, Err, IfOk, OnOk, MatchResult, length};
 ghost use Rattle.std.specs.List.{All};
 ghost use Rattle.std.specs.Option.{option_map};
 ghost use Rattle.lt_base.specs.Or.{ForFault};
+ghost use Rattle.lt_syntax.specs.Program.{IsSpelled};
 ghost use Rattle.lt_resolve.specs.Names.{repeated, first_some};
+ghost use Rattle.lt_resolve.specs.Scopes as scopes;
 ghost use Rattle.lt_resolve.specs.Scopes.{variables, functions};
 ghost use Rattle.lt_resolve.specs.Named.{Along, IsFunction};
 ghost use Rattle.lt_resolve.specs.Drafts.{IsDraft, IsDraftEquation};
@@ -23,16 +25,37 @@ use lt_base::{Equation, Func, List, Memory, Name, Or, Program};
 use lt_syntax::{EqText, NodeText, Tree};
 use std::alloc::Global;
 
+/// Appends copies of the names of functions.
+fn push_names(nodes: &[NodeText], names: &mut Vec<Name>) -> Result<(), Memory>
+    requires { names.old.items ≡ [] }
+    ensures { OnOk result (names.new.items ≡ functions nodes.now) }
+{
+    'nodes: for node in nodes {
+        names.push(node.name.copy()?)?;
+    }
+    Ok(())
+}
+
 /// Copies of the names of the functions.
 fn function_names(alloc: Global, t: &Tree) -> Result<List<Name>, Memory>
     ensures { IfOk result (λ names. names ≡ functions t.now) }
 {
     let nodes = t.nodes.as_slice();
     let mut names = Vec::with_capacity(alloc, nodes.len())?;
-    'nodes: for node in nodes {
-        names.push(node.name.copy()?)?;
-    }
+    push_names(nodes, &mut names)?;
     Ok(List::of(names))
+}
+
+/// Puts names of which none comes twice into a table without any.
+fn insert_all<'a>(table: &mut Names<'a>, names: &'a List<Name>) -> Result<(), Memory>
+    requires none { table.old ≡ [] }
+    requires apart { repeated [] names.now ≡ None }
+    ensures { OnOk result (table.new ≡ names.now) }
+{
+    'names: for name in names.as_slice() {
+        table.insert(name.as_str())?;
+    }
+    Ok(())
 }
 
 /// The table of names of which none comes twice.
@@ -41,9 +64,7 @@ fn table_of<'a>(alloc: Global, names: &'a List<Name>) -> Result<Names<'a>, Memor
     ensures { IfOk result (λ table. table ≡ names.now) }
 {
     let mut table = Names::with_capacity(alloc, names.len())?;
-    'names: for name in names.as_slice() {
-        table.insert(name.as_str())?;
-    }
+    insert_all(&mut table, names)?;
     Ok(table)
 }
 
@@ -114,6 +135,46 @@ fn located_draft<'a>(
     }
 }
 
+/// The function of a node that is without its equations, and of these, from the draft of that node.
+fn drafted_function<'a>(
+    alloc: Global,
+    functions: &Names,
+    place: usize,
+    scope: &Scope<'a>,
+    draft: Draft<'a>,
+    eqs: Vec<EqText>,
+) -> Result<Func, Or<NameFault>>
+    requires place { place < 2 ^ 32 }
+    requires none { scope.now.eqs ≡ [] }
+    requires known { unknown_in functions.now scope.now ≡ None }
+    requires node { draft.node.now ≡ scope.now }
+    requires draft { IsDraft functions.now draft }
+    requires right { let node = record scope.now { eqs = eqs.items } in unknown_in functions.now node ≡ None → IsRight functions.now node }
+    ensures shown { Shows NameKind.Unknown (λ o. o ≡ option_map (λ x. (place, x)) (unknown_in functions.now (record scope.now { eqs = eqs.items }))) result }
+    ensures function { IfOk result (IsFunction functions.now (record scope.now { eqs = eqs.items })) }
+{
+    let taken = taken_equations(alloc, scope.variables(), functions, place, eqs)?;
+    Ok(draft.with_equations(taken).function(alloc)?)
+}
+
+/// The function of a node that is without its equations, and of these, with the table of its variables.
+fn scoped_function(
+    alloc: Global,
+    functions: &Names,
+    place: usize,
+    scope: &Scope,
+    eqs: Vec<EqText>,
+) -> Result<Func, Or<NameFault>>
+    requires place { place < 2 ^ 32 }
+    requires none { scope.now.eqs ≡ [] }
+    requires right { let node = record scope.now { eqs = eqs.items } in unknown_in functions.now node ≡ None → IsRight functions.now node }
+    ensures shown { Shows NameKind.Unknown (λ o. o ≡ option_map (λ x. (place, x)) (unknown_in functions.now (record scope.now { eqs = eqs.items }))) result }
+    ensures function { IfOk result (IsFunction functions.now (record scope.now { eqs = eqs.items })) }
+{
+    let draft = located_draft(alloc, functions, place, scope)?;
+    drafted_function(alloc, functions, place, scope, draft, eqs)
+}
+
 /// The function of a node that is without its equations, and of these.
 fn function_with(
     alloc: Global,
@@ -130,9 +191,7 @@ fn function_with(
     ensures function { IfOk result (IsFunction functions.now (record head.now { eqs = eqs.items })) }
 {
     let scope = scope_of(alloc, head)?;
-    let draft = located_draft(alloc, functions, place, &scope)?;
-    let taken = taken_equations(alloc, scope.variables(), functions, place, eqs)?;
-    Ok(draft.with_equations(taken).function(alloc)?)
+    scoped_function(alloc, functions, place, &scope, eqs)
 }
 
 /// The function of a node whose variables are declared once; refuses the first name that has no number.
@@ -178,6 +237,23 @@ fn taken_functions(
     Ok(funcs)
 }
 
+/// The program of the tree that these nodes are, in which at most names that are not declared are at fault, or the first
+/// of these.
+fn program_of_nodes(
+    alloc: Global,
+    functions: &Names,
+    nodes: Vec<NodeText>,
+) -> Result<Program, Or<NameFault>>
+    requires room { length nodes.items < 2 ^ 32 }
+    requires spelled { IsSpelled nodes.items }
+    requires names { functions.now ≡ scopes.functions nodes.items }
+    requires others { NoOtherFault nodes.items }
+    ensures { MatchResult result (λ p. Resolves nodes.items (Ok p)) (λ e. ForFault e (λ f. Resolves nodes.items (Err f))) }
+{
+    let funcs = taken_functions(alloc, functions, nodes)?;
+    Ok(Program::new(List::of(funcs), main_of(functions)))
+}
+
 /// The program of a tree in which at most names that are not declared are at fault, or the first of these.
 pub fn taken_program(alloc: Global, t: Tree) -> Result<Program, Or<NameFault>>
     requires room { length t < 2 ^ 32 }
@@ -187,6 +263,5 @@ pub fn taken_program(alloc: Global, t: Tree) -> Result<Program, Or<NameFault>>
     t.kept();
     let names = function_names(alloc, &t)?;
     let functions = table_of(alloc, &names)?;
-    let funcs = taken_functions(alloc, &functions, t.nodes.into_vec())?;
-    Ok(Program::new(List::of(funcs), main_of(&functions)))
+    program_of_nodes(alloc, &functions, t.nodes.into_vec())
 }

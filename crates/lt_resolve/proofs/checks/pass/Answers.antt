@@ -28,9 +28,9 @@ behind_two EquationForInput = omega arith
 behind_two Inputs = omega arith
 behind_two Outputs = omega arith
 
-pub returns : goal.returns
-returns c =
+pub returns-clause-passes : goal.returns-clause-passes
+returns-clause-passes c =
     let t = c.args.tables.now in
     let kind = kind_of c.args.check in
     rw (next_number c.args.check)
-    (passes t 2 (number kind - 1) (behind_two c.args.check) kind (next_number c.args.check) c.requires.cleared c.check_all.result (shows_as kind _ _ (whole_first c.args.check c.requires.whole t) c.check_all.result c.check_all.ensures))
+    (passes t 2 (number kind - 1) (behind_two c.args.check) kind (next_number c.args.check) c.requires.cleared c.check_all.result (shows_as kind _ _ (whole_first c.args.check c.requires.whole t) c.check_all.result c.check_all.ensures.shown))

@@ -56,92 +56,89 @@ called-returns-clause-named t c =
     let stands = subst (λ x. StandsFor funcs x c.in_ok-callee.callee) c.as_str.ensures c.in_ok-callee.ensures.found in
     translated_call vars funcs f (tms (map tm_of args)) (vec_len c.in_ok-args.args) es many c.in_ok-args.ensures.named c.in_ok-callee.callee (shape c.in_ok-call.field-0) stands c.in_ok-call.ensures
 
-pub binary-returns-in_err-a-clause-told : goal.binary-returns-in_err-a-clause-told
-binary-returns-in_err-a-clause-told t c = tells_on _ c.in_err-a.field-0.0 _ c.from_residual.ensures.1 (refuses_first _ _ _ c.in_err-a.ensures.told)
+pub operands-returns-in_err-a-clause-told : goal.operands-returns-in_err-a-clause-told
+operands-returns-in_err-a-clause-told t c = tells_on _ c.in_err-a.field-0.0 _ c.from_residual.ensures.1 (refuses_first _ _ _ c.in_err-a.ensures.told)
 
-pub binary-returns-in_err-b-clause-told : goal.binary-returns-in_err-b-clause-told
-binary-returns-in_err-b-clause-told t c = tells_on _ c.in_err-b.field-0.0 _ c.from_residual-in_err-b.ensures.1 (refuses_then _ _ _ c.in_ok-a.ensures.told c.in_err-b.ensures.told)
+pub operands-returns-in_err-b-clause-told : goal.operands-returns-in_err-b-clause-told
+operands-returns-in_err-b-clause-told t c = tells_on _ c.in_err-b.field-0.0 _ c.from_residual-in_err-b.ensures.1 (refuses_then _ _ _ c.in_ok-a.ensures.told c.in_err-b.ensures.told)
 
-pub binary-returns-clause-told : goal.binary-returns-clause-told
-binary-returns-clause-told t c = or_none _ _ c.in_ok-a.ensures.told ∙ c.in_ok-b.ensures.told
+pub operands-returns-clause-told : goal.operands-returns-clause-told
+operands-returns-clause-told t c = or_none _ _ c.in_ok-a.ensures.told ∙ c.in_ok-b.ensures.told
 
-pub binary-returns-clause-named : goal.binary-returns-clause-named
-binary-returns-clause-named t c = λ k. (refl, c.in_ok-a.ensures.named k.0, c.in_ok-b.ensures.named k.1)
+pub operands-returns-clause-named : goal.operands-returns-clause-named
+operands-returns-clause-named t c = (c.in_ok-a.ensures.named, c.in_ok-b.ensures.named)
 
-pub followed-returns-in_err-a-clause-told : goal.followed-returns-in_err-a-clause-told
-followed-returns-in_err-a-clause-told t c = tells_on _ c.in_err-a.field-0.0 _ c.from_residual.ensures.1 (refuses_first _ _ _ c.in_err-a.ensures.told)
+pub unary-returns-in-Err-clause-told : goal.unary-returns-in-Err-clause-told
+unary-returns-in-Err-clause-told t c = c.in-Err.ensures.told
 
-pub followed-returns-in_err-b-clause-told : goal.followed-returns-in_err-b-clause-told
-followed-returns-in_err-b-clause-told t c = tells_on _ c.in_err-b.field-0.0 _ c.from_residual-in_err-b.ensures.1 (refuses_then _ _ _ c.in_ok-a.ensures.told c.in_err-b.ensures.told)
+pub unary-returns-in-Ok-clause-told : goal.unary-returns-in-Ok-clause-told
+unary-returns-in-Ok-clause-told t c = c.in-Ok.ensures.told
 
-pub followed-returns-clause-told : goal.followed-returns-clause-told
-followed-returns-clause-told t c = or_none _ _ c.in_ok-a.ensures.told ∙ c.in_ok-b.ensures.told
+pub unary-returns-in-Ok-clause-named : goal.unary-returns-in-Ok-clause-named
+unary-returns-in-Ok-clause-named t c = λ k. (refl, c.in-Ok.ensures.named k)
 
-pub followed-returns-clause-named : goal.followed-returns-clause-named
-followed-returns-clause-named t c = λ k. (c.in_ok-a.ensures.named k.0, c.in_ok-b.ensures.named k.1)
+pub delayed-returns-in-Err-clause-told : goal.delayed-returns-in-Err-clause-told
+delayed-returns-in-Err-clause-told t c = c.in-Err.ensures.told
 
-pub arrow-returns-in_err-a-clause-told : goal.arrow-returns-in_err-a-clause-told
-arrow-returns-in_err-a-clause-told t c = tells_on _ c.in_err-a.field-0.0 _ c.from_residual.ensures.1 (refuses_first _ _ _ c.in_err-a.ensures.told)
+pub delayed-returns-in-Ok-clause-told : goal.delayed-returns-in-Ok-clause-told
+delayed-returns-in-Ok-clause-told t c = c.in-Ok.ensures.told
 
-pub arrow-returns-in_err-b-clause-told : goal.arrow-returns-in_err-b-clause-told
-arrow-returns-in_err-b-clause-told t c = tells_on _ c.in_err-b.field-0.0 _ c.from_residual-in_err-b.ensures.1 (refuses_then _ _ _ c.in_ok-a.ensures.told c.in_err-b.ensures.told)
+pub delayed-returns-in-Ok-clause-named : goal.delayed-returns-in-Ok-clause-named
+delayed-returns-in-Ok-clause-named t c = λ k. (refl, c.in-Ok.ensures.named k)
 
-pub arrow-returns-clause-told : goal.arrow-returns-clause-told
-arrow-returns-clause-told t c = or_none _ _ c.in_ok-a.ensures.told ∙ c.in_ok-b.ensures.told
+pub binary-returns-in-Err-clause-told : goal.binary-returns-in-Err-clause-told
+binary-returns-in-Err-clause-told t c = c.in-Err.ensures.told
 
-pub arrow-returns-clause-named : goal.arrow-returns-clause-named
-arrow-returns-clause-named t c = λ k. (c.in_ok-a.ensures.named k.0, c.in_ok-b.ensures.named k.1)
+pub binary-returns-in-Ok-clause-told : goal.binary-returns-in-Ok-clause-told
+binary-returns-in-Ok-clause-told t c = c.in-Ok.ensures.told
+
+pub binary-returns-in-Ok-clause-named : goal.binary-returns-in-Ok-clause-named
+binary-returns-in-Ok-clause-named t c = λ k. (refl, c.in-Ok.ensures.named.0 k.0, c.in-Ok.ensures.named.1 k.1)
+
+pub followed-returns-in-Err-clause-told : goal.followed-returns-in-Err-clause-told
+followed-returns-in-Err-clause-told t c = c.in-Err.ensures.told
+
+pub followed-returns-in-Ok-clause-told : goal.followed-returns-in-Ok-clause-told
+followed-returns-in-Ok-clause-told t c = c.in-Ok.ensures.told
+
+pub followed-returns-in-Ok-clause-named : goal.followed-returns-in-Ok-clause-named
+followed-returns-in-Ok-clause-named t c = λ k. (c.in-Ok.ensures.named.0 k.0, c.in-Ok.ensures.named.1 k.1)
+
+pub arrow-returns-in-Err-clause-told : goal.arrow-returns-in-Err-clause-told
+arrow-returns-in-Err-clause-told t c = c.in-Err.ensures.told
+
+pub arrow-returns-in-Ok-clause-told : goal.arrow-returns-in-Ok-clause-told
+arrow-returns-in-Ok-clause-told t c = c.in-Ok.ensures.told
+
+pub arrow-returns-in-Ok-clause-named : goal.arrow-returns-in-Ok-clause-named
+arrow-returns-in-Ok-clause-named t c = λ k. (c.in-Ok.ensures.named.0 k.0, c.in-Ok.ensures.named.1 k.1)
 
 pub choice-returns-in_err-c-clause-told : goal.choice-returns-in_err-c-clause-told
 choice-returns-in_err-c-clause-told t c = tells_on _ c.in_err-c.field-0.0 _ c.from_residual.ensures.1 (refuses_first _ _ _ c.in_err-c.ensures.told)
 
-pub choice-returns-in_err-a-clause-told : goal.choice-returns-in_err-a-clause-told
-choice-returns-in_err-a-clause-told t c = tells_on _ c.in_err-a.field-0.0 _ c.from_residual-in_err-a.ensures.1 (refuses_then _ _ _ c.in_ok-c.ensures.told (refuses_first _ _ _ c.in_err-a.ensures.told))
+pub choice-returns-in-Err-clause-told : goal.choice-returns-in-Err-clause-told
+choice-returns-in-Err-clause-told t c = refuses_then _ _ _ c.in_ok-c.ensures.told c.in-Err.ensures.told
 
-pub choice-returns-in_err-b-clause-told : goal.choice-returns-in_err-b-clause-told
-choice-returns-in_err-b-clause-told t c = tells_on _ c.in_err-b.field-0.0 _ c.from_residual-in_err-b.ensures.1 (refuses_then _ _ _ c.in_ok-c.ensures.told (refuses_then _ _ _ c.in_ok-a.ensures.told c.in_err-b.ensures.told))
+pub choice-returns-in-Ok-clause-told : goal.choice-returns-in-Ok-clause-told
+choice-returns-in-Ok-clause-told t c = or_none _ _ c.in_ok-c.ensures.told ∙ c.in-Ok.ensures.told
 
-pub choice-returns-clause-told : goal.choice-returns-clause-told
-choice-returns-clause-told t c = or_none _ _ c.in_ok-c.ensures.told ∙ (or_none _ _ c.in_ok-a.ensures.told ∙ c.in_ok-b.ensures.told)
+pub choice-returns-in-Ok-clause-named : goal.choice-returns-in-Ok-clause-named
+choice-returns-in-Ok-clause-named t c = λ k. (c.in_ok-c.ensures.named k.0, c.in-Ok.ensures.named.0 k.1, c.in-Ok.ensures.named.1 k.2)
 
-pub choice-returns-clause-named : goal.choice-returns-clause-named
-choice-returns-clause-named t c = λ k. (c.in_ok-c.ensures.named k.0, c.in_ok-a.ensures.named k.1, c.in_ok-b.ensures.named k.2)
-
-pub unary-returns-in_err-boxed-clause-told : goal.unary-returns-in_err-boxed-clause-told
-unary-returns-in_err-boxed-clause-told t c =
-    tells_on _ c.in_err-boxed.field-0.0 _ c.from_residual.ensures.1 c.in_err-boxed.ensures.told
-
-pub unary-returns-clause-named : goal.unary-returns-clause-named
-unary-returns-clause-named t c =
-    λ k. (refl, c.in_ok-boxed.ensures.named k)
-
-pub delayed-returns-in_err-boxed-clause-told : goal.delayed-returns-in_err-boxed-clause-told
-delayed-returns-in_err-boxed-clause-told t c =
-    tells_on _ c.in_err-boxed.field-0.0 _ c.from_residual.ensures.1 c.in_err-boxed.ensures.told
-
-pub delayed-returns-clause-named : goal.delayed-returns-clause-named
-delayed-returns-clause-named t c =
-    λ k. (refl, c.in_ok-boxed.ensures.named k)
-
-pub merged-returns-in_err-a-clause-told : goal.merged-returns-in_err-a-clause-told
-merged-returns-in_err-a-clause-told t c =
+pub merged-returns-in-Err-clause-told : goal.merged-returns-in-Err-clause-told
+merged-returns-in-Err-clause-told t c =
     let known : if_missing c.args.variables.now c.args.c.now ≡ None = subst (λ x. if_missing c.args.variables.now x ≡ None) c.as_str.ensures c.in_ok-c.ensures.told in
-    tells_on _ c.in_err-a.field-0.0 _ c.from_residual-in_err-a.ensures.1 (refuses_then _ _ _ known (refuses_first _ _ _ c.in_err-a.ensures.told))
+    refuses_then _ _ _ known c.in-Err.ensures.told
 
-pub merged-returns-in_err-b-clause-told : goal.merged-returns-in_err-b-clause-told
-merged-returns-in_err-b-clause-told t c =
+pub merged-returns-in-Ok-clause-told : goal.merged-returns-in-Ok-clause-told
+merged-returns-in-Ok-clause-told t c =
     let known : if_missing c.args.variables.now c.args.c.now ≡ None = subst (λ x. if_missing c.args.variables.now x ≡ None) c.as_str.ensures c.in_ok-c.ensures.told in
-    tells_on _ c.in_err-b.field-0.0 _ c.from_residual-in_err-b.ensures.1 (refuses_then _ _ _ known (refuses_then _ _ _ c.in_ok-a.ensures.told c.in_err-b.ensures.told))
+    or_none _ _ known ∙ c.in-Ok.ensures.told
 
-pub merged-returns-clause-told : goal.merged-returns-clause-told
-merged-returns-clause-told t c =
-    let known : if_missing c.args.variables.now c.args.c.now ≡ None = subst (λ x. if_missing c.args.variables.now x ≡ None) c.as_str.ensures c.in_ok-c.ensures.told in
-    or_none _ _ known ∙ (or_none _ _ c.in_ok-a.ensures.told ∙ c.in_ok-b.ensures.told)
-
-pub merged-returns-clause-named : goal.merged-returns-clause-named
-merged-returns-clause-named t c =
+pub merged-returns-in-Ok-clause-named : goal.merged-returns-in-Ok-clause-named
+merged-returns-in-Ok-clause-named t c =
     let number : number_of c.args.variables.now c.args.c.now ≡ Some c.in_ok-c.c = subst (λ x. number_of c.args.variables.now x ≡ Some c.in_ok-c.c) c.as_str.ensures c.in_ok-c.ensures.number in
-    λ k. (number, c.in_ok-a.ensures.named k.1, c.in_ok-b.ensures.named k.2)
+    λ k. (number, c.in-Ok.ensures.named.0 k.1, c.in-Ok.ensures.named.1 k.2)
 
 pub sampled-returns-in_err-a-clause-told : goal.sampled-returns-in_err-a-clause-told
 sampled-returns-in_err-a-clause-told t c =

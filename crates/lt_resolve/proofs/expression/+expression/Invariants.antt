@@ -16,37 +16,40 @@ invariant-arguments-arguments l = record {
 }
 
 abbrev pub decreases-expression : goal.decreases-expression
-decreases-expression l = 3 * the_size l.term.now
+decreases-expression l = 4 * the_size l.term.now
 
 abbrev pub decreases-boxed : goal.decreases-boxed
-decreases-boxed l = 3 * the_size l.term.now + 1
+decreases-boxed l = 4 * the_size l.term.now + 1
+
+abbrev pub decreases-operands : goal.decreases-operands
+decreases-operands l = 4 * max (the_size l.a.now) (the_size l.b.now) + 2
 
 abbrev pub decreases-arguments : goal.decreases-arguments
-decreases-arguments l = 3 * goal.size-arguments l + 1
+decreases-arguments l = 4 * goal.size-arguments l + 1
 
 abbrev pub decreases-unary : goal.decreases-unary
-decreases-unary l = 3 * the_size l.a.now + 2
+decreases-unary l = 4 * the_size l.a.now + 3
 
 abbrev pub decreases-sampled : goal.decreases-sampled
-decreases-sampled l = 3 * the_size l.a.now + 2
+decreases-sampled l = 4 * the_size l.a.now + 3
 
 abbrev pub decreases-delayed : goal.decreases-delayed
-decreases-delayed l = 3 * the_size l.a.now + 2
+decreases-delayed l = 4 * the_size l.a.now + 3
 
 abbrev pub decreases-binary : goal.decreases-binary
-decreases-binary l = 3 * max (the_size l.a.now) (the_size l.b.now) + 2
+decreases-binary l = 4 * max (the_size l.a.now) (the_size l.b.now) + 3
 
 abbrev pub decreases-merged : goal.decreases-merged
-decreases-merged l = 3 * max (the_size l.a.now) (the_size l.b.now) + 2
+decreases-merged l = 4 * max (the_size l.a.now) (the_size l.b.now) + 3
 
 abbrev pub decreases-followed : goal.decreases-followed
-decreases-followed l = 3 * max (the_size l.a.now) (the_size l.b.now) + 2
+decreases-followed l = 4 * max (the_size l.a.now) (the_size l.b.now) + 3
 
 abbrev pub decreases-arrow : goal.decreases-arrow
-decreases-arrow l = 3 * max (the_size l.a.now) (the_size l.b.now) + 2
+decreases-arrow l = 4 * max (the_size l.a.now) (the_size l.b.now) + 3
 
 abbrev pub decreases-choice : goal.decreases-choice
-decreases-choice l = 3 * max (the_size l.c.now) (max (the_size l.a.now) (the_size l.b.now)) + 2
+decreases-choice l = 4 * max (the_size l.c.now) (max (the_size l.a.now) (the_size l.b.now)) + 3
 
 abbrev pub decreases-called : goal.decreases-called
-decreases-called l = 3 * goal.size-called l + 2
+decreases-called l = 4 * goal.size-called l + 3

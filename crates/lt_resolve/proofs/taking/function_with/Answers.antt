@@ -1,24 +1,28 @@
-use Rattle.std.proofs.Common.{sym, subst}
-use Rattle.lt_base.specs.Program.{Function}
+use Rattle.std.proofs.Common.{◌≡◌, [], None, sym, subst, IfOk}
+use Rattle.lt_syntax.specs.declared.tree.NodeText.{NodeText}
+use Rattle.lt_resolve.specs.declared.fault.NameKind.TheVariants.{Unknown}
+use Rattle.lt_resolve.specs.Faults.{unknown_in}
 use Rattle.lt_resolve.specs.Named.{IsFunction}
-use Rattle.lt_resolve.proofs.Good.{good_function}
-use Rattle.lt_resolve.proofs.Taken.{joined, right_joined, function_joined}
+use Rattle.lt_resolve.specs.Right.{IsRight}
+use Rattle.lt_resolve.specs.Told.{Shows}
+use Rattle.lt_resolve.proofs.Taken.{Standing, joined}
 use Rattle.lt_resolve.proofs.taking.function_with.Goals as goal
 
-pub function-requires-clause-good : goal.function-requires-clause-good
-function-requires-clause-good c =
+pub scoped_function-requires-clause-none : goal.scoped_function-requires-clause-none
+scoped_function-requires-clause-none c = subst (λ (n : NodeText). n.eqs ≡ []) (sym c.in_ok-scope.ensures) c.requires.none
+
+pub scoped_function-requires-clause-right : goal.scoped_function-requires-clause-right
+scoped_function-requires-clause-right c =
     let funcs = c.args.functions.now in
-    let h = c.args.head.now in
     let qs = c.args.eqs.items in
-    let right = right_joined funcs h qs c.requires.none _ c.in_ok-scope.ensures _ c.variables.ensures c.args.place c.in_ok-draft.ensures.shown c.in_ok-taken.ensures.shown c.requires.right in
-    let is = function_joined funcs h qs c.requires.none _ c.in_ok-scope.ensures _ c.variables.ensures c.in_ok-draft.draft c.in_ok-taken.taken.items c.in_ok-draft.ensures.node c.in_ok-draft.ensures.draft c.in_ok-taken.ensures.named right c.with_equations.result c.with_equations.ensures in
-    good_function funcs (joined funcs h qs) _ is right
+    subst (λ n. unknown_in funcs (joined funcs n qs) ≡ None → IsRight funcs (joined funcs n qs)) (sym c.in_ok-scope.ensures) c.requires.right
+
+pub returns-clause-shown : goal.returns-clause-shown
+returns-clause-shown c =
+    let funcs = c.args.functions.now in
+    subst (λ n. Shows Unknown (Standing c.args.place (unknown_in funcs (joined funcs n c.args.eqs.items))) c.scoped_function.result) c.in_ok-scope.ensures c.scoped_function.ensures.shown
 
 pub returns-clause-function : goal.returns-clause-function
 returns-clause-function c =
     let funcs = c.args.functions.now in
-    let h = c.args.head.now in
-    let qs = c.args.eqs.items in
-    let right = right_joined funcs h qs c.requires.none _ c.in_ok-scope.ensures _ c.variables.ensures c.args.place c.in_ok-draft.ensures.shown c.in_ok-taken.ensures.shown c.requires.right in
-    subst (λ (f : Function). IsFunction funcs (joined funcs h qs) f) (sym c.in_ok-function.ensures)
-    (function_joined funcs h qs c.requires.none _ c.in_ok-scope.ensures _ c.variables.ensures c.in_ok-draft.draft c.in_ok-taken.taken.items c.in_ok-draft.ensures.node c.in_ok-draft.ensures.draft c.in_ok-taken.ensures.named right c.with_equations.result c.with_equations.ensures)
+    subst (λ n. IfOk c.scoped_function.result (IsFunction funcs (joined funcs n c.args.eqs.items))) c.in_ok-scope.ensures c.scoped_function.ensures.function

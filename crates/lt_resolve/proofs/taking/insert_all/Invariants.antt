@@ -1,6 +1,6 @@
 use Rattle.std.proofs.Common.{◌≡◌, None, take, drop}
 use Rattle.lt_resolve.specs.Names.{repeated}
-use Rattle.lt_resolve.proofs.taking.table_of.Given as goal
+use Rattle.lt_resolve.proofs.taking.insert_all.Given as goal
 
 abbrev pub invariant-names : goal.invariant-names
 invariant-names l = record {

@@ -2,7 +2,7 @@ use Rattle.std.proofs.Common.{◌≡◌, ◌+◌, ◌++◌, ◌∷◌, [], drop,
 use Rattle.lt_resolve.specs.Names.{Name, among, repeated}
 use Rattle.lt_resolve.proofs.Located.{one_more}
 use Rattle.lt_resolve.proofs.Repeats.{next_is_new, later_are_new, put_last}
-use Rattle.lt_resolve.proofs.taking.table_of.Goals as goal
+use Rattle.lt_resolve.proofs.taking.insert_all.Goals as goal
 
 pub names-preserved : goal.names-preserved
 names-preserved c =

@@ -1,6 +1,0 @@
-use Rattle.std.proofs.Common.{◌≡◌, [], map, drop}
-use Rattle.lt_resolve.specs.Names.{repeated}
-use Rattle.lt_resolve.proofs.scope.Scope.two_equations.Given as goal
-
-abbrev pub invariant-eqs : goal.invariant-eqs
-invariant-eqs l = repeated l.names (map (λ q. q.0) (drop l.eq-index l.eq-items)) ≡ repeated [] (map (λ q. q.0) l.eq-items)
