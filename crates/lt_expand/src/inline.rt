@@ -1,9 +1,10 @@
 // Calls replaced by copies of what is made for the called functions.
 
 ghost use Rattle.std.specs.Prelude.{◌≡◌, ◌+◌, ◌<◌, ◌^◌, ◌∷◌, [], length, map, IfOk, OnOk};
-ghost use Rattle.lt_base.specs.Expression.{shape, arguments_of};
+ghost use Rattle.lt_base.specs.declared.expression.Expr.{Call};
+ghost use Rattle.lt_base.specs.Expression.{shape, variable, arguments_of};
 ghost use Rattle.lt_base.specs.Checked.{EachUse};
-ghost use Rattle.lt_base.specs.Meaning.{clock_of};
+ghost use Rattle.lt_base.specs.Meaning.{clock_of, outer as outer_pairs};
 ghost use Rattle.lt_expand.specs.Copies.{first_of, grown};
 ghost use Rattle.lt_expand.specs.Walk.{library_of, IsMade, Copyable, Adds, InlinedTo};
 
@@ -49,6 +50,7 @@ fn copy_for_call(
 }
 
 /// Puts the output of a copy in place of each call in an expression. The copies are appended, those of a call's arguments first.
+#[cycle(inlining)]
 pub(crate) fn inline(
     alloc: Global,
     versions: &[Option<Func>],
@@ -87,30 +89,81 @@ pub(crate) fn inline(
             inline(alloc, versions, into, clock, a)?;
             inline(alloc, versions, into, clock, b)
         }
-        Expr::When(a, _, _) => {
-            let before = outer(clock)?;
-            inline(alloc, versions, into, &before, a)
-        }
+        Expr::When(a, _, _) => inline_outside(alloc, versions, into, clock, a),
         Expr::Merge(x, a, b) => {
-            let left = deeper(clock, *x, true)?;
-            inline(alloc, versions, into, &left, a)?;
-            let right = deeper(clock, *x, false)?;
-            inline(alloc, versions, into, &right, b)
+            inline_branch(alloc, versions, into, clock, *x, true, a)?;
+            inline_branch(alloc, versions, into, clock, *x, false, b)
         }
         Expr::Call(g, args) => {
-            let g = *g;
-            let taken = replace(args, Vec::new(alloc));
-            let mut inputs = Vec::with_capacity(alloc, taken.len())?;
-            for a in taken {
-                let mut input = a;
-                inline(alloc, versions, into, clock, &mut input)?;
-                inputs.push(input)?;
-            }
-            let y = copy_for_call(versions, into, clock, g, inputs)?;
+            let y = inline_call(alloc, versions, into, clock, *g, args)?;
             *e = Expr::Var(y);
             Ok(())
         }
     }
+}
+
+// Puts copies in place of the calls of an expression, at the clock before the innermost pair.
+#[cycle(inlining)]
+fn inline_outside(
+    alloc: Global,
+    versions: &[Option<Func>],
+    into: &mut Pasted,
+    clock: &Clock,
+    e: &mut Expr,
+) -> Result<(), Memory>
+    requires ready { EachUse (λ h k. Copyable versions.now h k) (shape e.old) }
+    requires room { length into.old.decls.items + grown (library_of versions.now) (shape e.old) < 2 ^ 32 }
+    ensures room { OnOk result (length into.new.decls.items ≡ length into.old.decls.items + grown (library_of versions.now) (shape e.old)) }
+    ensures all { OnOk result (InlinedTo (library_of versions.now) (outer_pairs clock.now) (shape e.old) into.old.decls.items into.old.eqs.items into.new.decls.items into.new.eqs.items (shape e.new)) }
+{
+    let before = outer(clock)?;
+    inline(alloc, versions, into, &before, e)
+}
+
+// The same in a branch of a merge, where the variable has that truth value.
+#[cycle(inlining)]
+fn inline_branch(
+    alloc: Global,
+    versions: &[Option<Func>],
+    into: &mut Pasted,
+    clock: &Clock,
+    c: u32,
+    polarity: bool,
+    e: &mut Expr,
+) -> Result<(), Memory>
+    requires ready { EachUse (λ h k. Copyable versions.now h k) (shape e.old) }
+    requires room { length into.old.decls.items + grown (library_of versions.now) (shape e.old) < 2 ^ 32 }
+    ensures room { OnOk result (length into.new.decls.items ≡ length into.old.decls.items + grown (library_of versions.now) (shape e.old)) }
+    ensures all { OnOk result (InlinedTo (library_of versions.now) ((c, polarity) ∷ clock.now) (shape e.old) into.old.decls.items into.old.eqs.items into.new.decls.items into.new.eqs.items (shape e.new)) }
+{
+    let branch = deeper(clock, c, polarity)?;
+    inline(alloc, versions, into, &branch, e)
+}
+
+// Appends the copies for a call and for the calls in its arguments, which it takes, and gives the number of the call's output.
+#[cycle(inlining)]
+fn inline_call(
+    alloc: Global,
+    versions: &[Option<Func>],
+    into: &mut Pasted,
+    clock: &Clock,
+    g: u32,
+    args: &mut Vec<Expr>,
+) -> Result<u32, Memory>
+    requires ready { EachUse (λ h k. Copyable versions.now h k) (shape (Call g args.old)) }
+    requires room { length into.old.decls.items + grown (library_of versions.now) (shape (Call g args.old)) < 2 ^ 32 }
+    ensures room { OnOk result (length into.new.decls.items ≡ length into.old.decls.items + grown (library_of versions.now) (shape (Call g args.old))) }
+    ensures all { IfOk result (λ y. InlinedTo (library_of versions.now) clock.now (shape (Call g args.old)) into.old.decls.items into.old.eqs.items into.new.decls.items into.new.eqs.items (variable y)) }
+{
+    let taken = replace(args, Vec::new(alloc));
+    let mut inputs = Vec::with_capacity(alloc, taken.len())?;
+    for a in taken {
+        let mut input = a;
+        inline(alloc, versions, into, clock, &mut input)?;
+        inputs.push(input)?;
+    }
+    let output = copy_for_call(versions, into, clock, g, inputs)?;
+    Ok(output)
 }
 
 /// The right side of an equation with copies in place of its calls, on the clock of its variable.

@@ -3,7 +3,7 @@
 ghost use Rattle.std.specs.Prelude.{◌≡◌, ◌∷◌, ℕ, ◌+◌, true, false, List as Items, Option as Maybe, IfOk, OnOk, length, map};
 ghost use denote.Bor.{Bor};
 ghost use Rattle.lt_base.specs.declared.expression.Expr.{Expr as Tree};
-ghost use Rattle.lt_base.specs.Expression.{shape, binary, imported, choose, merged, follow, arrow, arguments_of};
+ghost use Rattle.lt_base.specs.Expression.{shape, unary, binary, imported, choose, merged, follow, arrow, call as called, arguments_of};
 ghost use Rattle.lt_base.specs.Meaning.{outer as outer_pairs};
 ghost use Rattle.lt_meaning.specs.Form.{form, at as at_cell, kept as at_delay, one, two, named, either, joined};
 ghost use Rattle.lt_meaning.specs.Plan.{runs};
@@ -25,26 +25,37 @@ pub fn lift<'a>(to: &mut Lifter<'a>, e: &'a Expr, clock: &Clock) -> Result<Node,
     match e {
         Expr::Lit(v) => Ok(Node::Literal(*v)),
         Expr::Var(x) => Ok(Node::Cell(*x as usize)),
-        Expr::Un(o, a) => {
-            let a = lift(to, a, clock)?;
-            one_of(to.alloc, *o, a)
-        }
+        Expr::Un(o, a) => lift_unary(to, *o, a, clock),
         Expr::Bin(o, a, b) => lift_binary(to, *o, a, b, clock),
         Expr::Imported(o, a, b) => lift_imported(to, *o, a, b, clock),
         Expr::If(c, a, b) => lift_choice(to, c, a, b, clock),
-        Expr::When(e, _, _) => {
-            let before = outer(to.alloc, clock)?;
-            lift(to, e, &before)
-        }
+        Expr::When(e, _, _) => lift_outside(to, e, clock),
         Expr::Merge(c, a, b) => lift_merge(to, *c, a, b, clock),
         Expr::Fby(v, right) => wait(to, clock, *v, Some(right)),
         Expr::Follow(a, b) => lift_follow(to, a, b, clock),
         Expr::Arrow(a, b) => lift_arrow(to, a, b, clock),
-        Expr::Call(g, args) => {
-            let args = lift_all(to, args, clock)?;
-            call(to, clock, *g as usize, args)
-        }
+        Expr::Call(g, args) => lift_call(to, *g, args, clock),
     }
+}
+
+// Lifts an operator's operand, and the operator.
+#[cycle(lifting)]
+fn lift_unary<'a>(to: &mut Lifter<'a>, o: Un, a: &'a Expr, clock: &Clock) -> Result<Node, Memory>
+    ensures form { IfOk result (λ node. form node ≡ form_of (length (taken to.old).waits) (taken to.old).cells (unary o (shape a.now))) }
+    ensures grown { OnOk result (taken to.new ≡ after (taken to.old) (unary o (shape a.now)) clock.now) }
+{
+    let a = lift(to, a, clock)?;
+    one_of(to.alloc, o, a)
+}
+
+// Lifts an expression at the clock before the innermost pair.
+#[cycle(lifting)]
+fn lift_outside<'a>(to: &mut Lifter<'a>, e: &'a Expr, clock: &Clock) -> Result<Node, Memory>
+    ensures form { IfOk result (λ node. form node ≡ form_of (length (taken to.old).waits) (taken to.old).cells (shape e.now)) }
+    ensures grown { OnOk result (taken to.new ≡ after (taken to.old) (shape e.now) (outer_pairs clock.now)) }
+{
+    let before = outer(to.alloc, clock)?;
+    lift(to, e, &before)
 }
 
 // Lifts an operator's operands, and the operator.
@@ -111,11 +122,25 @@ fn lift_merge<'a>(
     ensures form { IfOk result (λ node. form node ≡ form_of (length (taken to.old).waits) (taken to.old).cells (merged c (shape a.now) (shape b.now))) }
     ensures grown { OnOk result (taken to.new ≡ after (taken to.old) (merged c (shape a.now) (shape b.now)) clock.now) }
 {
-    let yes = branch(clock, c, true)?;
-    let a = lift(to, a, &yes)?;
-    let no = branch(clock, c, false)?;
-    let b = lift(to, b, &no)?;
+    let a = lift_branch(to, c, true, a, clock)?;
+    let b = lift_branch(to, c, false, b, clock)?;
     joined_of(to.alloc, c, a, b)
+}
+
+// Lifts a branch of a merge at its clock, where the variable has that truth value.
+#[cycle(lifting)]
+fn lift_branch<'a>(
+    to: &mut Lifter<'a>,
+    c: u32,
+    polarity: bool,
+    e: &'a Expr,
+    clock: &Clock,
+) -> Result<Node, Memory>
+    ensures form { IfOk result (λ node. form node ≡ form_of (length (taken to.old).waits) (taken to.old).cells (shape e.now)) }
+    ensures grown { OnOk result (taken to.new ≡ after (taken to.old) (shape e.now) ((c, polarity) ∷ clock.now)) }
+{
+    let at = branch(clock, c, polarity)?;
+    lift(to, e, &at)
 }
 
 // Lifts a delay that begins with what its left side has at the first instant.
@@ -150,6 +175,21 @@ fn lift_arrow<'a>(
     let b = lift(to, b, clock)?;
     let begins = wait(to, clock, Value::Bool(true), None)?;
     either_of(to.alloc, begins, a, b)
+}
+
+// Lifts the arguments of a call, and the call.
+#[cycle(lifting)]
+fn lift_call<'a>(
+    to: &mut Lifter<'a>,
+    g: u32,
+    args: &'a Vec<Expr>,
+    clock: &Clock,
+) -> Result<Node, Memory>
+    ensures form { IfOk result (λ node. form node ≡ form_of (length (taken to.old).waits) (taken to.old).cells (called g (arguments_of (map shape args.now.items)))) }
+    ensures grown { OnOk result (taken to.new ≡ after (taken to.old) (called g (arguments_of (map shape args.now.items))) clock.now) }
+{
+    let lifted = lift_all(to, args, clock)?;
+    call(to, clock, g as usize, lifted)
 }
 
 // Lifts the arguments of a call.

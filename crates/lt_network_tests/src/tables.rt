@@ -3,13 +3,13 @@ ghost use Rattle.std.specs.Prelude.{◌≡◌, IfOk};
 ghost use Rattle.lt_io.specs.MemFiles.{mem_files_state};
 
 use crate::machines::table_machines;
-use lt_base::{Cell, List, Memory, Name, Value};
+use lt_base::{Cell, List, Memory, Name};
 use lt_io::{MemFabric, MemFile, MemFiles};
 use lt_load::{Loaded, load};
 use lt_machine::TableMachine;
 use lt_run::{Printed, replay};
 use std::alloc::Global;
-use std::test::Fail;
+use std::process::Abort;
 
 // Two nodes that read each other's last value.
 const PROGRAM: &str =
@@ -86,29 +86,49 @@ fn cells_of(alloc: Global, printed: &Printed<TableMachine>) -> Result<Vec<Cell>,
     Ok(cells)
 }
 
-// The cells of all outputs at the end of a schedule, and its horizon.
-fn shown(alloc: Global, setup: &str, schedule: &str) -> Result<(Vec<Cell>, u64), Memory> {
+// What is shown of a program on its nodes at the end of a schedule.
+fn replayed(alloc: Global, setup: &str, schedule: &str) -> Result<Printed<TableMachine>, Memory> {
     let loaded = loaded(alloc, setup)?;
-    let printed = printed(alloc, &loaded, setup, schedule)?;
-    let cells = cells_of(alloc, &printed)?;
-    Ok((cells, printed.horizon))
+    printed(alloc, &loaded, setup, schedule)
 }
 
-fn cell(int: Option<i64>) -> Cell {
-    match int {
-        Some(n) => Cell::Here(Value::Int(n)),
-        None => Cell::Absent,
+// The cells of all outputs at the end of a schedule, and its horizon.
+fn shown(alloc: Global, setup: &str, schedule: &str) -> Result<String, Memory> {
+    let printed = replayed(alloc, setup, schedule)?;
+    let cells = cells_of(alloc, &printed)?;
+    text_of(alloc, cells.as_slice(), printed.horizon)
+}
+
+fn text_of(alloc: Global, cells: &[Cell], horizon: u64) -> Result<String, Memory> {
+    let mut text = String::new(alloc);
+    write!(text, "{cells:?} {horizon}")?;
+    Ok(text)
+}
+
+// Stops where something else is shown.
+fn is_shown<R: Abort>(rt: &R, shown: Result<String, Memory>, wanted: &str) {
+    match shown {
+        Ok(text) => must(rt, text.as_str() == wanted, text.as_str(), wanted),
+        Err(_) => must(rt, false, "no answer", wanted),
     }
 }
 
+fn must<R: Abort>(rt: &R, is_right: bool, found: &str, wanted: &str) {
+    assert!(rt; is_right, "{found} and not {wanted}");
+}
+
 #[test]
-fn tables_show_what_step_code_shows(rt: HostRuntime) -> Result<(), Fail> {
-    let wanted = [Some(1), Some(11), None, Some(10), None].map(|int| cell(int));
-    let (cells, horizon) = shown(rt.alloc(), BACK_PRESSURE, ACKNOWLEDGED)?;
-    assert_eq!(rt; cells.as_slice(), wanted.as_slice());
-    assert_eq!(rt; horizon, 20);
-    let (cells, horizon) = shown(rt.alloc(), TIME_BASED, COUNTED)?;
-    assert_eq!(rt; cells.as_slice(), wanted.as_slice());
-    assert_eq!(rt; horizon, 60);
-    Ok(())
+fn tables_show_what_step_code_shows(rt: HostRuntime) {
+    let acknowledged = shown(rt.alloc(), BACK_PRESSURE, ACKNOWLEDGED);
+    is_shown(
+        &rt,
+        acknowledged,
+        "[Here(Int(1)), Here(Int(11)), Absent, Here(Int(10)), Absent] 20",
+    );
+    let counted = shown(rt.alloc(), TIME_BASED, COUNTED);
+    is_shown(
+        &rt,
+        counted,
+        "[Here(Int(1)), Here(Int(11)), Absent, Here(Int(10)), Absent] 60",
+    );
 }

@@ -1,54 +1,54 @@
 // Both controllers, through their trait.
 
+use crate::shown::shown;
 use lt_arch::{Controller, Deed};
+use lt_base::Memory;
 use lt_bp::BackPressure;
 use lt_tb::TimeBased;
+use std::alloc::Global;
 
-fn deed<C: Controller>(controller: &mut C, fresh: bool, all_ack: bool, more: bool) -> Deed {
-    controller.wake(fresh, fresh, all_ack, more)
+// What a node does at each activation, of which the messages, the acknowledgements and a row that is left are given.
+fn deeds<C: Controller>(
+    alloc: Global,
+    controller: &mut C,
+    rows: &[(bool, bool, bool)],
+) -> Result<Vec<Deed>, Memory> {
+    let mut deeds = Vec::new(alloc);
+    for (fresh, all_ack, more) in rows {
+        deeds.push(controller.wake(*fresh, *fresh, *all_ack, *more))?;
+    }
+    Ok(deeds)
 }
 
-#[test]
-fn waits_for_messages(rt: HostRuntime) {
+/// What a node does that waits for messages.
+pub fn waiting(alloc: Global) -> Result<String, Memory> {
     let mut controller = BackPressure::new();
-    // The messages, the acknowledgements, a row that is left, and what the node then does.
     let rows = [
-        (false, true, true, Deed::Nothing),
-        (true, false, true, Deed::Execute),
-        (true, false, true, Deed::Nothing),
-        (false, true, false, Deed::Send),
-        (true, true, false, Deed::Nothing),
-        (true, true, true, Deed::Execute),
+        (false, true, true),
+        (true, false, true),
+        (true, false, true),
+        (false, true, false),
+        (true, true, false),
+        (true, true, true),
     ];
-    for (i, (fresh, all_ack, more, wanted)) in rows.iter().enumerate() {
-        assert_eq!(rt;
-            deed(&mut controller, *fresh, *all_ack, *more),
-            *wanted,
-            "at {i}"
-        );
-    }
+    let deeds = deeds(alloc, &mut controller, rows.as_slice())?;
+    shown(alloc, deeds.as_slice())
 }
 
-#[test]
-fn counts_activations(rt: HostRuntime) {
+/// What a node does that counts its activations.
+pub fn counting(alloc: Global) -> Result<String, Memory> {
     let mut controller = TimeBased::new(3, 2);
-    // A fresh message, a row that is left, and what the node then does.
     let rows = [
-        (true, false, Deed::Nothing),
-        (true, true, Deed::Execute),
-        (false, true, Deed::Nothing),
-        (false, true, Deed::Nothing),
-        (false, true, Deed::Send),
-        (true, true, Deed::Nothing),
-        (true, false, Deed::Nothing),
-        (true, true, Deed::Execute),
-        (true, true, Deed::Send),
+        (true, true, false),
+        (true, true, true),
+        (false, true, true),
+        (false, true, true),
+        (false, true, true),
+        (true, true, false),
+        (true, true, false),
+        (true, true, true),
+        (true, true, true),
     ];
-    for (i, (fresh, more, wanted)) in rows.iter().enumerate() {
-        assert_eq!(rt;
-            deed(&mut controller, *fresh, true, *more),
-            *wanted,
-            "at {i}"
-        );
-    }
+    let deeds = deeds(alloc, &mut controller, rows.as_slice())?;
+    shown(alloc, deeds.as_slice())
 }

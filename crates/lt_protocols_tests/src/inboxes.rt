@@ -1,32 +1,29 @@
 // Messages one after another in one place.
 
-use lt_base::{List, Value};
+use crate::shown::shown;
+use lt_base::{List, Memory, Value};
 use lt_link::Inbox;
-use std::test::Fail;
+use std::alloc::Global;
 
 const FIRST: [Value; 2] = [Value::Int(1), Value::Bool(true)];
 
 const SECOND: [Value; 2] = [Value::Int(2), Value::Bool(false)];
 
-#[test]
-fn a_message_is_read_once(rt: HostRuntime) -> Result<(), Fail> {
-    let mut inbox = Inbox::new(List::from_slice(rt.alloc(), &FIRST)?, true);
-    assert_eq!(rt; (inbox.fresh(), inbox.bit()), (true, false));
+/// Whether a message is fresh and its bit: at first, once it is taken, and of a second one, with what that says.
+pub fn read_once(alloc: Global) -> Result<String, Memory> {
+    let mut inbox = Inbox::new(List::from_slice(alloc, &FIRST)?, true);
+    let first = (inbox.fresh(), inbox.bit());
     inbox.take();
-    assert_eq!(rt; inbox.fresh(), false);
+    let taken = inbox.fresh();
     inbox.put(&SECOND, true);
-    assert_eq!(rt; (inbox.fresh(), inbox.bit()), (true, true));
-    assert_eq!(rt; inbox.payload(), SECOND.as_slice());
-    Ok(())
+    let second = (inbox.fresh(), inbox.bit());
+    shown(alloc, (first, taken, second, inbox.payload()))
 }
 
-// A second message takes the place of an unread one, and its bit is the one that was read before.
-#[test]
-fn a_message_over_an_unread_one(rt: HostRuntime) -> Result<(), Fail> {
-    let mut inbox = Inbox::new(List::from_slice(rt.alloc(), &SECOND)?, false);
+/// A second message takes the place of an unread one, and its bit is the one that was read before.
+pub fn unread(alloc: Global) -> Result<String, Memory> {
+    let mut inbox = Inbox::new(List::from_slice(alloc, &SECOND)?, false);
     inbox.put(&SECOND, true);
     inbox.put(&FIRST, false);
-    assert_eq!(rt; (inbox.fresh(), inbox.bit()), (false, false));
-    assert_eq!(rt; inbox.payload(), FIRST.as_slice());
-    Ok(())
+    shown(alloc, (inbox.fresh(), inbox.bit(), inbox.payload()))
 }

@@ -12,4 +12,8 @@ mod inboxes;
 #[cfg(test)]
 mod lossy;
 #[cfg(test)]
+mod shown;
+#[cfg(test)]
+mod tests;
+#[cfg(test)]
 mod timings;

@@ -3,13 +3,13 @@ ghost use Rattle.std.specs.Prelude.{◌≡◌, ◌<◌, [], length, IfOk};
 ghost use Rattle.lt_lossy.specs.Times.{queue_at, losses_at};
 
 use crate::architecture::linked;
+use crate::shown::shown;
 use lt_arch::{Event, Offence};
 use lt_base::{Memory, Steps};
 use lt_lossy::{LossyEvent, LossyOffence, LossyWatch, read_lossy, window};
 use std::alloc::Global;
 use std::marker::Brand;
 use std::sync::ledger::{Blank, Ledger};
-use std::test::Fail;
 
 // A watch over these nodes, before anything happened.
 fn watch_of_two(alloc: Global) -> Result<LossyWatch, Memory>
@@ -43,26 +43,14 @@ fn judged<L: Ledger>(alloc: Global, blank: Blank) -> Result<[Option<LossyOffence
     Ok([nothing_sent, in_time, too_many, delivery])
 }
 
-#[test]
-fn a_watch_over_losses(rt: HostRuntime) -> Result<(), Fail> {
-    let found = judged::<Brand>(rt.alloc(), Blank::new(1))?;
-    let wanted = [
-        Some(LossyOffence::Common(Offence::NothingSent(0))),
-        None,
-        Some(LossyOffence::TooManyLost(0)),
-        None,
-    ];
-    assert_eq!(rt; found, wanted);
-    Ok(())
+/// What a watch over losses says.
+pub fn watched(alloc: Global) -> Result<String, Memory> {
+    shown(alloc, judged::<Brand>(alloc, Blank::new(1))?)
 }
 
-#[test]
-fn a_window_and_a_row(rt: HostRuntime) -> Result<(), Fail> {
-    let (shape, timing) = linked(rt.alloc())?;
-    assert_eq!(rt; window(&timing), Ok(()));
-    assert_eq!(rt;
-        read_lossy(b"3,losedata,b>a", &shape),
-        Ok(LossyEvent::Lose(1, 3))
-    );
-    Ok(())
+/// Whether there is room for the losses, and a row of one.
+pub fn window_and_row(alloc: Global) -> Result<String, Memory> {
+    let (shape, timing) = linked(alloc)?;
+    let row = read_lossy(b"3,losedata,b>a", &shape);
+    shown(alloc, (window(&timing), row))
 }

@@ -1,9 +1,11 @@
 // A node with periods from 9 to 11 beside one with periods from 20 to 22.
 
 use crate::fixtures::{quick, two_nodes};
+use crate::shown::shown;
 use lt_arch::{NodeTime, Protocol};
-use lt_timing::{TimingFault, Which, accepts, bound, cycle, least};
-use std::test::Fail;
+use lt_base::Memory;
+use lt_timing::{accepts, bound, cycle, least};
+use std::alloc::Global;
 
 const SLOW: NodeTime = NodeTime {
     tmin: 20,
@@ -12,41 +14,31 @@ const SLOW: NodeTime = NodeTime {
     execute: 1,
 };
 
-#[test]
-fn countdowns_that_are_accepted(rt: HostRuntime) -> Result<(), Fail> {
-    let timing = two_nodes(rt.alloc(), quick(3), SLOW, Protocol::TimeBased)?;
-    assert_eq!(rt; accepts(&timing), Ok(()));
-    assert_eq!(rt; (least(&timing, 0), least(&timing, 1)), ((3, 4), (2, 1)));
-    Ok(())
+/// Countdowns that are accepted, and the least of each node.
+pub fn accepted(alloc: Global) -> Result<String, Memory> {
+    let timing = two_nodes(alloc, quick(3), SLOW, Protocol::TimeBased)?;
+    shown(
+        alloc,
+        (accepts(&timing), least(&timing, 0), least(&timing, 1)),
+    )
 }
 
-#[test]
-fn cycles_and_bounds(rt: HostRuntime) -> Result<(), Fail> {
-    let timing = two_nodes(rt.alloc(), quick(3), SLOW, Protocol::TimeBased)?;
-    assert_eq!(rt; (cycle(&timing, 0), cycle(&timing, 1)), (77, 66));
-    assert_eq!(rt;
-        (bound(&timing, 0, 1000), bound(&timing, 1, 1000)),
-        (13, 15)
-    );
-    Ok(())
+/// The cycles of both nodes, and their bounds.
+pub fn cycles_and_bounds(alloc: Global) -> Result<String, Memory> {
+    let timing = two_nodes(alloc, quick(3), SLOW, Protocol::TimeBased)?;
+    let cycles = (cycle(&timing, 0), cycle(&timing, 1));
+    let bounds = (bound(&timing, 0, 1000), bound(&timing, 1, 1000));
+    shown(alloc, (cycles, bounds))
 }
 
-#[test]
-fn a_countdown_that_is_too_short(rt: HostRuntime) -> Result<(), Fail> {
-    let timing = two_nodes(rt.alloc(), quick(2), SLOW, Protocol::TimeBased)?;
-    let fault = TimingFault {
-        which: Which::Send,
-        node: 0,
-        left: 55,
-        right: 59,
-    };
-    assert_eq!(rt; accepts(&timing), Err(fault));
-    Ok(())
+/// A countdown that is too short.
+pub fn too_short(alloc: Global) -> Result<String, Memory> {
+    let timing = two_nodes(alloc, quick(2), SLOW, Protocol::TimeBased)?;
+    shown(alloc, accepts(&timing))
 }
 
-#[test]
-fn the_other_protocol(rt: HostRuntime) -> Result<(), Fail> {
-    let timing = two_nodes(rt.alloc(), quick(3), SLOW, Protocol::BackPressure)?;
-    assert_eq!(rt; (cycle(&timing, 0), bound(&timing, 1, 1000)), (52, 19));
-    Ok(())
+/// A cycle and a bound of the other protocol.
+pub fn other_protocol(alloc: Global) -> Result<String, Memory> {
+    let timing = two_nodes(alloc, quick(3), SLOW, Protocol::BackPressure)?;
+    shown(alloc, (cycle(&timing, 0), bound(&timing, 1, 1000)))
 }

@@ -1,31 +1,15 @@
+use Rattle.std.specs.Prelude.{OnOk}
 use Rattle.std.proofs.Common.{◌≡◌, ◌∙◌, ◌++◌, ◌∷◌, ◌+◌, [], true, false, map, take, length, refl, sym, ap, subst, add-one}
 use Rattle.std.proofs.Math.Seq.{take-suc}
 use Rattle.std.proofs.lemmas.List.{take_all, map-append}
 use Rattle.lt_base.specs.declared.expression.Expr.{Expr}
-use Rattle.lt_base.specs.Expression.{Expression, shape, unary, binary, imported, choose, sampled, merged, delayed, follow, arrow, call, arguments_of}
+use Rattle.lt_base.specs.Expression.{Expression, shape, unary, binary, imported, choose, merged, delayed, follow, arrow, call, arguments_of}
 use Rattle.lt_base.proofs.Shape.{shape-Call}
 use Rattle.lt_meaning.specs.Form.{form, one, two, named, joined}
 use Rattle.lt_meaning.specs.Lift.{forms_of}
 use Rattle.lt_meaning.specs.Taken.{taken, after, after_arguments}
-use Rattle.lt_meaning.proofs.Growing.{Lifts, one_lifts, two_lifts, choose_lifts, sampled_lifts, delayed_lifts, follow_lifts, arrow_lifts, call_lifts, argument_lifts, no_arguments_lift}
+use Rattle.lt_meaning.proofs.Growing.{Lifts, one_lifts, two_lifts, choose_lifts, delayed_lifts, follow_lifts, arrow_lifts, call_lifts, argument_lifts, no_arguments_lift}
 use Rattle.lt_meaning.proofs.expressions.+lifting.Goals as goal
-
-pub lift-returns-in_ok-a-in-Un : goal.lift-returns-in_ok-a-in-Un
-lift-returns-in_ok-a-in-Un t c =
-    let a = shape c.deref.result.now in
-    let is : shape c.args.e.now ≡ unary c.in-Un.o a = ap shape c.in-Un.is ∙ (λ i. unary c.in-Un.o (shape (sym c.deref.ensures i))) in
-    let l = one_lifts (taken c.args.to.now) (taken c.lift.new.to) (unary c.in-Un.o a) a c.args.clock.now (one c.in-Un.o) c.in_ok-a-in-Un.a c.one_of.result (λ k c. refl) (λ z. refl) c.in_ok-a-in-Un.ensures.form c.in_ok-a-in-Un.ensures.grown c.one_of.ensures in
-    let whole = subst (λ (e : Expression). Lifts (taken c.args.to.now) e c.args.clock.now c.one_of.result (taken c.lift.new.to)) (sym is) l in
-    record { form = whole.form; grown = whole.grown }
-
-pub lift-returns-in_ok-before-in-When : goal.lift-returns-in_ok-before-in-When
-lift-returns-in_ok-before-in-When t c =
-    let ck = c.args.clock.now in
-    let e = shape c.deref-in-When.result.now in
-    let is : shape c.args.e.now ≡ sampled e c.in-When.field-1 c.in-When.field-2 = ap shape c.in-When.is ∙ (λ i. sampled (shape (sym c.deref-in-When.ensures i)) c.in-When.field-1 c.in-When.field-2) in
-    let l = sampled_lifts (taken c.args.to.now) (taken c.lift-in-When.new.to) e c.in-When.field-1 c.in-When.field-2 ck c.in_ok-before-in-When.before c.lift-in-When.result c.in_ok-before-in-When.ensures c.lift-in-When.ensures.form c.lift-in-When.ensures.grown in
-    let whole = subst (λ (e : Expression). Lifts (taken c.args.to.now) e ck c.lift-in-When.result (taken c.lift-in-When.new.to)) (sym is) l in
-    record { form = whole.form; grown = whole.grown }
 
 pub lift-returns-in-Fby : goal.lift-returns-in-Fby
 lift-returns-in-Fby t c =
@@ -36,15 +20,35 @@ lift-returns-in-Fby t c =
     let whole = subst (λ (e : Expression). Lifts (taken c.args.to.now) e ck c.wait.result (taken c.wait.new.to)) (sym is) l in
     record { form = whole.form; grown = whole.grown }
 
-pub lift-returns-in_ok-args-in-Call : goal.lift-returns-in_ok-args-in-Call
-lift-returns-in_ok-args-in-Call t c =
+pub lift-returns-in-Call : goal.lift-returns-in-Call
+lift-returns-in-Call t c =
     let ck = c.args.clock.now in
     let args = arguments_of (map shape c.in-Call.args.items) in
     let is : shape c.args.e.now ≡ call c.in-Call.g args = ap shape c.in-Call.is ∙ shape-Call c.in-Call.g c.in-Call.args in
-    let l = call_lifts (taken c.args.to.now) (taken c.lift_all.new.to) (taken c.call.new.to) c.in-Call.g args ck (map form c.in_ok-args-in-Call.args.items) c.call.result
-    c.in_ok-args-in-Call.ensures.forms c.in_ok-args-in-Call.ensures.grown c.call.ensures.form c.call.ensures.grown in
-    let whole = subst (λ (e : Expression). Lifts (taken c.args.to.now) e ck c.call.result (taken c.call.new.to)) (sym is) l in
+    let l : Lifts (taken c.args.to.now) (call c.in-Call.g args) ck c.lift_call.result (taken c.lift_call.new.to) = record { form = c.lift_call.ensures.form; grown = c.lift_call.ensures.grown } in
+    let whole = subst (λ (e : Expression). Lifts (taken c.args.to.now) e ck c.lift_call.result (taken c.lift_call.new.to)) (sym is) l in
     record { form = whole.form; grown = whole.grown }
+
+pub lift_unary-returns : goal.lift_unary-returns
+lift_unary-returns t c =
+    let o = c.args.o in
+    let l = one_lifts (taken c.args.to.now) (taken c.lift.new.to) (unary o (shape c.args.a.now)) (shape c.args.a.now) c.args.clock.now (one o) c.in_ok-a.a c.one_of.result (λ k c. refl) (λ z. refl) c.in_ok-a.ensures.form c.in_ok-a.ensures.grown c.one_of.ensures in
+    record { form = l.form; grown = l.grown }
+
+pub lift_outside-returns : goal.lift_outside-returns
+lift_outside-returns t c =
+    record { form = c.lift.ensures.form; grown = subst (λ k. OnOk c.lift.result (taken c.lift.new.to ≡ after (taken c.args.to.now) (shape c.args.e.now) k)) c.in_ok-before.ensures c.lift.ensures.grown }
+
+pub lift_branch-returns : goal.lift_branch-returns
+lift_branch-returns t c =
+    record { form = c.lift.ensures.form; grown = subst (λ k. OnOk c.lift.result (taken c.lift.new.to ≡ after (taken c.args.to.now) (shape c.args.e.now) k)) c.in_ok-at.ensures c.lift.ensures.grown }
+
+pub lift_call-returns : goal.lift_call-returns
+lift_call-returns t c =
+    let args = arguments_of (map shape c.args.args.now.items) in
+    let l = call_lifts (taken c.args.to.now) (taken c.lift_all.new.to) (taken c.call.new.to) c.args.g args c.args.clock.now (map form c.in_ok-lifted.lifted.items) c.call.result
+    c.in_ok-lifted.ensures.forms c.in_ok-lifted.ensures.grown c.call.ensures.form c.call.ensures.grown in
+    record { form = l.form; grown = l.grown }
 
 pub lift_binary-returns : goal.lift_binary-returns
 lift_binary-returns t c =
@@ -82,11 +86,8 @@ lift_merge-returns t c =
     let ck = c.args.clock.now in
     let a = shape c.args.a.now in
     let b = shape c.args.b.now in
-    let yes = c.in_ok-yes.ensures in
-    let no = c.in_ok-no.ensures in
-    let l = two_lifts (taken c.args.to.now) (taken c.lift.new.to) (taken c.lift-2.new.to) (merged x a b) a b ck ((x, true) ∷ ck) ((x, false) ∷ ck) (joined x) c.in_ok-a.a c.in_ok-b.b c.joined_of.result (λ k c. refl) refl
-    c.in_ok-a.ensures.form (c.in_ok-a.ensures.grown ∙ ap (λ k. after (taken c.args.to.now) a k) yes)
-    c.in_ok-b.ensures.form (c.in_ok-b.ensures.grown ∙ ap (λ k. after (taken c.lift.new.to) b k) no) c.joined_of.ensures in
+    let l = two_lifts (taken c.args.to.now) (taken c.lift_branch.new.to) (taken c.lift_branch-2.new.to) (merged x a b) a b ck ((x, true) ∷ ck) ((x, false) ∷ ck) (joined x) c.in_ok-a.a c.in_ok-b.b c.joined_of.result (λ k c. refl) refl
+    c.in_ok-a.ensures.form c.in_ok-a.ensures.grown c.in_ok-b.ensures.form c.in_ok-b.ensures.grown c.joined_of.ensures in
     record { form = l.form; grown = l.grown }
 
 pub lift_follow-returns : goal.lift_follow-returns

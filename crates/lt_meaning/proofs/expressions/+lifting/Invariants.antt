@@ -13,25 +13,37 @@ invariant-lift_all-loop-a l = record {
 }
 
 abbrev pub decreases-lift : goal.decreases-lift
-decreases-lift l = 2 * the_size l.e.now
+decreases-lift l = 3 * the_size l.e.now
 
 abbrev pub decreases-lift_all : goal.decreases-lift_all
-decreases-lift_all l = 2 * goal.size-lift_all l + 1
+decreases-lift_all l = 3 * goal.size-lift_all l + 1
 
 abbrev pub decreases-lift_binary : goal.decreases-lift_binary
-decreases-lift_binary l = 2 * max (the_size l.a.now) (the_size l.b.now) + 1
+decreases-lift_binary l = 3 * max (the_size l.a.now) (the_size l.b.now) + 1
 
 abbrev pub decreases-lift_imported : goal.decreases-lift_imported
-decreases-lift_imported l = 2 * max (the_size l.a.now) (the_size l.b.now) + 1
+decreases-lift_imported l = 3 * max (the_size l.a.now) (the_size l.b.now) + 1
 
 abbrev pub decreases-lift_merge : goal.decreases-lift_merge
-decreases-lift_merge l = 2 * max (the_size l.a.now) (the_size l.b.now) + 1
+decreases-lift_merge l = 3 * max (the_size l.a.now) (the_size l.b.now) + 2
 
 abbrev pub decreases-lift_follow : goal.decreases-lift_follow
-decreases-lift_follow l = 2 * max (the_size l.a.now) (the_size l.b.now) + 1
+decreases-lift_follow l = 3 * max (the_size l.a.now) (the_size l.b.now) + 1
 
 abbrev pub decreases-lift_arrow : goal.decreases-lift_arrow
-decreases-lift_arrow l = 2 * max (the_size l.a.now) (the_size l.b.now) + 1
+decreases-lift_arrow l = 3 * max (the_size l.a.now) (the_size l.b.now) + 1
 
 abbrev pub decreases-lift_choice : goal.decreases-lift_choice
-decreases-lift_choice l = 2 * max (the_size l.c.now) (max (the_size l.a.now) (the_size l.b.now)) + 1
+decreases-lift_choice l = 3 * max (the_size l.c.now) (max (the_size l.a.now) (the_size l.b.now)) + 1
+
+abbrev pub decreases-lift_unary : goal.decreases-lift_unary
+decreases-lift_unary l = 3 * the_size l.a.now + 1
+
+abbrev pub decreases-lift_outside : goal.decreases-lift_outside
+decreases-lift_outside l = 3 * the_size l.e.now + 1
+
+abbrev pub decreases-lift_branch : goal.decreases-lift_branch
+decreases-lift_branch l = 3 * the_size l.e.now + 1
+
+abbrev pub decreases-lift_call : goal.decreases-lift_call
+decreases-lift_call l = 3 * goal.size-lift_call l + 2
