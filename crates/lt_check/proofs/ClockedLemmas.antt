@@ -34,7 +34,7 @@ module _ (fs : List Function) (f : Function) where
   pub clocked_from : ((x : ℕ) → x < length f.decls → GoodClock f.decls x) → All (IsAtItsClock fs f.decls) f.eqs → ClockedFunction fs f
   clocked_from d e = record { clocks = everywhere f.decls d; rights = λ x a h. right_all (IsAtItsClock fs f.decls) f.eqs e x a h }
 
-  clocked_equated : GoodFunction f → ClockedFunction fs f → (k : ℕ) (q : ℕ × Expression) → slice_get f.eqs k ≡ Some q → IsAtItsClock fs f.decls q
+  pub clocked_equated : GoodFunction f → ClockedFunction fs f → (k : ℕ) (q : ℕ × Expression) → slice_get f.eqs k ≡ Some q → IsAtItsClock fs f.decls q
   clocked_equated good t k q h = t.rights q.0 q.1 (equation_found f good k q h)
 
   pub fault_unclocked : GoodFunction f → (fault : ClockFault) → IsClockFaultIn fs f fault → ClockedFunction fs f → ⊥

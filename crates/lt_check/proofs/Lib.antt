@@ -6,3 +6,4 @@ mod ClockLemmas
 mod AtLemmas
 mod ClockedLemmas
 mod Shares
+mod Fits

@@ -3,3 +3,4 @@ pub mod TypeFaults
 pub mod Innermost
 pub mod ClockFaults
 pub mod Shares
+pub mod Fitting

@@ -2,6 +2,7 @@
 #![tactic(auto)]
 
 mod clocking;
+mod fitting;
 mod innermost;
 mod readers;
 mod rules;
@@ -9,5 +10,6 @@ mod sizing;
 mod typing;
 
 pub use clocking::{ClockFault, clocks};
+pub use fitting::types_and_clocks;
 pub use sizing::{calls_of, sizes};
 pub use typing::{TypeFault, types};

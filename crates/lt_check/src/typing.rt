@@ -75,7 +75,7 @@ fn is_bool_clock(decls: &List<Decl>, clock: &Clock) -> bool
 }
 
 /// The first variable with an int among its clock variables.
-fn int_clock(f: &Func) -> Option<u32>
+pub fn int_clock(f: &Func) -> Option<u32>
     requires { length f.now.decls < 2 ^ 32 }
     ensures { MatchOption result ((x : ℕ) → x < length f.now.decls → BoolClock f.now.decls x) (FirstDeclaration (BoolClock f.now.decls) f.now) }
 {
@@ -88,7 +88,11 @@ fn int_clock(f: &Func) -> Option<u32>
 }
 
 /// The type that a right side wants and the one that it has, where they differ.
-fn misfit(funcs: &List<Func>, decls: &List<Decl>, equation: &Equation) -> Option<(Ty, Option<Ty>)>
+pub fn misfit(
+    funcs: &List<Func>,
+    decls: &List<Decl>,
+    equation: &Equation,
+) -> Option<(Ty, Option<Ty>)>
     requires { equation.now.0 < length decls.now }
     ensures { MatchOption result (type_of funcs.now decls.now equation.now.1 ≡ ty_at decls.now equation.now.0) (λ m. (Some m.0 ≡ ty_at decls.now equation.now.0) × (m.1 ≡ type_of funcs.now decls.now equation.now.1) × (m.1 ≢ Some m.0)) }
 {

@@ -3,12 +3,11 @@ use Rattle.std.proofs.Common.{◌≡◌, ℕ, Bool, false, List, Option, Some, N
 use Rattle.std.specs.Prelude.{◌↔◌, IsTrue, IfSome}
 use Rattle.lt_base.specs.declared.memory.Memory.{Memory}
 use Rattle.lt_base.specs.Program.{WholeProgram}
-use Rattle.lt_base.specs.Typing.{TypedProgram}
-use Rattle.lt_base.specs.Clocking.{ClockedProgram}
 use Rattle.lt_base.specs.Dependence.{CausalProgram}
 use Rattle.lt_syntax.specs.declared.tree.NodeText.{NodeText}
 use Rattle.lt_syntax.specs.Program.{Spells}
 use Rattle.lt_print.specs.Canonical.{canonical}
+use Rattle.lt_check.specs.Fitting.{IsRightProgram}
 use Rattle.lt_resolve.specs.Resolves.{IsResolved}
 use Rattle.lt_answer.specs.Answered.{Settles}
 use Rattle.lt_front.specs.Examined.{ExaminedText, IsWithin}
@@ -43,7 +42,12 @@ examined_settles bytes c text right same = (c, right, same)
 pub fails : (P : Type 0) → (P → ⊥) → IsTrue false ↔ P
 fails P never = (λ t. absurd (cc), λ h. absurd (never h))
 
--- the checks behind types are all that is left of a typed program
-pub all_pass : (p : WholeProgram) → TypedProgram p → (r : Result Bool Memory) → IfOk r (λ b. IsTrue b ↔ (ClockedProgram p × (CausalProgram p × IsWithin p))) → IfOk r (λ b. IsTrue b ↔ IsPassing p)
-all_pass p typed (Ok b) h = (λ t. let k = h.0 t in record { typed = typed; clocked = k.0; causal = k.1.0; within = k.1.1 }, λ k. h.1 (k.clocked, (k.causal, k.within)))
-all_pass p typed (Err m) h = tt
+-- causality and sizes are all that is left of a program with right types and clocks
+pub all_pass : (p : WholeProgram) → IsRightProgram p → (r : Result Bool Memory) → IfOk r (λ b. IsTrue b ↔ (CausalProgram p × IsWithin p)) → IfOk r (λ b. IsTrue b ↔ IsPassing p)
+all_pass p right (Ok b) h =
+    (λ t. let k = h.0 t in record { typed = λ n f l. (right n f l).0; clocked = λ n f l. (right n f l).1; causal = k.0; within = k.1 }, λ k. h.1 (k.causal, k.within))
+all_pass p right (Err m) h = tt
+
+-- a wrong type or clock
+pub not_right : (p : WholeProgram) → (IsRightProgram p → ⊥) → IsTrue false ↔ IsPassing p
+not_right p never = fails (IsPassing p) (λ h. never (λ n f l. (h.typed n f l, h.clocked n f l)))

@@ -1,6 +1,5 @@
 // The canonical text of a program that passes all checks, for which tree and program are never whole together.
 ghost use Rattle.std.specs.Prelude.{◌≡◌, ◌<◌, ◌↔◌, ◌^◌, IfOk, IfSome, IsTrue, length};
-ghost use Rattle.lt_base.specs.Clocking.{ClockedProgram};
 ghost use Rattle.lt_base.specs.Dependence.{CausalProgram};
 ghost use Rattle.lt_answer.specs.Answered.{Settles};
 ghost use Rattle.lt_front.specs.Examined.{HasRoom, IsWithin};
@@ -10,7 +9,7 @@ use crate::causality::causality;
 use crate::checks::{GREATEST_WEIGHT, MOST_PARTS};
 use crate::{ProgramFault, examine};
 use lt_base::{List, Memory, Or, Program};
-use lt_check::{clocks, sizes, types};
+use lt_check::{sizes, types_and_clocks};
 use lt_print::print;
 use lt_resolve::into_program;
 use lt_syntax::{Tree, parse};
@@ -83,22 +82,10 @@ fn passes(alloc: Global, p: &Program) -> Result<bool, Memory>
     requires { IsOfTree p.now }
     ensures { IfOk result (λ b. IsTrue b ↔ IsPassing p.now) }
 {
-    match types(p) {
-        Ok(()) => clocks_pass(alloc, p),
-        Err(_) => Ok(false),
+    if !types_and_clocks(alloc, p)? {
+        return Ok(false);
     }
-}
-
-// Whether a typed program passes the checks behind types.
-fn clocks_pass(alloc: Global, p: &Program) -> Result<bool, Memory>
-    requires { IsOfTree p.now }
-    ensures { IfOk result (λ b. IsTrue b ↔ (ClockedProgram p.now × (CausalProgram p.now × IsWithin p.now))) }
-{
-    match clocks(alloc, p) {
-        Ok(()) => order_passes(alloc, p),
-        Err(Or::Fault(_)) => Ok(false),
-        Err(Or::Memory) => Err(Memory),
-    }
+    order_passes(alloc, p)
 }
 
 // Whether the causality and the sizes pass.
