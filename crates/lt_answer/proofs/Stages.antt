@@ -6,7 +6,7 @@ use Rattle.lt_base.specs.declared.memory.Or.TheVariants.{Fault, Memory}
 use Rattle.lt_io.specs.FilesState.{FilesState}
 use Rattle.lt_io.specs.Visits.{Errand, Visited}
 use Rattle.lt_io.proofs.Visiting.{visited_none, unvisited, visited_then, visited_stop}
-use Rattle.lt_io.specs.FabricState.{FabricState}
+use Rattle.lt_io.specs.FabricState.{FabricState, OpensAtMostOnce, OpensOnce}
 use Rattle.lt_answer.specs.World.{World, KeepsWorld, IsCalm, Blame, Content, Reading, Linking, Blames, alone}
 use Rattle.lt_answer.specs.Answered.{Answered, Verdict, Settles, OrBlames, AndThen}
 
@@ -52,6 +52,15 @@ runs_short {es} w = record { keeps = keeps_itself w; visits = unvisited es w.fil
 pub runs_short_by : {T E : Type 0} {blame : E → Blame} {es : List Errand} {V : Verdict T E} (w : World) (r : Result T (Or E)) → IsErrAnd r (λ f. f ≡ Memory) → Answered blame es V w w r
 runs_short_by w (Ok x) is = absurd is
 runs_short_by {T} {E} {blame} {es} {V} w (Err e) is = subst (λ (f : Or E). Answered {T = T} blame es V w w (Err f)) (sym is) (runs_short w)
+
+-- where nothing is touched, no fabric is opened
+pub opens_none : (s : FabricState) → OpensAtMostOnce s s
+opens_none s = record { least = omega arith; most = omega arith }
+
+-- a refusal says no more of the calls than that
+pub opens_refused : {T E : Type 0} (P : E → Type 0) (a b : FabricState) (r : Result T E) → IsErrAnd r P → OpensAtMostOnce a b → OpensOnce a b r
+opens_refused P a b (Ok x) is calls = absurd is
+opens_refused P a b (Err e) is calls = record { calls = calls; done = tt }
 
 calm_on : (a b c : World) → IsCalm a b → IsCalm b c → IsCalm a c
 calm_on a b c first second = record { files = second.files ∙ first.files; fabric = second.fabric ∙ first.fabric }

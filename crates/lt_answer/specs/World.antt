@@ -42,6 +42,7 @@ no_fabric = record {
   transit = λ _. [];
   sent = λ _. [];
   delivered = λ _. [];
+  opens = 0;
   faults = 0;
 }
 

@@ -32,7 +32,7 @@ pub sink_trans : (a b c : SinkState) → KeepsSink a b → KeepsSink b c → Kee
 sink_trans a b c first next = record { sound = next.sound ∙ first.sound; told = next.told ∙ first.told }
 
 pub fabric_refl : (s : FabricState) → KeepsFabric s s
-fabric_refl s = record { faithful = refl; sound = refl; told = refl; prompt = λ prompt. prompt; kinds = refl }
+fabric_refl s = record { faithful = refl; sound = refl; told = refl; prompt = λ prompt. prompt; opens = refl; kinds = refl }
 
 pub fabric_trans : (a b c : FabricState) → KeepsFabric a b → KeepsFabric b c → KeepsFabric a c
 fabric_trans a b c first next = record {
@@ -40,6 +40,7 @@ fabric_trans a b c first next = record {
   sound = next.sound ∙ first.sound;
   told = next.told ∙ first.told;
   prompt = λ prompt. next.prompt (first.prompt prompt);
+  opens = next.opens ∙ first.opens;
   kinds = next.kinds ∙ first.kinds;
 }
 

@@ -1,5 +1,5 @@
 -- What an object of `Fabric` stands for, and what its calls do to it.
-use Rattle.std.specs.Prelude.{◌≡◌, ◌≢◌, ℕ, Bool, IsTrue, List, [], ◌∷◌, ◌++◌, map, slice_index_or, Result, OnOk, OnErr, IfOk, IsErrOf}
+use Rattle.std.specs.Prelude.{◌≡◌, ◌≢◌, ◌≤◌, ℕ, suc, Bool, IsTrue, List, [], ◌∷◌, ◌++◌, map, slice_index_or, Result, OnOk, OnErr, IfOk, IsErrOf}
 use Rattle.lt_base.specs.declared.value.Ty.{Ty}
 use Rattle.lt_base.specs.declared.value.Value.{Value}
 use Rattle.lt_base.specs.Value.{ty_of}
@@ -24,6 +24,8 @@ pub record FabricState : Type 0 where
   -- where told, of each channel: all messages sent, and all delivered
   pub sent : ℕ → List Message
   pub delivered : ℕ → List Message
+  -- how often `open` was called, whether or not it answered Ok
+  pub opens : ℕ
   -- the count of faults
   pub faults : ℕ
 
@@ -38,12 +40,13 @@ pub record KeepsPromises (old new : FabricState) : Type 0 where
   pub told : new.told ≡ old.told
   pub prompt : IsTrue old.prompt → IsTrue new.prompt
 
--- what no call but `open` changes: the same, and the types of the channels' payloads
+-- what no call but `open` changes: the same, how often it was called, and the types of the channels' payloads
 pub record KeepsFabric (old new : FabricState) : Type 0 where
   pub faithful : new.faithful ≡ old.faithful
   pub sound : new.sound ≡ old.sound
   pub told : new.told ≡ old.told
   pub prompt : IsTrue old.prompt → IsTrue new.prompt
+  pub opens : new.opens ≡ old.opens
   pub kinds : new.kinds ≡ old.kinds
 
 -- all channels and lists are as they were
@@ -89,6 +92,7 @@ pub record Delivers (old new : FabricState) (ch : ℕ) (message : Message) : Typ
 pub record OpensChannels {T : Type 0} (old new : FabricState) (kinds : List (List Ty)) (result : Result T LinkErr) : Type 0 where
   pub cause : LinkCounted old.faults new.faults result
   pub keeps : KeepsPromises old new
+  pub opens : new.opens ≡ suc old.opens
   pub opened : OnOk result (OpensFabric old new kinds)
   pub same : OnErr result (SameLists old new)
   pub sound : IsTrue old.sound → new.faults ≡ old.faults
@@ -110,3 +114,13 @@ pub record DeliversOldest (old new : FabricState) (ch : ℕ) (payload : List Val
   pub same : OnErr result (SameLists old new)
   pub prompt : IsTrue old.prompt → ¬ IsErrOf result Memory
   pub sound : IsTrue old.sound → new.faults ≡ old.faults
+
+-- over all calls of a step `open` was called once, or not at all
+pub record OpensAtMostOnce (old new : FabricState) : Type 0 where
+  pub least : old.opens ≤ new.opens
+  pub most : new.opens ≤ suc old.opens
+
+-- and once where the step answered Ok
+pub record OpensOnce {T E : Type 0} (old new : FabricState) (result : Result T E) : Type 0 where
+  pub calls : OpensAtMostOnce old new
+  pub done : OnOk result (new.opens ≡ suc old.opens)

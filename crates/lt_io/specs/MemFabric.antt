@@ -7,7 +7,7 @@ use Rattle.lt_io.specs.declared.calls.Calls.{Calls}
 use Rattle.lt_io.specs.declared.mem_fabric.MemFabric.{MemFabric}
 
 abbrev pub mem_fabric_state : MemFabric → FabricState
-mem_fabric_state m = record { faithful = true; prompt = true; sound = never_fails m.calls; told = false; kinds = kinds_of m.channels.items; transit = waiting_at m.channels.items; sent = λ _. []; delivered = λ _. []; faults = m.calls.faults }
+mem_fabric_state m = record { faithful = true; prompt = true; sound = never_fails m.calls; told = false; kinds = kinds_of m.channels.items; transit = waiting_at m.channels.items; sent = λ _. []; delivered = λ _. []; opens = m.openings.count; faults = m.calls.faults }
 
 -- the calls on this fabric
 abbrev pub fabric_calls : MemFabric → Calls

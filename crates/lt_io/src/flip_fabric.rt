@@ -5,6 +5,7 @@ ghost use Rattle.lt_io.specs.FabricState.{Grows};
 ghost use Rattle.lt_io.specs.FlipState.{silent, flip_at, flip_kinds, transit_at, sent_at, delivered_at, TakesFlipped};
 
 use crate::flip_channel::FlipChannel;
+use crate::openings::Openings;
 use crate::{Fabric, LinkErr, Message};
 use lt_base::{List, Memory, Ty, Value};
 use std::alloc::Global;
@@ -15,6 +16,7 @@ use std::alloc::Global;
 pub struct FlipFabric {
     alloc: Global,
     channels: Vec<FlipChannel>,
+    openings: Openings,
 }
 
 impl FlipFabric {
@@ -31,6 +33,7 @@ impl FlipFabric {
         FlipFabric {
             alloc,
             channels: Vec::new(alloc),
+            openings: Openings::new(),
         }
     }
 }
@@ -45,6 +48,7 @@ impl Fabric for FlipFabric {
 
     #[tactic(auto, using(crate::proofs::Flips::kinds_of_silent, crate::proofs::Flips::at_silent))]
     fn open(&mut self, kinds: &[List<Ty>]) -> Result<(), LinkErr> {
+        self.openings = self.openings.more();
         self.channels = channels_of(self.alloc, kinds)?;
         Ok(())
     }

@@ -15,6 +15,7 @@ mod mem_fabric;
 mod mem_files;
 mod mem_sink;
 mod message;
+mod openings;
 mod real;
 mod repeat_files;
 mod sink;

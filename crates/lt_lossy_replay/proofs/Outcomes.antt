@@ -32,7 +32,7 @@ use Rattle.lt_replay.proofs.Performed.{at_error}
 use Rattle.lt_lossy_replay.specs.declared.fault.LossyPlayFault.{LossyPlayFault}
 use Rattle.lt_lossy_replay.specs.declared.fault.LossyPlayFault.TheVariants.{Refused, Read}
 use Rattle.lt_lossy_replay.specs.Rules.{lossy_rules_of, lossy_blame, lossy_fault, IsNearLossy}
-use Rattle.lt_lossy_replay.specs.Replays.{IsLossyReplay, LossyEndsWith, lossy_replay_verdict, HasLossyReplayed}
+use Rattle.lt_lossy_replay.specs.Replays.{IsLossyReplay, LossyEndsWith, lossy_replay_verdict, HasLossyPlayed}
 use Rattle.lt_lossy_replay.specs.Plays.{PlaysLossy, KeepsLossyPlay, IsTakenFrom, FinishesBy}
 use Rattle.lt_lossy_replay.proofs.AtTheEnd.{is_replay, stopped_at}
 
@@ -51,7 +51,7 @@ module _ {C M : Type 0} (stands : M → Function → List (List Value) → Type 
   RefusedBy refused = RefusesFile (rules old.plant.rows) (files.named name) files'.place refused
 
   abbrev Replays : Result (Replayed M) (Or LossyPlayFault) → Type 0
-  Replays result = HasLossyReplayed stands made old.plant.layout old.plant.shape old.plant.timing old.plant.watch.limit inputs name files files' fabric fabric' result
+  Replays result = HasLossyPlayed stands made old.plant.layout old.plant.shape old.plant.timing old.plant.watch.limit inputs name files files' fabric fabric' result
 
   keeps_world : KeepsWorld (world files fabric) (world files' fabric')
   keeps_world = record { files = keeps_files; fabric = promises_kept fabric fabric' keeps.fabric_kept; steady = keeps.steady }
@@ -86,6 +86,7 @@ module _ {C M : Type 0} (stands : M → Function → List (List Value) → Type 
     };
     ended = tt;
     near = λ told. near refused (refuses told);
+    opens = keeps.fabric_kept.opens;
   }
   halted halt.Read visits rose link_calm found none = record {
     answered = record {
@@ -97,6 +98,7 @@ module _ {C M : Type 0} (stands : M → Function → List (List Value) → Type 
     };
     ended = tt;
     near = λ told. tt;
+    opens = keeps.fabric_kept.opens;
   }
   halted halt.Link visits calm rose found none = record {
     answered = record {
@@ -108,6 +110,7 @@ module _ {C M : Type 0} (stands : M → Function → List (List Value) → Type 
     };
     ended = tt;
     near = λ told. tt;
+    opens = keeps.fabric_kept.opens;
   }
   halted halt.Memory visits calm link_calm found none = record {
     answered = record {
@@ -119,6 +122,7 @@ module _ {C M : Type 0} (stands : M → Function → List (List Value) → Type 
     };
     ended = tt;
     near = λ told. tt;
+    opens = keeps.fabric_kept.opens;
   }
 
   module _ (phase : C → Phase) (left : M → ℕ) where
@@ -158,6 +162,7 @@ module _ {C M : Type 0} (stands : M → Function → List (List Value) → Type 
         };
         ended = tt;
         near = λ told. tt;
+        opens = keeps.fabric_kept.opens;
       })
 
       -- it is taken
@@ -184,6 +189,7 @@ module _ {C M : Type 0} (stands : M → Function → List (List Value) → Type 
           };
           ended = (takes.events, at_last);
           near = λ told. tt;
+          opens = keeps.fabric_kept.opens;
         }
 
     -- What the answer to the whole file comes to, where a net along the schedule takes its events.

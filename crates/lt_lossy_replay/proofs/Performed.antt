@@ -1,5 +1,5 @@
 -- What a network along a schedule over links that lose messages answers, from what its play did.
-use Rattle.std.proofs.Common.{◌≡◌, ℕ, List, [], length, Result, Ok, Err, IsTrue, refl, subst, arith}
+use Rattle.std.proofs.Common.{◌≡◌, ◌∙◌, ℕ, suc, List, [], length, Result, Ok, Err, IsTrue, refl, subst, arith}
 use Rattle.std.specs.Prelude.{IsErrAnd}
 use Rattle.lt_base.specs.declared.value.Value.{Value}
 use Rattle.lt_base.specs.declared.memory.Or.{Or}
@@ -12,10 +12,10 @@ use Rattle.lt_io.specs.declared.fault.LinkErr.TheVariants as link
 use Rattle.lt_io.specs.Counts.{LinkCountedBy}
 use Rattle.lt_io.proofs.Visiting.{visited_none, unvisited}
 use Rattle.lt_io.specs.FilesState.{FilesState}
-use Rattle.lt_io.specs.FabricState.{FabricState, KeepsPromises}
+use Rattle.lt_io.specs.FabricState.{FabricState, KeepsPromises, OpensAtMostOnce, OpensOnce}
 use Rattle.lt_answer.specs.World.{KeepsWorld}
 use Rattle.lt_answer.specs.Answered.{Answered, Verdict, AndThen}
-use Rattle.lt_answer.proofs.Stages.{goes_on, runs_short, widened}
+use Rattle.lt_answer.proofs.Stages.{goes_on, opens_none, runs_short, widened}
 use Rattle.lt_judge.specs.Errand.{schedule_errand}
 use Rattle.lt_place.specs.declared.layout.Layout.{Layout}
 use Rattle.lt_lossy_net.specs.Net.{LossyNetState}
@@ -25,14 +25,14 @@ use Rattle.lt_replay.specs.declared.replayed.Replayed.{Replayed}
 use Rattle.lt_replay.proofs.Performed.{at_error, Allowed, after_leave}
 use Rattle.lt_lossy_replay.specs.declared.fault.LossyPlayFault.{LossyPlayFault}
 use Rattle.lt_lossy_replay.specs.Rules.{lossy_blame, lossy_link_fault}
-use Rattle.lt_lossy_replay.specs.Replays.{IsLossyReplay, lossy_replay_verdict, HasLossyReplayed}
+use Rattle.lt_lossy_replay.specs.Replays.{IsLossyReplay, lossy_replay_verdict, HasLossyPlayed, HasLossyReplayed}
 
 module _ {M : Type 0} (stands : M → Function → List (List Value) → Type 0) (made : M → ℕ) (l : Layout) (s : Shape) (t : Timing) (losses : ℕ) (inputs : List (List Value)) (name : List ℕ) (files : FilesState) (fabric : FabricState) where
   -- there is no memory to begin with
   pub no_memory : (r : Result (Replayed M) (Or LossyPlayFault)) → IsErrAnd r (λ f. f ≡ Memory) → HasLossyReplayed stands made l s t losses inputs name files files fabric fabric r
-  no_memory r is = at_error (λ answer. HasLossyReplayed stands made l s t losses inputs name files files fabric fabric answer) r Memory is (record { answered = runs_short (world files fabric); ended = tt; near = λ told. tt })
+  no_memory r is = at_error (λ answer. HasLossyReplayed stands made l s t losses inputs name files files fabric fabric answer) r Memory is (record { answered = runs_short (world files fabric); ended = tt; near = λ told. tt; opens = record { calls = opens_none fabric; done = tt } })
 
-  module _ (mid : FabricState) (keeps : KeepsPromises fabric mid) (steady : IsTrue fabric.sound → mid.faults ≡ fabric.faults) where
+  module _ (mid : FabricState) (keeps : KeepsPromises fabric mid) (steady : IsTrue fabric.sound → mid.faults ≡ fabric.faults) (once : OpensAtMostOnce fabric mid) where
     unplayed_keeps : KeepsWorld (world files fabric) (world files mid)
     unplayed_keeps = record { files = record { sound = refl; told = refl; named = refl }; fabric = keeps; steady = steady }
 
@@ -48,6 +48,7 @@ module _ {M : Type 0} (stands : M → Function → List (List Value) → Type 0)
       };
       ended = tt;
       near = λ told. tt;
+      opens = record { calls = once; done = tt };
     }
     not_opened link.Memory same = record {
       answered = record {
@@ -59,10 +60,11 @@ module _ {M : Type 0} (stands : M → Function → List (List Value) → Type 0)
       };
       ended = tt;
       near = λ told. tt;
+      opens = record { calls = once; done = tt };
     }
 
     -- it was opened, and then the schedule was played
-    module _ (calm : mid.faults ≡ fabric.faults) (files' : FilesState) (fabric' : FabricState) where
+    module _ (calm : mid.faults ≡ fabric.faults) (opened : mid.opens ≡ suc fabric.opens) (files' : FilesState) (fabric' : FabricState) where
       abbrev right_of : Verdict (Replayed M) LossyPlayFault
       right_of = lossy_replay_verdict (IsLossyReplay stands made l s t losses inputs fabric') s t losses (length inputs) (files.named name)
 
@@ -75,21 +77,26 @@ module _ {M : Type 0} (stands : M → Function → List (List Value) → Type 0)
         sound = λ told sound more. absurd (omega (arith, more));
       }
 
-      pub from_start : (r : Result (Replayed M) (Or LossyPlayFault)) → HasLossyReplayed stands made l s t losses inputs name files files' mid fabric' r → HasLossyReplayed stands made l s t losses inputs name files files' fabric fabric' r
+      opens_by : (r : Result (Replayed M) (Or LossyPlayFault)) → fabric'.opens ≡ suc fabric.opens → OpensOnce fabric fabric' r
+      opens_by (Ok x) is = record { calls = record { least = omega (arith, is); most = omega (arith, is) }; done = is }
+      opens_by (Err e) is = record { calls = record { least = omega (arith, is); most = omega (arith, is) }; done = tt }
+
+      pub from_start : (r : Result (Replayed M) (Or LossyPlayFault)) → HasLossyPlayed stands made l s t losses inputs name files files' mid fabric' r → HasLossyReplayed stands made l s t losses inputs name files files' fabric fabric' r
       from_start r played = record {
         answered = widened (AndThen (Allowed {E = LossyPlayFault}) (λ _. right_of)) right_of (world files fabric) (world files' fabric') r (after_leave right_of)
             (goes_on {next = λ _. right_of} (world files fabric) (world files mid) (world files' fabric') tt r leave played.answered);
         ended = played.ended;
         near = played.near;
+        opens = opens_by r (played.opens ∙ opened);
       }
 
 -- the same of a net that was made of these parts
 pub of_net : {C M : Type 0} (stands : M → Function → List (List Value) → Type 0) (made : M → ℕ) (l : Layout) (s : Shape) (t : Timing) (losses : ℕ) (inputs lent : List (List Value)) (ms : List M) (net : LossyNetState C M) (name : List ℕ) (files files' : FilesState) (fabric fabric' : FabricState)
     (r : Result (Replayed M) (Or LossyPlayFault)) → IsMadeOfLossy l s t losses (length inputs) ms net → lent ≡ inputs →
-    HasLossyReplayed stands made net.layout net.shape net.timing net.watch.limit lent name files files' fabric fabric' r → HasLossyReplayed stands made l s t losses inputs name files files' fabric fabric' r
+    HasLossyPlayed stands made net.layout net.shape net.timing net.watch.limit lent name files files' fabric fabric' r → HasLossyPlayed stands made l s t losses inputs name files files' fabric fabric' r
 of_net stands made l s t losses inputs lent ms net name files files' fabric fabric' r is same replayed =
-    subst (λ z. HasLossyReplayed stands made z s t losses inputs name files files' fabric fabric' r) is.layout
-    (subst (λ z. HasLossyReplayed stands made net.layout z t losses inputs name files files' fabric fabric' r) is.shape
-    (subst (λ z. HasLossyReplayed stands made net.layout net.shape z losses inputs name files files' fabric fabric' r) is.timing
-    (subst (λ z. HasLossyReplayed stands made net.layout net.shape net.timing z inputs name files files' fabric fabric' r) is.limit
-    (subst (λ z. HasLossyReplayed stands made net.layout net.shape net.timing net.watch.limit z name files files' fabric fabric' r) same replayed))))
+    subst (λ z. HasLossyPlayed stands made z s t losses inputs name files files' fabric fabric' r) is.layout
+    (subst (λ z. HasLossyPlayed stands made net.layout z t losses inputs name files files' fabric fabric' r) is.shape
+    (subst (λ z. HasLossyPlayed stands made net.layout net.shape z losses inputs name files files' fabric fabric' r) is.timing
+    (subst (λ z. HasLossyPlayed stands made net.layout net.shape net.timing z inputs name files files' fabric fabric' r) is.limit
+    (subst (λ z. HasLossyPlayed stands made net.layout net.shape net.timing net.watch.limit z name files files' fabric fabric' r) same replayed))))

@@ -6,7 +6,7 @@ use Rattle.lt_base.specs.Program.{Function}
 use Rattle.lt_arch.specs.declared.shape.Shape.{Shape}
 use Rattle.lt_arch.specs.declared.timing.Timing.{Timing}
 use Rattle.lt_io.specs.FilesState.{FilesState}
-use Rattle.lt_io.specs.FabricState.{FabricState}
+use Rattle.lt_io.specs.FabricState.{FabricState, OpensOnce}
 use Rattle.lt_answer.specs.Answered.{Answered, OfFile, Verdict}
 use Rattle.lt_judge.specs.declared.halt.Refusal.{Refusal}
 use Rattle.lt_judge.specs.Errand.{schedule_errand}
@@ -36,7 +36,19 @@ LossyEndsWith end (Err refusal) outcome = outcome ≡ Err (Refused refusal)
 unfoldable pub lossy_replay_verdict : {T : Type 0} → (end : List LossyEvent → T → Type 0) → Shape → Timing → (losses rows : ℕ) → Option (List ℕ) → Verdict T LossyPlayFault
 lossy_replay_verdict end s t losses rows file = OfFile Read file (λ bytes outcome. LossyEndsWith end (file_judged_by (lossy_rules_of s t losses rows) bytes) outcome)
 
--- the network took the file of this name to its end, or a fault stands against it
+-- a net over a fabric that is open took the file of this name to its end, or a fault stands against it
+pub record HasLossyPlayed {M : Type 0} (stands : M → Function → List (List Value) → Type 0) (made : M → ℕ) (l : Layout) (s : Shape) (t : Timing) (losses : ℕ) (inputs : List (List Value))
+    (name : List ℕ) (files files' : FilesState) (fabric fabric' : FabricState) (result : Result (Replayed M) (Or LossyPlayFault)) : Type 0 where
+  -- by the verdict of the file
+  pub answered : Answered lossy_blame (schedule_errand name) (lossy_replay_verdict (IsLossyReplay stands made l s t losses inputs fabric') s t losses (length inputs) (files.named name)) (world files fabric) (world files' fabric') result
+  -- whether or not the files tell their bytes
+  pub ended : IfOk result (λ taken. (events : List LossyEvent) × IsLossyReplay stands made l s t losses inputs fabric' events taken)
+  -- a refused file was read to at most a piece past the row that is refused
+  pub near : IsTrue files.told → IfErr result (IsNearLossy (files.named name) files'.place)
+  -- the fabric was not opened again
+  pub opens : fabric'.opens ≡ fabric.opens
+
+-- so did a network that opens the fabric
 pub record HasLossyReplayed {M : Type 0} (stands : M → Function → List (List Value) → Type 0) (made : M → ℕ) (l : Layout) (s : Shape) (t : Timing) (losses : ℕ) (inputs : List (List Value))
     (name : List ℕ) (files files' : FilesState) (fabric fabric' : FabricState) (result : Result (Replayed M) (Or LossyPlayFault)) : Type 0 where
   -- by the verdict of the file
@@ -45,3 +57,5 @@ pub record HasLossyReplayed {M : Type 0} (stands : M → Function → List (List
   pub ended : IfOk result (λ taken. (events : List LossyEvent) × IsLossyReplay stands made l s t losses inputs fabric' events taken)
   -- a refused file was read to at most a piece past the row that is refused
   pub near : IsTrue files.told → IfErr result (IsNearLossy (files.named name) files'.place)
+  -- at most once, and once where it took the file
+  pub opens : OpensOnce fabric fabric' result

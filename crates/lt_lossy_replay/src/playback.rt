@@ -4,7 +4,7 @@ ghost use Rattle.lt_judge.specs.Taken.{IsMemoryStop, StopCounted, StopsAt, Takes
 ghost use Rattle.lt_lossy.specs.declared.event.LossyEvent.{LossyEvent as OfEvent};
 ghost use Rattle.lt_base.specs.Behaviour.{RowsFit};
 ghost use Rattle.lt_io.specs.Counts.{LinkCounted};
-ghost use Rattle.lt_io.specs.FabricState.{KeepsPromises};
+ghost use Rattle.lt_io.specs.FabricState.{KeepsPromises, OpensOnce};
 ghost use Rattle.lt_norm.specs.Flat.{Originated};
 ghost use Rattle.lt_step.specs.Run.{HasRowValues};
 ghost use Rattle.lt_place.specs.Layout.{IsPlaced};
@@ -68,6 +68,7 @@ impl<'a, M: Machine> LossyPlayback<'a, M> {
         ensures inputs { IfOk result (λ playback. playback.inputs.now ≡ inputs.now) }
         ensures made { IfOk result (λ playback. IsMadeOfLossy layout shape timing losses (length inputs.now.rows) machines.items playback.net.plant) }
         ensures ready { IfOk result (λ playback. IsPlayingLossy ⟦<BackPressure as Controller>⟧.phase M.stands M.made M.left playback.inputs.now playback.width playback.row.items [] playback.net (W.state fabric.new)) }
+        ensures opens { OpensOnce (W.state fabric.old) (W.state fabric.new) result }
         ensures cause { LinkCounted (W.state fabric.old).faults (W.state fabric.new).faults result }
         ensures keeps { KeepsPromises (W.state fabric.old) (W.state fabric.new) }
         ensures sound { IsTrue (W.state fabric.old).sound → (W.state fabric.new).faults ≡ (W.state fabric.old).faults }

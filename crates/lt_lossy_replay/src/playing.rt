@@ -3,7 +3,7 @@ ghost use Rattle.std.specs.Prelude.{◌≡◌, ◌<◌, ◌-◌, ◌^◌, ℕ, [
 ghost use Rattle.lt_rows.specs.Lines.{fresh};
 ghost use Rattle.lt_lossy_replay.specs.Rules.{lossy_fault};
 ghost use Rattle.lt_lossy_replay.specs.Plays.{IsPlayingLossy, FinishesBy};
-ghost use Rattle.lt_lossy_replay.specs.Replays.{HasLossyReplayed};
+ghost use Rattle.lt_lossy_replay.specs.Replays.{HasLossyPlayed};
 
 use crate::LossyPlayFault;
 use crate::playback::LossyPlayback;
@@ -35,7 +35,7 @@ pub(crate) fn play<F: Files, W: Fabric, M: Machine>(
     requires link_count { (W.state fabric.old).faults < 2 ^ 64 - 1 }
     requires fresh { lines.old ≡ fresh }
     requires ready { IsPlayingLossy ⟦<BackPressure as Controller>⟧.phase M.stands M.made M.left playback.inputs.now playback.width playback.row.items [] playback.net (W.state fabric.old) }
-    ensures { HasLossyReplayed M.stands M.made playback.entry.net.plant.layout playback.entry.net.plant.shape playback.entry.net.plant.timing playback.entry.net.plant.watch.limit playback.entry.inputs.now.rows name.now
+    ensures { HasLossyPlayed M.stands M.made playback.entry.net.plant.layout playback.entry.net.plant.shape playback.entry.net.plant.timing playback.entry.net.plant.watch.limit playback.entry.inputs.now.rows name.now
         (F.state files.old) (F.state files.new) (W.state fabric.old) (W.state fabric.new) result }
 {
     let mut playback = playback;

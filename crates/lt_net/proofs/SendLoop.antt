@@ -10,10 +10,10 @@ use Rattle.lt_net.specs.Sends.{SendsOn, with_message, SendsUpTo}
 use Rattle.lt_plant.proofs.Below.{lt_none, lt_here, lt_self, lt_other}
 
 pub keeps_refl : (s : FabricState) → KeepsFabric s s
-keeps_refl s = record { faithful = refl; sound = refl; told = refl; prompt = λ t. t; kinds = refl }
+keeps_refl s = record { faithful = refl; sound = refl; told = refl; prompt = λ t. t; opens = refl; kinds = refl }
 
 pub keeps_trans : (a b c : FabricState) → KeepsFabric a b → KeepsFabric b c → KeepsFabric a c
-keeps_trans a b c x y = record { faithful = y.faithful ∙ x.faithful; sound = y.sound ∙ x.sound; told = y.told ∙ x.told; prompt = λ t. y.prompt (x.prompt t); kinds = y.kinds ∙ x.kinds }
+keeps_trans a b c x y = record { faithful = y.faithful ∙ x.faithful; sound = y.sound ∙ x.sound; told = y.told ∙ x.told; prompt = λ t. y.prompt (x.prompt t); opens = y.opens ∙ x.opens; kinds = y.kinds ∙ x.kinds }
 
 pub sends_none : (p : ℕ → Bool) (m : ℕ → Message) (s : FabricState) → SendsOn (λ c. nat_lt c 0 && p c) m s s
 sends_none p m s =

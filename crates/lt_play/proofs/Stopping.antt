@@ -9,7 +9,11 @@ use Rattle.lt_judge.specs.Taken.{StopsAt, StopCountedBy, IsMemory}
 use Rattle.lt_net.specs.declared.fault.First.{First}
 use Rattle.lt_net.specs.declared.fault.NetFault.{NetFault}
 use Rattle.lt_net.specs.declared.fault.NetFault.TheVariants as net
+use Rattle.lt_net.specs.declared.fault.First.TheVariants as first
+use Rattle.lt_net.specs.Event.{Refuses}
+use Rattle.lt_net.specs.NetModel.{StoppableNet}
 use Rattle.lt_play.specs.Blamed.{IsStopOf}
+use Rattle.lt_play.specs.Plays.{LeavesNet}
 
 -- a net that runs was not stopped
 pub runs_on : {T : Type 0} (r : Result T NetFault) (fault : NetFault) → r ≡ Err fault → (stopped : Option First) → stopped ≡ None → ((f : First) → r ≡ Err (net.Stopped f) → stopped ≡ Some f) → (f : First) → fault ≡ net.Stopped f → ⊥
@@ -37,3 +41,11 @@ module _ {T : Type 0} (r : Result T NetFault) where
   stops rules line before net.Link why is same told = subst (StopsAt rules line before) (sym same) tt
   stops rules line before net.Memory why is same told = subst (StopsAt rules line before) (sym same) tt
   stops rules line before (net.Stopped f) why is same told = absurd same
+
+  -- what a fault leaves of the net
+  pub leaves : {C M : Type 0} (before after : StoppableNet C M) (fault : NetFault) (why : Stop Offence) → r ≡ Err fault → IsStopOf fault why → (Refuses r → after ≡ before) →
+      (IsErrOf r net.Link → after.stopped ≡ Some first.Link) → (IsErrOf r net.Memory → after.stopped ≡ Some first.Memory) → LeavesNet before after (Err why)
+  leaves before after (net.Offence o) why is same refused link memory = subst (λ x. LeavesNet before after (Err x)) (sym same) (refused (subst Refuses (sym is) tt))
+  leaves before after net.Link why is same refused link memory = subst (λ x. LeavesNet before after (Err x)) (sym same) (link is)
+  leaves before after net.Memory why is same refused link memory = subst (λ x. LeavesNet before after (Err x)) (sym same) (memory is)
+  leaves before after (net.Stopped f) why is same refused link memory = absurd same

@@ -2,7 +2,7 @@
 ghost use Rattle.std.specs.Prelude.{◌≡◌, ◌<◌, ◌+◌, ◌-◌, ◌*◌, ◌^◌, IsTrue, [], length, IfOk, OnOk};
 ghost use Rattle.lt_arch.specs.Readers.{node_count, chan_count};
 ghost use Rattle.lt_io.specs.Counts.{LinkCounted};
-ghost use Rattle.lt_io.specs.FabricState.{KeepsPromises, OpensFabric};
+ghost use Rattle.lt_io.specs.FabricState.{KeepsPromises, OpensFabric, OpensOnce};
 ghost use Rattle.lt_plant.specs.Starts.{kinds_for};
 
 use crate::feeding::room_for;
@@ -26,6 +26,7 @@ pub fn open<W: Fabric>(
     requires count { (W.state fabric.old).faults < 2 ^ 64 - 1 }
     requires empty { (W.state fabric.old).kinds ≡ [] }
     ensures room { IfOk result (λ room. length room.1.items ≡ width) }
+    ensures opens { OpensOnce (W.state fabric.old) (W.state fabric.new) result }
     ensures opened { OnOk result (OpensFabric (W.state fabric.old) (W.state fabric.new) (kinds_for layout.now shape.now)) }
     ensures cause { LinkCounted (W.state fabric.old).faults (W.state fabric.new).faults result }
     ensures keeps { KeepsPromises (W.state fabric.old) (W.state fabric.new) }

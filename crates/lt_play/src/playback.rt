@@ -1,11 +1,13 @@
 // A net, as it takes the events of a schedule.
-ghost use Rattle.std.specs.Prelude.{◌≡◌, ◌≢◌, ◌<◌, ◌+◌, ◌-◌, ◌*◌, ◌^◌, IsTrue, [], length, IfOk};
+ghost use Rattle.std.specs.Prelude.{◌≡◌, ◌≢◌, ◌<◌, ◌+◌, ◌-◌, ◌*◌, ◌^◌, IsTrue, [], List as Items, length, IfOk, MatchResult};
+ghost use Rattle.lt_arch.specs.declared.event.Event.{Event as OfEvent};
 ghost use Rattle.lt_base.specs.Behaviour.{RowsFit};
 ghost use Rattle.lt_arch.specs.Readers.{node_count, chan_count};
 ghost use Rattle.lt_arch.specs.Schedule.{OnePlace};
 ghost use Rattle.lt_arch.specs.Shapes.{HaveSameNodes};
 ghost use Rattle.lt_io.specs.Counts.{LinkCounted};
-ghost use Rattle.lt_io.specs.FabricState.{KeepsPromises};
+ghost use Rattle.lt_io.specs.FabricState.{KeepsPromises, OpensOnce};
+ghost use Rattle.lt_judge.specs.Taken.{IsMemoryStop, StopCounted, StopsAt, TakesLine};
 ghost use Rattle.lt_judge.specs.Verdict.{rules_of};
 ghost use Rattle.lt_judge.specs.Long.{long_line};
 ghost use Rattle.lt_norm.specs.Flat.{Originated};
@@ -18,7 +20,7 @@ ghost use Rattle.lt_plant.specs.Wakes.{AreConfigured};
 ghost use Rattle.lt_net.specs.declared.fault.First.{First};
 ghost use Rattle.lt_net.specs.declared.fault.NetFault.TheVariants.{Stopped};
 ghost use Rattle.lt_play.specs.Blamed.{IsStopOf};
-ghost use Rattle.lt_play.specs.Plays.{IsPlaying, KeepsPlay};
+ghost use Rattle.lt_play.specs.Plays.{IsPlaying, KeepsPlay, LeavesNet};
 ghost use Rattle.lt_play.specs.Keeping.{keeps_itself, keeps_on};
 
 use crate::feeding::{given, read_next};
@@ -73,6 +75,7 @@ impl<'a, C: Controller, M: Machine> Playback<'a, C, M> {
         ensures inputs { IfOk result (λ playback. playback.inputs.now ≡ inputs.now) }
         ensures made { IfOk result (λ playback. IsMadeOf layout shape timing (length inputs.now.rows) machines.items controllers.items playback.net.plant) }
         ensures ready { IfOk result (λ playback. IsPlaying C.phase M.stands M.made M.left M.size playback.inputs.now playback.width playback.row.items [] 0 playback.net (W.state fabric.new)) }
+        ensures opens { OpensOnce (W.state fabric.old) (W.state fabric.new) result }
         ensures cause { LinkCounted (W.state fabric.old).faults (W.state fabric.new).faults result }
         ensures keeps { KeepsPromises (W.state fabric.old) (W.state fabric.new) }
         ensures sound { IsTrue (W.state fabric.old).sound → (W.state fabric.new).faults ≡ (W.state fabric.old).faults }
@@ -110,7 +113,19 @@ impl<C: Controller, M: Machine, W: Fabric> Replica<W> for Playback<'_, C, M> {
         line: &[u8],
         outside: &mut W,
         steps: &mut Steps<L>,
-    ) -> Result<(), Stop<Offence>> {
+    ) -> Result<(), Stop<Offence>>
+        requires count { (W.state outside.old).faults < 2 ^ 64 - 1 }
+        requires stands { (before : Items OfEvent) × IsPlaying C.phase M.stands M.made M.left M.size self.old.inputs.now self.old.width self.old.row.items before steps.old self.old.net (W.state outside.old) }
+        ensures cause { StopCounted (W.state outside.old).faults (W.state outside.new).faults result }
+        ensures prompt { IsTrue (W.state outside.old).prompt → ¬ IsMemoryStop result }
+        ensures keeps { KeepsPlay M.size self.old.net self.new.net self.old.inputs.now.rows self.new.inputs.now.rows (W.state outside.old) (W.state outside.new) }
+        ensures takes { (before : Items OfEvent) → IsPlaying C.phase M.stands M.made M.left M.size self.old.inputs.now self.old.width self.old.row.items before steps.old self.old.net (W.state outside.old) → MatchResult result
+            (λ _. TakesLine (rules_of self.old.net.plant.shape self.old.net.plant.timing self.old.net.plant.rows) line.now (λ after. IsPlaying C.phase M.stands M.made M.left M.size self.new.inputs.now self.new.width self.new.row.items after steps.new self.new.net (W.state outside.new)) before)
+            (StopsAt (rules_of self.old.net.plant.shape self.old.net.plant.timing self.old.net.plant.rows) line.now before) }
+
+        // A line that is refused leaves the net as it was; a failed call or want of memory has stopped it.
+        ensures leaves { LeavesNet self.old.net self.new.net result }
+    {
         match self.places.read_event(line, self.net.shape()) {
             Err(fault) => Err(Stop::Row(fault)),
             Ok(e) => {

@@ -1,5 +1,5 @@
 -- What a network along a schedule answers, from what its net did.
-use Rattle.std.proofs.Common.{◌≡◌, ◌<◌, inl, inr, ℕ, List, [], length, Option, Some, None, Result, Ok, Err, IsTrue, false, refl, sym, ap, ◌∙◌, subst, arith}
+use Rattle.std.proofs.Common.{◌≡◌, ◌<◌, inl, inr, ℕ, suc, List, [], length, Option, Some, None, Result, Ok, Err, IsTrue, false, refl, sym, ap, ◌∙◌, subst, arith}
 use Rattle.std.specs.Prelude.{IsErrAnd}
 use Rattle.lt_base.specs.declared.value.Value.{Value}
 use Rattle.lt_base.specs.declared.memory.Or.{Or}
@@ -18,10 +18,10 @@ use Rattle.lt_io.specs.Counts.{LinkCountedBy}
 use Rattle.lt_io.specs.Visits.{Errand}
 use Rattle.lt_io.proofs.Visiting.{visited_none, unvisited, visited_any}
 use Rattle.lt_io.specs.FilesState.{FilesState}
-use Rattle.lt_io.specs.FabricState.{FabricState, KeepsPromises}
+use Rattle.lt_io.specs.FabricState.{FabricState, KeepsPromises, OpensAtMostOnce}
 use Rattle.lt_answer.specs.World.{World, KeepsWorld, Blame}
 use Rattle.lt_answer.specs.Answered.{Answered, Verdict, RefusesReading, AndThen}
-use Rattle.lt_answer.proofs.Stages.{goes_on, runs_short, widened}
+use Rattle.lt_answer.proofs.Stages.{goes_on, opens_none, runs_short, widened}
 use Rattle.lt_judge.specs.declared.fault.ScheduleFault.{ScheduleFault}
 use Rattle.lt_judge.specs.declared.fault.ScheduleFault.TheVariants.{Read}
 use Rattle.lt_judge.specs.Errand.{schedule_errand}
@@ -35,6 +35,7 @@ use Rattle.lt_net.specs.Starts.{IsMadeOf}
 use Rattle.lt_play.specs.declared.fault.PlayFault.{PlayFault}
 use Rattle.lt_play.specs.declared.fault.PlayFault.TheVariants.{Schedule}
 use Rattle.lt_play.specs.Played.{world, IsAtEnd, EndsBy, play_verdict, HasPlayed}
+use Rattle.lt_play.specs.Plays.{KeepsPlay}
 use Rattle.lt_play.specs.Blamed.{play_blame}
 use Rattle.lt_replay.specs.declared.replayed.Replayed.{Replayed}
 use Rattle.lt_replay.specs.Sound.{IsSound}
@@ -50,7 +51,7 @@ at_error P (Err f) e is refused = subst (λ g. P (Err g)) (sym is) refused
 module _ {C M : Type 0} (phase : C → Phase) (stands : M → Function → List (List Value) → Type 0) (made left size : M → ℕ)
     (l : Layout) (s : Shape) (t : Timing) (inputs : List (List Value)) (name : List ℕ) (files files' : FilesState) (fabric : FabricState) where
   -- nothing was played yet
-  module _ (fabric' : FabricState) (keeps : KeepsPromises fabric fabric') (steady : IsTrue fabric.sound → fabric'.faults ≡ fabric.faults) where
+  module _ (fabric' : FabricState) (keeps : KeepsPromises fabric fabric') (steady : IsTrue fabric.sound → fabric'.faults ≡ fabric.faults) (calls : OpensAtMostOnce fabric fabric') where
     abbrev ends_at : List Event → Replayed M → Type 0
     ends_at = IsReplay stands made l s t inputs fabric'
 
@@ -72,6 +73,7 @@ module _ {C M : Type 0} (phase : C → Phase) (stands : M → Function → List 
       };
       ended = tt;
       near = λ told. tt;
+      opens = record { calls = calls; done = tt };
     }
     not_opened link.Memory same = record {
       answered = record {
@@ -83,13 +85,14 @@ module _ {C M : Type 0} (phase : C → Phase) (stands : M → Function → List 
       };
       ended = tt;
       near = λ told. tt;
+      opens = record { calls = calls; done = tt };
     }
 
 -- there is no memory to begin with
 pub no_memory : {M : Type 0} (stands : M → Function → List (List Value) → Type 0) (made : M → ℕ) (l : Layout) (s : Shape) (t : Timing) (inputs : List (List Value)) (name : List ℕ) (files : FilesState) (fabric : FabricState)
     (r : Result (Replayed M) (Or PlayFault)) → IsErrAnd r (λ f. f ≡ Memory) → HasReplayed stands made l s t inputs name files files fabric fabric r
 no_memory stands made l s t inputs name files fabric r is =
-    at_error (λ answer. HasReplayed stands made l s t inputs name files files fabric fabric answer) r Memory is (record { answered = runs_short (world files fabric); ended = tt; near = λ told. tt })
+    at_error (λ answer. HasReplayed stands made l s t inputs name files files fabric fabric answer) r Memory is (record { answered = runs_short (world files fabric); ended = tt; near = λ told. tt; opens = record { calls = opens_none fabric; done = tt } })
 
 -- a step's answer as that of another, where what is right of the one is right of the other
 module _ {T U E : Type 0} (blame : E → Blame) (es : List Errand) (V : Verdict T E) (W : Verdict U E) (a b : World) (wider : (e : E) → V (Err e) → W (Err e)) where
@@ -142,7 +145,7 @@ after_leave W o (inr h) = h.2
 
 module _ {C M : Type 0} (phase : C → Phase) (stands : M → Function → List (List Value) → Type 0) (made left size : M → ℕ)
     (l : Layout) (s : Shape) (t : Timing) (inputs later : List (List Value)) (name : List ℕ) (files files' : FilesState) (fabric mid fabric' : FabricState)
-    (opened : KeepsPromises fabric mid) (calm : mid.faults ≡ fabric.faults) (old new : StoppableNet C M) (ms : List M) (cs : List C) (is : IsMadeOf l s t (length inputs) ms cs old.plant) where
+    (opened : KeepsPromises fabric mid) (calm : mid.faults ≡ fabric.faults) (once : mid.opens ≡ suc fabric.opens) (old new : StoppableNet C M) (ms : List M) (cs : List C) (is : IsMadeOf l s t (length inputs) ms cs old.plant) where
   abbrev ends_at_last : List Event → Type 0
   ends_at_last = IsAtEnd phase stands made left old new inputs fabric'
 
@@ -190,12 +193,20 @@ module _ {C M : Type 0} (phase : C → Phase) (stands : M → Function → List 
       widened (AndThen (Allowed {E = PlayFault}) (λ _. replayed_right (files.named name))) (replayed_right (files.named name)) (world files fabric) (world files' fabric') r (after_leave (replayed_right (files.named name)))
       (goes_on {next = λ _. replayed_right (files.named name)} (world files fabric) (world files mid) (world files' fabric') tt r leave answered)
 
+  -- no event opens the fabric again
+  same_opens : KeepsPlay size old new inputs later mid fabric' → fabric'.opens ≡ suc fabric.opens
+  same_opens keeps = keeps.fabric_kept.opens ∙ once
+
+  one_call : KeepsPlay size old new inputs later mid fabric' → OpensAtMostOnce fabric fabric'
+  one_call keeps = let is = same_opens keeps in record { least = omega (arith, is); most = omega (arith, is) }
+
   -- the play was refused
   refused_play : (e : Or PlayFault) → HasPlayed phase stands made left size old new inputs later name files files' mid fabric' (Err e) → HasReplayed stands made l s t inputs name files files' fabric fabric' (Err e)
   refused_play e played = record {
     answered = from_start (Err e) (error_too play_blame (schedule_errand name) (played_right (files.named name)) (replayed_right (files.named name)) (world files mid) (world files' fabric') (error_wider (files.named name)) e played.answered);
     ended = tt;
     near = played.near;
+    opens = record { calls = one_call played.keeps; done = tt };
   }
 
   pub refused_by : (r : Result (Replayed M) (Or PlayFault)) (e : Or PlayFault) → IsErrAnd r (λ f. f ≡ e) → (lent : List (List Value)) → lent ≡ inputs → HasPlayed phase stands made left size old new lent later name files files' mid fabric' (Err e) →
@@ -215,6 +226,7 @@ module _ {C M : Type 0} (phase : C → Phase) (stands : M → Function → List 
       answered = from_start (Err Memory) (short_too play_blame (schedule_errand name) (played_right (files.named name)) (replayed_right (files.named name)) (world files mid) (world files' fabric') (error_wider (files.named name)) x played.answered);
       ended = tt;
       near = λ told. tt;
+      opens = record { calls = one_call played.keeps; done = tt };
     }
 
     pub untaken_by : (r : Result (Replayed M) (Or PlayFault)) → IsErrAnd r (λ f. f ≡ Memory) → HasReplayed stands made l s t inputs name files files' fabric fabric' r
@@ -244,6 +256,7 @@ module _ {C M : Type 0} (phase : C → Phase) (stands : M → Function → List 
         answered = from_start (Ok taken) (value_too play_blame (schedule_errand name) (played_right (files.named name)) (replayed_right (files.named name)) (world files mid) (world files' fabric') (error_wider (files.named name)) x taken (value_wider (files.named name) x taken at_last) played.answered);
         ended = (played.ended.0, at_last played.ended.0 played.ended.1);
         near = λ told. tt;
+        opens = record { calls = one_call played.keeps; done = same_opens played.keeps };
       }
 
 -- the same of an equal layout, shape and timing

@@ -10,7 +10,7 @@ use Rattle.lt_arch.specs.declared.timing.Timing.{Timing}
 use Rattle.lt_io.specs.declared.fault.LinkErr.{LinkErr}
 use Rattle.lt_io.specs.declared.fault.LinkErr.TheVariants as link
 use Rattle.lt_io.specs.FilesState.{FilesState}
-use Rattle.lt_io.specs.FabricState.{FabricState}
+use Rattle.lt_io.specs.FabricState.{FabricState, OpensOnce}
 use Rattle.lt_answer.specs.Answered.{Answered, OfFile, Verdict}
 use Rattle.lt_judge.specs.declared.fault.ScheduleFault.{ScheduleFault}
 use Rattle.lt_judge.specs.declared.fault.ScheduleFault.TheVariants.{Read}
@@ -60,3 +60,5 @@ pub record HasReplayed {M : Type 0} (stands : M → Function → List (List Valu
   pub ended : IfOk result (λ taken. (events : List Event) × IsReplay stands made l s t inputs fabric' events taken)
   -- a refused file was read to at most a piece past the row that is refused
   pub near : IsTrue files.told → IfErr result (IsNearPlay (files.named name) files'.place)
+  -- the fabric was opened at most once, and once where it took the file
+  pub opens : OpensOnce fabric fabric' result

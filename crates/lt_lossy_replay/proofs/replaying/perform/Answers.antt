@@ -9,7 +9,7 @@ use Rattle.lt_lossy_replay.proofs.replaying.perform.Goals as goal
 pub returns-in-Ok : goal.returns-in-Ok
 returns-in-Ok g c =
     from_start g.M.Machine.stands g.M.Machine.made c.args.setup.layout c.args.setup.shape c.args.setup.timing c.args.losses c.args.inputs.now.rows c.args.schedule.now
-    (g.F.Files.state c.args.files.now) (g.W.Fabric.state c.args.fabric.now) (g.W.Fabric.state c.start-started.new.fabric) c.start-started.ensures.keeps c.start-started.ensures.sound c.in-Ok.ensures.cause (g.F.Files.state c.play.new.files) (g.W.Fabric.state c.play.new.fabric) _
+    (g.F.Files.state c.args.files.now) (g.W.Fabric.state c.args.fabric.now) (g.W.Fabric.state c.start-started.new.fabric) c.start-started.ensures.keeps c.start-started.ensures.sound c.start-started.ensures.opens.calls c.in-Ok.ensures.cause c.in-Ok.ensures.opens.done (g.F.Files.state c.play.new.files) (g.W.Fabric.state c.play.new.fabric) _
     (of_net g.M.Machine.stands g.M.Machine.made c.args.setup.layout c.args.setup.shape c.args.setup.timing c.args.losses c.args.inputs.now.rows _ _ _ c.args.schedule.now
     (g.F.Files.state c.args.files.now) (g.F.Files.state c.play.new.files) (g.W.Fabric.state c.start-started.new.fabric) (g.W.Fabric.state c.play.new.fabric) _ c.in-Ok.ensures.made (ap (λ (table : InputTable). table.rows) c.in-Ok.ensures.inputs) c.play.ensures)
 
@@ -18,4 +18,4 @@ returns-in-Err g c =
     subst (λ (fault : Or LossyPlayFault). HasLossyReplayed g.M.Machine.stands g.M.Machine.made c.args.setup.layout c.args.setup.shape c.args.setup.timing c.args.losses c.args.inputs.now.rows c.args.schedule.now
     (g.F.Files.state c.args.files.now) (g.F.Files.state c.args.files.now) (g.W.Fabric.state c.args.fabric.now) (g.W.Fabric.state c.start-started.new.fabric) (Err fault)) (sym c.link_fault.ensures)
     (not_opened g.M.Machine.stands g.M.Machine.made c.args.setup.layout c.args.setup.shape c.args.setup.timing c.args.losses c.args.inputs.now.rows c.args.schedule.now
-    (g.F.Files.state c.args.files.now) (g.W.Fabric.state c.args.fabric.now) (g.W.Fabric.state c.start-started.new.fabric) c.start-started.ensures.keeps c.start-started.ensures.sound c.in-Err.e c.in-Err.ensures.cause)
+    (g.F.Files.state c.args.files.now) (g.W.Fabric.state c.args.fabric.now) (g.W.Fabric.state c.start-started.new.fabric) c.start-started.ensures.keeps c.start-started.ensures.sound c.start-started.ensures.opens.calls c.in-Err.e c.in-Err.ensures.cause)

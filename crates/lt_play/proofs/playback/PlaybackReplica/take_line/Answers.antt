@@ -5,7 +5,7 @@ use Rattle.lt_judge.specs.Verdict.{rules_of}
 use Rattle.lt_net.specs.Event.{given}
 use Rattle.lt_net.proofs.NextLists.{row_fits}
 use Rattle.lt_play.proofs.OneMore.{offence_by, free_of, plays_on}
-use Rattle.lt_play.proofs.Stopping.{runs_on, counted, wanted, stops}
+use Rattle.lt_play.proofs.Stopping.{runs_on, counted, wanted, stops, leaves}
 use Rattle.lt_play.proofs.playback.PlaybackReplica.take_line.Goals as goal
 
 pub event-requires-clause-row : goal.event-requires-clause-row
@@ -49,3 +49,7 @@ returns-in-Err-event-clause-takes g c = λ before p.
       offence_by g.C.Controller.phase g.M.Machine.stands g.M.Machine.made g.M.Machine.left g.M.Machine.size c.args.self.now.inputs.now.rows before c.args.steps.now c.args.self.now.net (g.W.Fabric.state c.args.outside.now) p.plays
           c.in-Ok.e c.event.result o is (c.event.ensures.offence p.plays.running),
     ))
+
+pub returns-in-Err-event-clause-leaves : goal.returns-in-Err-event-clause-leaves
+returns-in-Err-event-clause-leaves g c =
+    leaves c.event.result c.args.self.now.net c.event.new.self c.in-Err-event.fault c.stop_by.result c.in-Err-event.is c.stop_by.ensures c.event.ensures.same c.event.ensures.halted_link c.event.ensures.halted_memory
