@@ -11,13 +11,13 @@ use Rattle.lt_base.specs.Program.{Function, WholeProgram}
 use Rattle.lt_arch.specs.declared.shape.Shape.{Shape}
 use Rattle.lt_arch.specs.declared.timing.Timing.{Timing}
 use Rattle.lt_io.specs.FilesState.{FilesState}
-use Rattle.lt_io.specs.FabricState.{FabricState}
+use Rattle.lt_io.specs.FabricState.{FabricState, OpensOnce}
 use Rattle.lt_place.specs.declared.layout.Layout.{Layout}
 use Rattle.lt_config.specs.declared.pace.Pace.{Pace}
 use Rattle.lt_lead.specs.Paced.{IsShapeBy}
 use Rattle.lt_answer.specs.World.{Blames, alone, Content}
 use Rattle.lt_answer.specs.Answered.{Answered, AndThen}
-use Rattle.lt_answer.proofs.Stages.{beside, goes_on, renamed, runs_short, stops, widened}
+use Rattle.lt_answer.proofs.Stages.{beside, goes_on, opens_none, renamed, runs_short, stops, widened}
 use Rattle.lt_front.specs.Examined.{ExaminedText}
 use Rattle.lt_judge.specs.Errand.{schedule_errand}
 use Rattle.lt_play.specs.Played.{world}
@@ -76,6 +76,7 @@ module _ {M : Type 0} (stands : M → Function → List (List Value) → Type 0)
         answered_value k.pace printed_end outputs_end k.shape k.timing (length k.inputs.rows) file (world files fabric) (world files' fabric') printed outputs
         (outputs_show stands made k.checked.program k.layout k.shape k.timing k.pace k.inputs.rows fabric' printed outputs names cells) has.answered;
     near = λ told. tt;
+    opens = record { calls = has.opens.calls; done = has.opens.done };
   }
 
   -- its refusal
@@ -85,6 +86,7 @@ module _ {M : Type 0} (stands : M → Function → List (List Value) → Type 0)
       let told : Outs (Err e) = record {
         answered = answered_fault k.pace printed_end outputs_end k.shape k.timing (length k.inputs.rows) file (world files fabric) (world files' fabric') e has.answered;
         near = has.near;
+        opens = record { calls = has.opens.calls; done = tt };
       } in
       subst (λ (g : Or RunFault). Outs (Err g)) (sym is) told
 
@@ -92,15 +94,15 @@ module _ {M : Type 0} (stands : M → Function → List (List Value) → Type 0)
 pub not_begun : (k : LoadedPlan) (name : List ℕ) (files : FilesState) (fabric : FabricState) (r : Result Outputs (Or RunFault)) → IsErrAnd r (λ f. f ≡ Memory) → HasOutputs k name files files fabric fabric r
 not_begun k name files fabric (Ok x) is = absurd is
 not_begun k name files fabric (Err f) is =
-    subst (λ (g : Or RunFault). HasOutputs k name files files fabric fabric (Err g)) (sym is) (record { answered = runs_short (world files fabric); near = λ told. tt })
+    subst (λ (g : Or RunFault). HasOutputs k name files files fabric fabric (Err g)) (sym is) (record { answered = runs_short (world files fabric); near = λ told. tt; opens = record { calls = opens_none fabric; done = tt } })
 
 -- no memory was found before the run
 pub not_run : (k : LoadedPlan) (name : List ℕ) (files : FilesState) (fabric : FabricState) (r : Result Outputs (Or CommandFault)) → IsErrAnd r (λ f. f ≡ Memory)
-    → (answered : Answered command_blame (schedule_errand name) (along_loaded fabric k (files.named name)) (world files fabric) (world files fabric) r) × (IsTrue files.told → IfErr r (IsNearCommand (files.named name) files.place))
+    → (answered : Answered command_blame (schedule_errand name) (along_loaded fabric k (files.named name)) (world files fabric) (world files fabric) r) × (IsTrue files.told → IfErr r (IsNearCommand (files.named name) files.place)) × OpensOnce fabric fabric r
 not_run k name files fabric (Ok x) is = absurd is
 not_run k name files fabric (Err f) is =
-    subst (λ (g : Or CommandFault). (answered : Answered command_blame (schedule_errand name) (along_loaded fabric k (files.named name)) (world files fabric) (world files fabric) (Err g)) × (IsTrue files.told → IsNearCommand (files.named name) files.place g)) (sym is)
-    (runs_short (world files fabric), λ told. tt)
+    subst (λ (g : Or CommandFault). (answered : Answered command_blame (schedule_errand name) (along_loaded fabric k (files.named name)) (world files fabric) (world files fabric) (Err g)) × (IsTrue files.told → IsNearCommand (files.named name) files.place g) × OpensOnce {T = Outputs} fabric fabric (Err g)) (sym is)
+    (runs_short (world files fabric), (λ told. tt), record { calls = opens_none fabric; done = tt })
 
 -- the same of an equal plan
 pub outputs_at : (k l : LoadedPlan) → k ≡ l → (name : List ℕ) (files files' : FilesState) (fabric fabric' : FabricState) (r : Result Outputs (Or RunFault)) → HasOutputs k name files files' fabric fabric' r → HasOutputs l name files files' fabric fabric' r

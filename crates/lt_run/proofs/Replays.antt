@@ -15,7 +15,7 @@ use Rattle.lt_io.specs.FabricState.{FabricState}
 use Rattle.lt_config.specs.declared.pace.Pace.{Pace}
 use Rattle.lt_answer.specs.World.{World}
 use Rattle.lt_answer.specs.Answered.{Answered, RefusesReading}
-use Rattle.lt_answer.proofs.Stages.{runs_short}
+use Rattle.lt_answer.proofs.Stages.{opens_none, runs_short}
 use Rattle.lt_play.specs.Played.{world}
 use Rattle.lt_replay.specs.declared.replayed.Replayed.{Replayed}
 use Rattle.lt_replay.specs.declared.setup.Setup.{Setup}
@@ -103,6 +103,7 @@ module _ {M : Type 0} (stands : M → Function → List (List Value) → Type 0)
         answered = answered_fault k.pace taken_end printed_end k.shape k.timing (length k.inputs.rows) (files.named name) (world files fabric) (world files' fabric') e takes.answered;
         ended = tt;
         near = takes.near;
+        opens = record { calls = takes.opens.calls; done = tt };
       } in
       subst (λ (g : Or RunFault). Prints (Err g)) (sym is) told
 
@@ -114,6 +115,7 @@ module _ {M : Type 0} (stands : M → Function → List (List Value) → Type 0)
         answered = answered_short k.pace taken_end printed_end k.shape k.timing (length k.inputs.rows) (files.named name) (world files fabric) (world files' fabric') x takes.answered;
         ended = tt;
         near = λ told. tt;
+        opens = record { calls = takes.opens.calls; done = tt };
       } in
       subst (λ (g : Or RunFault). Prints (Err g)) (sym is) told
 
@@ -123,6 +125,7 @@ module _ {M : Type 0} (stands : M → Function → List (List Value) → Type 0)
     answered = answered_value k.pace taken_end printed_end k.shape k.timing (length k.inputs.rows) (files.named name) (world files fabric) (world files' fabric') x y too takes.answered;
     ended = (takes.ended.0, too takes.ended.0 takes.ended.1);
     near = λ told. tt;
+    opens = record { calls = takes.opens.calls; done = takes.opens.done };
   }
 
 -- the setup of what was loaded
@@ -138,7 +141,7 @@ pub not_set_up : {M : Type 0} (stands : M → Function → List (List Value) →
     → IsErrAnd r (λ f. f ≡ Memory) → HasPrinted stands made k name files files fabric fabric r
 not_set_up stands made k name files fabric (Ok x) is = absurd is
 not_set_up stands made k name files fabric (Err f) is =
-    subst (λ (g : Or RunFault). HasPrinted stands made k name files files fabric fabric (Err g)) (sym is) (record { answered = runs_short (world files fabric); ended = tt; near = λ told. tt })
+    subst (λ (g : Or RunFault). HasPrinted stands made k name files files fabric fabric (Err g)) (sym is) (record { answered = runs_short (world files fabric); ended = tt; near = λ told. tt; opens = record { calls = opens_none fabric; done = tt } })
 
 -- the same of an equal plan
 pub prints_at : {M : Type 0} (stands : M → Function → List (List Value) → Type 0) (made : M → ℕ) (k l : LoadedPlan) → k ≡ l → (name : List ℕ) (files files' : FilesState) (fabric fabric' : FabricState) (r : Result (Printed M) (Or RunFault))

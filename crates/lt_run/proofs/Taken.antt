@@ -119,6 +119,7 @@ module _ {M : Type 0} (stands : M → Function → List (List Value) → Type 0)
         (raised_value of_play play_blame run_blame same_blame Right (world files fabric) (world files' fabric') x replays.answered);
     ended = ended_by pace none x replays.ended;
     near = λ told. tt;
+    opens = record { calls = replays.opens.calls; done = replays.opens.done };
   }
 
   pub not_taken : (pace : Pace) → allowed_of pace ≡ None → (e : Or PlayFault) (g : Or RunFault) → MapsFault e g (λ f h. h ≡ of_play f) → Replays (Err e) → Takes pace (Err g)
@@ -128,4 +129,5 @@ module _ {M : Type 0} (stands : M → Function → List (List Value) → Type 0)
         (raised_fault of_play play_blame run_blame same_blame Right (world files fabric) (world files' fabric') e g is replays.answered);
     ended = tt;
     near = λ told. near_run file files'.place e g is (replays.near told);
+    opens = record { calls = replays.opens.calls; done = tt };
   }

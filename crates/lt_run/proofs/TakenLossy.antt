@@ -120,6 +120,7 @@ module _ {M : Type 0} (stands : M → Function → List (List Value) → Type 0)
         (raised_value of_lossy lossy_blame run_blame same_blame Right (world files fabric) (world files' fabric') x replays.answered);
     ended = (replays.ended.0, same_end replays.ended.0 x replays.ended.1);
     near = λ told. tt;
+    opens = record { calls = replays.opens.calls; done = replays.opens.done };
   }
 
   not_took : (e : Or LossyPlayFault) (g : Or RunFault) → MapsFault e g (λ f h. h ≡ of_lossy f) → Replays (Err e) → Takes (LosesMessages losses) (Err g)
@@ -129,6 +130,7 @@ module _ {M : Type 0} (stands : M → Function → List (List Value) → Type 0)
         (raised_fault of_lossy lossy_blame run_blame same_blame Right (world files fabric) (world files' fabric') e g is replays.answered);
     ended = tt;
     near = λ told. near_run file files'.place e g is (replays.near told);
+    opens = record { calls = replays.opens.calls; done = tt };
   }
 
   -- whatever pace it is that loses messages so

@@ -8,7 +8,7 @@ use Rattle.lt_arch.specs.declared.shape.Shape.{Shape}
 use Rattle.lt_arch.specs.declared.timing.Timing.{Timing}
 use Rattle.lt_arch.specs.Readers.{node_count}
 use Rattle.lt_io.specs.FilesState.{FilesState}
-use Rattle.lt_io.specs.FabricState.{FabricState}
+use Rattle.lt_io.specs.FabricState.{FabricState, OpensOnce}
 use Rattle.lt_place.specs.declared.layout.Layout.{Layout}
 use Rattle.lt_place.specs.Layout.{Gives, part_of}
 use Rattle.lt_config.specs.declared.pace.Pace.{Pace}
@@ -79,6 +79,8 @@ pub record HasTaken {M : Type 0} (stands : M → Function → List (List Value) 
   pub ended : IfOk result (λ taken. (events : EventsBy pace) × IsReplayBy stands made pace l s t inputs fabric' events taken)
   -- a refused file was read to at most a piece past the row that is refused
   pub near : IsTrue files.told → IfErr result (IsNearRun (files.named name) files'.place)
+  -- the fabric was opened at most once, and once where the file was taken
+  pub opens : OpensOnce fabric fabric' result
 
 -- a replay of a loaded program along the file of this name
 pub record HasPrinted {M : Type 0} (stands : M → Function → List (List Value) → Type 0) (made : M → ℕ) (k : LoadedPlan) (name : List ℕ) (files files' : FilesState) (fabric fabric' : FabricState) (result : Result (Printed M) (Or RunFault)) : Type 0 where
@@ -87,3 +89,5 @@ pub record HasPrinted {M : Type 0} (stands : M → Function → List (List Value
   pub ended : IfOk result (λ printed. (events : EventsBy k.pace) × ReplayShows stands made k.checked.program k.layout k.shape k.timing k.pace k.inputs.rows fabric' events printed)
   -- a refused file was read to at most a piece past the row that is refused
   pub near : IsTrue files.told → IfErr result (IsNearRun (files.named name) files'.place)
+  -- the fabric was opened at most once, and once where the file was taken
+  pub opens : OpensOnce fabric fabric' result

@@ -5,7 +5,7 @@ use Rattle.lt_base.specs.Program.{WholeProgram}
 use Rattle.lt_arch.specs.declared.shape.Shape.{Shape}
 use Rattle.lt_arch.specs.declared.timing.Timing.{Timing}
 use Rattle.lt_io.specs.FilesState.{FilesState}
-use Rattle.lt_io.specs.FabricState.{FabricState}
+use Rattle.lt_io.specs.FabricState.{FabricState, OpensOnce}
 use Rattle.lt_place.specs.declared.layout.Layout.{Layout}
 use Rattle.lt_place.specs.Layout.{IsLayoutOf}
 use Rattle.lt_config.specs.declared.pace.Pace.{Pace}
@@ -65,6 +65,8 @@ pub record HasOutputs (k : LoadedPlan) (name : List ℕ) (files files' : FilesSt
   pub answered : Answered run_blame (schedule_errand name) (loaded_verdict k (Shows k.checked.program k.layout k.shape k.timing k.pace k.inputs.rows fabric') (files.named name)) (world files fabric) (world files' fabric') result
   -- a refused file was read to at most a piece past the row that is refused
   pub near : IsTrue files.told → IfErr result (IsNearRun (files.named name) files'.place)
+  -- the fabric was opened at most once, and once where the file was taken
+  pub opens : OpensOnce fabric fabric' result
 
 -- a program on these nodes, under these bounds of time, by who paces the rounds, and on these rows of inputs, along a schedule file: what
 -- the outputs show, or the first row or event that is refused

@@ -1,5 +1,6 @@
 // A run of a program along a schedule.
 ghost use Rattle.std.specs.Prelude.{◌≡◌, ◌<◌, ◌-◌, ◌^◌, [], IfErr, IsTrue, option_map};
+ghost use Rattle.lt_io.specs.FabricState.{OpensOnce};
 ghost use Rattle.lt_answer.specs.Answered.{Answered};
 ghost use Rattle.lt_play.specs.Played.{world};
 ghost use Rattle.lt_load.specs.Blamed.{command_blame};
@@ -34,6 +35,7 @@ pub fn run<F: Files, W: Fabric>(
     requires empty { (W.state fabric.old).kinds ≡ [] }
     ensures answered { Answered command_blame (run_errands program.now inputs.now schedule.now (option_map (λ s. s.now) config.entry)) (run_verdict (F.state files.old).named program.now inputs.now schedule.now (option_map (λ s. s.now) config.entry) (world (F.state files.new) (W.state fabric.new)))
         (world (F.state files.old) (W.state fabric.old)) (world (F.state files.new) (W.state fabric.new)) result }
+    ensures opens { OpensOnce (W.state fabric.old) (W.state fabric.new) result }
     ensures untouched { LeavesUnloaded (F.state files.old) program.now inputs.now (option_map (λ s. s.now) config.entry) (W.state fabric.old) (W.state fabric.new) }
 {
     let loaded = load(alloc, files, program, inputs, config)?;
@@ -54,6 +56,7 @@ fn run_whole<F: Files, W: Fabric>(
     ensures answered { Answered command_blame (schedule_errand schedule.now) (along_loaded (W.state fabric.new) loaded ((F.state files.old).named schedule.now))
         (world (F.state files.old) (W.state fabric.old)) (world (F.state files.new) (W.state fabric.new)) result }
     ensures near { IsTrue (F.state files.old).told → IfErr result (IsNearCommand ((F.state files.old).named schedule.now) (F.state files.new).place) }
+    ensures opens { OpensOnce (W.state fabric.old) (W.state fabric.new) result }
 {
     let shape = loaded.shape.copy()?;
     run_beside(alloc, files, fabric, loaded, &shape, schedule)
@@ -75,6 +78,7 @@ fn run_beside<F: Files, W: Fabric>(
     ensures answered { Answered command_blame (schedule_errand schedule.now) (along_loaded (W.state fabric.new) loaded ((F.state files.old).named schedule.now))
         (world (F.state files.old) (W.state fabric.old)) (world (F.state files.new) (W.state fabric.new)) result }
     ensures near { IsTrue (F.state files.old).told → IfErr result (IsNearCommand ((F.state files.old).named schedule.now) (F.state files.new).place) }
+    ensures opens { OpensOnce (W.state fabric.old) (W.state fabric.new) result }
 {
     match replay_whole(alloc, loaded, files, schedule, fabric) {
         Ok(outputs) => Ok(outputs),
@@ -96,6 +100,7 @@ pub fn run_loaded<F: Files, W: Fabric>(
     ensures answered { Answered command_blame (schedule_errand schedule.now) (along_loaded (W.state fabric.new) loaded.now ((F.state files.old).named schedule.now))
         (world (F.state files.old) (W.state fabric.old)) (world (F.state files.new) (W.state fabric.new)) result }
     ensures near { IsTrue (F.state files.old).told → IfErr result (IsNearCommand ((F.state files.old).named schedule.now) (F.state files.new).place) }
+    ensures opens { OpensOnce (W.state fabric.old) (W.state fabric.new) result }
 {
     match replay_code(alloc, loaded, files, schedule, fabric) {
         Ok(outputs) => Ok(outputs),
