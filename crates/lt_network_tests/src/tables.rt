@@ -50,32 +50,6 @@ fn in_memory<'a>(alloc: Global, setup: &'a str, schedule: &'a str) -> Result<Mem
     Ok(MemFiles::new(files, List::new(alloc)))
 }
 
-// The program on its nodes.
-fn loaded(alloc: Global, setup: &str) -> Result<Loaded, Memory> {
-    let mut files = in_memory(alloc, setup, "")?;
-    match load(alloc, &mut files, "p", "i", Some("c")) {
-        Ok(loaded) => Ok(loaded),
-        Err(_) => Err(Memory),
-    }
-}
-
-// What it shows at the end of the schedule.
-fn printed(
-    alloc: Global,
-    loaded: &Loaded,
-    setup: &str,
-    schedule: &str,
-) -> Result<Printed<TableMachine>, Memory> {
-    loaded.kept();
-    let machines = table_machines(alloc, &loaded.layout, loaded.inputs.rows())?;
-    let mut files = in_memory(alloc, setup, schedule)?;
-    let mut fabric = MemFabric::new(alloc, List::new(alloc));
-    match replay(alloc, loaded, &mut files, "s", &mut fabric, machines) {
-        Ok(printed) => Ok(printed),
-        Err(_) => Err(Memory),
-    }
-}
-
 // The cells of all outputs, one output behind the other, each with an absence at its end.
 fn cells_of(alloc: Global, printed: &Printed<TableMachine>) -> Result<Vec<Cell>, Memory> {
     let mut cells = Vec::new(alloc);
@@ -86,16 +60,9 @@ fn cells_of(alloc: Global, printed: &Printed<TableMachine>) -> Result<Vec<Cell>,
     Ok(cells)
 }
 
-// What is shown of a program on its nodes at the end of a schedule.
-fn replayed(alloc: Global, setup: &str, schedule: &str) -> Result<Printed<TableMachine>, Memory> {
-    let loaded = loaded(alloc, setup)?;
-    printed(alloc, &loaded, setup, schedule)
-}
-
-// The cells of all outputs at the end of a schedule, and its horizon.
-fn shown(alloc: Global, setup: &str, schedule: &str) -> Result<String, Memory> {
-    let printed = replayed(alloc, setup, schedule)?;
-    let cells = cells_of(alloc, &printed)?;
+// The cells of all outputs, and the horizon.
+fn text_of_printed(alloc: Global, printed: &Printed<TableMachine>) -> Result<String, Memory> {
+    let cells = cells_of(alloc, printed)?;
     text_of(alloc, cells.as_slice(), printed.horizon)
 }
 
@@ -103,6 +70,27 @@ fn text_of(alloc: Global, cells: &[Cell], horizon: u64) -> Result<String, Memory
     let mut text = String::new(alloc);
     write!(text, "{cells:?} {horizon}")?;
     Ok(text)
+}
+
+// What a program on its nodes shows at the end of the schedule.
+fn shown_of(alloc: Global, loaded: &Loaded, setup: &str, schedule: &str) -> Result<String, Memory> {
+    loaded.kept();
+    let machines = table_machines(alloc, &loaded.layout, loaded.inputs.rows())?;
+    let mut files = in_memory(alloc, setup, schedule)?;
+    let mut fabric = MemFabric::new(alloc, List::new(alloc));
+    match replay(alloc, loaded, &mut files, "s", &mut fabric, machines) {
+        Ok(printed) => text_of_printed(alloc, &printed),
+        Err(_) => Err(Memory),
+    }
+}
+
+// What the program shows with this setup at the end of this schedule.
+fn shown(alloc: Global, setup: &str, schedule: &str) -> Result<String, Memory> {
+    let mut files = in_memory(alloc, setup, "")?;
+    match load(alloc, &mut files, "p", "i", Some("c")) {
+        Ok(loaded) => shown_of(alloc, &loaded, setup, schedule),
+        Err(_) => Err(Memory),
+    }
 }
 
 // Stops where something else is shown.
