@@ -257,6 +257,25 @@ pub(crate) fn replay_whole<F: Files, W: Fabric>(
     ensures { HasOutputs loaded schedule.now (F.state files.old) (F.state files.new) (W.state fabric.old) (W.state fabric.new) result }
 {
     let machines = code_machines(alloc, &loaded, imp)?;
+    let printed = replay_given(alloc, loaded, files, schedule, fabric, machines)?;
+    Ok(printed.shown())
+}
+
+// The same by these machines.
+fn replay_given<F: Files, W: Fabric, M: Machine>(
+    alloc: Global,
+    loaded: Loaded,
+    files: &mut F,
+    schedule: &str,
+    fabric: &mut W,
+    machines: Vec<M>,
+) -> Result<Printed<M>, Or<RunFault>>
+    requires count { (F.state files.old).faults < 2 ^ 64 - 1 }
+    requires link_count { (W.state fabric.old).faults < 2 ^ 64 - 1 }
+    requires empty { (W.state fabric.old).kinds ≡ [] }
+    requires machines { AreReady M.stands M.made M.left loaded.layout (length loaded.inputs.rows) machines.items }
+    ensures { HasPrinted M.stands M.made loaded schedule.now (F.state files.old) (F.state files.new) (W.state fabric.old) (W.state fabric.new) result }
+{
     loaded.kept();
     let Loaded {
         checked,
@@ -273,8 +292,8 @@ pub(crate) fn replay_whole<F: Files, W: Fabric>(
     };
     let printed = replay_setup(
         alloc, &checked, pace, setup, &inputs, files, schedule, fabric, machines,
-    )?;
+    );
     // The call is nearly over: to take a large tree and its program apart would be a fifth of its time.
     forget(checked);
-    Ok(printed.shown())
+    printed
 }
