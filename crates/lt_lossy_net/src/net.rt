@@ -152,20 +152,22 @@ impl<M: Machine> LossyNet<M> {
     pub fn into_machines(self) -> List<M>
         ensures { result ≡ self.plant.machines }
     {
-        let (machines, _) = self.plant.into_ends();
+        let (machines, _, _) = self.plant.into_ends();
         List::of(machines)
     }
 
-    /// Its machines and the cells of its outputs. No cell is copied.
+    /// Its machines, the cells of its outputs and its layout, of which nothing is copied.
     pub fn into_parts(self, alloc: Global) -> Result<Parts<M>, Memory>
         ensures machines { IfOk result (λ parts. parts.machines ≡ self.plant.machines) }
         ensures cells { IfOk result (λ parts. parts.cells ≡ map (λ track. track.cells) self.plant.tracks) }
+        ensures layout { IfOk result (λ parts. parts.layout ≡ self.plant.layout) }
     {
-        let (machines, tracks) = self.plant.into_ends();
+        let (machines, tracks, layout) = self.plant.into_ends();
         let cells = cells_of(alloc, tracks)?;
         Ok(Parts {
             machines: List::of(machines),
             cells,
+            layout,
         })
     }
 

@@ -106,11 +106,12 @@ pub record KeepsLossyPlay {C M : Type 0} (old new : StoppableLossy C M) (inputs 
   -- the count of a sound fabric stays
   pub steady : IsTrue fabric.sound → fabric'.faults ≡ fabric.faults
 
--- what is taken from a net: the cells of its outputs, its horizon and its machines
+-- what is taken from a net: the cells of its outputs, its horizon, its machines and its layout
 pub record IsTakenFrom {C M : Type 0} (net : LossyNetState C M) (taken : Replayed M) : Type 0 where
   pub cells : taken.cells ≡ map (λ track. track.cells) net.tracks
   pub horizon : net.watch.horizon ≡ Some taken.horizon
   pub machines : taken.machines ≡ net.machines
+  pub layout : taken.layout ≡ net.layout
 
 -- after an answer to a whole file: what is taken from the net, or want of memory; else the fault of the answer
 abbrev pub FinishesBy : {C M : Type 0} → LossyNetState C M → Result (Unit {0}) (Halt LossyOffence) → Result (Replayed M) (Or LossyPlayFault) → Type 0

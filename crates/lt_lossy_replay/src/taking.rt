@@ -9,7 +9,7 @@ use lt_machine::Machine;
 use lt_replay::Replayed;
 use std::alloc::Global;
 
-/// The cells, the horizon and the machines of a net that took an end.
+/// The cells, the horizon, the machines and the layout of a net that took an end.
 pub(crate) fn take<M: Machine>(
     alloc: Global,
     net: LossyNet<M>,
@@ -24,6 +24,7 @@ pub(crate) fn take<M: Machine>(
                 cells: parts.cells,
                 horizon,
                 machines: parts.machines,
+                layout: parts.layout,
             })
         }
         None => unreachable!(),

@@ -4,13 +4,15 @@ ghost use Rattle.std.specs.Prelude.{◌≡◌};
 use crate::plant::Plant;
 use lt_arch::Controller;
 use lt_machine::Machine;
+use lt_place::Layout;
 use lt_plant::Track;
 
 impl<C: Controller, M: Machine> Plant<C, M> {
-    /// Its machines, and the cells of its outputs. The rest is dropped.
-    pub fn into_ends(self) -> (Vec<M>, Vec<Track>)
+    /// Its machines, the cells of its outputs, and its layout. The rest is dropped.
+    pub fn into_ends(self) -> (Vec<M>, Vec<Track>, Layout)
         ensures machines { result.0.items ≡ self.machines }
         ensures tracks { result.1.items ≡ self.tracks }
+        ensures layout { result.2 ≡ self.layout }
     {
         drop((self.timing, self.watch));
         self.bench.into_ends()

@@ -1,6 +1,7 @@
 // What is left of a net.
 
 use lt_base::{Cell, List};
+use lt_place::Layout;
 
 /// What is taken out of a net at its end.
 #[derive(Drop)]
@@ -9,4 +10,6 @@ pub struct Parts<M> {
     pub machines: List<M>,
     /// The cells of each output.
     pub cells: List<List<Cell>>,
+    /// Its layout, as it was given.
+    pub layout: Layout,
 }

@@ -127,14 +127,14 @@ impl<C: Controller, M: Machine> Bench<C, M> {
         self.executed[node as usize] += 1;
     }
 
-    /// Its machines, and the cells of its outputs. The rest is dropped.
-    pub fn into_ends(self) -> (Vec<M>, Vec<Track>)
+    /// Its machines, the cells of its outputs, and its layout. The rest is dropped.
+    pub fn into_ends(self) -> (Vec<M>, Vec<Track>, Layout)
         ensures machines { result.0.items ≡ self.machines }
         ensures tracks { result.1.items ≡ self.tracks }
+        ensures layout { result.2 ≡ self.layout }
     {
-        drop((self.layout, self.shape));
-        drop((self.executed, self.inboxes, self.buffers));
+        drop((self.shape, self.executed, self.inboxes, self.buffers));
         drop((self.routes, self.exits, self.ports));
-        (self.machines, self.tracks)
+        (self.machines, self.tracks, self.layout)
     }
 }

@@ -25,11 +25,12 @@ use Rattle.lt_play.specs.Blamed.{play_blame}
 use Rattle.lt_replay.specs.declared.replayed.Replayed.{Replayed}
 use Rattle.lt_replay.specs.Run.{IsRun, HasSteps}
 
--- what is taken from a net: the cells of its outputs, its horizon and its machines
+-- what is taken from a net: the cells of its outputs, its horizon, its machines and its layout
 pub record IsTaken {C M : Type 0} (net : NetState C M) (taken : Replayed M) : Type 0 where
   pub cells : taken.cells ≡ map (λ track. track.cells) net.tracks
   pub horizon : net.watch.horizon ≡ Some taken.horizon
   pub machines : taken.machines ≡ net.machines
+  pub layout : taken.layout ≡ net.layout
 
 -- a fabric's fault as one of the play
 abbrev pub link_fault : LinkErr → Or PlayFault

@@ -1,5 +1,6 @@
 // What a network along a schedule comes to.
 use lt_base::{Cell, List};
+use lt_place::Layout;
 
 /// What a network has at the end of a schedule.
 #[derive(Drop)]
@@ -10,4 +11,6 @@ pub struct Replayed<M> {
     pub horizon: u64,
     /// The machines of the nodes, as they are after their last steps.
     pub machines: List<M>,
+    /// The layout of the nodes, as it was given.
+    pub layout: Layout,
 }

@@ -6,18 +6,20 @@ use crate::Outputs;
 use crate::outputs::output_names;
 use lt_base::{Cell, Func, List, Memory, Name};
 use lt_machine::StepMachine;
+use lt_place::Layout;
 use lt_replay::Replayed;
 use std::alloc::Global;
 use std::mem::forget;
 
 /// The outputs by name, each with a cell for each instant that its node executed, the horizon of the schedule in ticks, and the
-/// machine of each node, which made a step for each of these instants.
+/// machine of each node, which made a step for each of these instants; and the layout of the nodes.
 #[derive(Drop)]
 pub struct Printed<M> {
     pub names: List<Name>,
     pub cells: List<List<Cell>>,
     pub horizon: u64,
     pub machines: List<M>,
+    pub layout: Layout,
     ghost paired: { length names ≡ length cells },
 }
 
@@ -35,7 +37,7 @@ impl<M: Drop> Printed<M> {
 }
 
 impl Printed<StepMachine> {
-    /// The outputs alone, at the end of a call: the machines are not taken apart.
+    /// The outputs alone, at the end of a call: neither the machines nor the trees of the layout are taken apart.
     pub(crate) fn shown(self) -> Outputs
         ensures names { result.names ≡ self.names }
         ensures cells { result.cells ≡ self.cells }
@@ -44,9 +46,11 @@ impl Printed<StepMachine> {
             names,
             cells,
             machines,
+            layout,
             ..
         } = self;
         forget(machines);
+        forget(layout);
         Outputs { names, cells }
     }
 }
@@ -69,5 +73,6 @@ pub(crate) fn name_outputs<M: Drop>(
         cells: replayed.cells,
         horizon: replayed.horizon,
         machines: replayed.machines,
+        layout: replayed.layout,
     })
 }
