@@ -199,51 +199,38 @@ module _ (k : LoadedPlan) (seed horizon : ℕ) (o o' e : SinkState) where
       } in
       subst (λ (b : Bool). Reports b e' ends) (sym (many_limited (length events) is.many)) (subst (λ (s : SinkState). IsReported (outcome_by true) o s e e' ends) (sym is.unchanged) untaken)
 
--- what was recorded of a loaded plan, seen as its type shows it
-
-module _ (k j : LoadedPlan) (view : k ≡ j) (rows : ℕ) (counted : rows ≡ length k.inputs.rows) (seed horizon : ℕ) (o o' e : SinkState) where
-  abbrev list : ℕ → List Event
-  list n = drawn k.shape k.timing n seed horizon
-
-  recorded_of : (count : ℕ) → IsRecorded k.shape (list rows) o o' count → KeepsSink o o' → IsReported (drawn_outcome j seed horizon) o o' e e status.Ok
-  recorded_of count is keeps =
-      subst (λ (p : LoadedPlan). IsReported (drawn_outcome p seed horizon) o o' e e status.Ok) view
-      (recorded k seed horizon o o' e count (subst (λ (n : ℕ). IsRecorded k.shape (list n) o o' count) counted is) keeps)
-
-  broken_of : IsBroken k.shape (list rows) o o' → KeepsSink o o' → IsReported (drawn_outcome j seed horizon) o o' e e status.Write
-  broken_of is keeps =
-      subst (λ (p : LoadedPlan). IsReported (drawn_outcome p seed horizon) o o' e e status.Write) view
-      (broken k seed horizon o o' e (subst (λ (n : ℕ). IsBroken k.shape (list n) o o') counted is) keeps)
-
-  short_of : TakesFront (text_of k.shape (list rows)) o o' → KeepsSink o o' → IsReported (drawn_outcome j seed horizon) o o' e e status.Memory
-  short_of front keeps =
-      subst (λ (p : LoadedPlan). IsReported (drawn_outcome p seed horizon) o o' e e status.Memory) view
-      (short k seed horizon o o' e (subst (λ (n : ℕ). TakesFront (text_of k.shape (list n)) o o') counted front) keeps)
-
-  refused_of : (e' : SinkState) (refusal : Refusal) (ends : Status) → refusal ≡ Command too_many → IsTooMany (list rows) o o' → Written (refusal_status refusal) (line_of refusal ++ 10 ∷ []) e e' ends
-      → IsReported (drawn_outcome j seed horizon) o o' e e' ends
-  refused_of e' refusal ends same is written =
-      subst (λ (p : LoadedPlan). IsReported (drawn_outcome p seed horizon) o o' e e' ends) view
-      (refused k seed horizon o o' e e' refusal ends same (subst (λ (n : ℕ). IsTooMany (list n) o o') counted is) written)
-
   abbrev ReportsAll : Status → Type 0
-  ReportsAll ends = IsReported (drawn_outcome j seed horizon) o o' e e ends
+  ReportsAll ends = IsReported (drawn_outcome k seed horizon) o o' e e ends
 
   -- the status that is left
   at_status : (s ends : Status) → ReportsAll s → Some s ≡ Some ends → ReportsAll ends
   at_status s ends reports is = let same : s ≡ ends = cc in subst ReportsAll same reports
 
   -- it was written, whole or in part
-  pub recorded_ends : (r : Result ℕ (Or SimFault)) (ends : Status) → Records k.shape (list rows) o o' r → KeepsSink o o' → recorded_status r ≡ Some ends → ReportsAll ends
-  recorded_ends (Ok count) ends records keeps is = at_status status.Ok ends (recorded_of count records keeps) is
-  recorded_ends (Err (Fault sim.Write)) ends records keeps is = at_status status.Write ends (broken_of records keeps) is
+  pub recorded_ends : (r : Result ℕ (Or SimFault)) (ends : Status) → Records k.shape events o o' r → KeepsSink o o' → recorded_status r ≡ Some ends → ReportsAll ends
+  recorded_ends (Ok count) ends records keeps is = at_status status.Ok ends (recorded count records keeps) is
+  recorded_ends (Err (Fault sim.Write)) ends records keeps is = at_status status.Write ends (broken records keeps) is
   recorded_ends (Err (Fault sim.TooMany)) ends records keeps is = absurd (cc)
-  recorded_ends (Err Memory) ends records keeps is = at_status status.Memory ends (short_of records keeps) is
+  recorded_ends (Err Memory) ends records keeps is = at_status status.Memory ends (short records keeps) is
 
   -- it is refused
-  pub refusal_ends : (r : Result ℕ (Or SimFault)) (e' : SinkState) (refusal : Refusal) (ends : Status) → Records k.shape (list rows) o o' r → recorded_status r ≡ None → refusal ≡ Command too_many
-      → Written (refusal_status refusal) (line_of refusal ++ 10 ∷ []) e e' ends → IsReported (drawn_outcome j seed horizon) o o' e e' ends
+  pub refusal_ends : (r : Result ℕ (Or SimFault)) (e' : SinkState) (refusal : Refusal) (ends : Status) → Records k.shape events o o' r → recorded_status r ≡ None → refusal ≡ Command too_many
+      → Written (refusal_status refusal) (line_of refusal ++ 10 ∷ []) e e' ends → IsReported (drawn_outcome k seed horizon) o o' e e' ends
   refusal_ends (Ok count) e' refusal ends records is same written = absurd (cc)
   refusal_ends (Err (Fault sim.Write)) e' refusal ends records is same written = absurd (cc)
-  refusal_ends (Err (Fault sim.TooMany)) e' refusal ends records is same written = refused_of e' refusal ends same records written
+  refusal_ends (Err (Fault sim.TooMany)) e' refusal ends records is same written = refused e' refusal ends same records written
   refusal_ends (Err Memory) e' refusal ends records is same written = absurd (cc)
+
+-- a recording ends a call for want of memory only where it found none
+pub drawn_short : (r : Result ℕ (Or SimFault)) (ends : Status) → recorded_status r ≡ Some ends → ends ≡ status.Memory → r ≡ Err Memory
+drawn_short (Ok count) ends is at = absurd (cc)
+drawn_short (Err (Fault sim.Write)) ends is at = absurd (cc)
+drawn_short (Err (Fault sim.TooMany)) ends is at = absurd (cc)
+drawn_short (Err Memory) ends is at = refl
+
+-- what was recorded of a loaded plan, seen as its type shows it
+pub records_of : (k j : LoadedPlan) → k ≡ j → (rows : ℕ) → rows ≡ length k.inputs.rows → (seed horizon : ℕ) (o o' : SinkState) (r : Result ℕ (Or SimFault))
+    → Records k.shape (drawn k.shape k.timing rows seed horizon) o o' r → Records j.shape (drawn j.shape j.timing (length j.inputs.rows) seed horizon) o o' r
+records_of k j view rows counted seed horizon o o' r records =
+    subst (λ (p : LoadedPlan). Records p.shape (drawn p.shape p.timing (length p.inputs.rows) seed horizon) o o' r) view
+    (subst (λ (n : ℕ). Records k.shape (drawn k.shape k.timing n seed horizon) o o' r) counted records)

@@ -17,4 +17,3 @@ pub mod Audited
 pub mod Performed
 pub mod Texts
 pub mod Asking
-pub mod Missing

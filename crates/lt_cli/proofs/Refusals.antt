@@ -88,6 +88,11 @@ fault_not_write f is =
     let outside = outside_by_status f status.Write (record { program = λ h. cc; setup = λ h. cc; inputs = λ h. cc; schedule = λ h. cc; limit = λ h. cc }) is in
     cc
 
+fault_not_memory : (f : CommandFault) → fault_status f ≡ status.Memory → ⊥
+fault_not_memory f is =
+    let outside = outside_by_status f status.Memory (record { program = λ h. cc; setup = λ h. cc; inputs = λ h. cc; schedule = λ h. cc; limit = λ h. cc }) is in
+    cc
+
 -- no refusal has the status of success
 pub not_ok : (r : Refusal) → refusal_status r ≡ status.Ok → ⊥
 not_ok Words is = cc
@@ -99,6 +104,12 @@ pub not_write : (r : Refusal) → refusal_status r ≡ status.Write → ⊥
 not_write Words is = cc
 not_write (Command f) is = fault_not_write f is
 not_write (Observer f) is = cc
+
+-- nor that of want of memory
+pub not_memory : (r : Refusal) → refusal_status r ≡ status.Memory → ⊥
+not_memory Words is = cc
+not_memory (Command f) is = fault_not_memory f is
+not_memory (Observer f) is = cc
 
 -- a failed call has its own status, and its line
 

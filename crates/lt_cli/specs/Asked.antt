@@ -69,6 +69,19 @@ Finishes (Ok text) out out' err err' ends = Written status.Ok text out out' ends
 Finishes (Err (Fault refusal)) out out' err err' ends = Written (refusal_status refusal) (line_of refusal ++ 10 ∷ []) err err' ends × (out' ≡ out)
 Finishes (Err Memory) out out' err err' ends = (ends ≡ status.Memory) × (out' ≡ out) × (err' ≡ err)
 
+-- whence want of memory may come behind an answer: of `out`, which was to take the text; of `err` or the making of the refusal's line;
+-- or of the answer itself
+abbrev pub IsShort : Result (List ℕ) (Or Refusal) → (out err : Type 0) → Type 0
+IsShort (Ok text) out err = out
+IsShort (Err (Fault refusal)) out err = err
+IsShort (Err Memory) out err = Unit {0}
+
+-- the same behind what was loaded for a schedule that is drawn
+abbrev pub IsDrawnShort : Result LoadedPlan (Or CommandFault) → (out err : Type 0) → Type 0
+IsDrawnShort (Ok k) out err = out ⊎ err
+IsDrawnShort (Err (Fault fault)) out err = err
+IsDrawnShort (Err Memory) out err = Unit {0}
+
 -- what is to be printed of a drawn schedule: its file, or its refusal
 abbrev pub shown_drawing : Result Drawing CommandFault → Result (List ℕ) Refusal
 shown_drawing (Ok d) = Ok (drawing_text d)

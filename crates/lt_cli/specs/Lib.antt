@@ -1,6 +1,5 @@
 pub mod Status
 pub mod Lines
-pub mod ScheduleLines
 pub mod Draws
 pub mod Texts
 pub mod Blamed

@@ -17,13 +17,14 @@ use Rattle.lt_load.specs.declared.fault.What.TheVariants.{ProgramBytes, ConfigBy
 use Rattle.lt_load.specs.declared.fault.CommandFault.{CommandFault}
 use Rattle.lt_load.specs.declared.fault.CommandFault.TheVariants as fault
 use Rattle.lt_texts.specs.Lines.{program_line}
-use Rattle.lt_cli.specs.Lines.{config_line, place_line, timing_line, window_line, inputs_line, observer_line}
+use Rattle.lt_texts.specs.FileLines.{config_line, timing_line, window_line, inputs_line, observer_line}
+use Rattle.lt_texts.specs.ScheduleLines.{row_line, offence_line, lossy_line, node_name, channel_text}
+use Rattle.lt_cli.specs.Lines.{place_line}
 use Rattle.lt_audit.specs.declared.miss.Miss.{Miss}
 use Rattle.lt_inspect.specs.declared.audited.Audited.{Audited}
 use Rattle.lt_sim.specs.File.{file_text}
 use Rattle.lt_watch.specs.declared.watched.Watched.{Watched}
 use Rattle.lt_watch.specs.declared.watched.Watched.TheVariants.{Holds, Fails}
-use Rattle.lt_cli.specs.ScheduleLines.{row_line, offence_line, lossy_line, node_name, channel_text}
 use Rattle.lt_cli.specs.Draws.{Drawing}
 use Rattle.lt_cli.specs.declared.refusal.Refusal.{Refusal}
 use Rattle.lt_cli.specs.declared.refusal.Refusal.TheVariants.{Words, Command, Observer}

@@ -7,6 +7,17 @@ use Rattle.lt_cli.specs.declared.status.Status.{Status}
 use Rattle.lt_cli.specs.declared.status.Status.TheVariants.{Write, Memory}
 use Rattle.lt_cli.specs.Ran.{Took, TookFront, Broke}
 
+-- how much of a text a sink took, by its answer
+abbrev pub TookBy : (text : List ℕ) → (old new : SinkState) → Result (Unit {0}) SinkErr → Type 0
+TookBy text old new (Ok printed) = Took text old new
+TookBy text old new (Err sink.Failed) = Broke text old new
+TookBy text old new (Err sink.Memory) = TookFront text old new
+
+-- a text is printed on a sink, which answers so
+pub record Prints (text : List ℕ) (old new : SinkState) (result : Result (Unit {0}) SinkErr) : Type 0 where
+  pub keeps : KeepsSink old new
+  pub took : TookBy text old new result
+
 -- whole, up to the sink's fault, or up to want of memory
 pub data Reaches (done : Status) (text : List ℕ) (old new : SinkState) (ends : Status) : Type 0 where
   whole : ends ≡ done → Took text old new → Reaches done text old new ends
@@ -17,7 +28,7 @@ pub record Written (done : Status) (text : List ℕ) (old new : SinkState) (ends
   pub keeps : KeepsSink old new
   pub reaches : Reaches done text old new ends
 
--- how a call ends that was to end so, by the answer of the sink that its text was written to
+-- how a call ends that was to end so, by the answer of the sink that its text was printed on
 abbrev pub written_status : (done : Status) → Result (Unit {0}) SinkErr → Status
 written_status done (Ok written) = done
 written_status done (Err sink.Failed) = Write

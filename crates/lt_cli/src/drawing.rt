@@ -1,21 +1,20 @@
 // A drawn schedule, written to `out` as it is drawn.
-ghost use Rattle.std.specs.Prelude.{◌≡◌, ◌<◌, ◌≤◌, ◌-◌, ◌^◌};
+ghost use Rattle.std.specs.Prelude.{◌≡◌, ◌⊎◌, ◌<◌, ◌≤◌, ◌-◌, ◌^◌};
 ghost use Rattle.lt_arch.specs.declared.limits.TheConstants.{GREATEST_TIME};
 ghost use Rattle.lt_cli.specs.Draws.{recorded_status};
-ghost use Rattle.lt_cli.specs.Asked.{FinishesDrawn, IsReported, drawn_outcome};
+ghost use Rattle.lt_cli.specs.Asked.{FinishesDrawn, IsDrawnShort, IsReported, drawn_outcome};
 
+use crate::printer::Printer;
 use crate::top::refuse;
 use crate::{Refusal, Status};
 use lt_base::Or;
-use lt_io::Sink;
 use lt_load::{CommandFault, Loaded};
-use lt_replay::laws::networks_are_sound;
 use lt_rows::RowFault;
-use lt_sim::{SimFault, record};
+use lt_sim::SimFault;
 use std::alloc::Global;
 
-/// Writes the schedule of what was loaded to `out`, or the line of a refusal to `err`. The schedule is not held in memory.
-pub(crate) fn draw<O: Sink, E: Sink>(
+/// Prints the schedule of what was loaded on `out`, or the line of a refusal on `err`.
+pub(crate) fn draw<O: Printer, E: Printer>(
     alloc: Global,
     out: &mut O,
     err: &mut E,
@@ -26,7 +25,8 @@ pub(crate) fn draw<O: Sink, E: Sink>(
     requires horizon { horizon ≤ GREATEST_TIME }
     requires out { (O.state out.old).faults < 2 ^ 64 - 1 }
     requires err { (E.state err.old).faults < 2 ^ 64 - 1 }
-    ensures { FinishesDrawn loaded seed horizon (O.state out.old) (O.state out.new) (E.state err.old) (E.state err.new) result }
+    ensures finishes { FinishesDrawn loaded seed horizon (O.state out.old) (O.state out.new) (E.state err.old) (E.state err.new) result }
+    ensures short { result ≡ Status.Memory → IsDrawnShort loaded O.short E.short }
 {
     match loaded {
         Ok(loaded) => draw_loaded(alloc, out, err, &loaded, seed, horizon),
@@ -35,7 +35,8 @@ pub(crate) fn draw<O: Sink, E: Sink>(
     }
 }
 
-fn draw_loaded<O: Sink, E: Sink>(
+// The same of what was loaded.
+fn draw_loaded<O: Printer, E: Printer>(
     alloc: Global,
     out: &mut O,
     err: &mut E,
@@ -46,20 +47,10 @@ fn draw_loaded<O: Sink, E: Sink>(
     requires horizon { horizon ≤ GREATEST_TIME }
     requires out { (O.state out.old).faults < 2 ^ 64 - 1 }
     requires err { (E.state err.old).faults < 2 ^ 64 - 1 }
-    ensures { IsReported (drawn_outcome loaded.now seed horizon) (O.state out.old) (O.state out.new) (E.state err.old) (E.state err.new) result }
+    ensures reported { IsReported (drawn_outcome loaded.now seed horizon) (O.state out.old) (O.state out.new) (E.state err.old) (E.state err.new) result }
+    ensures short { result ≡ Status.Memory → O.short ⊎ E.short }
 {
-    loaded.kept();
-    networks_are_sound();
-    let recorded = record(
-        alloc,
-        &loaded.shape,
-        &loaded.timing,
-        loaded.inputs.rows(),
-        seed,
-        horizon,
-        out,
-    );
-    match recorded_status(recorded) {
+    match recorded_status(out.print_drawn(alloc, loaded, seed, horizon)) {
         Some(status) => status,
         None => refuse(alloc, err, &too_many()),
     }

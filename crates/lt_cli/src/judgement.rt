@@ -3,12 +3,11 @@ ghost use Rattle.std.specs.Prelude.{◌≡◌, ◌++◌, ◌∷◌, [], IfOk, On
 ghost use Rattle.std.specs.Fmt.{decimal};
 ghost use Rattle.lt_cli.specs.Texts.{audited_text, executes_text, miss_text, watched_text};
 
-use crate::numbers::{append_number, append_size};
-use crate::schedule_line::{append_channel, append_name};
 use lt_arch::Shape;
 use lt_audit::Miss;
 use lt_base::{List, Memory};
 use lt_inspect::Audited;
+use lt_texts::{append_channel, append_count, append_node_name, append_size};
 use lt_watch::Watched;
 use std::alloc::Global;
 
@@ -26,10 +25,17 @@ pub(crate) fn watched_text(alloc: Global, watched: Watched) -> Result<List<u8>, 
 fn numbered(alloc: Global, text: &[u8], number: usize) -> Result<List<u8>, Memory>
     ensures { IfOk result (λ line. line ≡ text.now ++ decimal number ++ 10 ∷ []) }
 {
-    let mut line = List::from_slice(alloc, text)?;
-    append_size(&mut line, number)?;
-    line.extend(b"\n")?;
+    let mut line = List::new(alloc);
+    append_numbered(&mut line, text, number)?;
     Ok(line)
+}
+
+fn append_numbered(line: &mut List<u8>, text: &[u8], number: usize) -> Result<(), Memory>
+    ensures { OnOk result (line.new ≡ line.old ++ text.now ++ decimal number ++ 10 ∷ []) }
+{
+    line.extend(text)?;
+    append_size(line, number)?;
+    line.extend(b"\n")
 }
 
 /// The first event of a schedule at which a node executes with a message too few or too many, or that there is none.
@@ -45,12 +51,20 @@ pub(crate) fn audited_text(alloc: Global, audited: &Audited) -> Result<List<u8>,
 fn miss_text(alloc: Global, shape: &Shape, miss: Miss) -> Result<List<u8>, Memory>
     ensures { IfOk result (λ text. text ≡ miss_text shape.now miss) }
 {
-    let mut text = List::from_slice(alloc, b"event ")?;
-    append_number(&mut text, miss.event)?;
-    text.extend(b": ")?;
-    append_name(&mut text, shape, miss.node)?;
-    append_miss(&mut text, shape, miss)?;
+    let mut text = List::new(alloc);
+    append_event(&mut text, shape, miss)?;
     Ok(text)
+}
+
+// Appends the event at which a node executes with a message too few or too many.
+fn append_event(text: &mut List<u8>, shape: &Shape, miss: Miss) -> Result<(), Memory>
+    ensures { OnOk result (text.new ≡ text.old ++ miss_text shape.now miss) }
+{
+    text.extend(b"event ")?;
+    append_count(text, miss.event)?;
+    text.extend(b": ")?;
+    append_node_name(text, shape, miss.node)?;
+    append_miss(text, shape, miss)
 }
 
 // Appends what is executed, and with how many messages of which channel.
@@ -58,9 +72,9 @@ fn append_miss(text: &mut List<u8>, shape: &Shape, miss: Miss) -> Result<(), Mem
     ensures { OnOk result (text.new ≡ text.old ++ executes_text shape.now miss) }
 {
     text.extend(b" executes ")?;
-    append_number(text, miss.instant)?;
+    append_count(text, miss.instant)?;
     text.extend(b" with ")?;
-    append_number(text, miss.delivered)?;
+    append_count(text, miss.delivered)?;
     text.extend(b" of")?;
     append_channel(text, shape, miss.channel)?;
     text.extend(b"\n")

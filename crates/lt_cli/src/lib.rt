@@ -2,20 +2,15 @@
 #![tactic(auto)]
 
 mod answer;
-mod config_line;
 mod drawing;
-mod inputs_line;
 mod judgement;
-mod numbers;
-mod observer_line;
 mod place_line;
 mod print;
+mod printer;
 mod process;
 mod refusal;
-mod schedule_line;
 mod status;
 mod summary;
-mod timing_line;
 mod top;
 
 pub use process::program;

@@ -1,22 +1,21 @@
 // Why a command is refused.
-ghost use Rattle.std.specs.Prelude.{◌≡◌, IfOk};
+ghost use Rattle.std.specs.Prelude.{◌≡◌, ◌++◌, IfOk, OnOk};
 ghost use Rattle.lt_cli.specs.Commands.{watch_refusal};
+ghost use Rattle.lt_texts.specs.Lines.{program_line};
 ghost use Rattle.lt_cli.specs.Texts.{fault_line, fault_status, inputs_status, limit_line, line_of, program_status, refusal_status, row_status};
 
 use crate::Status;
-use crate::config_line::config_line;
-use crate::inputs_line::inputs_line;
-use crate::observer_line::observer_line;
-use crate::place_line::place_line;
-use crate::schedule_line::{lossy_line, offence_line, row_line};
-use crate::timing_line::{timing_line, window_line};
+use crate::place_line::append_placement;
 use lt_base::{List, Memory};
 use lt_front::ProgramFault;
 use lt_inputs::InputKind;
 use lt_load::{CommandFault, What};
 use lt_past::ObserverFault;
 use lt_rows::RowFault;
-use lt_texts::program_line;
+use lt_texts::{
+    append_config, append_inputs, append_lossy, append_observer, append_offence, append_row,
+    append_timing, append_window, program_line,
+};
 use lt_watch::WatchFault;
 use std::alloc::Global;
 
@@ -47,16 +46,9 @@ impl Refusal {
     pub fn line(&self, alloc: Global) -> Result<List<u8>, Memory>
         ensures { IfOk result (λ line. line ≡ line_of self.now) }
     {
-        match self {
-            Refusal::Words => {
-                List::from_slice(
-                    alloc,
-                    b"words: usage: ltta check P [C] | meaning P I | run P I S [C] | plan C [--horizon H] | sim P I C --seed N --horizon H | big N | watch P I S O [C] | audit P I S C | trace P I S C [--node NAME] [--from T] [--to T]",
-                )
-            }
-            Refusal::Command(fault) => fault_line(alloc, fault),
-            Refusal::Observer(fault) => observer_line(alloc, *fault),
-        }
+        let mut line = List::new(alloc);
+        append_refusal(alloc, &mut line, self)?;
+        Ok(line)
     }
 }
 
@@ -117,46 +109,69 @@ fn row_status(fault: RowFault) -> Status
     }
 }
 
-fn fault_line(alloc: Global, fault: &CommandFault) -> Result<List<u8>, Memory>
-    ensures { IfOk result (λ line. line ≡ fault_line fault.now) }
+// Appends a refusal's line.
+fn append_refusal(alloc: Global, line: &mut List<u8>, refusal: &Refusal) -> Result<(), Memory>
+    ensures { OnOk result (line.new ≡ line.old ++ line_of refusal.now) }
+{
+    match refusal {
+        Refusal::Words => {
+            line.extend(
+                b"words: usage: ltta check P [C] | meaning P I | run P I S [C] | plan C [--horizon H] | sim P I C --seed N --horizon H | big N | watch P I S O [C] | audit P I S C | trace P I S C [--node NAME] [--from T] [--to T]",
+            )
+        }
+        Refusal::Command(fault) => append_fault(alloc, line, fault),
+        Refusal::Observer(fault) => append_observer(line, *fault),
+    }
+}
+
+fn append_fault(alloc: Global, line: &mut List<u8>, fault: &CommandFault) -> Result<(), Memory>
+    ensures { OnOk result (line.new ≡ line.old ++ fault_line fault.now) }
 {
     match fault {
-        CommandFault::Program(fault) => program_line(alloc, fault),
-        CommandFault::Config(fault) => config_line(alloc, fault),
-        CommandFault::Place { fault, main } => place_line(alloc, main, fault),
+        CommandFault::Program(fault) => append_program(alloc, line, fault),
+        CommandFault::Config(fault) => append_config(line, fault),
+        CommandFault::Place { fault, main } => append_placement(line, main, fault),
         CommandFault::Timing {
             fault,
             names,
             mixed,
-        } => timing_line(alloc, *fault, names.as_slice(), *mixed),
-        CommandFault::Window { fault, names } => window_line(alloc, *fault, names.as_slice()),
-        CommandFault::Inputs(fault) => inputs_line(alloc, *fault),
-        CommandFault::TooManyCells => List::from_slice(alloc, b"limit: meaning cells 16000000"),
-        CommandFault::Row { row, fault } => row_line(alloc, *row, *fault),
+        } => append_timing(line, *fault, names.as_slice(), *mixed),
+        CommandFault::Window { fault, names } => append_window(line, *fault, names.as_slice()),
+        CommandFault::Inputs(fault) => append_inputs(line, *fault),
+        CommandFault::TooManyCells => line.extend(b"limit: meaning cells 16000000"),
+        CommandFault::Row { row, fault } => append_row(line, *row, *fault),
         CommandFault::Offence {
             event,
             offence,
             shape,
-        } => offence_line(alloc, shape, *event, *offence),
+        } => append_offence(line, shape, *event, *offence),
         CommandFault::Lossy {
             event,
             offence,
             shape,
-        } => lossy_line(alloc, shape, *event, *offence),
-        CommandFault::Limit(what) => limit_line(alloc, *what),
-        CommandFault::Read => List::from_slice(alloc, b"fault: read"),
-        CommandFault::Link => List::from_slice(alloc, b"fault: link"),
+        } => append_lossy(line, shape, *event, *offence),
+        CommandFault::Limit(what) => append_limit(line, *what),
+        CommandFault::Read => line.extend(b"fault: read"),
+        CommandFault::Link => line.extend(b"fault: link"),
     }
 }
 
-fn limit_line(alloc: Global, what: What) -> Result<List<u8>, Memory>
-    ensures { IfOk result (λ line. line ≡ limit_line what) }
+// Appends the line of a program's fault.
+fn append_program(alloc: Global, line: &mut List<u8>, fault: &ProgramFault) -> Result<(), Memory>
+    ensures { OnOk result (line.new ≡ line.old ++ program_line fault.now) }
+{
+    let text = program_line(alloc, fault)?;
+    line.extend(text.as_slice())
+}
+
+fn append_limit(line: &mut List<u8>, what: What) -> Result<(), Memory>
+    ensures { OnOk result (line.new ≡ line.old ++ limit_line what) }
 {
     match what {
-        What::ProgramBytes => List::from_slice(alloc, b"limit: program bytes 1048576"),
-        What::ConfigBytes => List::from_slice(alloc, b"limit: config bytes 262144"),
-        What::InputsBytes => List::from_slice(alloc, b"limit: inputs bytes 67108864"),
-        What::ObserverBytes => List::from_slice(alloc, b"limit: observer bytes 65536"),
-        What::ScheduleBytes => List::from_slice(alloc, b"limit: schedule bytes 1073741824"),
+        What::ProgramBytes => line.extend(b"limit: program bytes 1048576"),
+        What::ConfigBytes => line.extend(b"limit: config bytes 262144"),
+        What::InputsBytes => line.extend(b"limit: inputs bytes 67108864"),
+        What::ObserverBytes => line.extend(b"limit: observer bytes 65536"),
+        What::ScheduleBytes => line.extend(b"limit: schedule bytes 1073741824"),
     }
 }

@@ -2,9 +2,9 @@
 ghost use Rattle.std.specs.Prelude.{◌≡◌, ◌++◌, OnOk, IfOk, length, slice_get, ◌-◌};
 ghost use Rattle.lt_cli.specs.Texts.{last_text, summary_line, summary_lines, summary_text};
 
-use crate::numbers::{append_number, append_size};
 use crate::print::append_cell;
 use lt_base::{Cell, List, Memory, Name};
+use lt_texts::{append_count, append_size};
 use std::alloc::Global;
 
 /// The number of instants, and for each output its name, the number of its cells and the last of them.
@@ -17,11 +17,24 @@ pub(crate) fn summary_text(
     requires { length names.now ≡ length cells.now }
     ensures { IfOk result (λ text. text ≡ summary_text instants names.now cells.now) }
 {
-    let mut text = List::from_slice(alloc, b"instants ")?;
-    append_number(&mut text, instants)?;
-    text.extend(b"\n")?;
-    append_lines(&mut text, names, cells)?;
+    let mut text = List::new(alloc);
+    append_summary(&mut text, instants, names, cells)?;
     Ok(text)
+}
+
+fn append_summary(
+    text: &mut List<u8>,
+    instants: u32,
+    names: &[Name],
+    cells: &[List<Cell>],
+) -> Result<(), Memory>
+    requires { length names.now ≡ length cells.now }
+    ensures { OnOk result (text.new ≡ text.old ++ summary_text instants names.now cells.now) }
+{
+    text.extend(b"instants ")?;
+    append_count(text, instants)?;
+    text.extend(b"\n")?;
+    append_lines(text, names, cells)
 }
 
 fn append_lines(text: &mut List<u8>, names: &[Name], cells: &[List<Cell>]) -> Result<(), Memory>

@@ -1,10 +1,10 @@
 // The top call.
-ghost use Rattle.std.specs.Prelude.{◌≡◌, ◌<◌, ◌-◌, ◌^◌, ◌++◌, ◌∷◌, [], IfOk, map, string_bytes};
+ghost use Rattle.std.specs.Prelude.{◌≡◌, ◌<◌, ◌-◌, ◌^◌, ◌++◌, ◌∷◌, [], map, string_bytes};
 ghost use Rattle.lt_cli.specs.Clauses.{Performs};
 ghost use Rattle.lt_cli.specs.Objects.{Objects};
 ghost use Rattle.lt_words.specs.Reading.{said_of};
 ghost use Rattle.lt_words.specs.Ranges.{HasRanges};
-ghost use Rattle.lt_cli.specs.Asked.{Asked, Finishes, ObeysCommand};
+ghost use Rattle.lt_cli.specs.Asked.{Asked, Finishes, IsShort, ObeysCommand};
 ghost use Rattle.lt_cli.specs.Texts.{refusal_status, line_of};
 ghost use Rattle.lt_cli.specs.Written.{Written, written_status};
 
@@ -13,9 +13,10 @@ use crate::answer::{
     watch_answer,
 };
 use crate::drawing::draw;
+use crate::printer::Printer;
 use crate::{Refusal, Status};
-use lt_base::{List, Memory, Or};
-use lt_io::{Fabric, Files, Sink, SinkErr, write_all};
+use lt_base::{List, Or};
+use lt_io::{Fabric, Files, Sink, SinkErr};
 use lt_load::load_plain;
 use lt_words::{Command, read_words};
 use std::alloc::Global;
@@ -160,8 +161,8 @@ fn obey<F: Files, W: Fabric, O: Sink, E: Sink>(
     }
 }
 
-// Writes an answer's text to `out`, or the line of its refusal to `err`.
-fn finish<O: Sink, E: Sink>(
+// Prints an answer's text on `out`, or the line of its refusal on `err`.
+fn finish<O: Printer, E: Printer>(
     alloc: Global,
     out: &mut O,
     err: &mut E,
@@ -169,51 +170,36 @@ fn finish<O: Sink, E: Sink>(
 ) -> Status
     requires out { (O.state out.old).faults < 2 ^ 64 - 1 }
     requires err { (E.state err.old).faults < 2 ^ 64 - 1 }
-    ensures { Finishes answer (O.state out.old) (O.state out.new) (E.state err.old) (E.state err.new) result }
+    ensures finishes { Finishes answer (O.state out.old) (O.state out.new) (E.state err.old) (E.state err.new) result }
+    ensures short { result ≡ Status.Memory → IsShort answer O.short E.short }
 {
     match answer {
-        Ok(text) => write(out, &text, Status::Ok),
+        Ok(text) => {
+            let printed = out.print_text(&text);
+            ended(Status::Ok, printed)
+        }
         Err(Or::Fault(refusal)) => refuse(alloc, err, &refusal),
         Err(Or::Memory) => Status::Memory,
     }
 }
 
-// Writes a text, behind which the call ends so.
-fn write<S: Sink>(sink: &mut S, text: &List<u8>, done: Status) -> Status
-    requires { (S.state sink.old).faults < 2 ^ 64 - 1 }
-    ensures { Written done text.now (S.state sink.old) (S.state sink.new) result }
+// How a call ends that was to end so, by how its text was printed.
+fn ended(done: Status, printed: Result<(), SinkErr>) -> Status
+    ensures { result ≡ written_status done printed }
 {
-    let written = write_all(sink, text.as_slice());
-    ended(done, written)
-}
-
-// How a call ends that was to end so, by how its text was written.
-fn ended(done: Status, written: Result<(), SinkErr>) -> Status
-    ensures { result ≡ written_status done written }
-{
-    match written {
+    match printed {
         Ok(()) => done,
         Err(SinkErr::Failed) => Status::Write,
         Err(SinkErr::Memory) => Status::Memory,
     }
 }
 
-/// Writes a refusal's line to `err`.
-pub(crate) fn refuse<E: Sink>(alloc: Global, err: &mut E, refusal: &Refusal) -> Status
+/// Prints a refusal's line on `err`.
+pub(crate) fn refuse<E: Printer>(alloc: Global, err: &mut E, refusal: &Refusal) -> Status
     requires { (E.state err.old).faults < 2 ^ 64 - 1 }
-    ensures { Written (refusal_status refusal.now) (line_of refusal.now ++ 10 ∷ []) (E.state err.old) (E.state err.new) result }
+    ensures written { Written (refusal_status refusal.now) (line_of refusal.now ++ 10 ∷ []) (E.state err.old) (E.state err.new) result }
+    ensures short { result ≡ Status.Memory → E.short }
 {
-    let Ok(line) = whole_line(alloc, refusal) else {
-        return Status::Memory;
-    };
-    write(err, &line, refusal.status())
-}
-
-// The refusal's line with its line feed.
-fn whole_line(alloc: Global, refusal: &Refusal) -> Result<List<u8>, Memory>
-    ensures { IfOk result (λ line. line ≡ line_of refusal.now ++ 10 ∷ []) }
-{
-    let mut line = refusal.line(alloc)?;
-    line.extend(b"\n")?;
-    Ok(line)
+    let printed = err.print_line(alloc, refusal);
+    ended(refusal.status(), printed)
 }

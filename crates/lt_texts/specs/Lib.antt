@@ -1,3 +1,5 @@
 pub mod Words
 pub mod Names
 pub mod Lines
+pub mod FileLines
+pub mod ScheduleLines

@@ -10,7 +10,7 @@ returns-in-Ok-Some g c =
 
 pub returns-in-Ok-None : goal.returns-in-Ok-None
 returns-in-Ok-None g c =
-    none_asked (map string_bytes c.args.words.now) c.in-Ok-None.field-0 c.in-Ok-None.ensures.said c.in-Ok-None.field-0-is (world (g.F.Files.state c.args.files.now) (g.W.Fabric.state c.args.fabric.now)) _ _ _ _ c.refuse.ensures
+    none_asked (map string_bytes c.args.words.now) c.in-Ok-None.field-0 c.in-Ok-None.ensures.said c.in-Ok-None.field-0-is (world (g.F.Files.state c.args.files.now) (g.W.Fabric.state c.args.fabric.now)) _ _ _ _ c.refuse.ensures.written
 
 pub returns-in-Err : goal.returns-in-Err
 returns-in-Err g c = not_read (map string_bytes c.args.words.now) (world (g.F.Files.state c.args.files.now) (g.W.Fabric.state c.args.fabric.now)) _ _

@@ -1,24 +1,22 @@
 // The line of refused inputs.
-ghost use Rattle.std.specs.Prelude.{◌≡◌, IfOk};
-ghost use Rattle.lt_cli.specs.Lines.{inputs_kind_text, inputs_line};
+ghost use Rattle.std.specs.Prelude.{◌≡◌, ◌++◌, OnOk};
+ghost use Rattle.lt_texts.specs.FileLines.{inputs_kind_text, inputs_line};
 
-use crate::numbers::append_number;
+use crate::numbers::append_count;
 use lt_base::{List, Memory};
 use lt_inputs::{InputFault, InputKind};
-use std::alloc::Global;
 
-/// The line of a row that is none, or of too many, without a line feed.
-pub(crate) fn inputs_line(alloc: Global, fault: InputFault) -> Result<List<u8>, Memory>
-    ensures { IfOk result (λ line. line ≡ inputs_line fault) }
+/// Appends the line of a row that is none, or of too many, without a line feed.
+pub fn append_inputs(line: &mut List<u8>, fault: InputFault) -> Result<(), Memory>
+    ensures { OnOk result (line.new ≡ line.old ++ inputs_line fault) }
 {
     if matches!(fault.kind, InputKind::TooMany) {
-        return List::from_slice(alloc, b"limit: input rows 100000");
+        return line.extend(b"limit: input rows 100000");
     }
-    let mut line = List::from_slice(alloc, b"inputs ")?;
+    line.extend(b"inputs ")?;
     line.extend(kind_text(fault.kind).as_bytes())?;
     line.extend(b" at row ")?;
-    append_number(&mut line, fault.row)?;
-    Ok(line)
+    append_count(line, fault.row)
 }
 
 // A kind's number and name.

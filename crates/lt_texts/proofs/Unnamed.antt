@@ -2,7 +2,7 @@
 use Rattle.std.proofs.Common.{◌≡◌, ◌∙◌, ℕ, ◌≤◌, List, ◌++◌, length, sym, ap, append-nil}
 use Rattle.std.proofs.lemmas.Option.{slice_get_past}
 use Rattle.lt_arch.specs.declared.shape.Shape.{Shape}
-use Rattle.lt_cli.specs.ScheduleLines.{node_name, channel_text, name_or_none, ends_or_none}
+use Rattle.lt_texts.specs.ScheduleLines.{node_name, channel_text, name_or_none, ends_or_none}
 
 pub no_node : (line : List ℕ) (s : Shape) (n : ℕ) → length s.nodes ≤ n → line ≡ line ++ node_name s n
 no_node line s n past = sym (append-nil line) ∙ ap (λ o. line ++ name_or_none o) (sym (slice_get_past s.nodes n past))

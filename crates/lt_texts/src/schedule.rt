@@ -1,27 +1,26 @@
 // The line of a refused schedule.
-ghost use Rattle.std.specs.Prelude.{◌≡◌, ◌++◌, IfOk, OnOk};
+ghost use Rattle.std.specs.Prelude.{◌≡◌, ◌++◌, codes, OnOk};
+ghost use Rattle.std.specs.Fmt.{decimal};
 ghost use Rattle.lt_lossy.specs.declared.event.LossyOffence.TheVariants.{TooManyLost};
-ghost use Rattle.lt_cli.specs.ScheduleLines.{row_kind_text, row_line, offence_name, place_text, offence_line, lossy_line, node_text, node_name, channel_text, ends_text};
+ghost use Rattle.lt_texts.specs.ScheduleLines.{row_kind_text, row_line, offence_name, place_text, offence_line, lossy_line, node_text, node_name, channel_text, ends_text};
 
-use crate::numbers::append_number;
+use crate::numbers::append_count;
 use lt_arch::{Chan, ChanKind, Offence, Shape};
 use lt_base::{List, Memory};
 use lt_lossy::LossyOffence;
 use lt_rows::RowFault;
-use std::alloc::Global;
 
-/// The line of a row that is no event, or of too many, without a line feed.
-pub(crate) fn row_line(alloc: Global, row: u32, fault: RowFault) -> Result<List<u8>, Memory>
-    ensures { IfOk result (λ line. line ≡ row_line row fault) }
+/// Appends the line of a row that is no event, or of too many, without a line feed.
+pub fn append_row(line: &mut List<u8>, row: u32, fault: RowFault) -> Result<(), Memory>
+    ensures { OnOk result (line.new ≡ line.old ++ row_line row fault) }
 {
     if matches!(fault, RowFault::TooMany) {
-        return List::from_slice(alloc, b"limit: events 5000000");
+        return line.extend(b"limit: events 5000000");
     }
-    let mut line = List::from_slice(alloc, b"schedule ")?;
+    line.extend(b"schedule ")?;
     line.extend(row_kind(fault).as_bytes())?;
     line.extend(b" at row ")?;
-    append_number(&mut line, row)?;
-    Ok(line)
+    append_count(line, row)
 }
 
 // A kind's number and name.
@@ -38,47 +37,55 @@ fn row_kind(fault: RowFault) -> &'static str
     }
 }
 
-/// The line of an offence under this shape, without a line feed.
-pub(crate) fn offence_line(
-    alloc: Global,
+/// Appends the line of an offence under this shape, without a line feed.
+pub fn append_offence(
+    line: &mut List<u8>,
     shape: &Shape,
     event: u32,
     offence: Offence,
-) -> Result<List<u8>, Memory>
-    ensures { IfOk result (λ line. line ≡ offence_line shape.now event offence) }
+) -> Result<(), Memory>
+    ensures { OnOk result (line.new ≡ line.old ++ offence_line shape.now event offence) }
 {
-    let mut line = List::from_slice(alloc, b"schedule offence at event ")?;
-    append_number(&mut line, event)?;
-    line.extend(b": ")?;
-    line.extend(offence_name(offence).as_bytes())?;
-    append_place(&mut line, shape, offence)?;
-    Ok(line)
+    append_event(line, event)?;
+    append_named(line, shape, offence)
 }
 
 /// The same where links lose messages.
-pub(crate) fn lossy_line(
-    alloc: Global,
+pub fn append_lossy(
+    line: &mut List<u8>,
     shape: &Shape,
     event: u32,
     offence: LossyOffence,
-) -> Result<List<u8>, Memory>
-    ensures { IfOk result (λ line. line ≡ lossy_line shape.now event offence) }
+) -> Result<(), Memory>
+    ensures { OnOk result (line.new ≡ line.old ++ lossy_line shape.now event offence) }
 {
     match offence {
-        LossyOffence::Common(offence) => offence_line(alloc, shape, event, offence),
-        LossyOffence::TooManyLost(channel) => too_many_line(alloc, shape, event, channel),
+        LossyOffence::Common(offence) => append_offence(line, shape, event, offence),
+        LossyOffence::TooManyLost(channel) => append_too_many(line, shape, event, channel),
     }
 }
 
-// The line of one loss too many.
-fn too_many_line(alloc: Global, shape: &Shape, event: u32, channel: u32) -> Result<List<u8>, Memory>
-    ensures { IfOk result (λ line. line ≡ lossy_line shape.now event (TooManyLost channel)) }
+// Appends the line of one loss too many.
+fn append_too_many(
+    line: &mut List<u8>,
+    shape: &Shape,
+    event: u32,
+    channel: u32,
+) -> Result<(), Memory>
+    ensures { OnOk result (line.new ≡ line.old ++ lossy_line shape.now event (TooManyLost channel)) }
 {
-    let mut line = List::from_slice(alloc, b"schedule offence at event ")?;
-    append_number(&mut line, event)?;
-    line.extend(b": TooManyLost")?;
-    append_channel(&mut line, shape, channel)?;
-    Ok(line)
+    append_event(line, event)?;
+    line.extend(b"TooManyLost")?;
+    append_channel(line, shape, channel)
+}
+
+// Appends the number of a refused event.
+fn append_event(line: &mut List<u8>, event: u32) -> Result<(), Memory>
+    ensures { OnOk result (line.new ≡ line.old ++ codes "schedule offence at event " ++ decimal event ++ codes ": ") }
+{
+    line.extend(b"schedule offence at event ")?;
+    append_count(line, event)?;
+    line.extend(b": ")
 }
 
 fn offence_name(offence: Offence) -> &'static str
@@ -94,6 +101,14 @@ fn offence_name(offence: Offence) -> &'static str
         Offence::TooEarly(_) => "TooEarly",
         Offence::NoEnd => "NoEnd",
     }
+}
+
+// Appends the offence's name, and its node or channel, if it has one.
+fn append_named(line: &mut List<u8>, shape: &Shape, offence: Offence) -> Result<(), Memory>
+    ensures { OnOk result (line.new ≡ line.old ++ offence_name offence ++ place_text shape.now offence) }
+{
+    line.extend(offence_name(offence).as_bytes())?;
+    append_place(line, shape, offence)
 }
 
 // Appends a space and the offence's node or channel, if it has one.
@@ -117,11 +132,11 @@ fn append_node(line: &mut List<u8>, shape: &Shape, node: u32) -> Result<(), Memo
     ensures { OnOk result (line.new ≡ line.old ++ node_text shape.now node) }
 {
     line.extend(b" ")?;
-    append_name(line, shape, node)
+    append_node_name(line, shape, node)
 }
 
 /// Appends a node's name.
-pub(crate) fn append_name(line: &mut List<u8>, shape: &Shape, node: u32) -> Result<(), Memory>
+pub fn append_node_name(line: &mut List<u8>, shape: &Shape, node: u32) -> Result<(), Memory>
     ensures { OnOk result (line.new ≡ line.old ++ node_name shape.now node) }
 {
     match shape.nodes.as_slice().get(node as usize) {
@@ -131,7 +146,7 @@ pub(crate) fn append_name(line: &mut List<u8>, shape: &Shape, node: u32) -> Resu
 }
 
 /// Appends a space, the channel's kind, a space and its ends.
-pub(crate) fn append_channel(line: &mut List<u8>, shape: &Shape, channel: u32) -> Result<(), Memory>
+pub fn append_channel(line: &mut List<u8>, shape: &Shape, channel: u32) -> Result<(), Memory>
     ensures { OnOk result (line.new ≡ line.old ++ channel_text shape.now channel) }
 {
     match shape.channels.as_slice().get(channel as usize) {
@@ -147,7 +162,7 @@ fn append_ends(line: &mut List<u8>, shape: &Shape, channel: Chan) -> Result<(), 
         ChanKind::Data => line.extend(b" data ")?,
         ChanKind::Ack => line.extend(b" ack ")?,
     }
-    append_name(line, shape, channel.from)?;
+    append_node_name(line, shape, channel.from)?;
     line.extend(b">")?;
-    append_name(line, shape, channel.to)
+    append_node_name(line, shape, channel.to)
 }

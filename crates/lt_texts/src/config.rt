@@ -1,23 +1,21 @@
 // The line of a refused setup.
-ghost use Rattle.std.specs.Prelude.{◌≡◌, IfOk};
-ghost use Rattle.lt_cli.specs.Lines.{config_kind_text, config_line};
+ghost use Rattle.std.specs.Prelude.{◌≡◌, ◌++◌, OnOk};
+ghost use Rattle.lt_texts.specs.FileLines.{config_kind_text, config_line};
 
 use lt_base::{List, Memory};
 use lt_config::{ConfigFault, ConfigKind};
-use std::alloc::Global;
 
-/// The line of a refused setup, without a line feed. The key stands in it as it is.
-pub(crate) fn config_line(alloc: Global, fault: &ConfigFault) -> Result<List<u8>, Memory>
-    ensures { IfOk result (λ line. line ≡ config_line fault.now) }
+/// Appends the line of a refused setup, without a line feed. The key stands in it as it is.
+pub fn append_config(line: &mut List<u8>, fault: &ConfigFault) -> Result<(), Memory>
+    ensures { OnOk result (line.new ≡ line.old ++ config_line fault.now) }
 {
     if matches!(fault.kind, ConfigKind::NotToml) {
-        return List::from_slice(alloc, b"config 1 NotToml");
+        return line.extend(b"config 1 NotToml");
     }
-    let mut line = List::from_slice(alloc, b"config ")?;
+    line.extend(b"config ")?;
     line.extend(kind_text(fault.kind).as_bytes())?;
     line.extend(b": ")?;
-    line.extend(fault.key.as_str().as_bytes())?;
-    Ok(line)
+    line.extend(fault.key.as_str().as_bytes())
 }
 
 // A kind's number and name.

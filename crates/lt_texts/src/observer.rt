@@ -1,21 +1,19 @@
 // The line of a refused observer.
-ghost use Rattle.std.specs.Prelude.{◌≡◌, IfOk};
-ghost use Rattle.lt_cli.specs.Lines.{observer_kind_text, observer_line};
+ghost use Rattle.std.specs.Prelude.{◌≡◌, ◌++◌, OnOk};
+ghost use Rattle.lt_texts.specs.FileLines.{observer_kind_text, observer_line};
 
 use crate::numbers::append_size;
 use lt_base::{List, Memory};
 use lt_past::{ObserverFault, ObserverKind};
-use std::alloc::Global;
 
-/// The line of a refused observer, without a line feed.
-pub(crate) fn observer_line(alloc: Global, fault: ObserverFault) -> Result<List<u8>, Memory>
-    ensures { IfOk result (λ line. line ≡ observer_line fault) }
+/// Appends the line of a refused observer, without a line feed.
+pub fn append_observer(line: &mut List<u8>, fault: ObserverFault) -> Result<(), Memory>
+    ensures { OnOk result (line.new ≡ line.old ++ observer_line fault) }
 {
-    let mut line = List::from_slice(alloc, b"observer ")?;
+    line.extend(b"observer ")?;
     line.extend(kind_text(fault.kind).as_bytes())?;
     line.extend(b" at byte ")?;
-    append_size(&mut line, fault.at)?;
-    Ok(line)
+    append_size(line, fault.at)
 }
 
 // A kind's number and name.

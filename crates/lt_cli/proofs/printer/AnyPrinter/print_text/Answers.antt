@@ -1,0 +1,5 @@
+use Rattle.lt_cli.proofs.Sinks.{printed_as}
+use Rattle.lt_cli.proofs.printer.AnyPrinter.print_text.Goals as goal
+
+pub returns-clause-prints : goal.returns-clause-prints
+returns-clause-prints g c = let writes = c.write_all.ensures in printed_as _ _ c.as_slice.ensures _ _ c.write_all.result writes.keeps writes.cause writes.taken
