@@ -1,5 +1,6 @@
 // What was loaded, along a schedule in memory.
 ghost use Rattle.std.specs.Prelude.{◌≡◌, ◌<◌, ◌-◌, ◌^◌, []};
+ghost use Rattle.lt_io.specs.FabricState.{OpensOnce};
 ghost use Rattle.lt_big.specs.Stage.{AnsweredAlone, along_bytes};
 
 use crate::loading::{file, held};
@@ -18,7 +19,8 @@ pub(crate) fn play<W: Fabric>(
 ) -> Result<Outputs, Or<CommandFault>>
     requires count { (W.state fabric.old).faults < 2 ^ 64 - 1 }
     requires empty { (W.state fabric.old).kinds ≡ [] }
-    ensures { AnsweredAlone (along_bytes schedule (W.state fabric.new) loaded.now) (W.state fabric.old) (W.state fabric.new) result }
+    ensures answered { AnsweredAlone (along_bytes schedule (W.state fabric.new) loaded.now) (W.state fabric.old) (W.state fabric.new) result }
+    ensures opens { OpensOnce (W.state fabric.old) (W.state fabric.new) result }
 {
     let mut listed = List::new(alloc);
     listed.push(file(alloc, "schedule", schedule)?)?;

@@ -1,5 +1,6 @@
 // A run of the large input.
 ghost use Rattle.std.specs.Prelude.{◌≡◌, ◌<◌, ◌-◌, ◌^◌, []};
+ghost use Rattle.lt_io.specs.FabricState.{OpensOnce};
 ghost use Rattle.lt_config.specs.declared.pace.Pace.TheVariants.{Plain};
 ghost use Rattle.lt_big.specs.Big.{LeavesRefused, big_verdict};
 ghost use Rattle.lt_big.specs.Stage.{AnsweredAlone, LeavesUndrawn, along_list};
@@ -27,6 +28,7 @@ pub fn big<W: Fabric>(
     requires count { (W.state fabric.old).faults < 2 ^ 64 - 1 }
     requires empty { (W.state fabric.old).kinds ≡ [] }
     ensures answered { AnsweredAlone (big_verdict instants (W.state fabric.new)) (W.state fabric.old) (W.state fabric.new) result }
+    ensures opens { OpensOnce (W.state fabric.old) (W.state fabric.new) result }
     ensures untouched { LeavesRefused instants (W.state fabric.old) (W.state fabric.new) }
 {
     let loaded = load(alloc, instants)?;
@@ -44,6 +46,7 @@ fn run<W: Fabric>(
     requires empty { (W.state fabric.old).kinds ≡ [] }
     requires plain { loaded.now.pace ≡ Plain }
     ensures answered { AnsweredAlone (along_list instants (W.state fabric.new) loaded.now) (W.state fabric.old) (W.state fabric.new) result }
+    ensures opens { OpensOnce (W.state fabric.old) (W.state fabric.new) result }
     ensures untouched { LeavesUndrawn instants loaded.now (W.state fabric.old) (W.state fabric.new) }
 {
     let schedule = draw(alloc, loaded, instants)?;

@@ -6,7 +6,7 @@ use Rattle.lt_io.specs.FilesState.{FilesState}
 use Rattle.lt_io.specs.FabricState.{FabricState}
 use Rattle.lt_io.specs.SinkState.{SinkState}
 use Rattle.lt_answer.specs.World.{World}
-use Rattle.lt_answer.proofs.Stages.{refuses, runs_short, calm_itself}
+use Rattle.lt_answer.proofs.Stages.{refuses, runs_short, calm_itself, opens_none}
 use Rattle.lt_words.specs.declared.command.Command.{Command as Spoken}
 use Rattle.lt_words.specs.Reading.{Said, said_of, check, meaning, run, plan, sim, big, watch, audit, trace, command_of}
 use Rattle.lt_cli.specs.declared.refusal.Refusal.TheVariants.{Words}
@@ -25,11 +25,11 @@ leaves_itself : (said : Option Said) (files : FilesState) (w : FabricState) → 
 leaves_itself None files w = refl
 leaves_itself (Some (check program config)) files w = refl
 leaves_itself (Some (meaning program inputs)) files w = refl
-leaves_itself (Some (run program inputs schedule config)) files w = λ told e refused. refl
+leaves_itself (Some (run program inputs schedule config)) files w = (opens_none w, λ told e refused. refl)
 leaves_itself (Some (plan config horizon)) files w = refl
 leaves_itself (Some (sim program inputs config seed horizon)) files w = refl
-leaves_itself (Some (big instants)) files w = λ e refused. refl
-leaves_itself (Some (watch program inputs schedule observer config)) files w = λ told e refused. refl
+leaves_itself (Some (big instants)) files w = (opens_none w, λ e refused. refl)
+leaves_itself (Some (watch program inputs schedule observer config)) files w = (opens_none w, λ told e refused. refl)
 leaves_itself (Some (audit program inputs schedule config)) files w = refl
 leaves_itself (Some (trace program inputs schedule config place from to)) files w = refl
 

@@ -5,7 +5,7 @@ use Rattle.lt_base.specs.declared.memory.Or.TheVariants.{Fault, Memory}
 use Rattle.lt_base.specs.Or.{MapsFault}
 use Rattle.lt_io.specs.Counts.{IsMemory}
 use Rattle.lt_io.specs.Visits.{Errand, Visited}
-use Rattle.lt_io.specs.FabricState.{FabricState}
+use Rattle.lt_io.specs.FabricState.{FabricState, OpensAtMostOnce}
 use Rattle.lt_io.specs.FilesState.{FilesState}
 use Rattle.lt_io.specs.SinkState.{SinkState, KeepsSink}
 use Rattle.lt_answer.specs.World.{World}
@@ -36,16 +36,17 @@ IsOfCommand (Err (Fault (Command fault))) = Unit {0}
 IsOfCommand (Err (Fault (Observer fault))) = Unit {0}
 IsOfCommand (Err Memory) = Unit {0}
 
--- only a run touches the fabric, watched or not, or that of the large input; and only once all that it is of is loaded
+-- only a run touches the fabric, watched or not, or that of the large input; it opens it at most once, and touches it only once all that it is of
+-- is loaded
 abbrev pub LeavesFabric : Option Said → (files : FilesState) → (old new : FabricState) → Type 0
 LeavesFabric None files old new = new ≡ old
 LeavesFabric (Some (check program config)) files old new = new ≡ old
 LeavesFabric (Some (meaning program inputs)) files old new = new ≡ old
-LeavesFabric (Some (run program inputs schedule config)) files old new = LeavesUnloaded files program inputs config old new
+LeavesFabric (Some (run program inputs schedule config)) files old new = OpensAtMostOnce old new × LeavesUnloaded files program inputs config old new
 LeavesFabric (Some (plan config horizon)) files old new = new ≡ old
 LeavesFabric (Some (sim program inputs config seed horizon)) files old new = new ≡ old
-LeavesFabric (Some (big instants)) files old new = LeavesRefused instants old new
-LeavesFabric (Some (watch program inputs schedule observer config)) files old new = LeavesUnwatched files program inputs observer config old new
+LeavesFabric (Some (big instants)) files old new = OpensAtMostOnce old new × LeavesRefused instants old new
+LeavesFabric (Some (watch program inputs schedule observer config)) files old new = OpensAtMostOnce old new × LeavesUnwatched files program inputs observer config old new
 LeavesFabric (Some (audit program inputs schedule config)) files old new = new ≡ old
 LeavesFabric (Some (trace program inputs schedule config place from to)) files old new = new ≡ old
 

@@ -1,5 +1,6 @@
 // What is printed for a command.
 ghost use Rattle.std.specs.Prelude.{◌≡◌, ◌<◌, ◌-◌, ◌^◌, ◌++◌, [], option_map};
+ghost use Rattle.lt_io.specs.FabricState.{OpensOnce};
 ghost use Rattle.lt_io.specs.FilesState.{FilesState};
 ghost use Rattle.lt_answer.specs.World.{alone};
 ghost use Rattle.lt_play.specs.Played.{world};
@@ -140,6 +141,7 @@ pub(crate) fn run_answer<F: Files, W: Fabric>(
     requires empty { (W.state fabric.old).kinds ≡ [] }
     ensures answers { AnswersText printed_text (run_errands program.now inputs.now schedule.now (option_map (λ s. s.now) config.entry)) (run_verdict (F.state files.old).named program.now inputs.now schedule.now (option_map (λ s. s.now) config.entry) (world (F.state files.new) (W.state fabric.new)))
         (world (F.state files.old) (W.state fabric.old)) (world (F.state files.new) (W.state fabric.new)) result }
+    ensures opens { OpensOnce (W.state fabric.old) (W.state fabric.new) result }
     ensures untouched { LeavesUnloaded (F.state files.old) program.now inputs.now (option_map (λ s. s.now) config.entry) (W.state fabric.old) (W.state fabric.new) }
 {
     match run(alloc, files, fabric, program, inputs, schedule, config) {
@@ -185,6 +187,7 @@ pub(crate) fn big_answer<W: Fabric>(
     requires fabric { (W.state fabric.old).faults < 2 ^ 64 - 1 }
     requires empty { (W.state fabric.old).kinds ≡ [] }
     ensures answers { (files : FilesState) → AnswersText (summarized_text instants) [] (big_verdict instants (W.state fabric.new)) (world files (W.state fabric.old)) (world files (W.state fabric.new)) result }
+    ensures opens { OpensOnce (W.state fabric.old) (W.state fabric.new) result }
     ensures untouched { LeavesRefused instants (W.state fabric.old) (W.state fabric.new) }
 {
     match big(alloc, fabric, instants) {
@@ -212,6 +215,7 @@ pub(crate) fn watch_answer<F: Files, W: Fabric>(
     requires empty { (W.state fabric.old).kinds ≡ [] }
     ensures answers { Answers watch_refusal watched_text (watch_errands program.now inputs.now schedule.now observer.now (option_map (λ s. s.now) config.entry)) (watch_verdict (F.state files.old).named program.now inputs.now schedule.now observer.now (option_map (λ s. s.now) config.entry) (world (F.state files.new) (W.state fabric.new)))
         (world (F.state files.old) (W.state fabric.old)) (world (F.state files.new) (W.state fabric.new)) result }
+    ensures opens { OpensOnce (W.state fabric.old) (W.state fabric.new) result }
     ensures untouched { LeavesUnwatched (F.state files.old) program.now inputs.now observer.now (option_map (λ s. s.now) config.entry) (W.state fabric.old) (W.state fabric.new) }
 {
     match watch(

@@ -1,5 +1,6 @@
 // A run that an observer watches.
 ghost use Rattle.std.specs.Prelude.{◌≡◌, ◌++◌, ◌<◌, ◌-◌, ◌^◌, [], option_map};
+ghost use Rattle.lt_io.specs.FabricState.{OpensOnce};
 ghost use Rattle.lt_answer.specs.Answered.{Answered};
 ghost use Rattle.lt_play.specs.Played.{world};
 ghost use Rattle.lt_judge.specs.Errand.{schedule_errand};
@@ -35,6 +36,7 @@ pub fn watch<F: Files, W: Fabric>(
     requires empty { (W.state fabric.old).kinds ≡ [] }
     ensures answered { Answered watch_blame (watch_errands program.now inputs.now schedule.now observer.now (option_map (λ s. s.now) config.entry)) (watch_verdict (F.state files.old).named program.now inputs.now schedule.now observer.now (option_map (λ s. s.now) config.entry) (world (F.state files.new) (W.state fabric.new)))
         (world (F.state files.old) (W.state fabric.old)) (world (F.state files.new) (W.state fabric.new)) result }
+    ensures opens { OpensOnce (W.state fabric.old) (W.state fabric.new) result }
     ensures untouched { LeavesUnwatched (F.state files.old) program.now inputs.now observer.now (option_map (λ s. s.now) config.entry) (W.state fabric.old) (W.state fabric.new) }
 {
     let loaded = load_run(alloc, files, program, inputs, config)?;
@@ -55,6 +57,7 @@ fn watch_loaded<F: Files, W: Fabric>(
     requires empty { (W.state fabric.old).kinds ≡ [] }
     ensures answered { Answered watch_blame (observer_errand observer.now ++ schedule_errand schedule.now) (loaded_watch_verdict (F.state files.old).named schedule.now observer.now (world (F.state files.new) (W.state fabric.new)) loaded.now)
         (world (F.state files.old) (W.state fabric.old)) (world (F.state files.new) (W.state fabric.new)) result }
+    ensures opens { OpensOnce (W.state fabric.old) (W.state fabric.new) result }
     ensures untouched { LeavesUnobserved (F.state files.old) (main_in loaded.now.checked.program) observer.now (W.state fabric.old) (W.state fabric.new) }
 {
     let checked = &loaded.checked;
@@ -74,8 +77,9 @@ fn follow<F: Files, W: Fabric>(
     requires count { (F.state files.old).faults < 2 ^ 64 - 1 }
     requires link_count { (W.state fabric.old).faults < 2 ^ 64 - 1 }
     requires empty { (W.state fabric.old).kinds ≡ [] }
-    ensures { Answered watch_blame (schedule_errand schedule.now) (followed_along ((F.state files.old).named schedule.now) (world (F.state files.new) (W.state fabric.new)) loaded.now observer.now)
+    ensures answered { Answered watch_blame (schedule_errand schedule.now) (followed_along ((F.state files.old).named schedule.now) (world (F.state files.new) (W.state fabric.new)) loaded.now observer.now)
         (world (F.state files.old) (W.state fabric.old)) (world (F.state files.new) (W.state fabric.new)) result }
+    ensures opens { OpensOnce (W.state fabric.old) (W.state fabric.new) result }
 {
     observer.kept();
     let outputs = run_outputs(alloc, files, fabric, loaded, schedule)?;
@@ -93,8 +97,9 @@ fn run_outputs<F: Files, W: Fabric>(
     requires count { (F.state files.old).faults < 2 ^ 64 - 1 }
     requires link_count { (W.state fabric.old).faults < 2 ^ 64 - 1 }
     requires empty { (W.state fabric.old).kinds ≡ [] }
-    ensures { Answered watch_blame (schedule_errand schedule.now) (InCommand (run_along ((F.state files.old).named schedule.now) (world (F.state files.new) (W.state fabric.new)) loaded.now))
+    ensures answered { Answered watch_blame (schedule_errand schedule.now) (InCommand (run_along ((F.state files.old).named schedule.now) (world (F.state files.new) (W.state fabric.new)) loaded.now))
         (world (F.state files.old) (W.state fabric.old)) (world (F.state files.new) (W.state fabric.new)) result }
+    ensures opens { OpensOnce (W.state fabric.old) (W.state fabric.new) result }
 {
     match run_loaded(alloc, files, fabric, loaded, schedule) {
         Ok(outputs) => Ok(outputs),

@@ -6,13 +6,13 @@ use Rattle.lt_play.specs.Played.{world}
 use Rattle.lt_big.proofs.Held.{plays_held}
 use Rattle.lt_big.proofs.playing.play.Goals as goal
 
-pub returns-in_err-file : goal.returns-in_err-file
-returns-in_err-file g c = λ files. runs_short_by (world files (g.W.Fabric.state c.args.fabric.now)) c.from_residual.result c.from_residual.ensures.1
+pub returns-in_err-file-clause-answered : goal.returns-in_err-file-clause-answered
+returns-in_err-file-clause-answered g c = λ files. runs_short_by (world files (g.W.Fabric.state c.args.fabric.now)) c.from_residual.result c.from_residual.ensures.1
 
-pub returns-in_err-push : goal.returns-in_err-push
-returns-in_err-push g c = λ files. runs_short_by (world files (g.W.Fabric.state c.args.fabric.now)) c.from_residual-in_err-push.result c.from_residual-in_err-push.ensures.1
+pub returns-in_err-push-clause-answered : goal.returns-in_err-push-clause-answered
+returns-in_err-push-clause-answered g c = λ files. runs_short_by (world files (g.W.Fabric.state c.args.fabric.now)) c.from_residual-in_err-push.result c.from_residual-in_err-push.ensures.1
 
-pub returns : goal.returns
-returns g c =
+pub returns-clause-answered : goal.returns-clause-answered
+returns-clause-answered g c =
     let one = c.in_ok-push.ensures.ok ∙ ap (λ (fs : List MemFile). fs ++ c.in_ok-file.field-0 ∷ []) c.new-listed.ensures ∙ ap (λ (f : MemFile). f ∷ []) c.in_ok-file.ensures in
     plays_held c.args.schedule _ one (mem_files_state c.held-files.result) (mem_files_state c.run_loaded.new.files) c.held-files.ensures c.args.loaded.now _ _ _ c.run_loaded.ensures.answered

@@ -49,7 +49,7 @@ returns-clause-answered g c =
     let program = ap (λ (t : CheckedText). t.program) c.checked.view_is ∙ ap (λ (k : LoadedPlan). k.checked.program) c.loaded.view_is in
     let main : c.main_of.result.now ≡ main_in c.args.loaded.now.checked.program = c.main_of.ensures ∙ ap main_in program in
     with_observer c.args.schedule.now c.args.observer.now a b fabric c.args.loaded.now (g.F.Files.state c.follow.new.files) (g.W.Fabric.state c.follow.new.fabric) c.in_ok-observer.observer _
-    (subst (λ (f : Function). Answered watch_blame (observer_errand c.args.observer.now) (observer_verdict f (a.named c.args.observer.now)) (alone a) (alone b) (Ok c.in_ok-observer.observer)) main c.in_ok-observer.ensures) c.follow.ensures
+    (subst (λ (f : Function). Answered watch_blame (observer_errand c.args.observer.now) (observer_verdict f (a.named c.args.observer.now)) (alone a) (alone b) (Ok c.in_ok-observer.observer)) main c.in_ok-observer.ensures) c.follow.ensures.answered
 
 pub returns-clause-untouched : goal.returns-clause-untouched
 returns-clause-untouched g c told e refused =
