@@ -1,9 +1,9 @@
 // The line of a refused placement.
-ghost use Rattle.std.specs.Prelude.{◌≡◌, ◌++◌, OnOk};
+ghost use Rattle.std.specs.Prelude.{◌≡◌, ◌++◌, codes, OnOk};
 ghost use Rattle.lt_run.specs.Main.{name_in};
 ghost use Rattle.lt_cli.specs.Lines.{place_line};
 
-use lt_base::{Func, List, Memory};
+use lt_base::{Func, List, Memory, Name};
 use lt_place::PlaceFault;
 
 /// Appends the line of a refused placement, without a line feed. Variables stand in it by the names that this function declares.
@@ -21,23 +21,61 @@ pub(crate) fn append_placement(
         PlaceFault::PlacedTwice { var } => {
             append_variable(line, b"placement 2 PlacedTwice: ", main, *var)
         }
-        PlaceFault::UnknownName { name } => {
-            line.extend(b"placement 3 UnknownName: ")?;
-            line.extend(name.as_str().as_bytes())
-        }
+        PlaceFault::UnknownName { name } => append_unknown(line, name),
         PlaceFault::DirectCross { reader, read } => {
-            append_variable(line, b"placement 4 DirectCross: ", main, *reader)?;
-            append_variable(line, b" reads ", main, *read)
+            append_pair(
+                line,
+                b"placement 4 DirectCross: ",
+                main,
+                *reader,
+                b" reads ",
+                *read,
+            )
         }
         PlaceFault::SlowCross { reader, read } => {
-            append_variable(line, b"placement 5 SlowCross: ", main, *reader)?;
-            append_variable(line, b" reads ", main, *read)
+            append_pair(
+                line,
+                b"placement 5 SlowCross: ",
+                main,
+                *reader,
+                b" reads ",
+                *read,
+            )
         }
         PlaceFault::ClockElsewhere { var, clock_var } => {
-            append_variable(line, b"placement 6 ClockElsewhere: ", main, *var)?;
-            append_variable(line, b" on ", main, *clock_var)
+            append_pair(
+                line,
+                b"placement 6 ClockElsewhere: ",
+                main,
+                *var,
+                b" on ",
+                *clock_var,
+            )
         }
     }
+}
+
+// Appends the line of a name that no variable has.
+fn append_unknown(line: &mut List<u8>, name: &Name) -> Result<(), Memory>
+    ensures { OnOk result (line.new ≡ line.old ++ codes "placement 3 UnknownName: " ++ name.now) }
+{
+    line.extend(b"placement 3 UnknownName: ")?;
+    line.extend(name.as_str().as_bytes())
+}
+
+// Appends two variables' names, each with some text before it.
+fn append_pair(
+    line: &mut List<u8>,
+    head: &[u8],
+    main: &Func,
+    first: u32,
+    between: &[u8],
+    second: u32,
+) -> Result<(), Memory>
+    ensures { OnOk result (line.new ≡ line.old ++ (head.now ++ name_in main.now first ++ between.now ++ name_in main.now second)) }
+{
+    append_variable(line, head, main, first)?;
+    append_variable(line, between, main, second)
 }
 
 // Appends some text, and a variable's name.
