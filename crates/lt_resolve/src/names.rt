@@ -1,5 +1,5 @@
 // Tables of names.
-ghost use Rattle.std.specs.Prelude.{◌≡◌, ◌++◌, ◌∷◌, [], not, Some, IfOk, OnOk, if◌then◌else◌};
+ghost use Rattle.std.specs.Prelude.{◌≡◌, ◌++◌, ◌∷◌, ◌<◌, ◌-◌, ◌^◌, ◌↔◌, [], not, Some, IfOk, IsTrue, OnOk, if◌then◌else◌, length};
 ghost use Rattle.lt_resolve.specs.Names.{number_of, among, if_missing};
 ghost use Rattle.lt_resolve.specs.Told.{NeedsNoMemory, Tells};
 
@@ -42,11 +42,18 @@ impl<'a> Names<'a> {
         ensures fresh { IfOk result (λ fresh. fresh ≡ not (among self.old name.entry.now)) }
         ensures names { OnOk result (self.new ≡ (if among self.old name.entry.now then self.old else self.old ++ name.entry.now ∷ [])) }
     {
-        if self.set.len() >= MOST_NAMES {
+        if !self.has_room() {
             return Err(Memory);
         }
         let (_, fresh) = self.set.insert_full(name)?;
         Ok(fresh)
+    }
+
+    // Whether one more name can have a number of 32 bits.
+    fn has_room(&self) -> bool
+        ensures { IsTrue result ↔ length self.now < 2 ^ 32 - 1 }
+    {
+        self.set.len() < MOST_NAMES
     }
 
     pub fn number(&self, name: &str) -> Option<u32>
