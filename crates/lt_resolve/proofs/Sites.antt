@@ -1,5 +1,5 @@
 -- The calls of a tree.
-use Rattle.std.proofs.Common.{◌≡◌, ℕ, ◌<◌, Bool, false, List, [], ◌∷◌, ◌++◌, length, get_or, drop, map, Option, None, Some, Result, Ok, Err, refl, sym, ap, ◌∙◌, arith}
+use Rattle.std.proofs.Common.{◌≡◌, ℕ, ◌+◌, ◌<◌, ◌≤◌, Bool, false, List, [], ◌∷◌, ◌++◌, length, get_or, drop, map, Option, None, Some, Result, Ok, Err, Box, Global, refl, sym, ap, ◌∙◌, arith, add-one, append-nil, drop-cons}
 use Rattle.std.specs.Prelude.{nat_eq}
 use Rattle.std.specs.Result.{OnOk}
 use Rattle.std.proofs.lemmas.Bool.Decides.{nat_tests}
@@ -7,8 +7,10 @@ use Rattle.std.proofs.lemmas.List.{append_assoc}
 use Rattle.lt_base.specs.declared.memory.Or.{Or}
 use Rattle.lt_base.specs.declared.memory.Or.TheVariants.{Fault, Memory}
 use Rattle.lt_syntax.specs.declared.term.Term.{Term}
+use Rattle.lt_syntax.specs.declared.term.Term.TheVariants.{If, rolls-If}
+use Rattle.lt_syntax.specs.declared.term.Term.TheFolds.{fold-roll-Term}
 use Rattle.lt_syntax.specs.Tree.{Tm, Call, tms}
-use Rattle.lt_syntax.specs.Views.{tm_of}
+use Rattle.lt_syntax.specs.Views.{tm_of, tm_step}
 use Rattle.lt_resolve.specs.declared.fault.NameKind.{NameKind}
 use Rattle.lt_resolve.specs.declared.fault.NameFault.{NameFault}
 use Rattle.lt_resolve.specs.Names.{Name, number_of, first_some}
@@ -16,7 +18,7 @@ use Rattle.lt_resolve.specs.Uses.{Site, count, sites_in, argument_sites}
 use Rattle.lt_resolve.specs.Faults.{Occurrence, unless}
 use Rattle.lt_resolve.specs.Told.{Blames}
 use Rattle.lt_resolve.specs.Checks.{ShowsSite}
-use Rattle.lt_resolve.proofs.Lists.{some_here}
+use Rattle.lt_resolve.proofs.Lists.{drop_whole, some_here}
 
 -- the fault at the first call that fails the test
 pub blames_site : (kind : NameKind) (test : Site → Bool) (ss : List Site) (i : ℕ) (s : Site) (r : Or NameFault) → i < length ss → s ≡ get_or ss i s → first_some (λ c. unless (test c) c) (drop i ss) ≡ first_some (λ c. unless (test c) c) ss → test s ≡ false → ShowsSite kind s r → Blames kind (λ o. o ≡ first_some (λ c. unless (test c) c) ss) r
@@ -54,3 +56,27 @@ module _ (funcs : List Name) (i : ℕ) (f name : Name) (args slice : List Term) 
       ∙ append_assoc old (record { caller = i; name = f; callee = number_of funcs f; arguments = count (tms (map tm_of args)) } ∷ []) (argument_sites funcs i (tms (map tm_of args)))
       ∙ ap (λ u. old ++ sites_in funcs i u) (sym is)
   collected (Err e) old mid new pushed h = tt
+
+-- the calls in a choice are those in its parts
+pub choice_sites : (funcs : List Name) (i : ℕ) (c a b : Box Term Global)
+    → sites_in funcs i (tm_of (If c a b)) ≡ sites_in funcs i (tm_of c.value) ++ (sites_in funcs i (tm_of a.value) ++ sites_in funcs i (tm_of b.value))
+choice_sites funcs i c a b = ap (sites_in funcs i) (ap tm_of (sym (rolls-If c a b)) ∙ fold-roll-Term Tm tm_step _)
+
+-- the calls in two parts, one after the other
+pub sites_then : {E : Type 0} (r : Result (Unit {0}) E) (old mid new x y z : List Site) → z ≡ x ++ y → mid ≡ old ++ x → OnOk r (new ≡ mid ++ y) → OnOk r (new ≡ old ++ z)
+sites_then (Ok u) old mid new x y z is first h = h ∙ ap (λ m. m ++ y) first ∙ append_assoc old x y ∙ ap (λ w. old ++ w) (sym is)
+sites_then (Err e) old mid new x y z is first h = tt
+
+-- the calls in the arguments from place k on
+module _ (funcs : List Name) (i : ℕ) (args : List Term) (k : ℕ) where
+  abbrev pub remaining : ℕ → List Site
+  remaining m = argument_sites funcs i (tms (map tm_of (drop m args)))
+
+  pub sites_next : (x : Term) (old new all : List Site) → k < length args → x ≡ get_or args k x → new ≡ old ++ sites_in funcs i (tm_of x) → old ++ remaining k ≡ all → new ++ remaining (k + 1) ≡ all
+  sites_next x old new all l e h rest =
+      let here : remaining k ≡ sites_in funcs i (tm_of x) ++ remaining (k + 1) =
+      ap (λ l. argument_sites funcs i (tms (map tm_of l))) (drop-cons args k x l) ∙ (λ j. sites_in funcs i (tm_of (sym e j)) ++ remaining (sym (add-one k) j)) in
+      ap (λ n. n ++ remaining (k + 1)) h ∙ append_assoc old (sites_in funcs i (tm_of x)) (remaining (k + 1)) ∙ ap (λ w. old ++ w) (sym here) ∙ rest
+
+  pub sites_end : (new all : List Site) → length args ≤ k → new ++ remaining k ≡ all → new ≡ all
+  sites_end new all l rest = sym (append-nil new) ∙ ap (λ l. new ++ argument_sites funcs i (tms (map tm_of l))) (sym (drop_whole args k l)) ∙ rest
