@@ -5,13 +5,14 @@ use Rattle.lt_base.specs.declared.operators.Bin.{Bin as BinaryOperator}
 use Rattle.lt_base.specs.declared.value.Value.{Value}
 use Rattle.lt_base.specs.Expression.{Expression}
 use Rattle.lt_syntax.specs.declared.term.Term.{Term}
-use Rattle.lt_syntax.specs.declared.term.Term.TheVariants.{Un, Bin, If, When, Merge, Fby, Follow, Arrow, Call, rolls-Un, rolls-Bin, rolls-If, rolls-When, rolls-Merge, rolls-Fby, rolls-Follow, rolls-Arrow, rolls-Call}
+use Rattle.lt_syntax.specs.declared.term.Term.TheVariants.{Un, Bin, If, When, Merge, Fby, Follow, Arrow, Call, rolls-Un, rolls-Bin, rolls-If, rolls-When, rolls-Merge, rolls-Fby, rolls-Follow, rolls-Arrow}
 use Rattle.lt_syntax.specs.declared.term.Term.TheFolds.{fold-roll-Term}
 use Rattle.lt_syntax.specs.Tree as tree
 use Rattle.lt_syntax.specs.Tree.{Tm, tms}
 use Rattle.lt_syntax.specs.Views.{tm_of, tm_step}
 use Rattle.lt_resolve.specs.Names.{Name}
 use Rattle.lt_resolve.specs.Known.{IsTranslated}
+use Rattle.lt_resolve.proofs.Terms.{tm_of-Call}
 
 abbrev Boxed : Type 0
 Boxed = Box Term Global
@@ -41,7 +42,7 @@ pub arrow_is : (t : Term) (a : Boxed) (b : Boxed) (a' : Term) (b' : Term) → t 
 arrow_is t a b a' b' e pa pb = (λ i. tree.Arrow (tm_of (pa i)) (tm_of (pb i))) ∙ sym (ap tm_of (e ∙ sym (rolls-Arrow a b)) ∙ fold-roll-Term Tm tm_step _)
 
 pub call_is : (t : Term) (f : Name) (args : Vec Term Global) (ts : List Term) → t ≡ Call f args → ts ≡ args.items → tree.Call f (tms (map tm_of ts)) ≡ tm_of t
-call_is t f args ts e p = (λ i. tree.Call f (tms (map tm_of (p i)))) ∙ sym (ap tm_of (e ∙ sym (rolls-Call f args)) ∙ fold-roll-Term Tm tm_step _)
+call_is t f args ts e p = (λ i. tree.Call f (tms (map tm_of (p i)))) ∙ sym (ap tm_of e ∙ tm_of-Call f args)
 
 -- what is named for one shape is named for the same shape
 pub named_as : {T E : Type 0} (shape : T → Expression) (vars funcs : List Name) (s u : Tm) (r : Result T E) → s ≡ u → IfOk r (λ e. IsTranslated vars funcs s (shape e)) → IfOk r (λ e. IsTranslated vars funcs u (shape e))

@@ -1,5 +1,5 @@
 -- The calls of a tree.
-use Rattle.std.proofs.Common.{◌≡◌, ℕ, ◌+◌, ◌<◌, ◌≤◌, Bool, false, List, [], ◌∷◌, ◌++◌, length, get_or, drop, map, Option, None, Some, Result, Ok, Err, Box, Global, refl, sym, ap, ◌∙◌, arith, add-one, append-nil, drop-cons}
+use Rattle.std.proofs.Common.{◌≡◌, ℕ, ◌+◌, ◌<◌, ◌≤◌, Bool, false, List, [], ◌∷◌, ◌++◌, length, get_or, drop, map, Option, None, Some, Result, Ok, Err, refl, sym, ap, ◌∙◌, arith, add-one, append-nil, drop-cons}
 use Rattle.std.specs.Prelude.{nat_eq}
 use Rattle.std.specs.Result.{OnOk}
 use Rattle.std.proofs.lemmas.Bool.Decides.{nat_tests}
@@ -7,10 +7,8 @@ use Rattle.std.proofs.lemmas.List.{append_assoc}
 use Rattle.lt_base.specs.declared.memory.Or.{Or}
 use Rattle.lt_base.specs.declared.memory.Or.TheVariants.{Fault, Memory}
 use Rattle.lt_syntax.specs.declared.term.Term.{Term}
-use Rattle.lt_syntax.specs.declared.term.Term.TheVariants.{If, rolls-If}
-use Rattle.lt_syntax.specs.declared.term.Term.TheFolds.{fold-roll-Term}
 use Rattle.lt_syntax.specs.Tree.{Tm, Call, tms}
-use Rattle.lt_syntax.specs.Views.{tm_of, tm_step}
+use Rattle.lt_syntax.specs.Views.{tm_of}
 use Rattle.lt_resolve.specs.declared.fault.NameKind.{NameKind}
 use Rattle.lt_resolve.specs.declared.fault.NameFault.{NameFault}
 use Rattle.lt_resolve.specs.Names.{Name, number_of, first_some}
@@ -56,11 +54,6 @@ module _ (funcs : List Name) (i : ℕ) (f name : Name) (args slice : List Term) 
       ∙ append_assoc old (record { caller = i; name = f; callee = number_of funcs f; arguments = count (tms (map tm_of args)) } ∷ []) (argument_sites funcs i (tms (map tm_of args)))
       ∙ ap (λ u. old ++ sites_in funcs i u) (sym is)
   collected (Err e) old mid new pushed h = tt
-
--- the calls in a choice are those in its parts
-pub choice_sites : (funcs : List Name) (i : ℕ) (c a b : Box Term Global)
-    → sites_in funcs i (tm_of (If c a b)) ≡ sites_in funcs i (tm_of c.value) ++ (sites_in funcs i (tm_of a.value) ++ sites_in funcs i (tm_of b.value))
-choice_sites funcs i c a b = ap (sites_in funcs i) (ap tm_of (sym (rolls-If c a b)) ∙ fold-roll-Term Tm tm_step _)
 
 -- the calls in two parts, one after the other
 pub sites_then : {E : Type 0} (r : Result (Unit {0}) E) (old mid new x y z : List Site) → z ≡ x ++ y → mid ≡ old ++ x → OnOk r (new ≡ mid ++ y) → OnOk r (new ≡ old ++ z)

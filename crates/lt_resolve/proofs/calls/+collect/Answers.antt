@@ -1,9 +1,10 @@
-use Rattle.std.proofs.Common.{◌≡◌, ◌++◌, List, map, length, refl, sym, ap, ◌∙◌}
+use Rattle.std.proofs.Common.{◌≡◌, ◌++◌, List, map, length, refl, sym, ap}
 use Rattle.lt_syntax.specs.declared.term.Term.{Term}
 use Rattle.lt_syntax.specs.Tree.{Call, tms}
 use Rattle.lt_syntax.specs.Views.{tm_of}
 use Rattle.lt_resolve.specs.Uses.{Site, sites_in}
-use Rattle.lt_resolve.proofs.Sites.{collected, choice_sites, sites_then, sites_next, sites_end}
+use Rattle.lt_resolve.proofs.Forms.{if_is}
+use Rattle.lt_resolve.proofs.Sites.{collected, sites_then, sites_next, sites_end}
 use Rattle.lt_resolve.proofs.calls.+collect.Goals as goal
 
 pub collect_call-returns : goal.collect_call-returns
@@ -19,7 +20,7 @@ collect-returns-in_ok-collect-in-If t c =
     let y = c.deref-in-If-2.result.now in
     let z = c.deref-in-If-3.result.now in
     let parts : S c.args.term.now ≡ S x ++ (S y ++ S z) =
-    ap S c.in-If.is ∙ choice_sites c.args.functions.now c.args.caller c.in-If.c c.in-If.a c.in-If.b ∙ (λ j. S (sym c.deref-in-If.ensures j) ++ (S (sym c.deref-in-If-2.ensures j) ++ S (sym c.deref-in-If-3.ensures j))) in
+    ap (sites_in c.args.functions.now c.args.caller) (sym (if_is c.args.term.now c.in-If.c c.in-If.a c.in-If.b x y z c.in-If.is c.deref-in-If.ensures c.deref-in-If-2.ensures c.deref-in-If-3.ensures)) in
     sites_then c.collect_pair-in-If.result c.args.calls.now.items c.collect-in-If.new.calls.items c.collect_pair-in-If.new.calls.items (S x) (S y ++ S z) (S c.args.term.now)
     parts c.in_ok-collect-in-If.ensures c.collect_pair-in-If.ensures
 
