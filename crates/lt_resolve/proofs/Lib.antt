@@ -5,6 +5,7 @@ pub mod Repeats
 pub mod Told
 pub mod Pairs
 pub mod Terms
+pub mod Forms
 pub mod Located
 pub mod Order
 pub mod Sites

@@ -1,5 +1,5 @@
 -- The calls of a tree.
-use Rattle.std.proofs.Common.{◌≡◌, ℕ, ◌<◌, Bool, false, List, [], ◌∷◌, ◌++◌, length, get_or, drop, map, Option, None, Some, Result, Ok, Err, refl, sym, ap, ◌∙◌, arith}
+use Rattle.std.proofs.Common.{◌≡◌, ℕ, ◌+◌, ◌<◌, ◌≤◌, Bool, false, List, [], ◌∷◌, ◌++◌, length, get_or, drop, map, Option, None, Some, Result, Ok, Err, refl, sym, ap, ◌∙◌, arith, add-one, append-nil, drop-cons}
 use Rattle.std.specs.Prelude.{nat_eq}
 use Rattle.std.specs.Result.{OnOk}
 use Rattle.std.proofs.lemmas.Bool.Decides.{nat_tests}
@@ -16,7 +16,7 @@ use Rattle.lt_resolve.specs.Uses.{Site, count, sites_in, argument_sites}
 use Rattle.lt_resolve.specs.Faults.{Occurrence, unless}
 use Rattle.lt_resolve.specs.Told.{Blames}
 use Rattle.lt_resolve.specs.Checks.{ShowsSite}
-use Rattle.lt_resolve.proofs.Lists.{some_here}
+use Rattle.lt_resolve.proofs.Lists.{drop_whole, some_here}
 
 -- the fault at the first call that fails the test
 pub blames_site : (kind : NameKind) (test : Site → Bool) (ss : List Site) (i : ℕ) (s : Site) (r : Or NameFault) → i < length ss → s ≡ get_or ss i s → first_some (λ c. unless (test c) c) (drop i ss) ≡ first_some (λ c. unless (test c) c) ss → test s ≡ false → ShowsSite kind s r → Blames kind (λ o. o ≡ first_some (λ c. unless (test c) c) ss) r
@@ -54,3 +54,22 @@ module _ (funcs : List Name) (i : ℕ) (f name : Name) (args slice : List Term) 
       ∙ append_assoc old (record { caller = i; name = f; callee = number_of funcs f; arguments = count (tms (map tm_of args)) } ∷ []) (argument_sites funcs i (tms (map tm_of args)))
       ∙ ap (λ u. old ++ sites_in funcs i u) (sym is)
   collected (Err e) old mid new pushed h = tt
+
+-- the calls in two parts, one after the other
+pub sites_then : {E : Type 0} (r : Result (Unit {0}) E) (old mid new x y z : List Site) → z ≡ x ++ y → mid ≡ old ++ x → OnOk r (new ≡ mid ++ y) → OnOk r (new ≡ old ++ z)
+sites_then (Ok u) old mid new x y z is first h = h ∙ ap (λ m. m ++ y) first ∙ append_assoc old x y ∙ ap (λ w. old ++ w) (sym is)
+sites_then (Err e) old mid new x y z is first h = tt
+
+-- the calls in the arguments from place k on
+module _ (funcs : List Name) (i : ℕ) (args : List Term) (k : ℕ) where
+  abbrev pub remaining : ℕ → List Site
+  remaining m = argument_sites funcs i (tms (map tm_of (drop m args)))
+
+  pub sites_next : (x : Term) (old new all : List Site) → k < length args → x ≡ get_or args k x → new ≡ old ++ sites_in funcs i (tm_of x) → old ++ remaining k ≡ all → new ++ remaining (k + 1) ≡ all
+  sites_next x old new all l e h rest =
+      let here : remaining k ≡ sites_in funcs i (tm_of x) ++ remaining (k + 1) =
+      ap (λ l. argument_sites funcs i (tms (map tm_of l))) (drop-cons args k x l) ∙ (λ j. sites_in funcs i (tm_of (sym e j)) ++ remaining (sym (add-one k) j)) in
+      ap (λ n. n ++ remaining (k + 1)) h ∙ append_assoc old (sites_in funcs i (tm_of x)) (remaining (k + 1)) ∙ ap (λ w. old ++ w) (sym here) ∙ rest
+
+  pub sites_end : (new all : List Site) → length args ≤ k → new ++ remaining k ≡ all → new ≡ all
+  sites_end new all l rest = sym (append-nil new) ∙ ap (λ l. new ++ argument_sites funcs i (tms (map tm_of l))) (sym (drop_whole args k l)) ∙ rest

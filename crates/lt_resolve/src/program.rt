@@ -93,7 +93,9 @@ pub fn resolve(alloc: Global, t: &Tree) -> Result<Program, Or<NameFault>>
 {
     t.kept();
     let tables = Tables::of(alloc, t)?;
-    program_of_tables(alloc, &tables)
+    let program = program_of_tables(alloc, &tables);
+    drop(tables);
+    program
 }
 
 /// Refuses a fault of any kind but that of unknown names, if there is one. It need not be the first fault.
@@ -102,7 +104,9 @@ fn check_but_unknown(alloc: Global, t: &Tree) -> Result<(), Or<NameFault>>
     ensures { MatchResult result (λ _. NoOtherFault t.now) (λ e. ForFault e (λ f. First t.now f.kind (Some (f.func, f.name)))) }
 {
     let tables = Tables::of(alloc, t)?;
-    check_others(alloc, &tables)
+    let checked = check_others(alloc, &tables);
+    drop(tables);
+    checked
 }
 
 /// The same as `resolve`, of a tree that is taken apart: each equation is dropped once it is one of the program, so that the two are

@@ -95,6 +95,14 @@ fn all_among<'t>(names: &Names, decls: &'t List<DeclText>) -> Result<(), Or<&'t 
     Ok(())
 }
 
+/// Refuses the first output or local of a function that is not in the table.
+fn others_among<'t>(names: &Names, node: &'t NodeText) -> Result<(), Or<&'t str>>
+    ensures { Tells (first_some (if_missing names.now) (names_of (node.now.outs ++ node.now.locals))) result }
+{
+    all_among(names, &node.outs)?;
+    all_among(names, &node.locals)
+}
+
 impl<'a> Scope<'a> {
     /// The function with its variables; refuses a variable that was declared before.
     pub fn of(alloc: Global, node: &'a NodeText) -> Result<Scope<'a>, Or<&'a str>>
@@ -104,8 +112,13 @@ impl<'a> Scope<'a> {
         let many = node.ins.len().saturating_add(node.outs.len());
         let many = many.saturating_add(node.locals.len());
         let mut variables = Names::with_capacity(alloc, many)?;
-        declare_all(&mut variables, node)?;
-        Ok(Scope { node, variables })
+        match declare_all(&mut variables, node) {
+            Ok(()) => Ok(Scope { node, variables }),
+            Err(error) => {
+                drop(variables);
+                Err(error)
+            }
+        }
     }
 
     pub fn node(&self) -> &'a NodeText
@@ -125,8 +138,9 @@ impl<'a> Scope<'a> {
         ensures { Tells (no_equation_in self.now) result }
     {
         let lefts = table_of_lefts(alloc, &self.node.eqs)?;
-        all_among(&lefts, &self.node.outs)?;
-        all_among(&lefts, &self.node.locals)
+        let told = others_among(&lefts, self.node);
+        drop(lefts);
+        told
     }
 
     /// Refuses the first second equation of a variable.
@@ -134,7 +148,9 @@ impl<'a> Scope<'a> {
         ensures { Tells (two_equations_in self.now) result }
     {
         let mut names = Names::with_capacity(alloc, self.node.eqs.len())?;
-        insert_lefts(&mut names, &self.node.eqs)
+        let told = insert_lefts(&mut names, &self.node.eqs);
+        drop(names);
+        told
     }
 
     fn is_input(&self, name: &str) -> bool

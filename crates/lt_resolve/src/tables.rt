@@ -107,8 +107,13 @@ impl<'a> Tables<'a> {
     {
         let nodes = t.nodes.as_slice();
         let mut functions = Names::with_capacity(alloc, nodes.len())?;
-        let scopes = scopes_of(alloc, &mut functions, nodes)?;
-        Ok(Tables { functions, scopes })
+        match scopes_of(alloc, &mut functions, nodes) {
+            Ok(scopes) => Ok(Tables { functions, scopes }),
+            Err(error) => {
+                drop(functions);
+                Err(error)
+            }
+        }
     }
 
     pub fn functions(&self) -> &Names<'a>

@@ -64,11 +64,34 @@ fn table_of<'a>(alloc: Global, names: &'a List<Name>) -> Result<Names<'a>, Memor
     ensures { IfOk result (λ table. table ≡ names.now) }
 {
     let mut table = Names::with_capacity(alloc, names.len())?;
-    insert_all(&mut table, names)?;
-    Ok(table)
+    match insert_all(&mut table, names) {
+        Ok(()) => Ok(table),
+        Err(error) => {
+            drop(table);
+            Err(error)
+        }
+    }
 }
 
 /// The equation with its names replaced by numbers; refuses the first name that has no number.
+fn located_equation(
+    alloc: Global,
+    variables: &Names,
+    functions: &Names,
+    place: usize,
+    eq: &EqText,
+) -> Result<Equation, Or<NameFault>>
+    requires { place < 2 ^ 32 }
+    ensures shown { Shows NameKind.Unknown (λ o. o ≡ option_map (λ x. (place, x)) (unknown_equation variables.now functions.now eq.now)) result }
+    ensures named { IfOk result (λ e. IsDraftEquation variables.now functions.now eq.now e) }
+{
+    match equation(alloc, variables, functions, eq) {
+        Ok(named) => Ok(named),
+        Err(error) => Err(located(alloc, NameKind::Unknown, place, error)),
+    }
+}
+
+/// The same of an equation that is dropped.
 fn taken_equation(
     alloc: Global,
     variables: &Names,
@@ -80,10 +103,9 @@ fn taken_equation(
     ensures shown { Shows NameKind.Unknown (λ o. o ≡ option_map (λ x. (place, x)) (unknown_equation variables.now functions.now eq)) result }
     ensures named { IfOk result (λ e. IsDraftEquation variables.now functions.now eq e) }
 {
-    match equation(alloc, variables, functions, &eq) {
-        Ok(named) => Ok(named),
-        Err(error) => Err(located(alloc, NameKind::Unknown, place, error)),
-    }
+    let named = located_equation(alloc, variables, functions, place, &eq);
+    drop(eq);
+    named
 }
 
 /// The equations, each dropped once its names are replaced by numbers; refuses the first name that has no number.
@@ -191,7 +213,9 @@ fn function_with(
     ensures function { IfOk result (IsFunction functions.now (record head.now { eqs = eqs.items })) }
 {
     let scope = scope_of(alloc, head)?;
-    scoped_function(alloc, functions, place, &scope, eqs)
+    let func = scoped_function(alloc, functions, place, &scope, eqs);
+    drop(scope);
+    func
 }
 
 /// The function of a node whose variables are declared once; refuses the first name that has no number.
@@ -214,7 +238,9 @@ fn taken_function(
         locals: node.locals,
         eqs: List::new(alloc),
     };
-    function_with(alloc, functions, place, &head, node.eqs.into_vec())
+    let func = function_with(alloc, functions, place, &head, node.eqs.into_vec());
+    drop(head);
+    func
 }
 
 /// The functions of a tree's nodes; refuses the first name that has no number.
@@ -254,6 +280,24 @@ fn program_of_nodes(
     Ok(Program::new(List::of(funcs), main_of(functions)))
 }
 
+/// The same with copies of the names of the tree's functions.
+fn named_program(
+    alloc: Global,
+    names: &List<Name>,
+    nodes: Vec<NodeText>,
+) -> Result<Program, Or<NameFault>>
+    requires room { length nodes.items < 2 ^ 32 }
+    requires spelled { IsSpelled nodes.items }
+    requires names { names.now ≡ functions nodes.items }
+    requires others { NoOtherFault nodes.items }
+    ensures { MatchResult result (λ p. Resolves nodes.items (Ok p)) (λ e. ForFault e (λ f. Resolves nodes.items (Err f))) }
+{
+    let functions = table_of(alloc, names)?;
+    let program = program_of_nodes(alloc, &functions, nodes);
+    drop(functions);
+    program
+}
+
 /// The program of a tree in which at most names that are not declared are at fault, or the first of these.
 pub fn taken_program(alloc: Global, t: Tree) -> Result<Program, Or<NameFault>>
     requires room { length t < 2 ^ 32 }
@@ -262,6 +306,7 @@ pub fn taken_program(alloc: Global, t: Tree) -> Result<Program, Or<NameFault>>
 {
     t.kept();
     let names = function_names(alloc, &t)?;
-    let functions = table_of(alloc, &names)?;
-    program_of_nodes(alloc, &functions, t.nodes.into_vec())
+    let program = named_program(alloc, &names, t.nodes.into_vec());
+    drop(names);
+    program
 }

@@ -1,5 +1,5 @@
-use Rattle.std.proofs.Common.{◌≡◌, ◌<◌, ◌++◌, ◌∷◌, [], List, None, length, get_or, map, ap, ◌∙◌, subst}
-use Rattle.std.proofs.lemmas.List.{map-append}
+use Rattle.std.proofs.Common.{◌≡◌, ◌<◌, ◌≤◌, ◌++◌, ◌∷◌, [], List, None, length, get_or, map, sym, ap, ◌∙◌, subst}
+use Rattle.std.proofs.lemmas.List.{map-append, take_all}
 use Rattle.std.proofs.lemmas.List.Elements.{All-push, All-same}
 use Rattle.lt_syntax.specs.declared.tree.NodeText.{NodeText}
 use Rattle.lt_resolve.specs.declared.fault.NameKind.TheVariants.{Unknown}
@@ -9,7 +9,7 @@ use Rattle.lt_resolve.specs.Scopes.{functions}
 use Rattle.lt_resolve.specs.Faults.{unknown_in}
 use Rattle.lt_resolve.specs.Told.{Refuses}
 use Rattle.lt_resolve.specs.Drafts.{IsDraft}
-use Rattle.lt_resolve.proofs.Lists.{in_next}
+use Rattle.lt_resolve.proofs.Lists.{in_next, in_none}
 use Rattle.lt_resolve.proofs.Located.{blames_at, one_more}
 use Rattle.lt_resolve.proofs.drafts.all_drafts.Goals as goal
 
@@ -38,4 +38,17 @@ scopes-preserved c =
       nodes = one_more t (map node old) (map node c.push.new.self.items) c.scopes.i n d.node.now less at c.scopes.invariant.nodes c.in-Ok.ensures.node (ap (map node) pushed ∙ map-append node old (d ∷ []));
       all = All-same (IsDraft (functions t)) c.push.new.self.items (old ++ d ∷ []) pushed (All-push (IsDraft (functions t)) old d c.scopes.invariant.all (subst (λ (fs : List Name). IsDraft fs d) c.functions.ensures c.in-Ok.ensures.draft));
       rest = in_next (λ _. unknown_in (functions t)) t c.scopes.i n less at (subst (λ (fs : List Name). unknown_in fs n ≡ None) c.functions.ensures c.in-Ok.ensures.told) c.scopes.invariant.rest;
+    }
+
+pub returns-clause-shown : goal.returns-clause-shown
+returns-clause-shown c =
+    let t = c.args.tables.now in
+    sym (in_none (λ _. unknown_in (functions t)) t c.scopes.i (subst (λ (s : List NodeText). length s ≤ c.scopes.i) c.scopes-scopes.ensures c.scopes-test.false) c.scopes.invariant.rest)
+
+pub returns-clause-drafts : goal.returns-clause-drafts
+returns-clause-drafts c =
+    let t = c.args.tables.now in
+    record {
+      nodes = c.scopes.invariant.nodes ∙ take_all c.scopes.i t (subst (λ (s : List NodeText). length s ≤ c.scopes.i) c.scopes-scopes.ensures c.scopes-test.false);
+      all = c.scopes.invariant.all;
     }

@@ -8,4 +8,4 @@ use Rattle.lt_resolve.proofs.scope.Scope.two_equations.Goals as goal
 pub returns : goal.returns
 returns c =
     let n = c.self.inside.node.now in
-    tells_as _ _ _ (ap two_equations_in (sym c.self.view_is) ∙ ap (λ names. repeated names (lefts n)) (sym c.in_ok-names.ensures)) c.insert_lefts.ensures
+    tells_as _ _ _ (ap two_equations_in (sym c.self.view_is) ∙ ap (λ names. repeated names (lefts n)) (sym c.in_ok-names.ensures)) c.insert_lefts-told.ensures
