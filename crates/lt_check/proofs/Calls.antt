@@ -40,20 +40,14 @@ call_typed fs ds e g args f is there =
     ∙ ap (type_of fs ds) (shape-Call g args)
     ∙ (λ i. call_type (there i) (arguments_types-map fs ds args.items i))
 
--- the type of a call that is no function's
-pub call_untyped : (fs : List Function) (ds : List Decl) (e : Expr) (g : ℕ) (args : Vec Expr Global) → e ≡ Call g args → function_of fs g ≡ None → type_of fs ds (shape e) ≡ None
-call_untyped fs ds e g args is there =
-    ap (λ x. type_of fs ds (shape x)) is
-    ∙ ap (type_of fs ds) (shape-Call g args)
-    ∙ ap (λ o. call_type o (arguments_types fs ds (arguments_of (map shape args.items)))) there
-
--- a call with another number of arguments
-pub call_misfit : (fs : List Function) (ds : List Decl) (e : Expr) (g : ℕ) (args : Vec Expr Global) (f : Function) → e ≡ Call g args → function_of fs g ≡ Some f
-    → length args.items ≢ f.n_in → f.n_in ≤ length f.decls → None ≡ type_of fs ds (shape e)
-call_misfit fs ds e g args f is there differ inside =
+-- another number of arguments
+pub fit_misfit : (fs : List Function) (ds : List Decl) (f : Function) (items : List Expr) → length items ≢ f.n_in → f.n_in ≤ length f.decls
+    → None ≡ arguments_fit (input_types f) (map (λ e. type_of fs ds (shape e)) items) (answer_type f.decls f.outs)
+fit_misfit fs ds f items differ inside =
+    let T : Expr → Option Ty = λ e. type_of fs ds (shape e) in
     let n = input_types_length f inside in
-    let m = length-map args.items (λ (a : Expr). type_of fs ds (shape a)) in
-    sym (call_typed fs ds e g args f is there ∙ misfit (input_types f) (map (λ a. type_of fs ds (shape a)) args.items) (answer_type f.decls f.outs) (λ h. differ (sym m ∙ h ∙ n)))
+    let m = length-map items T in
+    sym (misfit (input_types f) (map T items) (answer_type f.decls f.outs) (λ h. differ (sym m ∙ h ∙ n)))
 
 same_shared : (w : Ty) → shared_type w w ≡ Some w
 same_shared Int = refl

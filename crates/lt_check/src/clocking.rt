@@ -27,7 +27,7 @@ pub struct ClockFault {
 }
 
 /// The first variable whose declared clock is ill formed.
-pub fn ill_formed(alloc: Global, f: &Func) -> Result<Option<u32>, Memory>
+pub(crate) fn ill_formed(alloc: Global, f: &Func) -> Result<Option<u32>, Memory>
     requires { length f.now.decls < 2 ^ 32 }
     ensures { IfOk result (λ r. MatchOption r ((x : ℕ) → x < length f.now.decls → GoodClock f.now.decls x) (FirstDeclaration (GoodClock f.now.decls) f.now)) }
 {

@@ -1,8 +1,8 @@
 // Types.
 
-ghost use Rattle.std.specs.Prelude.{◌≡◌, ◌≢◌, ◌<◌, ◌^◌, ◌↔◌, ℕ, Ok, Err, Some, All, length, MatchBool, MatchOption, MatchResult};
+ghost use Rattle.std.specs.Prelude.{◌≡◌, ◌≢◌, ◌<◌, ◌^◌, ◌↔◌, ℕ, Ok, Err, Some, All, length, MatchBool, MatchOption, MatchResult, map};
 ghost use Rattle.lt_base.specs.Expression.{shape};
-ghost use Rattle.lt_base.specs.Typing.{ty_at, type_of, TypedFunction, TypedProgram};
+ghost use Rattle.lt_base.specs.Typing.{ty_at, type_of, arguments_fit, input_types, answer_type, TypedFunction, TypedProgram};
 ghost use Rattle.lt_check.specs.Places.{FirstDeclaration};
 ghost use Rattle.lt_check.specs.TypeFaults.{AllBools, BoolClock, IsTypeFaultIn, IsFirstTypeFault};
 
@@ -11,6 +11,7 @@ use crate::rules::{bin_type, imported_type, is_type, shared_type, ty_of, un_type
 use lt_base::{Clock, Decl, Equation, Expr, Func, List, Program, Ty};
 
 /// The type of an expression, if it has one.
+#[cycle(typing)]
 fn type_of(funcs: &List<Func>, decls: &List<Decl>, e: &Expr) -> Option<Ty>
     ensures { result ≡ type_of funcs.now decls.now (shape e.now) }
 {
@@ -35,19 +36,27 @@ fn type_of(funcs: &List<Func>, decls: &List<Decl>, e: &Expr) -> Option<Ty>
         Expr::Fby(v, e) => shared_type(Some(ty_of(*v)), type_of(funcs, decls, e)),
         Expr::Follow(a, b) => shared_type(type_of(funcs, decls, a), type_of(funcs, decls, b)),
         Expr::Arrow(a, b) => shared_type(type_of(funcs, decls, a), type_of(funcs, decls, b)),
-        Expr::Call(g, args) => {
-            let f = function_at(funcs, *g)?;
-            if args.len() != f.n_in as usize {
-                return None;
-            }
-            for (i, a) in args.iter().enumerate() {
-                if !is_type(type_of(funcs, decls, a), input_type(f, i)) {
-                    return None;
-                }
-            }
-            answer_type(f)
+        Expr::Call(g, args) => match function_at(funcs, *g) {
+            Some(f) => call_type(funcs, decls, f, args),
+            None => None,
+        },
+    }
+}
+
+/// The type of a call of the function with these arguments.
+#[cycle(typing)]
+fn call_type(funcs: &List<Func>, decls: &List<Decl>, f: &Func, args: &[Expr]) -> Option<Ty>
+    ensures { result ≡ arguments_fit (input_types f.now) (map (λ e. type_of funcs.now decls.now (shape e)) args.now) (answer_type f.now.decls f.now.outs) }
+{
+    if args.len() != f.n_in as usize {
+        return None;
+    }
+    for (i, a) in args.iter().enumerate() {
+        if !is_type(type_of(funcs, decls, a), input_type(f, i)) {
+            return None;
         }
     }
+    answer_type(f)
 }
 
 /// The first fault of types.
@@ -75,7 +84,7 @@ fn is_bool_clock(decls: &List<Decl>, clock: &Clock) -> bool
 }
 
 /// The first variable with an int among its clock variables.
-pub fn int_clock(f: &Func) -> Option<u32>
+pub(crate) fn int_clock(f: &Func) -> Option<u32>
     requires { length f.now.decls < 2 ^ 32 }
     ensures { MatchOption result ((x : ℕ) → x < length f.now.decls → BoolClock f.now.decls x) (FirstDeclaration (BoolClock f.now.decls) f.now) }
 {
@@ -88,7 +97,7 @@ pub fn int_clock(f: &Func) -> Option<u32>
 }
 
 /// The type that a right side wants and the one that it has, where they differ.
-pub fn misfit(
+pub(crate) fn misfit(
     funcs: &List<Func>,
     decls: &List<Decl>,
     equation: &Equation,

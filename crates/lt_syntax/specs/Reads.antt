@@ -51,8 +51,3 @@ Takes limit at here s s' (Ok (Some n)) = (t : Token) × (text.front here ≡ tex
 Takes limit at here s s' (Ok None) = (text.front here ≡ text.Over) × Ends s × (s' ≡ s)
 Takes limit at here s s' (Err (or.Fault f)) = (f.at ≡ at) × IsWrong limit s (text.front here) f.kind
 Takes limit at here s s' (Err or.Memory) = ⊤
-
--- these nodes are spelled by the bytes, and a fault is the first one
-abbrev pub Spelled : ℕ → List ℕ → List NodeText → Result (Unit {0}) (Or SyntaxFault) → Type 0
-Spelled limit bytes t (Ok done) = Spells limit bytes t
-Spelled limit bytes t (Err e) = Answers limit bytes (Err e)

@@ -1,5 +1,5 @@
 // The parser of expressions: what each token does to the forms that are begun.
-ghost use Rattle.std.specs.Prelude.{◌≡◌, ◌≤◌, ◌++◌, ◌∷◌, [], ℕ, List, map, IfOk};
+ghost use Rattle.std.specs.Prelude.{◌≡◌, ◌<◌, ◌≤◌, ◌+◌, ◌^◌, ◌++◌, ◌∷◌, [], ℕ, List, map, IfOk};
 ghost use Rattle.lt_tokens.specs.declared.token.Token.TheVariants as token;
 ghost use Rattle.lt_tokens.specs.Fronts.{IsSmall};
 ghost use Rattle.lt_syntax.specs.Machine as machine;
@@ -47,8 +47,7 @@ fn after_infix(o: Infix, frames: &mut Vec<Frame>, b: Operand) -> Result<Next, Me
     if hole(frames) > level(o) {
         return Ok(Next::Bad);
     }
-    push(frames, Frame::AfterInfix(o, b))?;
-    Ok(Next::Go(Mode::Want))
+    begin(frames, Frame::AfterInfix(o, b))
 }
 
 fn after_when(frames: &mut Vec<Frame>, b: Operand) -> Result<Next, Memory>
@@ -57,8 +56,21 @@ fn after_when(frames: &mut Vec<Frame>, b: Operand) -> Result<Next, Memory>
     if hole(frames) > 9 {
         return Ok(Next::Bad);
     }
-    push(frames, Frame::Sampling(b, true))?;
-    Ok(Next::Go(Mode::WantClock))
+    begin_clock(frames, Frame::Sampling(b, true))
+}
+
+/// A call with its last argument.
+fn end_call(
+    alloc: Global,
+    f: Name,
+    xs: Vec<Term>,
+    height: u32,
+    b: Box<Term>,
+) -> Result<Operand, Memory>
+    requires { height + 2 < 2 ^ 32 }
+    ensures { IfOk result (λ r. operand_of r ≡ machine.call_of f (map tm_of xs.items ++ tm_of b.value ∷ []) height) }
+{
+    call(alloc, f, with_argument(xs, b)?, height)
 }
 
 fn after_close(alloc: Global, frames: &mut Vec<Frame>, b: Operand) -> Result<Next, Memory>
@@ -68,44 +80,51 @@ fn after_close(alloc: Global, frames: &mut Vec<Frame>, b: Operand) -> Result<Nex
     match pop(frames) {
         Some(Frame::InParen) => Ok(Next::Go(Mode::Has(paren(b)))),
         Some(Frame::InCall(f, xs, h)) => {
-            let height = h.max(b.height);
-            let xs = with_argument(xs, b.term)?;
-            Ok(Next::Go(Mode::Has(call(alloc, f, xs, height)?)))
+            has_operand(end_call(alloc, f, xs, h.max(b.height), b.term))
         }
         _ => Ok(Next::Bad),
     }
 }
 
+/// The next argument begins.
+fn next_argument(
+    frames: &mut Vec<Frame>,
+    f: Name,
+    xs: Vec<Term>,
+    height: u32,
+    b: Box<Term>,
+) -> Result<Next, Memory>
+    ensures { IfOk result (λ n. next_of n (stack_of frames.new.items) ≡ machine.Go (machine.InCall f (map tm_of xs.items ++ tm_of b.value ∷ []) height ∷ stack_of frames.old.items) machine.Want) }
+{
+    let xs = with_argument(xs, b)?;
+    begin(frames, Frame::InCall(f, xs, height))
+}
+
 fn after_comma(frames: &mut Vec<Frame>, b: Operand) -> Result<Next, Memory>
     ensures { IfOk result (λ n. next_of n (stack_of frames.new.items) ≡ machine.after token.Comma (stack_of frames.old.items) (operand_of b)) }
 {
-    if let Some(Frame::InCall(f, xs, h)) = pop(frames) {
-        let height = h.max(b.height);
-        let xs = with_argument(xs, b.term)?;
-        push(frames, Frame::InCall(f, xs, height))?;
-        return Ok(Next::Go(Mode::Want));
+    match pop(frames) {
+        Some(Frame::InCall(f, xs, h)) => next_argument(frames, f, xs, h.max(b.height), b.term),
+        _ => Ok(Next::Bad),
     }
-    Ok(Next::Bad)
 }
 
 fn after_then(frames: &mut Vec<Frame>, b: Operand) -> Result<Next, Memory>
     ensures { IfOk result (λ n. next_of n (stack_of frames.new.items) ≡ machine.after token.Then (stack_of frames.old.items) (operand_of b)) }
 {
-    if let Some(Frame::AfterIf) = pop(frames) {
-        push(frames, Frame::AfterThen(b))?;
-        return Ok(Next::Go(Mode::Want));
+    match pop(frames) {
+        Some(Frame::AfterIf) => begin(frames, Frame::AfterThen(b)),
+        _ => Ok(Next::Bad),
     }
-    Ok(Next::Bad)
 }
 
 fn after_else(frames: &mut Vec<Frame>, b: Operand) -> Result<Next, Memory>
     ensures { IfOk result (λ n. next_of n (stack_of frames.new.items) ≡ machine.after token.Else (stack_of frames.old.items) (operand_of b)) }
 {
-    if let Some(Frame::AfterThen(c)) = pop(frames) {
-        push(frames, Frame::AfterElse(c, b))?;
-        return Ok(Next::Go(Mode::Want));
+    match pop(frames) {
+        Some(Frame::AfterThen(c)) => begin(frames, Frame::AfterElse(c, b)),
+        _ => Ok(Next::Bad),
     }
-    Ok(Next::Bad)
 }
 
 fn after_semicolon(frames: &mut Vec<Frame>, b: Operand) -> Next
@@ -118,16 +137,24 @@ fn after_semicolon(frames: &mut Vec<Frame>, b: Operand) -> Next
     }
 }
 
+/// A form begins, and with it its next part.
+fn begin_with(alloc: Global, t: Token, frames: &mut Vec<Frame>, f: Frame) -> Result<Next, Memory>
+    requires { IsSmall t }
+    ensures { IfOk result (λ n. next_of n (stack_of frames.new.items) ≡ machine.want t (frame_of f ∷ stack_of frames.old.items)) }
+{
+    push(frames, f)?;
+    want(alloc, t, frames)
+}
+
 /// The second part of a merge begins.
 fn second(alloc: Global, t: Token, frames: &mut Vec<Frame>, b: Operand) -> Result<Next, Memory>
     requires { IsSmall t }
     ensures { IfOk result (λ n. next_of n (stack_of frames.new.items) ≡ machine.second t (stack_of frames.old.items) (operand_of b)) }
 {
-    if let Some(Frame::FirstPart(c)) = pop(frames) {
-        push(frames, Frame::SecondPart(c, b))?;
-        return want(alloc, t, frames);
+    match pop(frames) {
+        Some(Frame::FirstPart(c)) => begin_with(alloc, t, frames, Frame::SecondPart(c, b)),
+        _ => Ok(Next::Bad),
     }
-    Ok(Next::Bad)
 }
 
 /// What a token does behind an operand that it ends.
@@ -199,8 +226,8 @@ fn want(alloc: Global, t: Token, frames: &mut Vec<Frame>) -> Result<Next, Memory
     ensures { IfOk result (λ n. next_of n (stack_of frames.new.items) ≡ machine.want t (stack_of frames.old.items)) }
 {
     match t {
-        Token::Number(n) => Ok(Next::Go(Mode::Has(number(alloc, n)?))),
-        Token::Truth(b) => Ok(Next::Go(Mode::Has(truth(alloc, b)?))),
+        Token::Number(n) => has_operand(number(alloc, n)),
+        Token::Truth(b) => has_operand(truth(alloc, b)),
         Token::Ident(x) => Ok(Next::Go(Mode::Named(x))),
         Token::Open => begin(frames, Frame::InParen),
         Token::Infix(Infix::Operator(Bin::Sub)) if hole(frames) <= 10 => {
@@ -208,10 +235,7 @@ fn want(alloc: Global, t: Token, frames: &mut Vec<Frame>) -> Result<Next, Memory
         }
         Token::Not if hole(frames) <= 5 => begin(frames, Frame::AfterNot),
         Token::If if hole(frames) <= 1 => begin(frames, Frame::AfterIf),
-        Token::Merge if hole(frames) <= 11 => {
-            push(frames, Frame::AfterMerge)?;
-            Ok(Next::Go(Mode::WantClock))
-        }
+        Token::Merge if hole(frames) <= 11 => begin_clock(frames, Frame::AfterMerge),
         Token::Close => want_close(alloc, frames),
         _ => Ok(Next::Bad),
     }
@@ -225,12 +249,26 @@ fn begin(frames: &mut Vec<Frame>, f: Frame) -> Result<Next, Memory>
     Ok(Next::Go(Mode::Want))
 }
 
+/// A form begins, and a clock's variable must come.
+fn begin_clock(frames: &mut Vec<Frame>, f: Frame) -> Result<Next, Memory>
+    ensures { IfOk result (λ n. next_of n (stack_of frames.new.items) ≡ machine.Go (frame_of f ∷ stack_of frames.old.items) machine.WantClock) }
+{
+    push(frames, f)?;
+    Ok(Next::Go(Mode::WantClock))
+}
+
+/// An operand stands behind the forms that are begun, where it was made.
+fn has_operand(made: Result<Operand, Memory>) -> Result<Next, Memory>
+    ensures { (a : machine.Operand) (fs : List machine.Frame) → IfOk made (λ b. operand_of b ≡ a) → IfOk result (λ n. next_of n fs ≡ machine.Go fs (machine.Has a)) }
+{
+    Ok(Next::Go(Mode::Has(made?)))
+}
+
 fn sampling_not(a: Operand, polarity: bool, frames: &mut Vec<Frame>) -> Result<Next, Memory>
     ensures { IfOk result (λ n. next_of n (stack_of frames.new.items) ≡ machine.clock token.Not (machine.Sampling (operand_of a) polarity ∷ stack_of frames.old.items)) }
 {
     if polarity {
-        push(frames, Frame::Sampling(a, false))?;
-        return Ok(Next::Go(Mode::WantClock));
+        return begin_clock(frames, Frame::Sampling(a, false));
     }
     Ok(Next::Bad)
 }
@@ -249,7 +287,7 @@ fn clock_name(alloc: Global, c: Name, frames: &mut Vec<Frame>) -> Result<Next, M
     ensures { IfOk result (λ n. next_of n (stack_of frames.new.items) ≡ machine.clock (token.Ident c) (stack_of frames.old.items)) }
 {
     match pop(frames) {
-        Some(Frame::Sampling(a, b)) => Ok(Next::Go(Mode::Has(sampled(alloc, a, c, b)?))),
+        Some(Frame::Sampling(a, b)) => has_operand(sampled(alloc, a, c, b)),
         Some(Frame::AfterMerge) => begin(frames, Frame::FirstPart(c)),
         _ => Ok(Next::Bad),
     }

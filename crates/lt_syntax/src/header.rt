@@ -116,6 +116,23 @@ fn declare(
     Ok(())
 }
 
+/// Appends the declarations of a group.
+fn declare_in(
+    n: &mut NodeText,
+    s: Section,
+    names: List<Name>,
+    ty: Ty,
+    clock: &List<(Name, bool)>,
+) -> Result<(), Memory>
+    ensures { OnOk result (n.new ≡ parser.add n.old s (declared names ty clock.now)) }
+{
+    match s {
+        Section::Ins => declare(&mut n.ins, names, ty, clock),
+        Section::Outs => declare(&mut n.outs, names, ty, clock),
+        Section::Locals => declare(&mut n.locals, names, ty, clock),
+    }
+}
+
 /// The node with the declarations of a group.
 fn add(
     n: Box<NodeText>,
@@ -127,11 +144,7 @@ fn add(
     ensures { IfOk result (λ m. m.value ≡ parser.add n.value s (declared xs ty c)) }
 {
     let mut n = n;
-    match s {
-        Section::Ins => declare(&mut n.ins, xs, ty, &c)?,
-        Section::Outs => declare(&mut n.outs, xs, ty, &c)?,
-        Section::Locals => declare(&mut n.locals, xs, ty, &c)?,
-    }
+    declare_in(&mut n, s, xs, ty, &c)?;
     Ok(n)
 }
 
@@ -306,6 +319,23 @@ fn has_group(
     }
 }
 
+/// The group with one more variable in its clock.
+fn add_clock(
+    n: Box<NodeText>,
+    s: Section,
+    xs: List<Name>,
+    ty: Ty,
+    c: List<(Name, bool)>,
+    x: Name,
+    polarity: bool,
+) -> Result<Phase, Or<Kind>>
+    ensures { Moves result (Ok (parser.HasGroup n.value s xs ty (c ++ (x, polarity) ∷ []))) }
+{
+    let mut c = c;
+    c.push((x, polarity))?;
+    Ok(Phase::HasGroup(n, s, xs, ty, c))
+}
+
 fn want_polarity(
     n: Box<NodeText>,
     s: Section,
@@ -318,11 +348,7 @@ fn want_polarity(
 {
     match t {
         Token::Not => Ok(Phase::WantVariable(n, s, xs, ty, c)),
-        Token::Ident(x) => {
-            let mut c = c;
-            c.push((x, true))?;
-            Ok(Phase::HasGroup(n, s, xs, ty, c))
-        }
+        Token::Ident(x) => add_clock(n, s, xs, ty, c, x, true),
         _ => Err(wrong()),
     }
 }
@@ -338,11 +364,7 @@ fn want_variable(
     ensures { Moves result (parser.move LIMIT (parser.WantVariable n.value s xs ty c) t) }
 {
     match t {
-        Token::Ident(x) => {
-            let mut c = c;
-            c.push((x, false))?;
-            Ok(Phase::HasGroup(n, s, xs, ty, c))
-        }
+        Token::Ident(x) => add_clock(n, s, xs, ty, c, x, false),
         _ => Err(wrong()),
     }
 }
@@ -449,12 +471,19 @@ fn move_on(alloc: Global, phase: Phase, t: Token) -> Result<Phase, Or<Kind>>
     }
 }
 
+/// The next phase.
+fn enter(phase: &mut Phase, next: Phase)
+    ensures { phase.new ≡ next }
+{
+    *phase = next;
+}
+
 /// The next phase, in which no form is begun.
 fn moved(p: &mut Parser, phase: Result<Phase, Or<Kind>>) -> Result<(), Or<Kind>>
     ensures proceeds { (next : Result parser.Phase parser.Kind) → Moves phase next → Proceeds result (state_of p.new) (parser.finish p.old.nodes next) }
     ensures same { IfErr result (λ e. phase ≡ Err e) }
 {
-    p.phase = phase?;
+    enter(&mut p.phase, phase?);
     p.frames.clear();
     p.mode = Mode::Want;
     Ok(())
@@ -465,7 +494,7 @@ fn end_node(p: &mut Parser, n: Box<NodeText>) -> Result<(), Or<Kind>>
     ensures { Proceeds result (state_of p.new) (Ok (record { done = p.old.nodes ++ n.value ∷ []; phase = parser.Told })) }
 {
     p.nodes.push(Box::into_inner(n))?;
-    p.phase = Phase::Told;
+    enter(&mut p.phase, Phase::Told);
     Ok(())
 }
 

@@ -1,6 +1,7 @@
 //! The concrete syntax: from text to tree.
 #![tactic(auto)]
 
+mod copying;
 mod expression;
 mod fault;
 mod frame;

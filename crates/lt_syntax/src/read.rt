@@ -5,7 +5,7 @@ ghost use Rattle.lt_base.specs.Or.{MapsFault};
 ghost use Rattle.lt_tokens.specs.Fronts.{IsSmall};
 ghost use Rattle.lt_syntax.specs.Parser as parser;
 ghost use Rattle.lt_syntax.specs.Phases.{state_of, kind_of, Fits};
-ghost use Rattle.lt_syntax.specs.Reads.{Answers, StepsAt, Ends, Takes, Spelled, syntax_kind};
+ghost use Rattle.lt_syntax.specs.Reads.{Answers, StepsAt, Ends, Takes, syntax_kind};
 
 use crate::fault::{SyntaxFault, SyntaxKind};
 use crate::header::{Kind, Parser, may_end, start, step};
@@ -14,6 +14,7 @@ use crate::tree::NodeText;
 use lt_base::{List, Or};
 use lt_tokens::{Front, Token, read_front, skip};
 use std::alloc::Global;
+use std::mem::replace;
 
 fn syntax_kind(kind: Kind) -> SyntaxKind
     ensures { result ≡ syntax_kind (kind_of kind) }
@@ -93,17 +94,21 @@ fn take_token(
     }
 }
 
-/// Takes all tokens of a text.
-fn take_tokens(alloc: Global, p: &mut Parser, bytes: &[u8]) -> Result<(), Or<SyntaxFault>>
+/// Takes all tokens of a text, and answers its nodes.
+fn take_tokens(
+    alloc: Global,
+    p: &mut Parser,
+    bytes: &[u8],
+) -> Result<List<NodeText>, Or<SyntaxFault>>
     requires { state_of p.old ≡ parser.start }
-    ensures { Spelled LIMIT bytes.now p.new.nodes result }
+    ensures { Answers LIMIT bytes.now result }
 {
     let mut rest = bytes;
     'text: loop {
         let here = skip(rest);
         match take_token(alloc, p, here, bytes.len() - here.len())? {
             Some(n) => rest = &here[n..],
-            None => return Ok(()),
+            None => return Ok(replace(&mut p.nodes, List::new(alloc))),
         }
     }
 }
@@ -113,6 +118,5 @@ pub fn read(alloc: Global, bytes: &[u8]) -> Result<List<NodeText>, Or<SyntaxFaul
     ensures { Answers LIMIT bytes.now result }
 {
     let mut p = start(alloc);
-    take_tokens(alloc, &mut p, bytes)?;
-    Ok(p.nodes)
+    take_tokens(alloc, &mut p, bytes)
 }

@@ -1,7 +1,11 @@
 // Expressions with names.
-ghost use Rattle.std.specs.Prelude.{◌≡◌, IfOk, Ok, map};
+ghost use Rattle.std.specs.Prelude.{◌≡◌, IfOk, map};
 ghost use Rattle.lt_syntax.specs.Views.{tm_of};
 
+use crate::copying::{
+    arrow, binary, both, boxed, called, choice, delayed, followed, merged, push, sampled, unary,
+    variable,
+};
 use lt_base::{Bin, Memory, Name, Un, Value};
 
 /// An expression as it is written, without its parentheses.
@@ -32,39 +36,16 @@ impl Term {
     {
         match self {
             Term::Lit(v) => Ok(Term::Lit(*v)),
-            Term::Var(x) => Ok(Term::Var(x.copy()?)),
-            Term::Un(o, a) => Ok(Term::Un(*o, twin(a)?)),
-            Term::Bin(o, a, b) => {
-                let (a, b) = both(twin(a), twin(b))?;
-                Ok(Term::Bin(*o, a, b))
-            }
-            Term::If(c, a, b) => {
-                let c = twin(c)?;
-                let (a, b) = both(twin(a), twin(b))?;
-                Ok(Term::If(c, a, b))
-            }
-            Term::When(a, c, b) => {
-                let c = c.copy()?;
-                Ok(Term::When(twin(a)?, c, *b))
-            }
-            Term::Merge(c, a, b) => {
-                let c = c.copy()?;
-                let (a, b) = both(twin(a), twin(b))?;
-                Ok(Term::Merge(c, a, b))
-            }
-            Term::Fby(v, a) => Ok(Term::Fby(*v, twin(a)?)),
-            Term::Follow(a, b) => {
-                let (a, b) = both(twin(a), twin(b))?;
-                Ok(Term::Follow(a, b))
-            }
-            Term::Arrow(a, b) => {
-                let (a, b) = both(twin(a), twin(b))?;
-                Ok(Term::Arrow(a, b))
-            }
-            Term::Call(f, args) => {
-                let f = f.copy()?;
-                Ok(Term::Call(f, twins(args)?))
-            }
+            Term::Var(x) => variable(x.copy()),
+            Term::Un(o, a) => unary(*o, twin(a)),
+            Term::Bin(o, a, b) => binary(*o, both(twin(a), twin(b))),
+            Term::If(c, a, b) => choice(twin(c), both(twin(a), twin(b))),
+            Term::When(a, c, polarity) => sampled(twin(a), c.copy(), *polarity),
+            Term::Merge(c, a, b) => merged(c.copy(), both(twin(a), twin(b))),
+            Term::Fby(v, a) => delayed(*v, twin(a)),
+            Term::Follow(a, b) => followed(both(twin(a), twin(b))),
+            Term::Arrow(a, b) => arrow(both(twin(a), twin(b))),
+            Term::Call(f, arguments) => called(f.copy(), twins(arguments)),
         }
     }
 }
@@ -74,7 +55,7 @@ impl Term {
 fn twin(a: &Box<Term>) -> Result<Box<Term>, Memory>
     ensures { IfOk result (λ copy. tm_of copy.value ≡ tm_of a.now.value) }
 {
-    Ok(Box::new(*Box::allocator(a), a.copy()?)?)
+    boxed(*Box::allocator(a), a.copy())
 }
 
 // Equal terms, one by one.
@@ -84,18 +65,7 @@ fn twins(terms: &Vec<Term>) -> Result<Vec<Term>, Memory>
 {
     let mut copies = Vec::with_capacity(*terms.allocator(), terms.len())?;
     for term in terms {
-        copies.push(term.copy()?)?;
+        push(&mut copies, term.copy())?;
     }
     Ok(copies)
-}
-
-// Two copies, where both were made.
-fn both(
-    a: Result<Box<Term>, Memory>,
-    b: Result<Box<Term>, Memory>,
-) -> Result<(Box<Term>, Box<Term>), Memory>
-    ensures { IfOk result (λ copies. (a ≡ Ok copies.0) × (b ≡ Ok copies.1)) }
-{
-    let first = a?;
-    Ok((first, b?))
 }

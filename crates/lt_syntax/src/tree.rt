@@ -1,5 +1,5 @@
 // The tree of a program.
-ghost use Rattle.std.specs.Prelude.{◌≡◌, IfOk};
+ghost use Rattle.std.specs.Prelude.{◌≡◌, IfOk, Ok};
 ghost use Rattle.lt_syntax.specs.Views.{tm_of};
 
 use crate::term::Term;
@@ -46,14 +46,23 @@ pub struct NodeText {
     pub eqs: List<EqText>,
 }
 
+/// Both copies, where both were made.
+fn both<A: Drop, B: Drop>(a: Result<A, Memory>, b: Result<B, Memory>) -> Result<(A, B), Memory>
+    ensures { IfOk result (λ pair. (a ≡ Ok pair.0) × (b ≡ Ok pair.1)) }
+{
+    let first = a?;
+    Ok((first, b?))
+}
+
 impl DeclText {
     pub fn copy(&self) -> Result<DeclText, Memory>
         ensures { IfOk result (λ copy. copy ≡ self.now) }
     {
+        let (name, clock) = both(self.name.copy(), self.clock.copy())?;
         Ok(DeclText {
-            name: self.name.copy()?,
+            name,
             ty: self.ty,
-            clock: self.clock.copy()?,
+            clock,
         })
     }
 }
@@ -82,10 +91,8 @@ impl EqText {
     pub fn copy(&self) -> Result<EqText, Memory>
         ensures { IfOk result (λ copy. copy ≡ self.now) }
     {
-        Ok(EqText {
-            left: self.left.copy()?,
-            right: self.right.copy()?,
-        })
+        let (left, right) = both(self.left.copy(), self.right.copy())?;
+        Ok(EqText { left, right })
     }
 }
 
@@ -93,12 +100,16 @@ impl NodeText {
     pub fn copy(&self) -> Result<NodeText, Memory>
         ensures { IfOk result (λ copy. copy ≡ self.now) }
     {
+        let inner = both(self.locals.copy(), self.eqs.copy());
+        let outer = both(self.ins.copy(), self.outs.copy());
+        let (name, lists) = both(self.name.copy(), both(outer, inner))?;
+        let ((ins, outs), (locals, eqs)) = lists;
         Ok(NodeText {
-            name: self.name.copy()?,
-            ins: self.ins.copy()?,
-            outs: self.outs.copy()?,
-            locals: self.locals.copy()?,
-            eqs: self.eqs.copy()?,
+            name,
+            ins,
+            outs,
+            locals,
+            eqs,
         })
     }
 }
