@@ -87,6 +87,7 @@ module _ {C M : Type 0} (stands : M → Function → List (List Value) → Type 
     ended = tt;
     near = λ told. near refused (refuses told);
     opens = keeps.fabric_kept.opens;
+    layout = tt;
   }
   halted halt.Read visits rose link_calm found none = record {
     answered = record {
@@ -99,6 +100,7 @@ module _ {C M : Type 0} (stands : M → Function → List (List Value) → Type 
     ended = tt;
     near = λ told. tt;
     opens = keeps.fabric_kept.opens;
+    layout = tt;
   }
   halted halt.Link visits calm rose found none = record {
     answered = record {
@@ -111,6 +113,7 @@ module _ {C M : Type 0} (stands : M → Function → List (List Value) → Type 
     ended = tt;
     near = λ told. tt;
     opens = keeps.fabric_kept.opens;
+    layout = tt;
   }
   halted halt.Memory visits calm link_calm found none = record {
     answered = record {
@@ -123,6 +126,7 @@ module _ {C M : Type 0} (stands : M → Function → List (List Value) → Type 
     ended = tt;
     near = λ told. tt;
     opens = keeps.fabric_kept.opens;
+    layout = tt;
   }
 
   module _ (phase : C → Phase) (left : M → ℕ) where
@@ -163,6 +167,7 @@ module _ {C M : Type 0} (stands : M → Function → List (List Value) → Type 
         ended = tt;
         near = λ told. tt;
         opens = keeps.fabric_kept.opens;
+        layout = tt;
       })
 
       -- it is taken
@@ -190,6 +195,7 @@ module _ {C M : Type 0} (stands : M → Function → List (List Value) → Type 
           ended = (takes.events, at_last);
           near = λ told. tt;
           opens = keeps.fabric_kept.opens;
+          layout = is.layout ∙ keeps.fixed.layout;
         }
 
     -- What the answer to the whole file comes to, where a net along the schedule takes its events.

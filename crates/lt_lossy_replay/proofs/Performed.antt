@@ -30,7 +30,7 @@ use Rattle.lt_lossy_replay.specs.Replays.{IsLossyReplay, lossy_replay_verdict, H
 module _ {M : Type 0} (stands : M → Function → List (List Value) → Type 0) (made : M → ℕ) (l : Layout) (s : Shape) (t : Timing) (losses : ℕ) (inputs : List (List Value)) (name : List ℕ) (files : FilesState) (fabric : FabricState) where
   -- there is no memory to begin with
   pub no_memory : (r : Result (Replayed M) (Or LossyPlayFault)) → IsErrAnd r (λ f. f ≡ Memory) → HasLossyReplayed stands made l s t losses inputs name files files fabric fabric r
-  no_memory r is = at_error (λ answer. HasLossyReplayed stands made l s t losses inputs name files files fabric fabric answer) r Memory is (record { answered = runs_short (world files fabric); ended = tt; near = λ told. tt; opens = record { calls = opens_none fabric; done = tt } })
+  no_memory r is = at_error (λ answer. HasLossyReplayed stands made l s t losses inputs name files files fabric fabric answer) r Memory is (record { answered = runs_short (world files fabric); ended = tt; near = λ told. tt; opens = record { calls = opens_none fabric; done = tt }; layout = tt })
 
   module _ (mid : FabricState) (keeps : KeepsPromises fabric mid) (steady : IsTrue fabric.sound → mid.faults ≡ fabric.faults) (once : OpensAtMostOnce fabric mid) where
     unplayed_keeps : KeepsWorld (world files fabric) (world files mid)
@@ -49,6 +49,7 @@ module _ {M : Type 0} (stands : M → Function → List (List Value) → Type 0)
       ended = tt;
       near = λ told. tt;
       opens = record { calls = once; done = tt };
+      layout = tt;
     }
     not_opened link.Memory same = record {
       answered = record {
@@ -61,6 +62,7 @@ module _ {M : Type 0} (stands : M → Function → List (List Value) → Type 0)
       ended = tt;
       near = λ told. tt;
       opens = record { calls = once; done = tt };
+      layout = tt;
     }
 
     -- it was opened, and then the schedule was played
@@ -88,6 +90,7 @@ module _ {M : Type 0} (stands : M → Function → List (List Value) → Type 0)
         ended = played.ended;
         near = played.near;
         opens = opens_by r (played.opens ∙ opened);
+        layout = played.layout;
       }
 
 -- the same of a net that was made of these parts

@@ -47,6 +47,8 @@ pub record HasLossyPlayed {M : Type 0} (stands : M → Function → List (List V
   pub near : IsTrue files.told → IfErr result (IsNearLossy (files.named name) files'.place)
   -- the fabric was not opened again
   pub opens : fabric'.opens ≡ fabric.opens
+  -- the layout is given back
+  pub layout : IfOk result (λ taken. taken.layout ≡ l)
 
 -- so did a network that opens the fabric
 pub record HasLossyReplayed {M : Type 0} (stands : M → Function → List (List Value) → Type 0) (made : M → ℕ) (l : Layout) (s : Shape) (t : Timing) (losses : ℕ) (inputs : List (List Value))
@@ -59,3 +61,5 @@ pub record HasLossyReplayed {M : Type 0} (stands : M → Function → List (List
   pub near : IsTrue files.told → IfErr result (IsNearLossy (files.named name) files'.place)
   -- at most once, and once where it took the file
   pub opens : OpensOnce fabric fabric' result
+  -- the layout is given back
+  pub layout : IfOk result (λ taken. taken.layout ≡ l)

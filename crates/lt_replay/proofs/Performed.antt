@@ -74,6 +74,7 @@ module _ {C M : Type 0} (phase : C → Phase) (stands : M → Function → List 
       ended = tt;
       near = λ told. tt;
       opens = record { calls = calls; done = tt };
+      layout = tt;
     }
     not_opened link.Memory same = record {
       answered = record {
@@ -86,13 +87,14 @@ module _ {C M : Type 0} (phase : C → Phase) (stands : M → Function → List 
       ended = tt;
       near = λ told. tt;
       opens = record { calls = calls; done = tt };
+      layout = tt;
     }
 
 -- there is no memory to begin with
 pub no_memory : {M : Type 0} (stands : M → Function → List (List Value) → Type 0) (made : M → ℕ) (l : Layout) (s : Shape) (t : Timing) (inputs : List (List Value)) (name : List ℕ) (files : FilesState) (fabric : FabricState)
     (r : Result (Replayed M) (Or PlayFault)) → IsErrAnd r (λ f. f ≡ Memory) → HasReplayed stands made l s t inputs name files files fabric fabric r
 no_memory stands made l s t inputs name files fabric r is =
-    at_error (λ answer. HasReplayed stands made l s t inputs name files files fabric fabric answer) r Memory is (record { answered = runs_short (world files fabric); ended = tt; near = λ told. tt; opens = record { calls = opens_none fabric; done = tt } })
+    at_error (λ answer. HasReplayed stands made l s t inputs name files files fabric fabric answer) r Memory is (record { answered = runs_short (world files fabric); ended = tt; near = λ told. tt; opens = record { calls = opens_none fabric; done = tt }; layout = tt })
 
 -- a step's answer as that of another, where what is right of the one is right of the other
 module _ {T U E : Type 0} (blame : E → Blame) (es : List Errand) (V : Verdict T E) (W : Verdict U E) (a b : World) (wider : (e : E) → V (Err e) → W (Err e)) where
@@ -207,6 +209,7 @@ module _ {C M : Type 0} (phase : C → Phase) (stands : M → Function → List 
     ended = tt;
     near = played.near;
     opens = record { calls = one_call played.keeps; done = tt };
+    layout = tt;
   }
 
   pub refused_by : (r : Result (Replayed M) (Or PlayFault)) (e : Or PlayFault) → IsErrAnd r (λ f. f ≡ e) → (lent : List (List Value)) → lent ≡ inputs → HasPlayed phase stands made left size old new lent later name files files' mid fabric' (Err e) →
@@ -227,6 +230,7 @@ module _ {C M : Type 0} (phase : C → Phase) (stands : M → Function → List 
       ended = tt;
       near = λ told. tt;
       opens = record { calls = one_call played.keeps; done = tt };
+      layout = tt;
     }
 
     pub untaken_by : (r : Result (Replayed M) (Or PlayFault)) → IsErrAnd r (λ f. f ≡ Memory) → HasReplayed stands made l s t inputs name files files' fabric fabric' r
@@ -257,6 +261,7 @@ module _ {C M : Type 0} (phase : C → Phase) (stands : M → Function → List 
         ended = (played.ended.0, at_last played.ended.0 played.ended.1);
         near = λ told. tt;
         opens = record { calls = one_call played.keeps; done = same_opens played.keeps };
+        layout = taken_is.layout ∙ played.ended.1.fixed.layout ∙ is.layout;
       }
 
 -- the same of an equal layout, shape and timing

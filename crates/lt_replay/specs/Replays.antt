@@ -63,3 +63,5 @@ pub record HasReplayed {M : Type 0} (stands : M → Function → List (List Valu
   pub near : IsTrue files.told → IfErr result (IsNearPlay (files.named name) files'.place)
   -- the fabric was opened at most once, and once where it took the file
   pub opens : OpensOnce fabric fabric' result
+  -- the layout is given back
+  pub layout : IfOk result (λ taken. taken.layout ≡ l)

@@ -1,5 +1,5 @@
 -- What a replay answers, in the words of what its value shows.
-use Rattle.std.proofs.Common.{◌≡◌, ℕ, List, Option, Some, None, Result, Ok, Err, false, refl, ap, subst, sym}
+use Rattle.std.proofs.Common.{◌≡◌, ◌∙◌, ℕ, List, Option, Some, None, Result, Ok, Err, false, refl, ap, subst, sym}
 use Rattle.std.specs.Prelude.{IsErrAnd, length}
 use Rattle.lt_base.specs.declared.memory.Or.{Or}
 use Rattle.lt_base.specs.declared.memory.Or.TheVariants.{Fault, Memory}
@@ -104,6 +104,7 @@ module _ {M : Type 0} (stands : M → Function → List (List Value) → Type 0)
         ended = tt;
         near = takes.near;
         opens = record { calls = takes.opens.calls; done = tt };
+        layout = tt;
       } in
       subst (λ (g : Or RunFault). Prints (Err g)) (sym is) told
 
@@ -116,16 +117,18 @@ module _ {M : Type 0} (stands : M → Function → List (List Value) → Type 0)
         ended = tt;
         near = λ told. tt;
         opens = record { calls = takes.opens.calls; done = tt };
+        layout = tt;
       } in
       subst (λ (g : Or RunFault). Prints (Err g)) (sym is) told
 
   -- it is shown by name
-  pub named : (x : Replayed M) (y : Printed M) → ((events : EventsBy k.pace) → taken_end events x → printed_end events y) → Takes (Ok x) → Prints (Ok y)
-  named x y too takes = record {
+  pub named : (x : Replayed M) (y : Printed M) → ((events : EventsBy k.pace) → taken_end events x → printed_end events y) → y.layout ≡ x.layout → Takes (Ok x) → Prints (Ok y)
+  named x y too same takes = record {
     answered = answered_value k.pace taken_end printed_end k.shape k.timing (length k.inputs.rows) (files.named name) (world files fabric) (world files' fabric') x y too takes.answered;
     ended = (takes.ended.0, too takes.ended.0 takes.ended.1);
     near = λ told. tt;
     opens = record { calls = takes.opens.calls; done = takes.opens.done };
+    layout = same ∙ takes.layout;
   }
 
 -- the setup of what was loaded
@@ -141,7 +144,7 @@ pub not_set_up : {M : Type 0} (stands : M → Function → List (List Value) →
     → IsErrAnd r (λ f. f ≡ Memory) → HasPrinted stands made k name files files fabric fabric r
 not_set_up stands made k name files fabric (Ok x) is = absurd is
 not_set_up stands made k name files fabric (Err f) is =
-    subst (λ (g : Or RunFault). HasPrinted stands made k name files files fabric fabric (Err g)) (sym is) (record { answered = runs_short (world files fabric); ended = tt; near = λ told. tt; opens = record { calls = opens_none fabric; done = tt } })
+    subst (λ (g : Or RunFault). HasPrinted stands made k name files files fabric fabric (Err g)) (sym is) (record { answered = runs_short (world files fabric); ended = tt; near = λ told. tt; opens = record { calls = opens_none fabric; done = tt }; layout = tt })
 
 -- the same of an equal plan
 pub prints_at : {M : Type 0} (stands : M → Function → List (List Value) → Type 0) (made : M → ℕ) (k l : LoadedPlan) → k ≡ l → (name : List ℕ) (files files' : FilesState) (fabric fabric' : FabricState) (r : Result (Printed M) (Or RunFault))

@@ -120,6 +120,7 @@ module _ {M : Type 0} (stands : M → Function → List (List Value) → Type 0)
     ended = ended_by pace none x replays.ended;
     near = λ told. tt;
     opens = record { calls = replays.opens.calls; done = replays.opens.done };
+    layout = replays.layout;
   }
 
   pub not_taken : (pace : Pace) → allowed_of pace ≡ None → (e : Or PlayFault) (g : Or RunFault) → MapsFault e g (λ f h. h ≡ of_play f) → Replays (Err e) → Takes pace (Err g)
@@ -130,4 +131,5 @@ module _ {M : Type 0} (stands : M → Function → List (List Value) → Type 0)
     ended = tt;
     near = λ told. near_run file files'.place e g is (replays.near told);
     opens = record { calls = replays.opens.calls; done = tt };
+    layout = tt;
   }

@@ -121,6 +121,7 @@ module _ {M : Type 0} (stands : M → Function → List (List Value) → Type 0)
     ended = (replays.ended.0, same_end replays.ended.0 x replays.ended.1);
     near = λ told. tt;
     opens = record { calls = replays.opens.calls; done = replays.opens.done };
+    layout = replays.layout;
   }
 
   not_took : (e : Or LossyPlayFault) (g : Or RunFault) → MapsFault e g (λ f h. h ≡ of_lossy f) → Replays (Err e) → Takes (LosesMessages losses) (Err g)
@@ -131,6 +132,7 @@ module _ {M : Type 0} (stands : M → Function → List (List Value) → Type 0)
     ended = tt;
     near = λ told. near_run file files'.place e g is (replays.near told);
     opens = record { calls = replays.opens.calls; done = tt };
+    layout = tt;
   }
 
   -- whatever pace it is that loses messages so

@@ -81,6 +81,8 @@ pub record HasTaken {M : Type 0} (stands : M → Function → List (List Value) 
   pub near : IsTrue files.told → IfErr result (IsNearRun (files.named name) files'.place)
   -- the fabric was opened at most once, and once where the file was taken
   pub opens : OpensOnce fabric fabric' result
+  -- the layout is given back
+  pub layout : IfOk result (λ taken. taken.layout ≡ l)
 
 -- a replay of a loaded program along the file of this name
 pub record HasPrinted {M : Type 0} (stands : M → Function → List (List Value) → Type 0) (made : M → ℕ) (k : LoadedPlan) (name : List ℕ) (files files' : FilesState) (fabric fabric' : FabricState) (result : Result (Printed M) (Or RunFault)) : Type 0 where
@@ -91,3 +93,5 @@ pub record HasPrinted {M : Type 0} (stands : M → Function → List (List Value
   pub near : IsTrue files.told → IfErr result (IsNearRun (files.named name) files'.place)
   -- the fabric was opened at most once, and once where the file was taken
   pub opens : OpensOnce fabric fabric' result
+  -- the layout of what was loaded is given back
+  pub layout : IfOk result (λ printed. printed.layout ≡ k.layout)

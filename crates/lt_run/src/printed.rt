@@ -66,6 +66,7 @@ pub(crate) fn name_outputs<M: Drop>(
     ensures cells { IfOk result (λ printed. printed.cells ≡ replayed.cells) }
     ensures horizon { IfOk result (λ printed. printed.horizon ≡ replayed.horizon) }
     ensures machines { IfOk result (λ printed. printed.machines ≡ replayed.machines) }
+    ensures layout { IfOk result (λ printed. printed.layout ≡ replayed.layout) }
 {
     let names = output_names(alloc, main)?;
     Ok(Printed {

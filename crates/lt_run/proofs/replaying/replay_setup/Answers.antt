@@ -29,7 +29,7 @@ returns g c =
     let names = c.in_ok-name_outputs.ensures.names ∙ ap (λ (f : Function). map (name_in f) f.outs) main in
     let told = c.in_ok-name_outputs.ensures in
     named _ _ k _ _ _ _ _ c.in_ok-replayed.replayed c.in_ok-name_outputs.field-0
-    (shows_too _ _ k good checked c.requires.loaded _ c.in_ok-replayed.replayed c.in_ok-name_outputs.field-0 names told.cells told.horizon told.machines) c.in_ok-replayed.ensures
+    (shows_too _ _ k good checked c.requires.loaded _ c.in_ok-replayed.replayed c.in_ok-name_outputs.field-0 names told.cells told.horizon told.machines) told.layout c.in_ok-replayed.ensures
 
 pub returns-in_err-name_outputs : goal.returns-in_err-name_outputs
 returns-in_err-name_outputs g c =
