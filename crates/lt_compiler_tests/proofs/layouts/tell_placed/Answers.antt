@@ -1,5 +1,5 @@
 use Rattle.lt_compiler_tests.proofs.Sizes.{kept_at, few_variables, has_origins}
-use Rattle.lt_compiler_tests.proofs.layouts.delay_across.Goals as goal
+use Rattle.lt_compiler_tests.proofs.layouts.tell_placed.Goals as goal
 
 pub place-requires-clause-typed : goal.place-requires-clause-typed
 place-requires-clause-typed c = (kept_at _ _ c.checked.view_is c.kept.ensures).keeps.typed

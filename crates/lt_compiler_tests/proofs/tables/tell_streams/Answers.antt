@@ -1,5 +1,5 @@
 use Rattle.lt_compiler_tests.proofs.Sizes.{kept_at, has_room}
-use Rattle.lt_compiler_tests.proofs.tables.streams_of.Goals as goal
+use Rattle.lt_compiler_tests.proofs.tables.tell_streams.Goals as goal
 
 pub streams-requires-clause-checked : goal.streams-requires-clause-checked
 streams-requires-clause-checked c = (kept_at _ _ c.checked.view_is c.kept.ensures).examined.checked
