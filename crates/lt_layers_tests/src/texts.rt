@@ -25,10 +25,16 @@ fn letter_of(byte: u8) -> char {
 /// The bytes of a text.
 pub fn bytes(alloc: Global, text: &str) -> Result<Vec<u8>, Memory> {
     let mut bytes = Vec::new(alloc);
+    add(&mut bytes, text)?;
+    Ok(bytes)
+}
+
+/// Adds the bytes of a text.
+pub fn add(bytes: &mut Vec<u8>, text: &str) -> Result<(), Memory> {
     for letter in text.bytes() {
         bytes.push(byte_of(letter))?;
     }
-    Ok(bytes)
+    Ok(())
 }
 
 /// Appends a value as it is shown.

@@ -17,9 +17,20 @@ pub fn listed(alloc: Global, call: u64) -> Result<List<u64>, Memory>
     Ok(calls)
 }
 
-pub fn file(alloc: Global, name: &str, bytes: &[u8]) -> Result<MemFile, Memory> {
+fn file(alloc: Global, name: &str, bytes: &[u8]) -> Result<MemFile, Memory> {
     Ok(MemFile {
         name: Name::from_str(alloc, name)?,
         bytes: List::from_slice(alloc, bytes)?,
     })
+}
+
+/// Adds a file.
+pub fn add_file(
+    alloc: Global,
+    files: &mut List<MemFile>,
+    name: &str,
+    bytes: &[u8],
+) -> Result<(), Memory> {
+    let file = file(alloc, name, bytes)?;
+    files.push(file)
 }

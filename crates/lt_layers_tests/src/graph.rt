@@ -45,20 +45,34 @@ pub fn tell_circular(alloc: Global, line: &mut String, text: &str) -> Result<(),
 fn ring(alloc: Global) -> Result<List<List<u32>>, Memory>
     ensures { IfOk result IsTable }
 {
-    let mut first = List::new(alloc);
-    first.push(1)?;
-    let mut second = List::new(alloc);
-    second.push(0)?;
-    second.push(2)?;
+    let first = List::from_slice(alloc, &[1u32])?;
+    let second = List::from_slice(alloc, &[0u32, 2])?;
     Ok(List::of(vec![in alloc; first, second, List::new(alloc)]?))
 }
 
 /// Tells how many edges leave each node of a ring with a way out, and the first node of each node's component.
 pub fn tell_ring(alloc: Global, line: &mut String) -> Result<(), Memory> {
-    let table = ring(alloc)?;
-    tell(line, degrees(alloc, &table)?.as_slice())?;
-    let names = components(alloc, &table)?;
-    tell_firsts(line, names.as_slice())
+    match ring(alloc) {
+        Ok(table) => tell_table(alloc, line, &table),
+        Err(_) => Err(Memory),
+    }
+}
+
+fn tell_table(alloc: Global, line: &mut String, table: &List<List<u32>>) -> Result<(), Memory>
+    requires { IsTable table.now }
+{
+    tell_degrees(alloc, line, table)?;
+    match components(alloc, table) {
+        Ok(names) => tell_firsts(line, names.as_slice()),
+        Err(_) => Err(Memory),
+    }
+}
+
+fn tell_degrees(alloc: Global, line: &mut String, table: &List<List<u32>>) -> Result<(), Memory> {
+    match degrees(alloc, table) {
+        Ok(numbers) => tell(line, numbers.as_slice()),
+        Err(_) => Err(Memory),
+    }
 }
 
 // Tells for each name the first place at which it stands.

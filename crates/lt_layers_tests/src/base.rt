@@ -2,22 +2,28 @@
 ghost use Rattle.lt_base.specs.Calls.{NotRecursive};
 
 use crate::texts::tell;
-use lt_base::{Clock, Func, Inputs, List, Memory, Or, Program, Value, Whole, sizes};
+use lt_base::{Clock, Func, Inputs, List, Memory, Program, Value, Whole, sizes};
 use std::alloc::Global;
 
 /// Tells the functions of a program, after the program and each of its functions were copied, and its size.
 pub fn tell_copies(alloc: Global, line: &mut String, p: &Program) -> Result<(), Memory>
     requires { NotRecursive p.now.funcs }
 {
-    let sizes = sizes(alloc, p)?;
     tell(line, copies(alloc, p)?)?;
-    tell(line, sizes)
+    tell(line, sizes(alloc, p)?)
 }
 
 fn copies(alloc: Global, p: &Program) -> Result<usize, Memory> {
-    let copy = p.copy()?;
+    match p.copy() {
+        Ok(copy) => copied(alloc, copy.funcs.as_slice()),
+        Err(_) => Err(Memory),
+    }
+}
+
+// How many of these functions have copies with as many equations.
+fn copied(alloc: Global, funcs: &[Func]) -> Result<usize, Memory> {
     let mut count = 0usize;
-    for f in copy.funcs.as_slice() {
+    for f in funcs {
         if is_copied(alloc, f)? {
             count = count.saturating_add(1);
         }
@@ -25,22 +31,25 @@ fn copies(alloc: Global, p: &Program) -> Result<usize, Memory> {
     Ok(count)
 }
 
-fn whole_of(alloc: Global, f: &Func) -> Result<Whole, Memory> {
-    let func = f.copy()?;
-    Ok(Whole {
+fn is_copied(alloc: Global, f: &Func) -> Result<bool, Memory> {
+    match f.copy() {
+        Ok(func) => is_whole_copied(f, &whole_of(alloc, func)),
+        Err(_) => Err(Memory),
+    }
+}
+
+fn whole_of(alloc: Global, func: Func) -> Whole {
+    Whole {
         func,
         origin: List::new(alloc),
-    })
+    }
 }
 
-fn whole_again(alloc: Global, f: &Func) -> Result<Whole, Memory> {
-    let whole = whole_of(alloc, f)?;
-    whole.copy()
-}
-
-fn is_copied(alloc: Global, f: &Func) -> Result<bool, Memory> {
-    let copy = whole_again(alloc, f)?;
-    Ok(copy.func.eqs.len() == f.eqs.len())
+fn is_whole_copied(f: &Func, whole: &Whole) -> Result<bool, Memory> {
+    match whole.copy() {
+        Ok(copy) => Ok(copy.func.eqs.len() == f.eqs.len()),
+        Err(_) => Err(Memory),
+    }
 }
 
 /// Tells something that grew and was copied.
@@ -61,15 +70,30 @@ pub fn tell_grown(alloc: Global, line: &mut String, what: &str) -> Result<(), Me
 }
 
 fn tell_clock(alloc: Global, line: &mut String) -> Result<(), Memory> {
-    let clock = Clock::base(alloc).deeper(3, true)?;
-    let copy = clock.copy()?;
-    tell(line, copy.steps.as_slice())
+    match Clock::base(alloc).deeper(3, true) {
+        Ok(clock) => tell_clock_copy(line, &clock),
+        Err(_) => Err(Memory),
+    }
+}
+
+fn tell_clock_copy(line: &mut String, clock: &Clock) -> Result<(), Memory> {
+    match clock.copy() {
+        Ok(copy) => tell(line, copy.steps.as_slice()),
+        Err(_) => Err(Memory),
+    }
 }
 
 fn tell_list(alloc: Global, line: &mut String) -> Result<(), Memory> {
     let mut numbers = List::from_slice(alloc, &[1u32, 2])?;
     numbers.push(3)?;
-    tell(line, numbers.copy()?.as_slice())
+    tell_list_copy(line, &numbers)
+}
+
+fn tell_list_copy(line: &mut String, numbers: &List<u32>) -> Result<(), Memory> {
+    match numbers.copy() {
+        Ok(copy) => tell(line, copy.as_slice()),
+        Err(_) => Err(Memory),
+    }
 }
 
 fn tell_extended(alloc: Global, line: &mut String) -> Result<(), Memory> {

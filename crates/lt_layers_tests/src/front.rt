@@ -23,25 +23,26 @@ fn tell_line(alloc: Global, line: &mut String, fault: &ProgramFault) -> Result<(
     tell_bytes(line, text.as_slice())
 }
 
-fn checked(alloc: Global, text: &[u8]) -> Result<Checked, Memory> {
+/// Tells the number of variables of a program's flat form, as it is made first and again.
+pub fn tell_flat_sizes(alloc: Global, line: &mut String, text: &[u8]) -> Result<(), Memory> {
     if text.len() > 10_000 {
         return Err(Memory);
     }
     match front(alloc, text) {
-        Ok(checked) => Ok(checked),
+        Ok(checked) => tell_sizes(alloc, line, checked),
         Err(_) => Err(Memory),
     }
 }
 
-/// The number of variables of a flat form.
-fn variables(checked: &Checked) -> usize {
-    checked.flat.func.decls.len()
+fn tell_sizes(alloc: Global, line: &mut String, checked: Checked) -> Result<(), Memory> {
+    tell_variables(line, &checked)?;
+    match checked.examined().flatten(alloc) {
+        Ok(again) => tell_variables(line, &again),
+        Err(_) => Err(Memory),
+    }
 }
 
-/// Tells the number of variables of a program's flat form, as it is made first and again.
-pub fn tell_flat_sizes(alloc: Global, line: &mut String, text: &[u8]) -> Result<(), Memory> {
-    let checked = checked(alloc, text)?;
-    tell(line, variables(&checked))?;
-    let again = checked.examined().flatten(alloc)?;
-    tell(line, variables(&again))
+// Tells the number of variables of a flat form.
+fn tell_variables(line: &mut String, checked: &Checked) -> Result<(), Memory> {
+    tell(line, checked.flat.func.decls.len())
 }

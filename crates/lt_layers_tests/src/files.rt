@@ -48,9 +48,9 @@ const TEXTS: &str = "\
 = \"least execute 3/least send 3/timebased cycle 66/backpressure cycle 30/\"
 > plan protocol = 'lossy'/losses = 2/period = [9, 11]/delay = [1, 4]/nodes = {a = ['x', 'u'], b = ['v']}/
 = \"least execute 3/least send 3/timebased cycle 66/backpressure cycle 30/\"
-> plan-to 1000 protocol = 'backpressure'/period = [9, 11]/delay = [1, 4]/nodes = {a = ['x', 'u'], b = ['v']}/
+> plan-1000 protocol = 'backpressure'/period = [9, 11]/delay = [1, 4]/nodes = {a = ['x', 'u'], b = ['v']}/
 = \"least execute 3/least send 3/timebased cycle 66/backpressure cycle 30/timebased bound 15/backpressure bound 33/\"
-> plan-to 1000 protocol = 'timebased'/period = [9, 11]/delay = [1, 4]/send = 3/execute = 4/nodes = {a = ['x', 'u'], b = ['v']}/periods = {b = [20, 22]}/sends = {b = 2}/executes = {b = 1}/
+> plan-1000 protocol = 'timebased'/period = [9, 11]/delay = [1, 4]/send = 3/execute = 4/nodes = {a = ['x', 'u'], b = ['v']}/periods = {b = [20, 22]}/sends = {b = 2}/executes = {b = 1}/
 = \"a least execute 4/a least send 3/a timebased cycle 77/a backpressure cycle 52/b least execute 1/b least send 2/b timebased cycle 66/b backpressure cycle 52/a timebased bound 13/a backpressure bound 19/b timebased bound 15/b backpressure bound 19/\"
 - the first check that fails refuses
 > program node main(x: int) returns (y: int) let y = 0 fby (y + x); tel

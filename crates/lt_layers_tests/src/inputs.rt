@@ -16,12 +16,12 @@ fn input(alloc: Global, name: &str, ty: Ty) -> Result<Decl, Memory>
     })
 }
 
-// A function of the inputs `x: int` and `c: bool`, and of nothing else.
-fn function(alloc: Global) -> Result<Func, Memory>
+// A function of these inputs, and of nothing else.
+fn function_of(alloc: Global, x: Decl, c: Decl) -> Result<Func, Memory>
+    requires x { x.clock ≡ [] }
+    requires c { c.clock ≡ [] }
     ensures { IfOk result (λ f. f.n_in ≡ 2) }
 {
-    let x = input(alloc, "x", Ty::Int)?;
-    let c = input(alloc, "c", Ty::Bool)?;
     let decls = List::of(vec![in alloc; x, c]?);
     Ok(Func::new(
         Name::from_str(alloc, "main")?,
@@ -32,10 +32,27 @@ fn function(alloc: Global) -> Result<Func, Memory>
     ))
 }
 
+// A function of the inputs `x: int` and `c: bool`.
+fn function(alloc: Global) -> Result<Func, Memory>
+    ensures { IfOk result (λ f. f.n_in ≡ 2) }
+{
+    let x = input(alloc, "x", Ty::Int)?;
+    let c = input(alloc, "c", Ty::Bool)?;
+    function_of(alloc, x, c)
+}
+
 /// Tells the only row of a table of inputs, or the row and the kind of its fault.
 pub fn tell_inputs(alloc: Global, line: &mut String, text: &[u8]) -> Result<(), Memory> {
-    let main = function(alloc)?;
-    match read_inputs(alloc, text, &main) {
+    match function(alloc) {
+        Ok(main) => tell_read(alloc, line, text, &main),
+        Err(_) => Err(Memory),
+    }
+}
+
+fn tell_read(alloc: Global, line: &mut String, text: &[u8], main: &Func) -> Result<(), Memory>
+    requires { main.now.n_in ≡ 2 }
+{
+    match read_inputs(alloc, text, main) {
         Ok(table) => tell_row(line, &table),
         Err(Or::Fault(fault)) => tell_fault(line, fault),
         Err(Or::Memory) => Err(Memory),

@@ -1,11 +1,16 @@
 // The answers to questions.
 
-use crate::config::{tell_fault, tell_lead, tell_plain, tell_plan, tell_plan_to, tell_setup};
+use crate::base::tell_grown;
+use crate::config::tell_config;
 use crate::front::{tell_fault_line, tell_flat_sizes};
+use crate::graph::{tell_circular, tell_ring};
 use crate::inputs::tell_inputs;
 use crate::io::{tell_fabric, tell_file, tell_sink};
+use crate::repeats::spread;
 use crate::rows::{tell_event, tell_far, tell_first, tell_header, tell_same};
 use crate::texts::bytes;
+use crate::tokens::{tell_front, tell_rest};
+use crate::trees::tell_parsed;
 use crate::words::tell_command;
 use lt_base::Memory;
 use std::alloc::Global;
@@ -23,9 +28,6 @@ fn tell_answer(alloc: Global, line: &mut String, what: &str, text: &str) -> Resu
     if what == "words" {
         return tell_command(alloc, line, text);
     }
-    if what == "plan-to" {
-        return tell_plan_to(alloc, line, text);
-    }
     if what == "file" {
         return tell_file(alloc, line, text);
     }
@@ -41,34 +43,29 @@ fn tell_answer(alloc: Global, line: &mut String, what: &str, text: &str) -> Resu
     if what == "same" {
         return tell_same(alloc, line, text);
     }
-    let text = bytes(alloc, text)?;
-    tell_of_bytes(alloc, line, what, text.as_slice())
+    tell_of_data(alloc, line, what, text)
 }
 
-// What is told of the bytes of a text.
-fn tell_of_bytes(alloc: Global, line: &mut String, what: &str, text: &[u8]) -> Result<(), Memory> {
-    if what == "fault" {
-        return tell_fault(alloc, line, text);
+fn tell_of_data(alloc: Global, line: &mut String, what: &str, text: &str) -> Result<(), Memory> {
+    if what == "grown" {
+        return tell_grown(alloc, line, text);
     }
-    if what == "setup" {
-        return tell_setup(alloc, line, text);
+    if what == "circular" {
+        return tell_circular(alloc, line, text);
     }
-    if what == "lead" {
-        return tell_lead(alloc, line, text);
+    if what == "ring" {
+        return tell_ring(alloc, line);
     }
-    if what == "plain" {
-        return tell_plain(alloc, line);
+    if ["fault", "setup", "lead", "plan", "plan-1000", "plain"].contains(&what) {
+        let text = bytes(alloc, text)?;
+        return tell_config(alloc, line, what, text.as_slice());
     }
-    if what == "plan" {
-        return tell_plan(alloc, line, text);
+    if ["inputs", "first", "event", "header"].contains(&what) {
+        let text = bytes(alloc, text)?;
+        return tell_of_rows(alloc, line, what, text.as_slice());
     }
-    if what == "program" {
-        return tell_fault_line(alloc, line, text);
-    }
-    if what == "flat" {
-        return tell_flat_sizes(alloc, line, text);
-    }
-    tell_of_rows(alloc, line, what, text)
+    let text = spread(alloc, text)?;
+    tell_of_text(alloc, line, what, text.as_slice())
 }
 
 fn tell_of_rows(alloc: Global, line: &mut String, what: &str, text: &[u8]) -> Result<(), Memory> {
@@ -81,8 +78,22 @@ fn tell_of_rows(alloc: Global, line: &mut String, what: &str, text: &[u8]) -> Re
     if what == "event" {
         return tell_event(alloc, line, text);
     }
-    if what == "header" {
-        return tell_header(line, text);
+    tell_header(line, text)
+}
+
+// What is told of the text of a token or of a program.
+fn tell_of_text(alloc: Global, line: &mut String, what: &str, text: &[u8]) -> Result<(), Memory> {
+    if what == "program" {
+        return tell_fault_line(alloc, line, text);
     }
-    Err(Memory)
+    if what == "flat" {
+        return tell_flat_sizes(alloc, line, text);
+    }
+    if what == "rest" {
+        return tell_rest(line, text);
+    }
+    if what == "token" || what == "held" {
+        return tell_front(alloc, line, what, text);
+    }
+    tell_parsed(alloc, line, what, text)
 }

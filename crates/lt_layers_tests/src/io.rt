@@ -2,7 +2,7 @@
 ghost use Rattle.std.specs.Prelude.{◌≡◌, ◌<◌, ◌-◌, ◌^◌, ◌∷◌, [], map, IfOk};
 ghost use Rattle.lt_base.specs.Value.{ty_of};
 
-use crate::fixtures::{file, listed};
+use crate::fixtures::{add_file, listed};
 use crate::texts::{tell, tell_bytes};
 use lt_base::{List, Memory, Or, Ty, Value};
 use lt_io::{
@@ -15,20 +15,21 @@ use std::path::PathBuf;
 use std::test::Fail;
 use std::{env, fs};
 
-// What a reading gives, in words.
-fn outcome<F: Files>(
+// Tells what a reading gives, in words.
+fn tell_outcome<F: Files>(
     alloc: Global,
+    line: &mut String,
     files: &mut F,
     name: &str,
     limit: usize,
-) -> Result<List<u8>, Memory>
+) -> Result<(), Memory>
     requires count { (F.state files.old).faults < 2 ^ 64 - 1 }
     requires limit { limit < 2 ^ 63 }
 {
     match read_file(alloc, files, name, limit) {
-        Ok(Whole::Bytes(bytes)) => Ok(bytes),
-        Ok(Whole::TooLong) => List::from_slice(alloc, b"too long"),
-        Err(Or::Fault(Failed)) => List::from_slice(alloc, b"failed"),
+        Ok(Whole::Bytes(bytes)) => tell_bytes(line, bytes.as_slice()),
+        Ok(Whole::TooLong) => tell_bytes(line, b"too long"),
+        Err(Or::Fault(Failed)) => tell_bytes(line, b"failed"),
         Err(Or::Memory) => Err(Memory),
     }
 }
@@ -45,8 +46,8 @@ fn call_of(text: &str) -> Result<u64, Memory>
 // Two files of one name.
 fn two_files(alloc: Global) -> Result<List<MemFile>, Memory> {
     let mut named = List::new(alloc);
-    named.push(file(alloc, "a", b"first")?)?;
-    named.push(file(alloc, "a", b"second")?)?;
+    add_file(alloc, &mut named, "a", b"first")?;
+    add_file(alloc, &mut named, "a", b"second")?;
     Ok(named)
 }
 
@@ -66,14 +67,12 @@ fn tell_limited(alloc: Global, line: &mut String, call: u64, limit: u64) -> Resu
 {
     let files = two_files(alloc)?;
     let mut files = MemFiles::new(files, listed(alloc, call)?);
-    let read = outcome(alloc, &mut files, "a", limit as usize)?;
-    tell_bytes(line, read.as_slice())
+    tell_outcome(alloc, line, &mut files, "a", limit as usize)
 }
 
 fn tell_repeated(alloc: Global, line: &mut String) -> Result<(), Memory> {
     let mut files = RepeatFiles::new(List::from_slice(alloc, b"on\n")?, 4);
-    let read = outcome(alloc, &mut files, "lines", 12)?;
-    tell_bytes(line, read.as_slice())
+    tell_outcome(alloc, line, &mut files, "lines", 12)
 }
 
 // Writes two texts, and answers how the second ended.
@@ -118,10 +117,12 @@ fn write_at(rt: HostRuntime, path: &PathBuf) -> Result<(), Fail> {
     Ok(())
 }
 
-fn read_at(rt: HostRuntime, path: &PathBuf) -> Result<List<u8>, Fail> {
+fn read_at(rt: HostRuntime, path: &PathBuf) -> Result<String, Fail> {
     let name = path.to_str().ok_or("no text")?;
     let mut files = RealFiles::new(rt);
-    Ok(outcome(rt.alloc(), &mut files, name, 7)?)
+    let mut line = String::new(rt.alloc());
+    tell_outcome(rt.alloc(), &mut line, &mut files, name, 7)?;
+    Ok(line)
 }
 
 #[test]
@@ -129,10 +130,10 @@ fn a_real_file_is_written_and_read(rt: HostRuntime) -> Result<(), Fail> {
     let path = path_of(rt)?;
     write_at(rt, &path)?;
     let read = read_at(rt, &path)?;
-    assert!(rt; read.as_slice() == b"one two".as_slice());
+    assert!(rt; read.as_str() == " \"one two\"");
     fs::remove_file(&rt, &path)?;
     let read = read_at(rt, &path)?;
-    assert!(rt; read.as_slice() == b"failed".as_slice());
+    assert!(rt; read.as_str() == " \"failed\"");
     Ok(())
 }
 

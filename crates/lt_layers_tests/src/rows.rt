@@ -1,9 +1,9 @@
 // Lines over long and over broken files, and rows as they read and are written.
-ghost use Rattle.std.specs.Prelude.{◌≡◌, ◌<◌, ◌-◌, ◌*◌, ◌^◌, length, IfOk};
+ghost use Rattle.std.specs.Prelude.{◌≡◌, ◌<◌, ◌-◌, ◌*◌, ◌^◌, ◌∷◌, [], length, IfOk};
 ghost use Rattle.lt_io.specs.MemFiles.{mem_files_state};
 ghost use Rattle.lt_arch.specs.Schedule.{IsEventOf};
 
-use crate::fixtures::{file, listed};
+use crate::fixtures::{add_file, listed};
 use crate::texts::{tell, tell_bytes};
 use lt_arch::{Chan, ChanKind, Event, Shape};
 use lt_base::{List, Memory, Name};
@@ -29,17 +29,17 @@ fn count<F: Files>(alloc: Global, files: &mut F) -> Result<(u32, Option<LineFaul
     Ok((1_000, None))
 }
 
-// The first line, or nothing.
-fn first<F: Files>(alloc: Global, files: &mut F) -> Result<List<u8>, Memory>
+// Tells the first line, or nothing.
+fn tell_line<F: Files>(alloc: Global, line: &mut String, files: &mut F) -> Result<(), Memory>
     requires { (F.state files.old).faults < 2 ^ 64 - 1 }
 {
     let mut lines = Lines::new(alloc)?;
     if files.open("lines").is_err() {
-        return Ok(List::new(alloc));
+        return tell_bytes(line, b"");
     }
     match lines.next(files) {
-        Ok(Some(line)) => List::from_slice(alloc, line),
-        _ => Ok(List::new(alloc)),
+        Ok(Some(row)) => tell_bytes(line, row),
+        _ => tell_bytes(line, b""),
     }
 }
 
@@ -49,8 +49,34 @@ fn in_memory(alloc: Global, bytes: &[u8], call: u64) -> Result<MemFiles, Memory>
     ensures { IfOk result (λ files. (mem_files_state files).faults ≡ 0) }
 {
     let mut files = List::new(alloc);
-    files.push(file(alloc, "lines", bytes)?)?;
+    add_file(alloc, &mut files, "lines", bytes)?;
     Ok(MemFiles::new(files, listed(alloc, call)?))
+}
+
+fn add_many(bytes: &mut List<u8>, byte: u8) -> Result<(), Memory> {
+    for _turn in 0..100_000u32 {
+        bytes.push(byte)?;
+    }
+    Ok(())
+}
+
+// A row, 100,000 of these bytes and another row.
+fn far_bytes(alloc: Global, byte: u8) -> Result<List<u8>, Memory> {
+    let mut bytes = List::from_slice(alloc, b"first\n")?;
+    add_many(&mut bytes, byte)?;
+    bytes.extend(b"\nlast\n")?;
+    Ok(bytes)
+}
+
+fn count_in_memory(
+    alloc: Global,
+    bytes: &[u8],
+    call: u64,
+) -> Result<(u32, Option<LineFault>), Memory>
+    requires { call < 2 ^ 64 - 1 }
+{
+    let mut files = in_memory(alloc, bytes, call)?;
+    count(alloc, &mut files)
 }
 
 // A row, 100,000 of these bytes and another row, of which the call of this number fails: the number of rows that are
@@ -58,12 +84,8 @@ fn in_memory(alloc: Global, bytes: &[u8], call: u64) -> Result<MemFiles, Memory>
 fn count_far(alloc: Global, byte: u8, call: u64) -> Result<(u32, Option<LineFault>), Memory>
     requires { call < 2 ^ 64 - 1 }
 {
-    let mut bytes = List::from_slice(alloc, b"first\n")?;
-    let far = vec![in alloc; byte; 100_000]?;
-    bytes.extend(far.as_slice())?;
-    bytes.extend(b"\nlast\n")?;
-    let mut files = in_memory(alloc, bytes.as_slice(), call)?;
-    count(alloc, &mut files)
+    let bytes = far_bytes(alloc, byte)?;
+    count_in_memory(alloc, bytes.as_slice(), call)
 }
 
 /// Tells how far a file is read with a row, many bytes, which are the first one of the text, and another row, of which the call of
@@ -85,8 +107,7 @@ pub fn tell_far(alloc: Global, line: &mut String, text: &str) -> Result<(), Memo
 /// Tells the first line of a file.
 pub fn tell_first(alloc: Global, line: &mut String, text: &[u8]) -> Result<(), Memory> {
     let mut files = in_memory(alloc, text, 0)?;
-    let read = first(alloc, &mut files)?;
-    tell_bytes(line, read.as_slice())
+    tell_line(alloc, line, &mut files)
 }
 
 // The rows of a file that has these bytes so many times, as `count` counts them.
@@ -119,6 +140,14 @@ fn tell_past(alloc: Global, line: &mut String) -> Result<(), Memory> {
     tell(line, count_same(alloc, bytes, 32_513)?)
 }
 
+fn two_names(alloc: Global) -> Result<List<Name>, Memory>
+    ensures { IfOk result (λ names. names ≡ (97 ∷ []) ∷ (98 ∷ []) ∷ []) }
+{
+    let a = Name::from_str(alloc, "a")?;
+    let b = Name::from_str(alloc, "b")?;
+    Ok(List::of(vec![in alloc; a, b]?))
+}
+
 // Two nodes, with a data channel and an acknowledgement channel each way.
 fn two_nodes(alloc: Global) -> Result<Shape, Memory>
     ensures { IfOk result (λ shape. record { nodes : length shape.nodes ≡ 2; channels : length shape.channels ≡ 2 }) }
@@ -133,19 +162,25 @@ fn two_nodes(alloc: Global) -> Result<Shape, Memory>
         to: 0,
         kind: ChanKind::Ack,
     };
-    let a = Name::from_str(alloc, "a")?;
-    let b = Name::from_str(alloc, "b")?;
-    Ok(Shape {
-        nodes: List::of(vec![in alloc; a, b]?),
-        channels: List::of(vec![in alloc; data, ack]?),
-    })
+    let nodes = two_names(alloc)?;
+    let channels = List::from_slice(alloc, &[data, ack])?;
+    Ok(Shape { nodes, channels })
 }
 
 /// Tells the event that a row reads as, and the row that it is written as, or the fault.
 pub fn tell_event(alloc: Global, line: &mut String, text: &[u8]) -> Result<(), Memory> {
-    let shape = two_nodes(alloc)?;
-    match read_event(text, &shape) {
-        Ok(event) => tell_read(alloc, line, event, &shape),
+    match two_nodes(alloc) {
+        Ok(shape) => tell_event_of(alloc, line, text, &shape),
+        Err(_) => Err(Memory),
+    }
+}
+
+fn tell_event_of(alloc: Global, line: &mut String, text: &[u8], shape: &Shape) -> Result<(), Memory>
+    requires nodes { length shape.now.nodes ≡ 2 }
+    requires channels { length shape.now.channels ≡ 2 }
+{
+    match read_event(text, shape) {
+        Ok(event) => tell_read(alloc, line, event, shape),
         Err(fault) => tell(line, fault),
     }
 }
@@ -154,8 +189,10 @@ fn tell_read(alloc: Global, line: &mut String, event: Event, shape: &Shape) -> R
     requires { IsEventOf shape.now event }
 {
     tell(line, event)?;
-    let row = print_event(alloc, &event, shape)?;
-    tell_bytes(line, row.as_slice())
+    match print_event(alloc, &event, shape) {
+        Ok(row) => tell_bytes(line, row.as_slice()),
+        Err(_) => Err(Memory),
+    }
 }
 
 /// Tells whether a line is a header.

@@ -57,26 +57,35 @@ fn kind(token: &Token) -> &'static str {
     }
 }
 
-/// Tells what stands at the front of a text, and the number of its bytes.
-pub fn tell_front(alloc: Global, line: &mut String, text: &[u8]) -> Result<(), Memory> {
-    match read_front(alloc, text)? {
+/// Tells what stands at the front of a text: the token with the number of its bytes, or the number or the name that it holds.
+pub fn tell_front(alloc: Global, line: &mut String, what: &str, text: &[u8]) -> Result<(), Memory> {
+    match read_front(alloc, text) {
+        Ok(front) => tell_of_front(line, what, &front),
+        Err(_) => Err(Memory),
+    }
+}
+
+fn tell_of_front(line: &mut String, what: &str, front: &Front) -> Result<(), Memory> {
+    match front {
         Front::Over => tell_word(line, "the end"),
-        Front::Begins(token, length) => tell_token(line, &token, length),
+        Front::Begins(token, length) => tell_token(line, what, token, *length),
         Front::BadByte => tell_word(line, "a bad byte"),
         Front::BadNumber => tell_word(line, "a bad number"),
     }
 }
 
-fn tell_token(line: &mut String, token: &Token, length: usize) -> Result<(), Memory> {
+fn tell_token(line: &mut String, what: &str, token: &Token, length: usize) -> Result<(), Memory> {
+    if what == "held" {
+        return tell_held(line, token);
+    }
     tell_word(line, kind(token))?;
     tell(line, length)
 }
 
-/// Tells the number or the name at the front of a text.
-pub fn tell_held(alloc: Global, line: &mut String, text: &[u8]) -> Result<(), Memory> {
-    match read_front(alloc, text)? {
-        Front::Begins(Token::Number(n), _) => tell(line, n),
-        Front::Begins(Token::Ident(name), _) => tell_word(line, name.as_str()),
+fn tell_held(line: &mut String, token: &Token) -> Result<(), Memory> {
+    match token {
+        Token::Number(n) => tell(line, *n),
+        Token::Ident(name) => tell_word(line, name.as_str()),
         _ => Err(Memory),
     }
 }
