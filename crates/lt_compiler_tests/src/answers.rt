@@ -1,22 +1,31 @@
 // The answers to questions.
 
-use crate::flat_forms::{tell_flat, tell_whole};
+use crate::flat_forms::{tell_copy, tell_flat, tell_whole};
 use crate::layouts::tell_layout;
 use crate::machines::{tell_code, tell_table, tell_ways};
-use crate::programs::checked;
 use crate::script::Question;
 use crate::tables::{tell_outputs, tell_streams};
 use lt_base::{Cell, Memory, Value};
-use lt_front::Checked;
+use lt_front::{Checked, front};
 use std::alloc::Global;
 use std::fmt::Debug;
 
 /// The line with the answer. An error stands for a text that is refused, and for want of memory.
 pub fn answer(alloc: Global, question: Question) -> Result<String, Memory> {
-    let checked = checked(alloc, question.program)?;
     let mut line = String::from_str(alloc, "=")?;
-    tell(alloc, &mut line, &checked, question)?;
+    tell_asked(alloc, &mut line, question)?;
     Ok(line)
+}
+
+// Tells what is asked of a text that passes all checks.
+fn tell_asked(alloc: Global, line: &mut String, question: Question) -> Result<(), Memory> {
+    if question.program.len() > 10_000 {
+        return Err(Memory);
+    }
+    match front(alloc, question.program.as_bytes()) {
+        Ok(checked) => tell(alloc, line, &checked, question),
+        Err(_) => Err(Memory),
+    }
 }
 
 fn tell(
@@ -36,7 +45,7 @@ fn tell(
         return tell_flat(line, &checked.flat, rest);
     }
     if what == "copy" {
-        return tell_flat(line, &checked.flat.copy()?, rest);
+        return tell_copy(line, &checked.flat, rest);
     }
     if what == "layout" {
         return tell_layout(alloc, line, checked, rest);

@@ -7,14 +7,6 @@ use lt_front::Checked;
 use lt_norm::Flat;
 use std::alloc::Global;
 
-fn expanded(alloc: Global, checked: &Checked) -> Result<Whole, Memory> {
-    checked.kept();
-    match expand(alloc, &checked.program) {
-        Ok(whole) => Ok(whole),
-        Err(_) => Err(Memory),
-    }
-}
-
 /// Tells something of `main` with its calls expanded.
 pub fn tell_whole(
     alloc: Global,
@@ -22,11 +14,26 @@ pub fn tell_whole(
     checked: &Checked,
     what: &str,
 ) -> Result<(), Memory> {
-    let whole = expanded(alloc, checked)?;
+    checked.kept();
+    match expand(alloc, &checked.program) {
+        Ok(whole) => tell_expanded(line, &whole, what),
+        Err(_) => Err(Memory),
+    }
+}
+
+fn tell_expanded(line: &mut String, whole: &Whole, what: &str) -> Result<(), Memory> {
     if what == "origins" {
         return tell_value(line, whole.origin.as_slice());
     }
     tell_function(line, &whole.func, what)
+}
+
+/// Tells something of a copy of a flat function.
+pub fn tell_copy(line: &mut String, flat: &Flat, what: &str) -> Result<(), Memory> {
+    match flat.copy() {
+        Ok(copy) => tell_flat(line, &copy, what),
+        Err(_) => Err(Memory),
+    }
 }
 
 /// Tells something of a flat function.

@@ -16,29 +16,22 @@ fn names(alloc: Global, texts: &[&str]) -> Result<List<Name>, Memory> {
     Ok(names)
 }
 
-// Nodes a and b with these variables.
-fn two_nodes(alloc: Global, on_a: &[&str], on_b: &[&str]) -> Result<Placement, Memory>
-    ensures { IfOk result (λ p. length (node_names p) ≡ 2) }
+fn node(alloc: Global, name: &str, on_it: &[&str]) -> Result<NamedNode, Memory>
+    ensures { IfOk result (λ n. n.name ≡ name.now) }
 {
-    let a = NamedNode {
-        name: Name::from_str(alloc, "a")?,
-        vars: names(alloc, on_a)?,
-    };
-    let b = NamedNode {
-        name: Name::from_str(alloc, "b")?,
-        vars: names(alloc, on_b)?,
-    };
-    let nodes = List::of(vec![in alloc; a, b]?);
-    Ok(Placement::Named(NamedNodes { nodes }))
+    Ok(NamedNode {
+        name: Name::from_str(alloc, name)?,
+        vars: names(alloc, on_it)?,
+    })
 }
 
-fn delay_across(alloc: Global, checked: &Checked) -> Result<Layout, Memory> {
-    let placement = two_nodes(alloc, ["x", "u"].as_slice(), ["v"].as_slice())?;
-    checked.kept();
-    match place(alloc, &checked.flat, &placement) {
-        Ok(layout) => Ok(layout),
-        Err(_) => Err(Memory),
-    }
+fn two_nodes(alloc: Global) -> Result<Placement, Memory>
+    ensures { IfOk result (λ p. length (node_names p) ≡ 2) }
+{
+    let a = node(alloc, "a", ["x", "u"].as_slice())?;
+    let b = node(alloc, "b", ["v"].as_slice())?;
+    let nodes = List::of(vec![in alloc; a, b]?);
+    Ok(Placement::Named(NamedNodes { nodes }))
 }
 
 /// Tells something of a program on both nodes.
@@ -48,8 +41,26 @@ pub fn tell_layout(
     checked: &Checked,
     what: &str,
 ) -> Result<(), Memory> {
-    let layout = delay_across(alloc, checked)?;
-    tell(line, &layout, what)
+    match two_nodes(alloc) {
+        Ok(placement) => tell_placed(alloc, line, checked, &placement, what),
+        Err(_) => Err(Memory),
+    }
+}
+
+fn tell_placed(
+    alloc: Global,
+    line: &mut String,
+    checked: &Checked,
+    placement: &Placement,
+    what: &str,
+) -> Result<(), Memory>
+    requires { length (node_names placement.now) ≡ 2 }
+{
+    checked.kept();
+    match place(alloc, &checked.flat, placement) {
+        Ok(layout) => tell(line, &layout, what),
+        Err(_) => Err(Memory),
+    }
 }
 
 fn tell(line: &mut String, layout: &Layout, what: &str) -> Result<(), Memory> {

@@ -10,8 +10,6 @@ mod layouts;
 #[cfg(test)]
 mod machines;
 #[cfg(test)]
-mod programs;
-#[cfg(test)]
 mod script;
 #[cfg(test)]
 mod tables;

@@ -167,7 +167,7 @@ pub fn tell_table(
 }
 
 // Tells whether the machine of this code that is to make so many steps takes flat code.
-fn tell_way(
+fn tell_start(
     alloc: Global,
     line: &mut String,
     flat: &Flat,
@@ -180,12 +180,14 @@ fn tell_way(
     tell_value(line, machine.is_flat())
 }
 
+fn tell_way(alloc: Global, line: &mut String, checked: &Checked, rows: u32) -> Result<(), Memory> {
+    checked.kept();
+    let code = code_of(alloc, &checked.flat)?;
+    tell_start(alloc, line, &checked.flat, code, rows)
+}
+
 /// Tells whether the machine of a program's step code takes flat code: one for few steps, and one for enough of them.
 pub fn tell_ways(alloc: Global, line: &mut String, checked: &Checked) -> Result<(), Memory> {
-    checked.kept();
-    let flat = &checked.flat;
-    let code = code_of(alloc, flat)?;
-    tell_way(alloc, line, flat, code, FEW)?;
-    let code = code_of(alloc, flat)?;
-    tell_way(alloc, line, flat, code, ENOUGH)
+    tell_way(alloc, line, checked, FEW)?;
+    tell_way(alloc, line, checked, ENOUGH)
 }

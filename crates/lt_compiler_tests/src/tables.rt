@@ -38,24 +38,6 @@ fn inputs_of(alloc: Global, p: &Program, text: &str) -> Result<Inputs, Memory>
     }
 }
 
-fn streams_of(alloc: Global, checked: &Checked, text: &str) -> Result<Table, Memory> {
-    let inputs = inputs_of(alloc, &checked.program, text)?;
-    checked.kept();
-    match streams(alloc, &checked.program, &inputs) {
-        Ok(table) => Ok(table),
-        Err(_) => Err(Memory),
-    }
-}
-
-fn outputs_of(alloc: Global, checked: &Checked, text: &str) -> Result<List<List<Cell>>, Memory> {
-    let inputs = inputs_of(alloc, &checked.program, text)?;
-    checked.kept();
-    match output_streams(alloc, &checked.program, &inputs) {
-        Ok(outputs) => Ok(outputs),
-        Err(_) => Err(Memory),
-    }
-}
-
 /// Tells the streams of all variables.
 pub fn tell_streams(
     alloc: Global,
@@ -63,7 +45,15 @@ pub fn tell_streams(
     checked: &Checked,
     text: &str,
 ) -> Result<(), Memory> {
-    let table = streams_of(alloc, checked, text)?;
+    let inputs = inputs_of(alloc, &checked.program, text)?;
+    checked.kept();
+    match streams(alloc, &checked.program, &inputs) {
+        Ok(table) => tell_columns(line, &table),
+        Err(_) => Err(Memory),
+    }
+}
+
+fn tell_columns(line: &mut String, table: &Table) -> Result<(), Memory> {
     let variables = table.variables();
     if variables > 100 {
         return Err(Memory);
@@ -81,7 +71,15 @@ pub fn tell_outputs(
     checked: &Checked,
     text: &str,
 ) -> Result<(), Memory> {
-    let outputs = outputs_of(alloc, checked, text)?;
+    let inputs = inputs_of(alloc, &checked.program, text)?;
+    checked.kept();
+    match output_streams(alloc, &checked.program, &inputs) {
+        Ok(outputs) => tell_rows(line, &outputs),
+        Err(_) => Err(Memory),
+    }
+}
+
+fn tell_rows(line: &mut String, outputs: &List<List<Cell>>) -> Result<(), Memory> {
     for cells in outputs.as_slice() {
         tell_cells(line, cells.as_slice())?;
     }

@@ -15,7 +15,7 @@ two_ascend = ((refl, tt), (tt, tt))
 
 pub invariant_of-result : goal.invariant_of-result
 invariant_of-result c =
-    let is = ap names_of (c.of-nodes.ensures ∙ c.in_ok-vec.ensures.items) ∙ (λ i. c.in_ok-from_str.ensures i ∷ c.in_ok-from_str-2.ensures i ∷ []) in
+    let is = ap names_of (c.of-nodes.ensures ∙ c.in_ok-vec.ensures.items) ∙ (λ i. c.in_ok-a.ensures i ∷ c.in_ok-b.ensures i ∷ []) in
     record {
       inhabited = rw (c.of-nodes.ensures, c.in_ok-vec.ensures.items) (lit≤ tt);
       identifiers = subst (AllPass is_identifier) (sym is) two_identifiers;

@@ -1,0 +1,48 @@
+// Programs with the lines of their faults, and their flat forms.
+
+use crate::texts::{tell, tell_bytes};
+use lt_base::{Memory, Or};
+use lt_front::{Checked, ProgramFault, examine, front};
+use lt_texts::program_line;
+use std::alloc::Global;
+
+/// Tells the line of a text's fault; an empty one of a program.
+pub fn tell_fault_line(alloc: Global, line: &mut String, text: &[u8]) -> Result<(), Memory> {
+    if text.len() > 10_000 {
+        return Err(Memory);
+    }
+    match examine(alloc, text) {
+        Ok(_) => tell_bytes(line, b""),
+        Err(Or::Fault(fault)) => tell_line(alloc, line, &fault),
+        Err(Or::Memory) => Err(Memory),
+    }
+}
+
+fn tell_line(alloc: Global, line: &mut String, fault: &ProgramFault) -> Result<(), Memory> {
+    let text = program_line(alloc, fault)?;
+    tell_bytes(line, text.as_slice())
+}
+
+/// Tells the number of variables of a program's flat form, as it is made first and again.
+pub fn tell_flat_sizes(alloc: Global, line: &mut String, text: &[u8]) -> Result<(), Memory> {
+    if text.len() > 10_000 {
+        return Err(Memory);
+    }
+    match front(alloc, text) {
+        Ok(checked) => tell_sizes(alloc, line, checked),
+        Err(_) => Err(Memory),
+    }
+}
+
+fn tell_sizes(alloc: Global, line: &mut String, checked: Checked) -> Result<(), Memory> {
+    tell_variables(line, &checked)?;
+    match checked.examined().flatten(alloc) {
+        Ok(again) => tell_variables(line, &again),
+        Err(_) => Err(Memory),
+    }
+}
+
+// Tells the number of variables of a flat form.
+fn tell_variables(line: &mut String, checked: &Checked) -> Result<(), Memory> {
+    tell(line, checked.flat.func.decls.len())
+}
