@@ -3,6 +3,7 @@
 
 mod columns;
 mod commands;
+mod equipment;
 mod evaluating;
 mod fault;
 mod outputs;

@@ -5,7 +5,6 @@ ghost use Rattle.lt_run.specs.Main.{name_in};
 use crate::Outputs;
 use crate::outputs::output_names;
 use lt_base::{Cell, Func, List, Memory, Name};
-use lt_machine::StepMachine;
 use lt_place::Layout;
 use lt_replay::Replayed;
 use std::alloc::Global;
@@ -34,9 +33,7 @@ impl<M: Drop> Printed<M> {
             cells: self.cells,
         }
     }
-}
 
-impl Printed<StepMachine> {
     /// The outputs alone, at the end of a call: neither the machines nor the trees of the layout are taken apart.
     pub(crate) fn shown(self) -> Outputs
         ensures names { result.names ≡ self.names }

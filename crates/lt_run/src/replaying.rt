@@ -1,8 +1,5 @@
 // A loaded program along a schedule.
-ghost use Rattle.std.specs.Prelude.{◌≡◌, ◌<◌, ◌≤◌, ◌-◌, ◌^◌, ℤ, [], length, None, IfOk, FitsSigned};
-ghost use Rattle.std.specs.Int.{w64};
-ghost use Rattle.lt_base.specs.declared.operators.Imp.{Imp as Operator};
-ghost use Rattle.lt_base.specs.Operators.{imp as imported};
+ghost use Rattle.std.specs.Prelude.{◌≡◌, ◌<◌, ◌≤◌, ◌-◌, ◌^◌, [], length, None};
 ghost use Rattle.lt_base.specs.Behaviour.{RowsFit};
 ghost use Rattle.lt_norm.specs.Flat.{Originated};
 ghost use Rattle.lt_timing.specs.Accepts.{Accepts};
@@ -18,20 +15,21 @@ ghost use Rattle.lt_load.specs.Setups.{HasWindowBy};
 ghost use Rattle.lt_run.specs.Printed.{HasPrinted, HasTaken};
 ghost use Rattle.lt_run.specs.Run.{HasOutputs};
 
+use crate::equipment::code_machines;
 use crate::fault::{of_lossy, of_play};
 use crate::printed::name_outputs;
 use crate::{Outputs, Printed, RunFault};
 use lt_base::tables::imp;
-use lt_base::{Imp, Inputs, Memory, Or};
+use lt_base::{Inputs, Or};
 use lt_config::Pace;
 use lt_front::Checked;
 use lt_io::{Fabric, Files};
 use lt_load::{Loaded, main_of};
 use lt_lossy_replay::replay_lossy;
-use lt_machine::{Import, Machine, StepMachine};
+use lt_machine::Machine;
 use lt_norm::Flat;
+use lt_replay::Replayed;
 use lt_replay::setup::{Setup, copies};
-use lt_replay::{Replayed, machines_of};
 use std::alloc::Global;
 use std::mem::forget;
 
@@ -205,25 +203,6 @@ fn width_of(flat: &Flat) -> u32
     flat.func.n_in
 }
 
-// A machine of step code for each node, with this function for the imported operators.
-fn code_machines(
-    alloc: Global,
-    loaded: &Loaded,
-    operator: fn(Imp, i64, i64) -> i64,
-) -> Result<Vec<StepMachine>, Memory>
-    requires callable { IsAlwaysCallable operator }
-    requires answers { (o : Operator) (a b r : ℤ) → FitsSigned w64 a → FitsSigned w64 b → post operator o a b r → r ≡ imported o a b }
-    ensures { IfOk result (λ machines. AreReady ⟦<StepMachine as Machine>⟧.stands ⟦<StepMachine as Machine>⟧.made ⟦<StepMachine as Machine>⟧.left loaded.now.layout (length loaded.now.inputs.rows) machines.items) }
-{
-    loaded.kept();
-    let nodes = loaded.layout.nodes.len();
-    let mut imports = Vec::with_capacity(alloc, nodes)?;
-    for _node in 0..nodes {
-        imports.push(Import::new(operator))?;
-    }
-    machines_of(alloc, &loaded.layout, imports, loaded.inputs.rows())
-}
-
 /// Replays a loaded program by a machine of step code on each node, with the table of the imported operators: what its outputs
 /// show.
 pub(crate) fn replay_code<F: Files, W: Fabric>(
@@ -243,26 +222,8 @@ pub(crate) fn replay_code<F: Files, W: Fabric>(
     Ok(printed.outputs())
 }
 
-/// Replays a loaded program as `replay_code` does, and gives it away: nothing of it is copied.
-pub(crate) fn replay_whole<F: Files, W: Fabric>(
-    alloc: Global,
-    loaded: Loaded,
-    files: &mut F,
-    schedule: &str,
-    fabric: &mut W,
-) -> Result<Outputs, Or<RunFault>>
-    requires count { (F.state files.old).faults < 2 ^ 64 - 1 }
-    requires link_count { (W.state fabric.old).faults < 2 ^ 64 - 1 }
-    requires empty { (W.state fabric.old).kinds ≡ [] }
-    ensures { HasOutputs loaded schedule.now (F.state files.old) (F.state files.new) (W.state fabric.old) (W.state fabric.new) result }
-{
-    let machines = code_machines(alloc, &loaded, imp)?;
-    let printed = replay_given(alloc, loaded, files, schedule, fabric, machines)?;
-    Ok(printed.shown())
-}
-
-// The same by these machines.
-fn replay_given<F: Files, W: Fabric, M: Machine>(
+/// The same of a loaded program that is given away: nothing of it is copied.
+pub(crate) fn replay_given<F: Files, W: Fabric, M: Machine>(
     alloc: Global,
     loaded: Loaded,
     files: &mut F,

@@ -1,7 +1,8 @@
 // A run of a program along a schedule.
-ghost use Rattle.std.specs.Prelude.{◌≡◌, ◌<◌, ◌-◌, ◌^◌, [], IfErr, IsTrue, option_map};
+ghost use Rattle.std.specs.Prelude.{◌≡◌, ◌<◌, ◌-◌, ◌^◌, [], length, IfErr, IsTrue, option_map};
 ghost use Rattle.lt_io.specs.FabricState.{OpensOnce};
 ghost use Rattle.lt_answer.specs.Answered.{Answered};
+ghost use Rattle.lt_plant.specs.Starts.{AreReady};
 ghost use Rattle.lt_play.specs.Played.{world};
 ghost use Rattle.lt_load.specs.Blamed.{command_blame};
 ghost use Rattle.lt_judge.specs.Errand.{schedule_errand};
@@ -9,12 +10,15 @@ ghost use Rattle.lt_run.specs.Errands.{run_errands};
 ghost use Rattle.lt_run.specs.Near.{IsNearCommand};
 ghost use Rattle.lt_run.specs.Run.{AsCommand, LeavesUnloaded, along_loaded, run_verdict};
 
-use crate::replaying::{replay_code, replay_whole};
+use crate::equipment::{Equipment, equip};
+use crate::replaying::{replay_code, replay_given};
 use crate::{Outputs, RunFault};
 use lt_arch::Shape;
 use lt_base::Or;
+use lt_base::tables::imp;
 use lt_io::{Fabric, Files};
 use lt_load::{CommandFault, Loaded, What, load};
+use lt_machine::Machine;
 use std::alloc::Global;
 
 /// Runs a program on the nodes of a setup, or on one node without a setup: each node's machine makes a step for each instant that
@@ -58,20 +62,21 @@ fn run_whole<F: Files, W: Fabric>(
     ensures near { IsTrue (F.state files.old).told → IfErr result (IsNearCommand ((F.state files.old).named schedule.now) (F.state files.new).place) }
     ensures opens { OpensOnce (W.state fabric.old) (W.state fabric.new) result }
 {
-    let shape = loaded.shape.copy()?;
-    run_beside(alloc, files, fabric, loaded, &shape, schedule)
+    let equipment = equip(alloc, &loaded, imp)?;
+    run_with(alloc, files, fabric, loaded, equipment, schedule)
 }
 
-// The same beside a copy of its shape, whose nodes a fault names.
-fn run_beside<F: Files, W: Fabric>(
+// The same by these machines, beside a copy of its shape, whose nodes a fault names.
+fn run_with<F: Files, W: Fabric, M: Machine>(
     alloc: Global,
     files: &mut F,
     fabric: &mut W,
     loaded: Loaded,
-    shape: &Shape,
+    equipment: Equipment<M>,
     schedule: &str,
 ) -> Result<Outputs, Or<CommandFault>>
-    requires same { shape.now ≡ loaded.shape }
+    requires same { equipment.shape ≡ loaded.shape }
+    requires machines { AreReady M.stands M.made M.left loaded.layout (length loaded.inputs.rows) equipment.machines.items }
     requires count { (F.state files.old).faults < 2 ^ 64 - 1 }
     requires link_count { (W.state fabric.old).faults < 2 ^ 64 - 1 }
     requires empty { (W.state fabric.old).kinds ≡ [] }
@@ -80,9 +85,9 @@ fn run_beside<F: Files, W: Fabric>(
     ensures near { IsTrue (F.state files.old).told → IfErr result (IsNearCommand ((F.state files.old).named schedule.now) (F.state files.new).place) }
     ensures opens { OpensOnce (W.state fabric.old) (W.state fabric.new) result }
 {
-    match replay_whole(alloc, loaded, files, schedule, fabric) {
-        Ok(outputs) => Ok(outputs),
-        Err(fault) => Err(as_command(shape, fault)),
+    match replay_given(alloc, loaded, files, schedule, fabric, equipment.machines) {
+        Ok(printed) => Ok(printed.shown()),
+        Err(fault) => Err(as_command(&equipment.shape, fault)),
     }
 }
 
