@@ -1,4 +1,3 @@
-pub mod Lines
 pub mod Sinks
 pub mod Ends
 pub mod Obeyed

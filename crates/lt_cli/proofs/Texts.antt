@@ -1,9 +1,9 @@
 -- A step's answer as a text.
 use Rattle.std.proofs.Common.{◌≡◌, ℕ, List, Result, Ok, Err, false, refl, sym, ◌∙◌, subst}
-use Rattle.std.specs.Prelude.{IsErrAnd}
 use Rattle.lt_base.specs.Or.{MapsFault}
 use Rattle.lt_base.specs.declared.memory.Or.{Or}
 use Rattle.lt_base.specs.declared.memory.Or.TheVariants.{Fault, Memory}
+use Rattle.lt_io.specs.FabricState.{FabricState, OpensOnce}
 use Rattle.lt_io.specs.Visits.{Errand}
 use Rattle.lt_io.proofs.Visiting.{visited_any}
 use Rattle.lt_answer.specs.Answered.{Verdict}
@@ -21,7 +21,7 @@ use Rattle.lt_watch.specs.declared.fault.WatchFault.TheVariants as watch
 use Rattle.lt_watch.specs.Blamed.{watch_blame}
 use Rattle.lt_cli.specs.Commands.{answer_verdict, watch_refusal}
 use Rattle.lt_cli.proofs.Refusals.{watch_blames}
-use Rattle.lt_cli.specs.Asked.{Answers, AnswersText, IsOfCommand, IsTextOf}
+use Rattle.lt_cli.specs.Asked.{Answers, AnswersText, IsOfCommand, IsTextBy, IsTextOf}
 
 -- faults as refusals that blame the same, none of them that of the words
 pub record IsRaise {E : Type 0} (raise : E → Refusal) (blame : E → Blame) : Type 0 where
@@ -33,7 +33,7 @@ module _ {T E : Type 0} (raise : E → Refusal) (blame : E → Blame) (is_raise 
   blamed reading = (raise reading.0, is_raise.same reading.0 ∙ reading.1, (reading.0, reading.2, refl))
 
   -- it is shown so
-  pub answer_shown : {es : List Errand} (x : T) (text : List ℕ) → Answered blame es V a b (Ok x) → text ≡ shown x → Answers raise shown es V a b (Ok text)
+  answer_shown : {es : List Errand} (x : T) (text : List ℕ) → Answered blame es V a b (Ok x) → text ≡ shown x → Answers raise shown es V a b (Ok text)
   answer_shown x text ran is = record {
     answered = record {
       keeps = ran.keeps;
@@ -64,7 +64,7 @@ module _ {T E : Type 0} (raise : E → Refusal) (blame : E → Blame) (is_raise 
   }
 
   -- it was refused, or no memory was found for it
-  pub answer_refused : {es : List Errand} (e : Or E) (e' : Or Refusal) → MapsFault e e' (λ fault refusal. refusal ≡ raise fault) → Answered blame es V a b (Err e) → Answers raise shown es V a b (Err e')
+  answer_refused : {es : List Errand} (e : Or E) (e' : Or Refusal) → MapsFault e e' (λ fault refusal. refusal ≡ raise fault) → Answered blame es V a b (Err e) → Answers raise shown es V a b (Err e')
   answer_refused {es} (Fault fault) (Fault refusal) is ran = subst (λ (r : Refusal). Answers raise shown es V a b (Err (Fault r))) (sym is) (raised fault ran)
   answer_refused (Fault fault) Memory is ran = absurd is
   answer_refused Memory (Fault refusal) is ran = absurd is
@@ -73,33 +73,29 @@ module _ {T E : Type 0} (raise : E → Refusal) (blame : E → Blame) (is_raise 
     of_command = tt;
   }
 
-  -- no memory was found for the text
-  pub answer_not_shown : {es : List Errand} (x : T) (r : Result (List ℕ) (Or Refusal)) → IsErrAnd r (λ f. f ≡ Memory) → Answered blame es V a b (Ok x) → Answers raise shown es V a b r
-  answer_not_shown x (Ok text) is ran = absurd is
-  answer_not_shown {es} x (Err e) is ran = subst (λ (f : Or Refusal). Answers raise shown es V a b (Err f)) (sym is) (answer_short x ran)
+  -- the answer that is made of a step's
+  pub answer_text : {es : List Errand} (r : Result T (Or E)) (r' : Result (List ℕ) (Or Refusal)) → IsTextBy raise shown r r' → Answered blame es V a b r → Answers raise shown es V a b r'
+  answer_text (Ok x) (Ok text) is ran = answer_shown x text ran is
+  answer_text (Ok x) (Err (Fault refusal)) is ran = absurd is
+  answer_text (Ok x) (Err Memory) is ran = answer_short x ran
+  answer_text (Err e) (Ok text) is ran = absurd is
+  answer_text (Err e) (Err f) is ran = answer_refused e f is ran
+
+-- it opens the fabric as the step does
+pub opens_shown : {T E : Type 0} (raise : E → Refusal) (shown : T → List ℕ) (old new : FabricState) (r : Result T (Or E)) (r' : Result (List ℕ) (Or Refusal)) → IsTextBy raise shown r r' → OpensOnce old new r → OpensOnce old new r'
+opens_shown raise shown old new (Ok x) (Ok text) is opens = record { calls = opens.calls; done = opens.done }
+opens_shown raise shown old new (Ok x) (Err e) is opens = record { calls = opens.calls; done = tt }
+opens_shown raise shown old new (Err e) (Ok text) is opens = absurd is
+opens_shown raise shown old new (Err e) (Err f) is opens = record { calls = opens.calls; done = tt }
 
 -- those of a command on its files
 
 pub command_raise : IsRaise (λ fault. Command fault) command_blame
 command_raise = record { same = λ e. refl; of_command = λ e. tt }
 
-module _ {T : Type 0} (shown : T → List ℕ) (V : Verdict T CommandFault) (a b : World) where
-  pub text_shown : {es : List Errand} (x : T) (text : List ℕ) → Answered command_blame es V a b (Ok x) → text ≡ shown x → AnswersText shown es V a b (Ok text)
-  text_shown x text ran is = answer_shown (λ fault. Command fault) command_blame command_raise shown V a b x text ran is
-
-  pub text_refused : {es : List Errand} (e : Or CommandFault) (e' : Or Refusal) → MapsFault e e' (λ fault refusal. refusal ≡ Command fault) → Answered command_blame es V a b (Err e) → AnswersText shown es V a b (Err e')
-  text_refused e e' is ran = answer_refused (λ fault. Command fault) command_blame command_raise shown V a b e e' is ran
-
-  pub not_shown : {es : List Errand} (x : T) (r : Result (List ℕ) (Or Refusal)) → IsErrAnd r (λ f. f ≡ Memory) → Answered command_blame es V a b (Ok x) → AnswersText shown es V a b r
-  not_shown x r is ran = answer_not_shown (λ fault. Command fault) command_blame command_raise shown V a b x r is ran
-
-  -- the answer that is made of a step's
-  pub is_text_of : {es : List Errand} (r : Result T (Or CommandFault)) (r' : Result (List ℕ) (Or Refusal)) → IsTextOf shown r r' → Answered command_blame es V a b r → AnswersText shown es V a b r'
-  is_text_of (Ok x) (Ok text) is ran = text_shown x text ran is
-  is_text_of (Ok x) (Err (Fault refusal)) is ran = absurd is
-  is_text_of (Ok x) (Err Memory) is ran = not_shown x (Err Memory) refl ran
-  is_text_of (Err e) (Ok text) is ran = absurd is
-  is_text_of (Err e) (Err f) is ran = text_refused e f is ran
+pub is_text_of : {T : Type 0} (shown : T → List ℕ) (V : Verdict T CommandFault) (a b : World) {es : List Errand} (r : Result T (Or CommandFault)) (r' : Result (List ℕ) (Or Refusal)) → IsTextOf shown r r' → Answered command_blame es V a b r
+    → AnswersText shown es V a b r'
+is_text_of shown V a b r r' is ran = answer_text (λ fault. Command fault) command_blame command_raise shown V a b r r' is ran
 
 -- a step that answers a text itself
 

@@ -59,10 +59,13 @@ abbrev pub AnswersText : {T : Type 0} (shown : T → List ℕ) (errands : List E
 AnswersText shown errands V old new result = Answers (λ fault. Command fault) shown errands V old new result
 
 -- a step's answer as a command's: the text of its value, unless no memory was found for it, or its fault as a refusal
+abbrev pub IsTextBy : {T E : Type 0} (raise : E → Refusal) (shown : T → List ℕ) → Result T (Or E) → Result (List ℕ) (Or Refusal) → Type 0
+IsTextBy raise shown (Ok x) result = MatchResult result (λ text. text ≡ shown x) IsMemory
+IsTextBy raise shown (Err e) (Ok text) = ⊥
+IsTextBy raise shown (Err e) (Err f) = MapsFault e f (λ fault refusal. refusal ≡ raise fault)
+
 abbrev pub IsTextOf : {T : Type 0} (shown : T → List ℕ) → Result T (Or CommandFault) → Result (List ℕ) (Or Refusal) → Type 0
-IsTextOf shown (Ok x) result = MatchResult result (λ text. text ≡ shown x) IsMemory
-IsTextOf shown (Err e) (Ok text) = ⊥
-IsTextOf shown (Err e) (Err f) = MapsFault e f (λ fault refusal. refusal ≡ Command fault)
+IsTextOf shown found result = IsTextBy (λ fault. Command fault) shown found result
 
 -- an answer ends a call: `out` takes its text, or `err` its refusal's line
 abbrev pub Finishes : Result (List ℕ) (Or Refusal) → (out out' err err' : SinkState) → (ends : Status) → Type 0

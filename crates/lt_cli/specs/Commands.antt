@@ -27,7 +27,8 @@ use Rattle.lt_watch.specs.Watch.{watch_verdict}
 use Rattle.lt_cli.specs.declared.refusal.Refusal.{Refusal}
 use Rattle.lt_cli.specs.declared.refusal.Refusal.TheVariants.{Words, Command, Observer}
 use Rattle.lt_cli.specs.Draws.{sim_verdict}
-use Rattle.lt_cli.specs.Texts.{outputs_text, summary_text, watched_text, audited_text, drawing_text}
+use Rattle.lt_texts.specs.OutputLines.{outputs_text, summary_text}
+use Rattle.lt_cli.specs.Texts.{watched_text, audited_text, drawing_text}
 
 -- the text of what a command gives, or its refusal
 abbrev pub answer_verdict : {T E : Type 0} → (E → Refusal) → (T → List ℕ) → Verdict T E → Verdict (List ℕ) Refusal

@@ -18,24 +18,23 @@ ghost use Rattle.lt_watch.specs.Errands.{watch_errands};
 ghost use Rattle.lt_watch.specs.Watch.{LeavesUnwatched, watch_verdict};
 ghost use Rattle.lt_cli.specs.Texts.{audited_text, watched_text};
 ghost use Rattle.lt_cli.specs.Commands.{checked_text, printed_text, summarized_text, watch_refusal};
-ghost use Rattle.lt_cli.specs.Asked.{Answers, AnswersText, IsTextOf};
+ghost use Rattle.lt_cli.specs.Asked.{Answers, AnswersText, IsTextBy, IsTextOf};
 
 use crate::Refusal;
 use crate::judgement::{audited_text, watched_text};
-use crate::print::outputs_text;
 use crate::refusal::watch_refusal;
-use crate::summary::summary_text;
 use lt_base::{List, Or};
 use lt_big::big;
 use lt_config::Config;
 use lt_front::Examined;
-use lt_inspect::{audit, trace};
+use lt_inspect::{Audited, audit, trace};
 use lt_io::{Fabric, Files};
 use lt_load::{CommandFault, check_with, load_config, load_text};
 use lt_plan::plan_text;
 use lt_print::print;
-use lt_run::{meaning, run};
-use lt_watch::watch;
+use lt_run::{Outputs, meaning, run};
+use lt_texts::{outputs_text, summary_text};
+use lt_watch::{WatchFault, Watched, watch};
 use std::alloc::Global;
 use std::mem::forget;
 
@@ -120,13 +119,22 @@ pub(crate) fn meaning_answer<F: Files>(
     requires { (F.state files.old).faults < 2 ^ 64 - 1 }
     ensures { AnswersText printed_text (meaning_errands program.now inputs.now) (meaning_verdict (F.state files.old).named program.now inputs.now) (alone (F.state files.old)) (alone (F.state files.new)) result }
 {
-    match meaning(alloc, files, program, inputs) {
-        Ok(printed) => Ok(outputs_text(alloc, printed)?),
+    let found = meaning(alloc, files, program, inputs);
+    shown(alloc, found)
+}
+
+// The text of outputs, or the fault of the step that was to find them.
+fn shown(alloc: Global, found: Result<Outputs, Or<CommandFault>>) -> Result<List<u8>, Or<Refusal>>
+    ensures { IsTextOf printed_text found result }
+{
+    match found {
+        Ok(outputs) => Ok(outputs_text(alloc, outputs.names, outputs.cells)?),
         Err(e) => Err(e.map(Refusal::Command)),
     }
 }
 
 /// The outputs of a run, with a setup as it says.
+#[tactic(auto, using(crate::proofs::Texts::opens_shown))]
 pub(crate) fn run_answer<F: Files, W: Fabric>(
     alloc: Global,
     files: &mut F,
@@ -144,10 +152,8 @@ pub(crate) fn run_answer<F: Files, W: Fabric>(
     ensures opens { OpensOnce (W.state fabric.old) (W.state fabric.new) result }
     ensures untouched { LeavesUnloaded (F.state files.old) program.now inputs.now (option_map (λ s. s.now) config.entry) (W.state fabric.old) (W.state fabric.new) }
 {
-    match run(alloc, files, fabric, program, inputs, schedule, config) {
-        Ok(printed) => Ok(outputs_text(alloc, printed)?),
-        Err(e) => Err(e.map(Refusal::Command)),
-    }
+    let found = run(alloc, files, fabric, program, inputs, schedule, config);
+    shown(alloc, found)
 }
 
 /// The plan of a setup.
@@ -190,10 +196,22 @@ pub(crate) fn big_answer<W: Fabric>(
     ensures opens { OpensOnce (W.state fabric.old) (W.state fabric.new) result }
     ensures untouched { LeavesRefused instants (W.state fabric.old) (W.state fabric.new) }
 {
-    match big(alloc, fabric, instants) {
-        Ok(printed) => {
-            let names = printed.names.as_slice();
-            Ok(summary_text(alloc, instants, names, printed.cells.as_slice())?)
+    let found = big(alloc, fabric, instants);
+    summarized(alloc, instants, found)
+}
+
+// The summary of outputs, or the fault of the step that was to find them.
+fn summarized(
+    alloc: Global,
+    instants: u32,
+    found: Result<Outputs, Or<CommandFault>>,
+) -> Result<List<u8>, Or<Refusal>>
+    ensures { IsTextOf (summarized_text instants) found result }
+{
+    match found {
+        Ok(outputs) => {
+            let names = outputs.names.as_slice();
+            Ok(summary_text(alloc, instants, names, outputs.cells.as_slice())?)
         }
         Err(e) => Err(e.map(Refusal::Command)),
     }
@@ -218,9 +236,17 @@ pub(crate) fn watch_answer<F: Files, W: Fabric>(
     ensures opens { OpensOnce (W.state fabric.old) (W.state fabric.new) result }
     ensures untouched { LeavesUnwatched (F.state files.old) program.now inputs.now observer.now (option_map (λ s. s.now) config.entry) (W.state fabric.old) (W.state fabric.new) }
 {
-    match watch(
+    let watched = watch(
         alloc, files, fabric, program, inputs, schedule, observer, config,
-    ) {
+    );
+    told(alloc, watched)
+}
+
+// What is told of a run, or the fault of the step that was to watch it.
+fn told(alloc: Global, watched: Result<Watched, Or<WatchFault>>) -> Result<List<u8>, Or<Refusal>>
+    ensures { IsTextBy watch_refusal watched_text watched result }
+{
+    match watched {
         Ok(watched) => Ok(watched_text(alloc, watched)?),
         Err(e) => Err(e.map(watch_refusal)),
     }
@@ -238,7 +264,18 @@ pub(crate) fn audit_answer<F: Files>(
     requires { (F.state files.old).faults < 2 ^ 64 - 1 }
     ensures { AnswersText audited_text (inspect_errands program.now inputs.now schedule.now config.now) (audit_verdict (F.state files.old).named program.now inputs.now schedule.now config.now) (alone (F.state files.old)) (alone (F.state files.new)) result }
 {
-    match audit(alloc, files, program, inputs, schedule, config) {
+    let audited = audit(alloc, files, program, inputs, schedule, config);
+    judged(alloc, audited)
+}
+
+// What is told of a schedule, or the fault of the step that was to judge it.
+fn judged(
+    alloc: Global,
+    audited: Result<Audited, Or<CommandFault>>,
+) -> Result<List<u8>, Or<Refusal>>
+    ensures { IsTextOf audited_text audited result }
+{
+    match audited {
         Ok(audited) => Ok(audited_text(alloc, &audited)?),
         Err(e) => Err(e.map(Refusal::Command)),
     }
@@ -259,10 +296,8 @@ pub(crate) fn trace_answer<F: Files>(
     requires { (F.state files.old).faults < 2 ^ 64 - 1 }
     ensures { AnswersText (λ text. text) (inspect_errands program.now inputs.now schedule.now config.now) (trace_verdict (F.state files.old).named program.now inputs.now schedule.now config.now (option_map (λ s. s.now) node.entry) from to) (alone (F.state files.old)) (alone (F.state files.new)) result }
 {
-    match trace(
+    let text = trace(
         alloc, files, program, inputs, schedule, config, node, from, to,
-    ) {
-        Ok(text) => Ok(text),
-        Err(e) => Err(e.map(Refusal::Command)),
-    }
+    );
+    handed_on(text)
 }

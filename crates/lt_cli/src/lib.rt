@@ -5,12 +5,10 @@ mod answer;
 mod drawing;
 mod judgement;
 mod place_line;
-mod print;
 mod printer;
 mod process;
 mod refusal;
 mod status;
-mod summary;
 mod top;
 
 pub use process::program;

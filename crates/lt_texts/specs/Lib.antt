@@ -3,3 +3,4 @@ pub mod Names
 pub mod Lines
 pub mod FileLines
 pub mod ScheduleLines
+pub mod OutputLines

@@ -2,7 +2,7 @@
 ghost use Rattle.std.specs.Prelude.{◌≡◌, ◌++◌, OnOk};
 ghost use Rattle.lt_texts.specs.FileLines.{inputs_kind_text, inputs_line};
 
-use crate::numbers::append_count;
+use crate::located::append_located;
 use lt_base::{List, Memory};
 use lt_inputs::{InputFault, InputKind};
 
@@ -13,10 +13,8 @@ pub fn append_inputs(line: &mut List<u8>, fault: InputFault) -> Result<(), Memor
     if matches!(fault.kind, InputKind::TooMany) {
         return line.extend(b"limit: input rows 100000");
     }
-    line.extend(b"inputs ")?;
-    line.extend(kind_text(fault.kind).as_bytes())?;
-    line.extend(b" at row ")?;
-    append_count(line, fault.row)
+    let kind = kind_text(fault.kind);
+    append_located(line, b"inputs ", kind, b" at row ", fault.row as usize)
 }
 
 // A kind's number and name.

@@ -2,7 +2,7 @@
 ghost use Rattle.std.specs.Prelude.{◌≡◌, ◌++◌, OnOk};
 ghost use Rattle.lt_texts.specs.FileLines.{observer_kind_text, observer_line};
 
-use crate::numbers::append_size;
+use crate::located::append_located;
 use lt_base::{List, Memory};
 use lt_past::{ObserverFault, ObserverKind};
 
@@ -10,10 +10,8 @@ use lt_past::{ObserverFault, ObserverKind};
 pub fn append_observer(line: &mut List<u8>, fault: ObserverFault) -> Result<(), Memory>
     ensures { OnOk result (line.new ≡ line.old ++ observer_line fault) }
 {
-    line.extend(b"observer ")?;
-    line.extend(kind_text(fault.kind).as_bytes())?;
-    line.extend(b" at byte ")?;
-    append_size(line, fault.at)
+    let kind = kind_text(fault.kind);
+    append_located(line, b"observer ", kind, b" at byte ", fault.at)
 }
 
 // A kind's number and name.

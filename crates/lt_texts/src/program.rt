@@ -3,7 +3,8 @@ ghost use Rattle.std.specs.Prelude.{◌≡◌, IfOk};
 ghost use Rattle.lt_texts.specs.Lines.{syntax_line, name_line, limit_line, type_line, clock_line, cycle_line, size_line, program_line};
 
 use crate::clocks::{append_clock, append_place};
-use crate::names::{append_function, append_name, append_number, append_variable};
+use crate::located::append_located;
+use crate::names::{append_function, append_name, append_variable};
 use crate::words::{found, name_kind, syntax_kind, ty};
 use lt_base::{List, Memory, Sizes};
 use lt_cause::Cycle;
@@ -30,10 +31,9 @@ pub fn program_line(alloc: Global, fault: &ProgramFault) -> Result<List<u8>, Mem
 fn syntax_line(alloc: Global, fault: &SyntaxFault) -> Result<List<u8>, Memory>
     ensures { IfOk result (λ line. line ≡ syntax_line fault.now) }
 {
-    let mut line = List::from_slice(alloc, b"syntax ")?;
-    line.extend(syntax_kind(fault.kind).as_bytes())?;
-    line.extend(b" at byte ")?;
-    append_number(alloc, &mut line, fault.at as u64)?;
+    let mut line = List::new(alloc);
+    let kind = syntax_kind(fault.kind);
+    append_located(&mut line, b"syntax ", kind, b" at byte ", fault.at)?;
     Ok(line)
 }
 

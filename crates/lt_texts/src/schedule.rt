@@ -4,6 +4,7 @@ ghost use Rattle.std.specs.Fmt.{decimal};
 ghost use Rattle.lt_lossy.specs.declared.event.LossyOffence.TheVariants.{TooManyLost};
 ghost use Rattle.lt_texts.specs.ScheduleLines.{row_kind_text, row_line, offence_name, place_text, offence_line, lossy_line, node_text, node_name, channel_text, ends_text};
 
+use crate::located::append_located;
 use crate::numbers::append_count;
 use lt_arch::{Chan, ChanKind, Offence, Shape};
 use lt_base::{List, Memory};
@@ -17,10 +18,8 @@ pub fn append_row(line: &mut List<u8>, row: u32, fault: RowFault) -> Result<(), 
     if matches!(fault, RowFault::TooMany) {
         return line.extend(b"limit: events 5000000");
     }
-    line.extend(b"schedule ")?;
-    line.extend(row_kind(fault).as_bytes())?;
-    line.extend(b" at row ")?;
-    append_count(line, row)
+    let kind = row_kind(fault);
+    append_located(line, b"schedule ", kind, b" at row ", row as usize)
 }
 
 // A kind's number and name.

@@ -1,20 +1,12 @@
-use Rattle.std.proofs.Common.{◌∙◌}
 use Rattle.lt_play.specs.Played.{world}
-use Rattle.lt_big.specs.Big.{big_verdict}
-use Rattle.lt_cli.specs.Texts.{summary_text}
+use Rattle.lt_cli.specs.declared.refusal.Refusal.TheVariants.{Command}
 use Rattle.lt_cli.specs.Commands.{summarized_text}
-use Rattle.lt_cli.proofs.Texts.{text_shown, not_shown, text_refused}
+use Rattle.lt_cli.proofs.Texts.{is_text_of, opens_shown}
 use Rattle.lt_cli.proofs.answer.big_answer.Goals as goal
 
-pub returns-in_ok-summary_text-in-Ok-clause-answers : goal.returns-in_ok-summary_text-in-Ok-clause-answers
-returns-in_ok-summary_text-in-Ok-clause-answers g c = λ files.
-    text_shown (summarized_text c.args.instants) (big_verdict c.args.instants (g.W.Fabric.state c.big.new.fabric)) (world files (g.W.Fabric.state c.args.fabric.now)) (world files (g.W.Fabric.state c.big.new.fabric)) c.in-Ok.printed _ (c.in-Ok.ensures.answered files)
-    (c.in_ok-summary_text-in-Ok.ensures ∙ (λ i. summary_text c.args.instants (c.as_slice-names.ensures i) (c.as_slice.ensures i)))
+pub returns-clause-answers : goal.returns-clause-answers
+returns-clause-answers g c = λ files.
+    is_text_of (summarized_text c.args.instants) _ (world files (g.W.Fabric.state c.args.fabric.now)) (world files (g.W.Fabric.state c.big-found.new.fabric)) c.big-found.result c.summarized.result c.summarized.ensures (c.big-found.ensures.answered files)
 
-pub returns-in_err-summary_text-in-Ok-clause-answers : goal.returns-in_err-summary_text-in-Ok-clause-answers
-returns-in_err-summary_text-in-Ok-clause-answers g c = λ files.
-    not_shown (summarized_text c.args.instants) (big_verdict c.args.instants (g.W.Fabric.state c.big.new.fabric)) (world files (g.W.Fabric.state c.args.fabric.now)) (world files (g.W.Fabric.state c.big.new.fabric)) c.in-Ok.printed _ c.from_residual.ensures.1 (c.in-Ok.ensures.answered files)
-
-pub returns-in-Err-clause-answers : goal.returns-in-Err-clause-answers
-returns-in-Err-clause-answers g c = λ files.
-    text_refused (summarized_text c.args.instants) (big_verdict c.args.instants (g.W.Fabric.state c.big.new.fabric)) (world files (g.W.Fabric.state c.args.fabric.now)) (world files (g.W.Fabric.state c.big.new.fabric)) _ _ c.map.ensures (c.in-Err.ensures.answered files)
+pub returns-clause-opens : goal.returns-clause-opens
+returns-clause-opens g c = opens_shown (λ fault. Command fault) (summarized_text c.args.instants) _ _ c.big-found.result c.summarized.result c.summarized.ensures c.big-found.ensures.opens

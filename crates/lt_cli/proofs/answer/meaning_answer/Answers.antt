@@ -1,17 +1,6 @@
-use Rattle.lt_run.specs.Meaning.{meaning_verdict}
 use Rattle.lt_cli.specs.Commands.{printed_text}
-use Rattle.lt_cli.proofs.Texts.{text_shown, not_shown, text_refused}
+use Rattle.lt_cli.proofs.Texts.{is_text_of}
 use Rattle.lt_cli.proofs.answer.meaning_answer.Goals as goal
 
-pub returns-in_ok-outputs_text-in-Ok : goal.returns-in_ok-outputs_text-in-Ok
-returns-in_ok-outputs_text-in-Ok g c =
-    text_shown printed_text (meaning_verdict (g.F.Files.state c.args.files.now).named c.args.program.now c.args.inputs.now) _ _ c.in-Ok.printed _ c.in-Ok.ensures
-    c.in_ok-outputs_text-in-Ok.ensures
-
-pub returns-in_err-outputs_text-in-Ok : goal.returns-in_err-outputs_text-in-Ok
-returns-in_err-outputs_text-in-Ok g c =
-    not_shown printed_text (meaning_verdict (g.F.Files.state c.args.files.now).named c.args.program.now c.args.inputs.now) _ _ c.in-Ok.printed _ c.from_residual.ensures.1 c.in-Ok.ensures
-
-pub returns-in-Err : goal.returns-in-Err
-returns-in-Err g c =
-    text_refused printed_text (meaning_verdict (g.F.Files.state c.args.files.now).named c.args.program.now c.args.inputs.now) _ _ _ _ c.map.ensures c.in-Err.ensures
+pub returns : goal.returns
+returns g c = is_text_of printed_text _ _ _ c.meaning-found.result c.shown.result c.shown.ensures c.meaning-found.ensures

@@ -1,14 +1,14 @@
 // The summary of a run.
 ghost use Rattle.std.specs.Prelude.{◌≡◌, ◌++◌, OnOk, IfOk, length, slice_get, ◌-◌};
-ghost use Rattle.lt_cli.specs.Texts.{last_text, summary_line, summary_lines, summary_text};
+ghost use Rattle.lt_texts.specs.OutputLines.{last_text, summary_line, summary_lines, summary_text};
 
-use crate::print::append_cell;
+use crate::numbers::{append_count, append_size};
+use crate::outputs::append_cell;
 use lt_base::{Cell, List, Memory, Name};
-use lt_texts::{append_count, append_size};
 use std::alloc::Global;
 
 /// The number of instants, and for each output its name, the number of its cells and the last of them.
-pub(crate) fn summary_text(
+pub fn summary_text(
     alloc: Global,
     instants: u32,
     names: &[Name],
