@@ -1,6 +1,6 @@
 -- A plant that was started.
-use Rattle.std.proofs.Common.{◌≡◌, ℕ, zero, suc, ◌+◌, ◌*◌, ◌^◌, ◌<◌, List, [], length, map, refl, sym, ap, ◌∙◌, subst, arith, All, replicate}
-use Rattle.std.specs.Prelude.{slice_index_or}
+use Rattle.std.proofs.Common.{◌≡◌, ℕ, zero, suc, ◌+◌, ◌*◌, ◌^◌, ◌<◌, List, [], length, map, refl, sym, ap, ◌∙◌, subst, arith, All, replicate, Result, Ok, Err}
+use Rattle.std.specs.Prelude.{slice_index_or, IfOk}
 use Rattle.std.proofs.lemmas.List.{length-map, length-replicate, get_or-replicate}
 use Rattle.std.proofs.lemmas.Option.{slice_get_within, get_or_from_slice_get}
 use Rattle.lt_base.specs.declared.value.Value.{Value}
@@ -37,6 +37,11 @@ use Rattle.lt_base.specs.Value.{ty_of}
 
 no_fewer : (k : ℕ) → zero ≡ suc k → ⊥
 no_fewer k e = absurd (omega (arith, e))
+
+-- what follows from what an answer has, it has too
+pub if_ok_too : {T E : Type 0} (P Q : T → Type 0) → ((t : T) → P t → Q t) → (r : Result T E) → IfOk r P → IfOk r Q
+if_ok_too P Q f (Ok t) h = f t h
+if_ok_too P Q f (Err e) h = h
 
 -- controllers at the start of back-pressure
 pub at_start_of : {C : Type 0} (phase : C → Phase) (s : Shape) (t : Timing) → t.protocol ≡ BackPressure → (cs : List C) (count : ℕ) → count ≡ node_count s → length cs ≡ count → All (λ c. phase c ≡ Wait) cs → AreAtStart phase s t cs

@@ -6,13 +6,14 @@ use Rattle.lt_arch.specs.declared.shape.Shape.{Shape}
 use Rattle.lt_arch.specs.declared.timing.Timing.{Timing}
 use Rattle.lt_arch.specs.State.{Phase}
 use Rattle.lt_arch.specs.Readers.{node_count}
+use Rattle.lt_lossy.specs.Times.{LossyTimes}
 use Rattle.lt_place.specs.declared.layout.Layout.{Layout}
 use Rattle.lt_plant.specs.Local.{firsts}
 use Rattle.lt_plant.specs.Plant.{PlantState}
 use Rattle.lt_plant.specs.Ports.{ports_of}
 use Rattle.lt_plant.specs.Starts.{first_inbox, literals_on, route_to, exit_for, most_fed, most_given, IsBlank}
 use Rattle.lt_plant.specs.Track.{track_at}
-use Rattle.lt_lossy_net.specs.Net.{LossyNetState, LossyLists}
+use Rattle.lt_lossy_net.specs.Net.{LossyNetState, LossyLists, net_of}
 use Rattle.lt_lossy_net.specs.Stands.{StandsLossy}
 
 -- nodes and channels have these parts, and nothing has happened: the inboxes and the payloads have the literals of what crosses
@@ -32,6 +33,14 @@ pub record IsFirstBench {C M : Type 0} (l : Layout) (s : Shape) (k : ℕ) (ms : 
   pub ports : p.ports ≡ firsts (ports_of s.channels) (node_count s)
   pub values : p.values ≡ max (length l.cross) (most_fed l.nodes)
   pub outs : p.outs ≡ most_given l.nodes
+
+-- the net has nodes and channels at their start, and sends again what these have
+pub record HasFirstBench {C M : Type 0} (l : Layout) (s : Shape) (t : Timing) (k : ℕ) (ms : List M) (cs : List C) (watch : LossyTimes) (sent : List ℕ) (net : LossyNetState C M) : Type 0 where
+  pub plant : PlantState C M
+  pub posted : List (List Value)
+  pub first : IsFirstBench l s k ms cs plant
+  pub again : posted ≡ plant.buffers
+  pub is : net ≡ net_of plant t watch sent posted
 
 -- no events, no rows, no messages
 abbrev pub no_lossy_lists : LossyLists

@@ -94,7 +94,7 @@ impl<M: Machine> LossyNet<M> {
         ensures kinds { IfOk result (λ net. (old new : FabricState) → OpensFabric old new (kinds_for layout shape) → HasLossyKinds net.plant new) }
     {
         let controllers = controllers(alloc, shape.nodes.len())?;
-        let plant = LossyPlant::start(
+        match LossyPlant::start(
             alloc,
             layout,
             shape,
@@ -103,11 +103,13 @@ impl<M: Machine> LossyNet<M> {
             rows,
             machines,
             controllers,
-        )?;
-        Ok(LossyNet {
-            plant,
-            stopped: None,
-        })
+        ) {
+            Ok(plant) => Ok(LossyNet {
+                plant,
+                stopped: None,
+            }),
+            Err(error) => Err(error),
+        }
     }
 
     /// What every net keeps, for callers.

@@ -6,7 +6,7 @@ ghost use Rattle.lt_lossy_net.specs.Changes.{PostedUpTo};
 
 use crate::posted::Posted;
 use lt_arch::Chan;
-use lt_base::{List, Memory, Value};
+use lt_base::{List, Memory};
 use lt_plant::listing::outgoing;
 use lt_plant::{Payload, Ports};
 use std::alloc::Global;
@@ -32,23 +32,14 @@ pub fn post_all(
     }
 }
 
-fn copy_of(alloc: Global, values: &[Value]) -> Result<Vec<Value>, Memory>
-    ensures { IfOk result (λ copy. copy.items ≡ values.now) }
-{
-    let mut copy = Vec::with_capacity(alloc, values.len())?;
-    for value in values {
-        copy.push(*value)?;
-    }
-    Ok(copy)
-}
-
 /// A payload to send again for each channel.
 pub fn posted_of(alloc: Global, buffers: &[Payload]) -> Result<Vec<Posted>, Memory>
     ensures { IfOk result (λ posted. posted.items ≡ buffers.now) }
 {
     let mut posted = Vec::with_capacity(alloc, buffers.len())?;
     for buffer in buffers {
-        posted.push(Posted::of(copy_of(alloc, buffer.as_slice())?))?;
+        let values = List::from_slice(alloc, buffer.as_slice())?;
+        posted.push(Posted::of(values.into_vec()))?;
     }
     Ok(posted)
 }

@@ -12,7 +12,7 @@ ghost use Rattle.lt_place.specs.Layout.{IsPlaced};
 ghost use Rattle.lt_plant.specs.Channels.{FitsLayout};
 ghost use Rattle.lt_plant.specs.Initial.{IsInitial};
 ghost use Rattle.lt_plant.specs.Starts.{AreReady, AreAtStart};
-ghost use Rattle.lt_lossy_net.specs.Starts.{IsFirstBench, IsMadeOfLossy, IsFreshLossy};
+ghost use Rattle.lt_lossy_net.specs.Starts.{IsFirstBench, HasFirstBench, IsMadeOfLossy, IsFreshLossy};
 ghost use Rattle.lt_lossy_net.specs.Taken.{IsKeptLossy};
 
 use crate::plant::LossyPlant;
@@ -50,21 +50,30 @@ struct AtStart {
     posted: Vec<Posted>,
 }
 
-// What nodes and channels have, and the payloads to send again.
-fn initial_and_posted(
+// The same, where nodes and channels have this.
+fn with_initial(
     alloc: Global,
-    layout: &Layout,
     shape: &Shape,
-    rows: u32,
-) -> Result<(Initial, Vec<Posted>), Memory>
-    requires placed { (f : Originated) × IsPlaced f layout.now }
+    timing: &Timing,
+    losses: u64,
+    initial: Initial,
+) -> Result<AtStart, Memory>
+    requires nodes { HaveSameNodes shape.now timing.now }
     requires numbered { 2 * (node_count shape.now + chan_count shape.now) < 2 ^ 32 }
-    ensures initial { IfOk result (λ both. IsInitial layout.now shape.now rows both.0) }
-    ensures posted { IfOk result (λ both. both.1.items ≡ both.0.ends.buffers.items) }
+    ensures watch { IfOk result (λ first. HasLossyTimes first.watch shape.now timing.now losses lossy_start) }
+    ensures sent { IfOk result (λ first. first.sent.items ≡ replicate (node_count shape.now) 0) }
+    ensures initial { IfOk result (λ first. first.initial ≡ initial) }
+    ensures posted { IfOk result (λ first. first.posted.items ≡ first.initial.ends.buffers.items) }
 {
-    let initial = Initial::of(alloc, layout, shape, rows)?;
     let posted = posted_of(alloc, &initial.ends.buffers)?;
-    Ok((initial, posted))
+    let sent = counts(alloc, shape)?;
+    let watch = LossyWatch::start(alloc, shape, timing, losses)?;
+    Ok(AtStart {
+        watch,
+        sent,
+        initial,
+        posted,
+    })
 }
 
 fn at_start(
@@ -83,15 +92,10 @@ fn at_start(
     ensures initial { IfOk result (λ first. IsInitial layout.now shape.now rows first.initial) }
     ensures posted { IfOk result (λ first. first.posted.items ≡ first.initial.ends.buffers.items) }
 {
-    let watch = LossyWatch::start(alloc, shape, timing, losses)?;
-    let sent = counts(alloc, shape)?;
-    let (initial, posted) = initial_and_posted(alloc, layout, shape, rows)?;
-    Ok(AtStart {
-        watch,
-        sent,
-        initial,
-        posted,
-    })
+    match Initial::of(alloc, layout, shape, rows) {
+        Ok(initial) => with_initial(alloc, shape, timing, losses, initial),
+        Err(error) => Err(error),
+    }
 }
 
 // Nodes and channels before the first event.
@@ -131,6 +135,35 @@ fn bench_of<C: Controller, M: Machine>(
     }
 }
 
+// A plant with these parts.
+fn plant_of<C: Controller, M: Machine>(
+    layout: Layout,
+    shape: Shape,
+    timing: Timing,
+    rows: u32,
+    machines: Vec<M>,
+    controllers: Vec<C>,
+    first: AtStart,
+) -> LossyPlant<C, M>
+    requires initial { IsInitial layout shape rows first.initial }
+    requires posted { first.posted.items ≡ first.initial.ends.buffers.items }
+    ensures { HasFirstBench layout shape timing rows machines.items controllers.items first.watch first.sent.items result }
+{
+    let AtStart {
+        watch,
+        sent,
+        initial,
+        posted,
+    } = first;
+    LossyPlant {
+        bench: bench_of(layout, shape, rows, machines, controllers, initial),
+        timing,
+        watch,
+        sent,
+        posted,
+    }
+}
+
 impl<C: Controller, M: Machine> LossyPlant<C, M> {
     /// Nothing has happened. Room for all that an event needs is taken here.
     pub fn start(
@@ -155,14 +188,9 @@ impl<C: Controller, M: Machine> LossyPlant<C, M> {
         ensures fresh { IfOk result (IsFreshLossy C.phase M.stands M.made M.left) }
         ensures kept { IfOk result IsKeptLossy }
     {
-        let first = at_start(alloc, &layout, &shape, &timing, losses, rows)?;
-        let bench = bench_of(layout, shape, rows, machines, controllers, first.initial);
-        Ok(LossyPlant {
-            bench,
-            timing,
-            watch: first.watch,
-            sent: first.sent,
-            posted: first.posted,
-        })
+        match at_start(alloc, &layout, &shape, &timing, losses, rows) {
+            Ok(first) => Ok(plant_of(layout, shape, timing, rows, machines, controllers, first)),
+            Err(error) => Err(error),
+        }
     }
 }
