@@ -3,6 +3,7 @@
 use crate::base::{tell_copies, tell_grown};
 use crate::cause::tell_order;
 use crate::check::{tell_clocks, tell_sizes, tell_types};
+use crate::fits::tell_fits;
 use crate::graph::{tell_circular, tell_ring};
 use crate::names::tell_names;
 use crate::print::tell_canonical;
@@ -77,6 +78,9 @@ fn tell_of_program(
     }
     if what == "clocks" {
         return tell_clocks(alloc, line, &p);
+    }
+    if what == "fits" {
+        return tell_fits(alloc, line, &p);
     }
     if what == "sizes" {
         return tell_sizes(alloc, line, &p);

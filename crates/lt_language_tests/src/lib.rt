@@ -10,6 +10,8 @@ mod cause;
 #[cfg(test)]
 mod check;
 #[cfg(test)]
+mod fits;
+#[cfg(test)]
 mod graph;
 #[cfg(test)]
 mod names;
