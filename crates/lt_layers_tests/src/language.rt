@@ -267,6 +267,15 @@ const PROGRAMS: &str = "\
 - c is on the base clock, and not on x
 > clocks node main(x: bool; c: bool) returns (y: bool when x when c) let y = x when c; tel
 = 2 2 None
+- types and clocks together: no fault, one of a type, one of a right side's clock, and one of a declared clock
+> fits node main(x: int; c: bool) returns (y: int when c) let y = x when c; tel
+= true
+> fits node main(x: int; c: bool) returns (y: int) let y = x < 1; tel
+= false
+> fits node main(x: int; c: bool) returns (y: int) let y = x when c; tel
+= false
+> fits node main(x: bool; c: bool) returns (y: bool when x when c) let y = x when c; tel
+= false
 - sizes, and copies of programs and functions
 - one delay for `0 fby`, one for `->` and two for the other `fby`; the 0 is no part
 > sizes node main(x: int) returns (y: int) let y = (x -> 0 fby x) fby x; tel

@@ -15,6 +15,8 @@ mod config;
 #[cfg(test)]
 mod files;
 #[cfg(test)]
+mod fits;
+#[cfg(test)]
 mod fixtures;
 #[cfg(test)]
 mod front;

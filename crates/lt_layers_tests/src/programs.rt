@@ -5,6 +5,7 @@ ghost use Rattle.lt_base.specs.Calls.{NotRecursive};
 use crate::base::tell_copies;
 use crate::cause::tell_order;
 use crate::check::{tell_clocks, tell_sizes, tell_types};
+use crate::fits::tell_fits;
 use crate::texts::{tell, tell_word};
 use lt_base::{Func, Memory, Or, Program};
 use lt_resolve::{NameFault, resolve};
@@ -71,6 +72,9 @@ fn tell_of_program(alloc: Global, line: &mut String, what: &str, p: &Program) ->
     }
     if what == "clocks" {
         return tell_clocks(alloc, line, p);
+    }
+    if what == "fits" {
+        return tell_fits(alloc, line, p);
     }
     if what == "sizes" {
         return tell_sizes(alloc, line, p);
