@@ -1,17 +1,16 @@
-use Rattle.std.proofs.Common.{Some, None, refl, ◌≡◌, map, sym, ap, subst, ◌∙◌, arith, vec_len}
+use Rattle.std.proofs.Common.{Some, None, refl, ◌≡◌, map, sym, subst, ◌∙◌, arith, vec_len}
 use Rattle.lt_base.specs.Expression.{shape, arguments_of}
 use Rattle.lt_syntax.specs.Tree.{tms}
 use Rattle.lt_syntax.specs.Views.{tm_of}
 use Rattle.lt_resolve.specs.Names.{number_of, if_missing}
-use Rattle.lt_resolve.specs.Uses.{if_uncallable, unknown, count}
-use Rattle.lt_resolve.specs.Told.{Refuses, Tells}
+use Rattle.lt_resolve.specs.Uses.{unknown, count}
+use Rattle.lt_resolve.specs.Told.{Tells}
 use Rattle.lt_resolve.specs.Known.{StandsFor, IsTranslated}
 use Rattle.lt_resolve.proofs.Pairs.{along_more, along_all}
 use Rattle.lt_resolve.proofs.Lists.{or_none, some_next, some_none}
-use Rattle.lt_resolve.proofs.Told.{refuses_first, refuses_then, tells_at, tells_as, tells_on}
+use Rattle.lt_resolve.proofs.Told.{refuses_first, refuses_then, tells_at, tells_on}
 use Rattle.lt_resolve.proofs.Sites.{count_is}
 use Rattle.lt_resolve.proofs.Terms.{unknown_arguments, translated_arguments, translated_call}
-use Rattle.lt_resolve.proofs.Forms.{un_is, bin_is, if_is, when_is, merge_is, fby_is, follow_is, arrow_is, call_is, named_as}
 use Rattle.lt_resolve.proofs.expression.+expression.Goals as goal
 
 pub arguments-returns-in_err-expression-clause-told : goal.arguments-returns-in_err-expression-clause-told
@@ -154,61 +153,3 @@ pub sampled-returns-clause-named : goal.sampled-returns-clause-named
 sampled-returns-clause-named t c =
     let number : number_of c.args.variables.now c.args.c.now ≡ Some c.in_ok-c.c = subst (λ x. number_of c.args.variables.now x ≡ Some c.in_ok-c.c) c.as_str.ensures c.in_ok-c.ensures.number in
     λ k. (c.in_ok-a.ensures.named k.0, number, refl)
-
-pub expression-returns-in-Un-clause-told : goal.expression-returns-in-Un-clause-told
-expression-returns-in-Un-clause-told t c = tells_as _ _ _ (ap (unknown c.args.variables.now c.args.functions.now) (sym (un_is c.args.term.now c.in-Un.o c.in-Un.a c.deref.result.now c.in-Un.is c.deref.ensures))) c.unary.ensures.told
-
-pub expression-returns-in-Un-clause-named : goal.expression-returns-in-Un-clause-named
-expression-returns-in-Un-clause-named t c = named_as shape c.args.variables.now c.args.functions.now _ _ c.unary.result (un_is c.args.term.now c.in-Un.o c.in-Un.a c.deref.result.now c.in-Un.is c.deref.ensures) c.unary.ensures.named
-
-pub expression-returns-in-Bin-clause-told : goal.expression-returns-in-Bin-clause-told
-expression-returns-in-Bin-clause-told t c = tells_as _ _ _ (ap (unknown c.args.variables.now c.args.functions.now) (sym (bin_is c.args.term.now c.in-Bin.o c.in-Bin.a c.in-Bin.b c.deref-in-Bin.result.now c.deref-in-Bin-2.result.now c.in-Bin.is c.deref-in-Bin.ensures c.deref-in-Bin-2.ensures))) c.binary.ensures.told
-
-pub expression-returns-in-Bin-clause-named : goal.expression-returns-in-Bin-clause-named
-expression-returns-in-Bin-clause-named t c = named_as shape c.args.variables.now c.args.functions.now _ _ c.binary.result (bin_is c.args.term.now c.in-Bin.o c.in-Bin.a c.in-Bin.b c.deref-in-Bin.result.now c.deref-in-Bin-2.result.now c.in-Bin.is c.deref-in-Bin.ensures c.deref-in-Bin-2.ensures) c.binary.ensures.named
-
-pub expression-returns-in-If-clause-told : goal.expression-returns-in-If-clause-told
-expression-returns-in-If-clause-told t c = tells_as _ _ _ (ap (unknown c.args.variables.now c.args.functions.now) (sym (if_is c.args.term.now c.in-If.c c.in-If.a c.in-If.b c.deref-in-If.result.now c.deref-in-If-2.result.now c.deref-in-If-3.result.now c.in-If.is c.deref-in-If.ensures c.deref-in-If-2.ensures c.deref-in-If-3.ensures))) c.choice.ensures.told
-
-pub expression-returns-in-If-clause-named : goal.expression-returns-in-If-clause-named
-expression-returns-in-If-clause-named t c = named_as shape c.args.variables.now c.args.functions.now _ _ c.choice.result (if_is c.args.term.now c.in-If.c c.in-If.a c.in-If.b c.deref-in-If.result.now c.deref-in-If-2.result.now c.deref-in-If-3.result.now c.in-If.is c.deref-in-If.ensures c.deref-in-If-2.ensures c.deref-in-If-3.ensures) c.choice.ensures.named
-
-pub expression-returns-in-When-clause-told : goal.expression-returns-in-When-clause-told
-expression-returns-in-When-clause-told t c = tells_as _ _ _ (ap (unknown c.args.variables.now c.args.functions.now) (sym (when_is c.args.term.now c.in-When.a c.in-When.c c.in-When.polarity c.deref-in-When.result.now c.in-When.is c.deref-in-When.ensures))) c.sampled.ensures.told
-
-pub expression-returns-in-When-clause-named : goal.expression-returns-in-When-clause-named
-expression-returns-in-When-clause-named t c = named_as shape c.args.variables.now c.args.functions.now _ _ c.sampled.result (when_is c.args.term.now c.in-When.a c.in-When.c c.in-When.polarity c.deref-in-When.result.now c.in-When.is c.deref-in-When.ensures) c.sampled.ensures.named
-
-pub expression-returns-in-Merge-clause-told : goal.expression-returns-in-Merge-clause-told
-expression-returns-in-Merge-clause-told t c = tells_as _ _ _ (ap (unknown c.args.variables.now c.args.functions.now) (sym (merge_is c.args.term.now c.in-Merge.c c.in-Merge.a c.in-Merge.b c.deref-in-Merge.result.now c.deref-in-Merge-2.result.now c.in-Merge.is c.deref-in-Merge.ensures c.deref-in-Merge-2.ensures))) c.merged.ensures.told
-
-pub expression-returns-in-Merge-clause-named : goal.expression-returns-in-Merge-clause-named
-expression-returns-in-Merge-clause-named t c = named_as shape c.args.variables.now c.args.functions.now _ _ c.merged.result (merge_is c.args.term.now c.in-Merge.c c.in-Merge.a c.in-Merge.b c.deref-in-Merge.result.now c.deref-in-Merge-2.result.now c.in-Merge.is c.deref-in-Merge.ensures c.deref-in-Merge-2.ensures) c.merged.ensures.named
-
-pub expression-returns-in-Fby-clause-told : goal.expression-returns-in-Fby-clause-told
-expression-returns-in-Fby-clause-told t c = tells_as _ _ _ (ap (unknown c.args.variables.now c.args.functions.now) (sym (fby_is c.args.term.now c.in-Fby.v c.in-Fby.a c.deref-in-Fby.result.now c.in-Fby.is c.deref-in-Fby.ensures))) c.delayed.ensures.told
-
-pub expression-returns-in-Fby-clause-named : goal.expression-returns-in-Fby-clause-named
-expression-returns-in-Fby-clause-named t c = named_as shape c.args.variables.now c.args.functions.now _ _ c.delayed.result (fby_is c.args.term.now c.in-Fby.v c.in-Fby.a c.deref-in-Fby.result.now c.in-Fby.is c.deref-in-Fby.ensures) c.delayed.ensures.named
-
-pub expression-returns-in-Follow-clause-told : goal.expression-returns-in-Follow-clause-told
-expression-returns-in-Follow-clause-told t c = tells_as _ _ _ (ap (unknown c.args.variables.now c.args.functions.now) (sym (follow_is c.args.term.now c.in-Follow.a c.in-Follow.b c.deref-in-Follow.result.now c.deref-in-Follow-2.result.now c.in-Follow.is c.deref-in-Follow.ensures c.deref-in-Follow-2.ensures))) c.followed.ensures.told
-
-pub expression-returns-in-Follow-clause-named : goal.expression-returns-in-Follow-clause-named
-expression-returns-in-Follow-clause-named t c = named_as shape c.args.variables.now c.args.functions.now _ _ c.followed.result (follow_is c.args.term.now c.in-Follow.a c.in-Follow.b c.deref-in-Follow.result.now c.deref-in-Follow-2.result.now c.in-Follow.is c.deref-in-Follow.ensures c.deref-in-Follow-2.ensures) c.followed.ensures.named
-
-pub expression-returns-in-Arrow-clause-told : goal.expression-returns-in-Arrow-clause-told
-expression-returns-in-Arrow-clause-told t c = tells_as _ _ _ (ap (unknown c.args.variables.now c.args.functions.now) (sym (arrow_is c.args.term.now c.in-Arrow.a c.in-Arrow.b c.deref-in-Arrow.result.now c.deref-in-Arrow-2.result.now c.in-Arrow.is c.deref-in-Arrow.ensures c.deref-in-Arrow-2.ensures))) c.arrow.ensures.told
-
-pub expression-returns-in-Arrow-clause-named : goal.expression-returns-in-Arrow-clause-named
-expression-returns-in-Arrow-clause-named t c = named_as shape c.args.variables.now c.args.functions.now _ _ c.arrow.result (arrow_is c.args.term.now c.in-Arrow.a c.in-Arrow.b c.deref-in-Arrow.result.now c.deref-in-Arrow-2.result.now c.in-Arrow.is c.deref-in-Arrow.ensures c.deref-in-Arrow-2.ensures) c.arrow.ensures.named
-
-pub expression-returns-in-Call-clause-told : goal.expression-returns-in-Call-clause-told
-expression-returns-in-Call-clause-told t c = tells_as _ _ _ (ap (unknown c.args.variables.now c.args.functions.now) (sym (call_is c.args.term.now c.in-Call.f c.in-Call.args c.deref-in-Call.result.now c.in-Call.is c.deref-in-Call.ensures.value))) c.called.ensures.told
-
-pub expression-returns-in-Call-clause-named : goal.expression-returns-in-Call-clause-named
-expression-returns-in-Call-clause-named t c = named_as shape c.args.variables.now c.args.functions.now _ _ c.called.result (call_is c.args.term.now c.in-Call.f c.in-Call.args c.deref-in-Call.result.now c.in-Call.is c.deref-in-Call.ensures.value) c.called.ensures.named
-
-pub called-returns-in_err-callee-clause-told : goal.called-returns-in_err-callee-clause-told
-called-returns-in_err-callee-clause-told t c =
-    tells_on _ c.in_err-callee.field-0.0 _ c.from_residual.ensures.1 (refuses_first _ _ _ (subst (λ f. Refuses (if_uncallable c.args.functions.now f) c.in_err-callee.field-0.0) c.as_str.ensures c.in_err-callee.ensures.told))
