@@ -2,7 +2,7 @@
 ghost use Rattle.std.specs.Prelude.{◌≡◌, ◌<◌, [], length, IfOk};
 ghost use Rattle.lt_lossy.specs.Times.{queue_at, losses_at};
 
-use crate::architecture::linked;
+use crate::architecture::{both_ways, timing_of_both};
 use crate::shown::shown;
 use lt_arch::{Event, Offence};
 use lt_base::{Memory, Steps};
@@ -15,7 +15,8 @@ use std::sync::ledger::{Blank, Ledger};
 fn watch_of_two(alloc: Global) -> Result<LossyWatch, Memory>
     ensures { IfOk result (λ watch. (length watch.lasts ≡ 2) × (length watch.queues ≡ 2) × (queue_at watch 0 ≡ []) × (losses_at watch 0 ≡ 0) × (watch.limit ≡ 1)) }
 {
-    let (shape, timing) = linked(alloc)?;
+    let shape = both_ways(alloc)?;
+    let timing = timing_of_both(alloc)?;
     LossyWatch::start(alloc, &shape, &timing, 1)
 }
 
@@ -50,7 +51,8 @@ pub fn watched(alloc: Global) -> Result<String, Memory> {
 
 /// Whether there is room for the losses, and a row of one.
 pub fn window_and_row(alloc: Global) -> Result<String, Memory> {
-    let (shape, timing) = linked(alloc)?;
+    let shape = both_ways(alloc)?;
+    let timing = timing_of_both(alloc)?;
     let row = read_lossy(b"3,losedata,b>a", &shape);
     shown(alloc, (window(&timing), row))
 }
