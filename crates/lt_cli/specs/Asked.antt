@@ -58,12 +58,13 @@ pub record Answers {T E : Type 0} (raise : E → Refusal) (shown : T → List �
 abbrev pub AnswersText : {T : Type 0} (shown : T → List ℕ) (errands : List Errand) (V : Verdict T CommandFault) (old new : World) (result : Result (List ℕ) (Or Refusal)) → Type 0
 AnswersText shown errands V old new result = Answers (λ fault. Command fault) shown errands V old new result
 
--- a step's answer as a command's: the text of its value, unless no memory was found for it, or its fault as a refusal
+-- a step's answer as a command's: the text of its value, unless no memory was found for it, or its fault, raised to a refusal
 abbrev pub IsTextBy : {T E : Type 0} (raise : E → Refusal) (shown : T → List ℕ) → Result T (Or E) → Result (List ℕ) (Or Refusal) → Type 0
 IsTextBy raise shown (Ok x) result = MatchResult result (λ text. text ≡ shown x) IsMemory
 IsTextBy raise shown (Err e) (Ok text) = ⊥
 IsTextBy raise shown (Err e) (Err f) = MapsFault e f (λ fault refusal. refusal ≡ raise fault)
 
+-- the same where the fault is a command's
 abbrev pub IsTextOf : {T : Type 0} (shown : T → List ℕ) → Result T (Or CommandFault) → Result (List ℕ) (Or Refusal) → Type 0
 IsTextOf shown found result = IsTextBy (λ fault. Command fault) shown found result
 
