@@ -11,12 +11,12 @@ use Rattle.lt_judge.specs.Verdict.{verdict}
 use Rattle.lt_config.specs.declared.pace.Pace.TheVariants.{Plain}
 use Rattle.lt_load.specs.Plan.{Plan}
 use Rattle.lt_run.proofs.Reading.{HasRead}
-use Rattle.lt_inspect.specs.declared.scene.Scene.{Scene}
-use Rattle.lt_inspect.specs.declared.audited.Audited.{Audited}
-use Rattle.lt_inspect.specs.Placed.{IsOfShape}
-use Rattle.lt_inspect.specs.Scenes.{IsSceneOf, scene_verdict}
-use Rattle.lt_inspect.specs.Inspected.{EndsWith, IsAudited, file_verdict, along_verdict, audit_verdict}
-use Rattle.lt_inspect.proofs.ToldFirst.{admissible, in_time}
+use Rattle.lt_commands.specs.declared.scene.Scene.{Scene}
+use Rattle.lt_commands.specs.declared.audited.Audited.{Audited}
+use Rattle.lt_commands.specs.Placed.{IsOfShape}
+use Rattle.lt_commands.specs.Scenes.{IsSceneOf, scene_verdict}
+use Rattle.lt_commands.specs.Inspected.{EndsWith, IsAudited, file_verdict, along_verdict, audit_verdict}
+use Rattle.lt_commands.proofs.ToldFirst.{admissible, in_time}
 use Rattle.lt_cli.specs.declared.status.Status.{Status}
 use Rattle.lt_cli.specs.declared.status.Status.TheVariants as status
 use Rattle.lt_cli.specs.AuditShown.{HoldSchedule, TookClean, IsAuditShown}

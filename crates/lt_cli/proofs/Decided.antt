@@ -16,9 +16,9 @@ use Rattle.lt_io.specs.FabricState.{FabricState}
 use Rattle.lt_place.specs.declared.layout.Layout.{Layout}
 use Rattle.lt_rows.specs.Limits.{most_events}
 use Rattle.lt_run.specs.Run.{IsLaidOutBy}
-use Rattle.lt_big.specs.Big.{events_of, loaded_verdict, along_verdict, big_verdict}
-use Rattle.lt_inspect.specs.Scenes.{scene_verdict}
-use Rattle.lt_inspect.specs.Inspected.{audit_verdict, trace_verdict}
+use Rattle.lt_commands.specs.Big.{events_of, loaded_verdict, along_verdict, big_verdict}
+use Rattle.lt_commands.specs.Scenes.{scene_verdict}
+use Rattle.lt_commands.specs.Inspected.{audit_verdict, trace_verdict}
 use Rattle.lt_load.specs.declared.fault.CommandFault.{CommandFault}
 use Rattle.lt_load.specs.Plan.{Plan}
 use Rattle.lt_load.specs.Pacing.{plain_load_verdict}
@@ -28,8 +28,8 @@ use Rattle.lt_load.proofs.OneShape.{one_shape}
 use Rattle.lt_cli.specs.Draws.{Drawing, too_many, drawing, plan_drawn_verdict, sim_verdict}
 use Rattle.lt_cli.proofs.Inspected.{scene_once, audit_once, trace_once}
 use Rattle.lt_load.proofs.OneCheck.{check_decided as one_check}
-use Rattle.lt_watch.specs.Watch.{watch_verdict}
-use Rattle.lt_watch.proofs.OneWatch.{watch_decided}
+use Rattle.lt_commands.specs.Watch.{watch_verdict}
+use Rattle.lt_commands.proofs.OneWatch.{watch_decided}
 use Rattle.lt_cli.specs.declared.status.Status.TheVariants as status
 use Rattle.lt_cli.specs.Texts.{refusal_status, fault_status, program_status}
 use Rattle.lt_cli.specs.Commands.{watch_refusal}

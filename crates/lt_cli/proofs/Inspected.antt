@@ -21,9 +21,9 @@ use Rattle.lt_load.proofs.OneShape.{one_shape}
 use Rattle.lt_load.proofs.OnePlain.{plain_config_decided}
 use Rattle.lt_load.specs.Pacing.{plain_config_verdict}
 use Rattle.lt_config.specs.declared.pace.Pace.TheVariants.{Plain}
-use Rattle.lt_inspect.specs.declared.scene.Scene.{Scene}
-use Rattle.lt_inspect.specs.Scenes.{IsSceneOf, named_verdict, named_place_verdict, placed_plan_verdict, setup_scene_verdict, scene_verdict}
-use Rattle.lt_inspect.specs.Inspected.{EndsWith, IsAudited, IsTraced, file_verdict, command_fault, along_scene, along_verdict, audit_verdict, trace_verdict}
+use Rattle.lt_commands.specs.declared.scene.Scene.{Scene}
+use Rattle.lt_commands.specs.Scenes.{IsSceneOf, named_verdict, named_place_verdict, placed_plan_verdict, setup_scene_verdict, scene_verdict}
+use Rattle.lt_commands.specs.Inspected.{EndsWith, IsAudited, IsTraced, file_verdict, command_fault, along_scene, along_verdict, audit_verdict, trace_verdict}
 
 -- a schedule file, whatever is told of it
 

@@ -4,17 +4,17 @@ use Rattle.lt_io.specs.FabricState.{FabricState}
 use Rattle.lt_arch.specs.declared.event.Event.{Event}
 use Rattle.lt_timing.specs.Accepts.{Accepts}
 use Rattle.lt_load.specs.Plan.{Plan}
-use Rattle.lt_inspect.specs.declared.scene.Scene.{Scene}
+use Rattle.lt_commands.specs.declared.scene.Scene.{Scene}
 use Rattle.lt_plan.specs.Text.{plan_of}
 use Rattle.lt_load.specs.Loaded.{config_verdict}
 use Rattle.lt_load.specs.Setups.{check_verdict}
 use Rattle.lt_run.specs.Meaning.{meaning_verdict}
 use Rattle.lt_run.specs.Run.{run_verdict}
 use Rattle.lt_words.specs.Reading.{Said, check, meaning, run, plan, sim, big, watch, audit, trace, command_of}
-use Rattle.lt_big.specs.Big.{big_verdict}
-use Rattle.lt_inspect.specs.Inspected.{audit_verdict, trace_verdict}
-use Rattle.lt_watch.specs.declared.fault.WatchFault.TheVariants as watched
-use Rattle.lt_watch.specs.Watch.{watch_verdict}
+use Rattle.lt_commands.specs.Big.{big_verdict}
+use Rattle.lt_commands.specs.Inspected.{audit_verdict, trace_verdict}
+use Rattle.lt_commands.specs.declared.fault.WatchFault.TheVariants as watched
+use Rattle.lt_commands.specs.Watch.{watch_verdict}
 use Rattle.lt_load.specs.declared.fault.CommandFault.TheVariants as fault
 use Rattle.lt_cli.specs.declared.refusal.Refusal.TheVariants.{Command}
 use Rattle.lt_cli.specs.Draws.{sim_verdict}

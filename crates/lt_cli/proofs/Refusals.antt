@@ -15,9 +15,9 @@ use Rattle.lt_cli.specs.declared.refusal.Refusal.TheVariants.{Words, Command, Ob
 use Rattle.lt_cli.specs.declared.status.Status.{Status}
 use Rattle.lt_cli.specs.declared.status.Status.TheVariants as status
 use Rattle.lt_cli.specs.Blamed.{blame_of}
-use Rattle.lt_watch.specs.declared.fault.WatchFault.{WatchFault}
-use Rattle.lt_watch.specs.declared.fault.WatchFault.TheVariants as watch
-use Rattle.lt_watch.specs.Blamed.{watch_blame}
+use Rattle.lt_commands.specs.declared.fault.WatchFault.{WatchFault}
+use Rattle.lt_commands.specs.declared.fault.WatchFault.TheVariants as watch
+use Rattle.lt_commands.specs.Blamed.{watch_blame}
 use Rattle.lt_cli.specs.Commands.{watch_refusal}
 use Rattle.lt_cli.specs.Texts.{refusal_status, fault_status, inputs_status, row_status, line_of}
 

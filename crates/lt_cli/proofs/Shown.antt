@@ -24,9 +24,9 @@ use Rattle.lt_run.specs.declared.outputs.Outputs.{Outputs}
 use Rattle.lt_run.specs.Printed.{AreShown}
 use Rattle.lt_run.specs.Run.{IsLaidOutBy, Shows, along_verdict, ordered_verdict, run_verdict}
 use Rattle.lt_run.proofs.Reading.{has_read}
-use Rattle.lt_big.specs.Big as big
-use Rattle.lt_big.specs.Big.{ShowsList, big_verdict, loaded_verdict, events_of}
-use Rattle.lt_big.proofs.Plainly.{plain_plan}
+use Rattle.lt_commands.specs.Big as big
+use Rattle.lt_commands.specs.Big.{ShowsList, big_verdict, loaded_verdict, events_of}
+use Rattle.lt_commands.proofs.Plainly.{plain_plan}
 use Rattle.lt_cli.specs.Commands.{printed_text, summarized_text}
 use Rattle.lt_cli.specs.Objects.{Objects, world_of}
 use Rattle.lt_cli.specs.Taken.{TookText}

@@ -16,9 +16,9 @@ use Rattle.lt_load.specs.declared.fault.CommandFault.{CommandFault}
 use Rattle.lt_cli.specs.declared.refusal.Refusal.{Refusal}
 use Rattle.lt_cli.specs.declared.refusal.Refusal.TheVariants.{Command}
 use Rattle.lt_cli.specs.Blamed.{blame_of}
-use Rattle.lt_watch.specs.declared.fault.WatchFault.{WatchFault}
-use Rattle.lt_watch.specs.declared.fault.WatchFault.TheVariants as watch
-use Rattle.lt_watch.specs.Blamed.{watch_blame}
+use Rattle.lt_commands.specs.declared.fault.WatchFault.{WatchFault}
+use Rattle.lt_commands.specs.declared.fault.WatchFault.TheVariants as watch
+use Rattle.lt_commands.specs.Blamed.{watch_blame}
 use Rattle.lt_cli.specs.Commands.{answer_verdict, watch_refusal}
 use Rattle.lt_cli.proofs.Refusals.{watch_blames}
 use Rattle.lt_cli.specs.Asked.{Answers, AnswersText, IsOfCommand, IsTextBy, IsTextOf}

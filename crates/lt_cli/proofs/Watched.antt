@@ -12,11 +12,11 @@ use Rattle.lt_load.specs.Plan.{Plan, load_verdict}
 use Rattle.lt_run.specs.declared.outputs.Outputs.{Outputs}
 use Rattle.lt_run.specs.Kinds.{executed_by}
 use Rattle.lt_run.specs.Run.{along_verdict}
-use Rattle.lt_watch.specs.declared.watched.Watched.{Watched}
-use Rattle.lt_watch.specs.Judged.{counted, column, IsLeast, IsWatched}
-use Rattle.lt_watch.specs.Whole.{Counts}
-use Rattle.lt_watch.specs.Watch.{observer_verdict, followed_verdict, plan_watch_verdict, watch_verdict}
-use Rattle.lt_watch.proofs.Whole.{instants, of_whole, counts_below, counts_reached, counts_low, outputs_low}
+use Rattle.lt_commands.specs.declared.watched.Watched.{Watched}
+use Rattle.lt_commands.specs.Judged.{counted, column, IsLeast, IsWatched}
+use Rattle.lt_commands.specs.Whole.{Counts}
+use Rattle.lt_commands.specs.Watch.{observer_verdict, followed_verdict, plan_watch_verdict, watch_verdict}
+use Rattle.lt_commands.proofs.Whole.{instants, of_whole, counts_below, counts_reached, counts_low, outputs_low}
 use Rattle.lt_cli.specs.Objects.{Objects, world_of}
 use Rattle.lt_cli.specs.RunShown.{IsRunAlong}
 use Rattle.lt_cli.specs.Taken.{TookText}

@@ -14,8 +14,8 @@ use Rattle.lt_words.specs.Reading.{Said, check, meaning, run, plan, sim, big, wa
 use Rattle.lt_load.specs.declared.fault.CommandFault.{CommandFault}
 use Rattle.lt_load.specs.Plan.{LoadedPlan}
 use Rattle.lt_run.specs.Run.{LeavesUnloaded}
-use Rattle.lt_big.specs.Big.{LeavesRefused}
-use Rattle.lt_watch.specs.Watch.{LeavesUnwatched}
+use Rattle.lt_commands.specs.Big.{LeavesRefused}
+use Rattle.lt_commands.specs.Watch.{LeavesUnwatched}
 use Rattle.lt_cli.specs.declared.refusal.Refusal.{Refusal}
 use Rattle.lt_cli.specs.declared.refusal.Refusal.TheVariants.{Words, Command, Observer}
 use Rattle.lt_cli.specs.declared.status.Status.{Status}

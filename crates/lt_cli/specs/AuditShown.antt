@@ -4,10 +4,10 @@ use Rattle.lt_arch.specs.declared.event.Event.{Event}
 use Rattle.lt_judge.specs.Verdict.{verdict}
 use Rattle.lt_timing.specs.Accepts.{Accepts}
 use Rattle.lt_load.specs.Plan.{Plan}
-use Rattle.lt_inspect.specs.declared.scene.Scene.{Scene}
-use Rattle.lt_inspect.specs.declared.audited.Audited.{Audited}
-use Rattle.lt_inspect.specs.Scenes.{IsSceneOf, scene_verdict}
-use Rattle.lt_inspect.specs.Inspected.{IsAudited}
+use Rattle.lt_commands.specs.declared.scene.Scene.{Scene}
+use Rattle.lt_commands.specs.declared.audited.Audited.{Audited}
+use Rattle.lt_commands.specs.Scenes.{IsSceneOf, scene_verdict}
+use Rattle.lt_commands.specs.Inspected.{IsAudited}
 use Rattle.lt_cli.specs.Objects.{Objects}
 use Rattle.lt_cli.specs.Taken.{TookText}
 use Rattle.lt_cli.specs.Texts.{audit_text, audited_text}

@@ -18,11 +18,11 @@ use Rattle.lt_load.specs.Setups.{check_verdict}
 use Rattle.lt_load.specs.Plan.{Plan}
 use Rattle.lt_run.specs.Meaning.{meaning_verdict}
 use Rattle.lt_run.specs.Run.{run_verdict}
-use Rattle.lt_big.specs.Big.{big_verdict}
-use Rattle.lt_inspect.specs.declared.scene.Scene.{Scene}
-use Rattle.lt_inspect.specs.Inspected.{audit_verdict, trace_verdict}
-use Rattle.lt_watch.specs.declared.fault.WatchFault.TheVariants as watched
-use Rattle.lt_watch.specs.Watch.{watch_verdict}
+use Rattle.lt_commands.specs.Big.{big_verdict}
+use Rattle.lt_commands.specs.declared.scene.Scene.{Scene}
+use Rattle.lt_commands.specs.Inspected.{audit_verdict, trace_verdict}
+use Rattle.lt_commands.specs.declared.fault.WatchFault.TheVariants as watched
+use Rattle.lt_commands.specs.Watch.{watch_verdict}
 use Rattle.lt_cli.specs.Draws.{sim_verdict}
 use Rattle.lt_cli.specs.Commands.{checked_text, printed_text, summarized_text, watch_refusal, words_verdict}
 use Rattle.lt_cli.specs.Taken.{TookLine, TookText}

@@ -17,13 +17,12 @@ use Rattle.lt_run.specs.declared.outputs.Outputs.{Outputs}
 use Rattle.lt_run.specs.Errands.{meaning_errands, run_errands}
 use Rattle.lt_run.specs.Meaning.{meaning_verdict}
 use Rattle.lt_run.specs.Run.{run_verdict}
-use Rattle.lt_big.specs.Big.{big_verdict}
-use Rattle.lt_inspect.specs.Errands.{inspect_errands}
-use Rattle.lt_inspect.specs.Inspected.{audit_verdict, trace_verdict}
-use Rattle.lt_watch.specs.Errands.{watch_errands}
-use Rattle.lt_watch.specs.declared.fault.WatchFault.{WatchFault}
-use Rattle.lt_watch.specs.declared.fault.WatchFault.TheVariants as watched
-use Rattle.lt_watch.specs.Watch.{watch_verdict}
+use Rattle.lt_commands.specs.Big.{big_verdict}
+use Rattle.lt_commands.specs.Errands.{inspect_errands, watch_errands}
+use Rattle.lt_commands.specs.Inspected.{audit_verdict, trace_verdict}
+use Rattle.lt_commands.specs.declared.fault.WatchFault.{WatchFault}
+use Rattle.lt_commands.specs.declared.fault.WatchFault.TheVariants as watched
+use Rattle.lt_commands.specs.Watch.{watch_verdict}
 use Rattle.lt_cli.specs.declared.refusal.Refusal.{Refusal}
 use Rattle.lt_cli.specs.declared.refusal.Refusal.TheVariants.{Words, Command, Observer}
 use Rattle.lt_cli.specs.Draws.{sim_verdict}

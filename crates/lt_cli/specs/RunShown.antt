@@ -20,8 +20,8 @@ use Rattle.lt_load.specs.Plan.{Plan, load_verdict}
 use Rattle.lt_run.specs.declared.outputs.Outputs.{Outputs}
 use Rattle.lt_run.specs.Kinds.{EventsBy, executed_by, verdict_by}
 use Rattle.lt_run.specs.Run.{Shows}
-use Rattle.lt_big.specs.Texts.{horizon_of}
-use Rattle.lt_big.specs.Big.{loaded_verdict, events_of}
+use Rattle.lt_commands.specs.Texts.{horizon_of}
+use Rattle.lt_commands.specs.Big.{loaded_verdict, events_of}
 use Rattle.lt_cli.specs.Commands.{printed_text, summarized_text}
 use Rattle.lt_cli.specs.Objects.{Objects}
 use Rattle.lt_cli.specs.Taken.{TookText}

@@ -17,10 +17,10 @@ use Rattle.lt_texts.specs.FileLines.{config_line, timing_line, window_line, inpu
 use Rattle.lt_texts.specs.ScheduleLines.{row_line, offence_line, lossy_line, node_name, channel_text}
 use Rattle.lt_cli.specs.Lines.{place_line}
 use Rattle.lt_audit.specs.declared.miss.Miss.{Miss}
-use Rattle.lt_inspect.specs.declared.audited.Audited.{Audited}
+use Rattle.lt_commands.specs.declared.audited.Audited.{Audited}
 use Rattle.lt_sim.specs.File.{file_text}
-use Rattle.lt_watch.specs.declared.watched.Watched.{Watched}
-use Rattle.lt_watch.specs.declared.watched.Watched.TheVariants.{Holds, Fails}
+use Rattle.lt_commands.specs.declared.watched.Watched.{Watched}
+use Rattle.lt_commands.specs.declared.watched.Watched.TheVariants.{Holds, Fails}
 use Rattle.lt_cli.specs.Draws.{Drawing}
 use Rattle.lt_cli.specs.declared.refusal.Refusal.{Refusal}
 use Rattle.lt_cli.specs.declared.refusal.Refusal.TheVariants.{Words, Command, Observer}

@@ -10,8 +10,8 @@ use Rattle.lt_load.specs.Main.{main_in}
 use Rattle.lt_run.specs.Kinds.{executed_by}
 use Rattle.lt_run.specs.Main.{output_streams}
 use Rattle.lt_run.specs.declared.outputs.Outputs.{Outputs}
-use Rattle.lt_watch.specs.declared.watched.Watched.{Watched}
-use Rattle.lt_watch.specs.Whole.{Judges, Counts}
+use Rattle.lt_commands.specs.declared.watched.Watched.{Watched}
+use Rattle.lt_commands.specs.Whole.{Judges, Counts}
 use Rattle.lt_cli.specs.Objects.{Objects}
 use Rattle.lt_cli.specs.RunShown.{IsRunAlong}
 use Rattle.lt_cli.specs.Taken.{TookText}

@@ -6,9 +6,8 @@ ghost use Rattle.lt_cli.specs.Texts.{audited_text, executes_text, miss_text, wat
 use lt_arch::Shape;
 use lt_audit::Miss;
 use lt_base::{List, Memory};
-use lt_inspect::Audited;
+use lt_commands::{Audited, Watched};
 use lt_texts::{append_channel, append_count, append_node_name, append_size};
-use lt_watch::Watched;
 use std::alloc::Global;
 
 /// What an observer makes of a run.

@@ -7,6 +7,7 @@ ghost use Rattle.lt_cli.specs.Texts.{fault_line, fault_status, inputs_status, li
 use crate::Status;
 use crate::place_line::append_placement;
 use lt_base::{List, Memory};
+use lt_commands::WatchFault;
 use lt_front::ProgramFault;
 use lt_inputs::InputKind;
 use lt_load::{CommandFault, What};
@@ -16,7 +17,6 @@ use lt_texts::{
     append_config, append_inputs, append_lossy, append_observer, append_offence, append_row,
     append_timing, append_window, program_line,
 };
-use lt_watch::WatchFault;
 use std::alloc::Global;
 
 /// Why a command is refused.

@@ -1,4 +1,4 @@
-use Rattle.lt_watch.specs.Blamed.{watch_blame}
+use Rattle.lt_commands.specs.Blamed.{watch_blame}
 use Rattle.lt_cli.specs.Texts.{watched_text}
 use Rattle.lt_cli.specs.Commands.{watch_refusal}
 use Rattle.lt_cli.proofs.Texts.{answer_text, opens_shown, watch_raise}

@@ -1,0 +1,17 @@
+pub mod Judged
+pub mod Whole
+pub mod Blamed
+pub mod Watch
+pub mod Errands
+pub mod Placed
+pub mod Grounded
+pub mod Scenes
+pub mod Regions
+pub mod Traces
+pub mod Inspected
+pub mod Inspecting
+pub mod Audits
+pub mod Clean
+pub mod Texts
+pub mod Big
+pub mod Stage

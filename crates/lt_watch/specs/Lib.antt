@@ -1,5 +1,0 @@
-pub mod Judged
-pub mod Whole
-pub mod Blamed
-pub mod Watch
-pub mod Errands
