@@ -14,7 +14,7 @@ use Rattle.lt_answer.specs.Answered.{Answered, RefusesReading}
 use Rattle.lt_answer.proofs.Stages.{beside}
 use Rattle.lt_config.specs.declared.pace.Pace.{Pace}
 use Rattle.lt_lead.specs.Paced.{IsShapeBy}
-use Rattle.lt_play.specs.Played.{world}
+use Rattle.lt_replay.specs.Played.{world}
 use Rattle.lt_load.specs.Blamed.{command_blame}
 use Rattle.lt_load.specs.declared.fault.CommandFault.{CommandFault}
 use Rattle.lt_load.specs.Errands.{load_errands}

@@ -10,7 +10,7 @@ use Rattle.lt_io.specs.SinkState.{SinkState}
 use Rattle.lt_answer.specs.World.{World, alone}
 use Rattle.lt_answer.specs.Answered.{Verdict, Answered}
 use Rattle.lt_answer.proofs.Stages.{beside}
-use Rattle.lt_play.specs.Played.{world}
+use Rattle.lt_replay.specs.Played.{world}
 use Rattle.lt_cli.specs.declared.refusal.Refusal.{Refusal}
 use Rattle.lt_cli.specs.declared.refusal.Refusal.TheVariants.{Words, Command, Observer}
 use Rattle.lt_cli.specs.declared.status.Status.{Status}

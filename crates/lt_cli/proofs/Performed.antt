@@ -5,7 +5,7 @@ use Rattle.lt_arch.specs.declared.event.Event.{Event}
 use Rattle.lt_timing.specs.Accepts.{Accepts}
 use Rattle.lt_load.specs.Plan.{Plan}
 use Rattle.lt_commands.specs.declared.scene.Scene.{Scene}
-use Rattle.lt_plan.specs.Text.{plan_of}
+use Rattle.lt_texts.specs.PlanText.{plan_of}
 use Rattle.lt_load.specs.Loaded.{config_verdict}
 use Rattle.lt_load.specs.Setups.{check_verdict}
 use Rattle.lt_run.specs.Meaning.{meaning_verdict}

@@ -12,7 +12,7 @@ use Rattle.lt_cli.specs.declared.status.Status.TheVariants as status
 use Rattle.lt_cli.specs.Texts.{refusal_status, line_of, drawing_text, watched_text, audited_text}
 use Rattle.lt_words.specs.Reading.{command_of}
 use Rattle.lt_words.specs.Reading as said
-use Rattle.lt_plan.specs.Text.{plan_of}
+use Rattle.lt_texts.specs.PlanText.{plan_of}
 use Rattle.lt_load.specs.Loaded.{config_verdict}
 use Rattle.lt_load.specs.Setups.{check_verdict}
 use Rattle.lt_load.specs.Plan.{Plan}

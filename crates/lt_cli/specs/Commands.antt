@@ -2,7 +2,7 @@
 use Rattle.std.specs.Prelude.{◌≡◌, ℕ, List, [], Option, Some, None, Err}
 use Rattle.lt_print.specs.Canonical.{canonical}
 use Rattle.lt_front.specs.Examined.{ExaminedText}
-use Rattle.lt_plan.specs.Text.{plan_of}
+use Rattle.lt_texts.specs.PlanText.{plan_of}
 use Rattle.lt_words.specs.Reading.{Said, check, meaning, run, plan, sim, big, audit, trace, command_of}
 use Rattle.lt_words.specs.Reading as said
 use Rattle.lt_io.specs.Visits.{Errand}

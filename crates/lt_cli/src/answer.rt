@@ -3,8 +3,8 @@ ghost use Rattle.std.specs.Prelude.{◌≡◌, ◌<◌, ◌-◌, ◌^◌, ◌++�
 ghost use Rattle.lt_io.specs.FabricState.{OpensOnce};
 ghost use Rattle.lt_io.specs.FilesState.{FilesState};
 ghost use Rattle.lt_answer.specs.World.{alone};
-ghost use Rattle.lt_play.specs.Played.{world};
-ghost use Rattle.lt_plan.specs.Text.{plan_of};
+ghost use Rattle.lt_replay.specs.Played.{world};
+ghost use Rattle.lt_texts.specs.PlanText.{plan_of};
 ghost use Rattle.lt_load.specs.Errands.{program_errand, config_errand, check_errands};
 ghost use Rattle.lt_run.specs.Errands.{meaning_errands, run_errands};
 ghost use Rattle.lt_load.specs.Loaded.{program_verdict, config_verdict};
@@ -28,10 +28,9 @@ use lt_config::Config;
 use lt_front::Examined;
 use lt_io::{Fabric, Files};
 use lt_load::{CommandFault, check_with, load_config, load_text};
-use lt_plan::plan_text;
 use lt_print::print;
 use lt_run::{Outputs, meaning, run};
-use lt_texts::{outputs_text, summary_text};
+use lt_texts::{outputs_text, plan_text, summary_text};
 use std::alloc::Global;
 use std::mem::forget;
 

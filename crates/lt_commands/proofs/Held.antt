@@ -10,7 +10,7 @@ use Rattle.lt_io.specs.declared.mem_files.MemFile.{MemFile}
 use Rattle.lt_answer.specs.World.{alone}
 use Rattle.lt_answer.specs.Answered.{Answered, Settles}
 use Rattle.lt_answer.proofs.Stages.{renamed}
-use Rattle.lt_play.specs.Played.{world}
+use Rattle.lt_replay.specs.Played.{world}
 use Rattle.lt_load.specs.declared.fault.CommandFault.{CommandFault}
 use Rattle.lt_load.specs.Blamed.{command_blame}
 use Rattle.lt_load.specs.Plan.{LoadedPlan, Loads}

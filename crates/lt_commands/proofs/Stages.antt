@@ -21,7 +21,7 @@ use Rattle.lt_answer.specs.World.{World, Blame, alone}
 use Rattle.lt_answer.specs.Answered.{Answered, Verdict, AndThen}
 use Rattle.lt_answer.proofs.Stages.{beside, goes_on, renamed, stops, widened}
 use Rattle.lt_front.specs.Examined.{ExaminedText}
-use Rattle.lt_play.specs.Played.{world}
+use Rattle.lt_replay.specs.Played.{world}
 use Rattle.lt_past.specs.Formula.{SignalsBelow}
 use Rattle.lt_past.specs.Satisfaction.{Sat}
 use Rattle.lt_past.specs.Observer.{Observing}

@@ -8,7 +8,7 @@ use Rattle.lt_io.specs.MemFiles.{lookup}
 use Rattle.lt_io.specs.declared.mem_files.MemFile.{MemFile}
 use Rattle.lt_rows.specs.Limits.{most_events}
 use Rattle.lt_answer.specs.Answered.{Answered, Verdict}
-use Rattle.lt_play.specs.Played.{world}
+use Rattle.lt_replay.specs.Played.{world}
 use Rattle.lt_judge.specs.Verdict.{verdict}
 use Rattle.lt_load.specs.Blamed.{command_blame}
 use Rattle.lt_load.specs.declared.fault.CommandFault.{CommandFault}

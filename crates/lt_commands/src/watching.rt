@@ -2,7 +2,7 @@
 ghost use Rattle.std.specs.Prelude.{◌≡◌, ◌++◌, ◌<◌, ◌-◌, ◌^◌, [], option_map};
 ghost use Rattle.lt_io.specs.FabricState.{OpensOnce};
 ghost use Rattle.lt_answer.specs.Answered.{Answered};
-ghost use Rattle.lt_play.specs.Played.{world};
+ghost use Rattle.lt_replay.specs.Played.{world};
 ghost use Rattle.lt_judge.specs.Errand.{schedule_errand};
 ghost use Rattle.lt_load.specs.Main.{main_in};
 ghost use Rattle.lt_commands.specs.Blamed.{watch_blame};

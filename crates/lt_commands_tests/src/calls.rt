@@ -109,7 +109,8 @@ fn named(alloc: Global, texts: Texts) -> Result<List<MemFile>, Memory> {
     Ok(files)
 }
 
-fn files(alloc: Global, texts: Texts, fails: Fails) -> Result<MemFiles, Memory>
+/// The files of a call.
+pub fn files(alloc: Global, texts: Texts, fails: Fails) -> Result<MemFiles, Memory>
     ensures { IfOk result (λ files. (mem_files_state files).faults ≡ 0) }
 {
     let files = named(alloc, texts)?;

@@ -1,8 +1,10 @@
 // A program and a schedule that are cut off, at each letter, with the line that refuses each front.
 
 use crate::calls::{ACROSS, Texts};
-use crate::script::{ends, plain};
-use std::test::Fail;
+use crate::script::{Cell, ends, plain};
+use lt_base::Memory;
+use std::alloc::Global;
+use std::process::Abort;
 
 // Where those words of the language stand in the program of the two nodes of which no front may stand there.
 const WORDS: [(usize, usize); 8] = [
@@ -26,19 +28,37 @@ fn place_of(length: usize) -> usize {
     length
 }
 
+fn program_line(alloc: Global, place: usize) -> Result<String, Memory> {
+    let mut line = String::new(alloc);
+    write!(line, "syntax 3 Unexpected at byte {place}/")?;
+    Ok(line)
+}
+
+// A call has to end with this status and this line.
+fn is_refused<R: Abort>(
+    rt: &R,
+    alloc: Global,
+    cell: Cell,
+    status: u8,
+    line: Result<String, Memory>,
+) {
+    match line {
+        Ok(line) => ends(rt, alloc, cell, status, line.as_str()),
+        Err(_) => assert!(rt; false, "no memory: {}", cell.line),
+    }
+}
+
 #[test]
-fn fronts_of_a_program_are_refused(rt: HostRuntime) -> Result<(), Fail> {
+fn fronts_of_a_program_are_refused(rt: HostRuntime) {
     let program = ACROSS.program;
     for length in 0..program.len() {
         let texts = Texts {
             program: program.get(..length).unwrap_or(""),
             ..ACROSS
         };
-        let place = place_of(length);
-        let line = format!(in rt.alloc(); "syntax 3 Unexpected at byte {place}/")?;
-        ends(&rt, rt.alloc(), plain("check p", texts), 2, line.as_str());
+        let line = program_line(rt.alloc(), place_of(length));
+        is_refused(&rt, rt.alloc(), plain("check p", texts), 2, line);
     }
-    Ok(())
 }
 
 // What is wrong with a schedule of events that is cut off in a row, 0 for the header, behind so many of its commas, where the row
@@ -57,8 +77,15 @@ fn fault_of(row: u32, commas: u32, begins: bool, whole: bool) -> (&'static str, 
     }
 }
 
+fn schedule_line(alloc: Global, fault: (&str, u32, &str)) -> Result<String, Memory> {
+    let (words, number, more) = fault;
+    let mut line = String::new(alloc);
+    write!(line, "schedule {words} {number}{more}/")?;
+    Ok(line)
+}
+
 #[test]
-fn fronts_of_a_schedule_are_refused(rt: HostRuntime) -> Result<(), Fail> {
+fn fronts_of_a_schedule_are_refused(rt: HostRuntime) {
     let schedule = ACROSS.schedule;
     let (mut row, mut commas, mut begins) = (0u32, 0u32, true);
     for (length, letter) in schedule.bytes().enumerate() {
@@ -66,15 +93,9 @@ fn fronts_of_a_schedule_are_refused(rt: HostRuntime) -> Result<(), Fail> {
             schedule: schedule.get(..length).unwrap_or(""),
             ..ACROSS
         };
-        let (fault, number, more) = fault_of(row, commas, begins, letter == b'/');
-        let line = format!(in rt.alloc(); "schedule {fault} {number}{more}/")?;
-        ends(
-            &rt,
-            rt.alloc(),
-            plain("run p i s c", texts),
-            5,
-            line.as_str(),
-        );
+        let fault = fault_of(row, commas, begins, letter == b'/');
+        let line = schedule_line(rt.alloc(), fault);
+        is_refused(&rt, rt.alloc(), plain("run p i s c", texts), 5, line);
         begins = letter == b'/';
         row = row.saturating_add(u32::from(begins));
         commas = if begins {
@@ -83,5 +104,4 @@ fn fronts_of_a_schedule_are_refused(rt: HostRuntime) -> Result<(), Fail> {
             commas.saturating_add(u32::from(letter == b','))
         };
     }
-    Ok(())
 }

@@ -1,4 +1,5 @@
-//! Tests of the top call: scripts of whole calls over objects in memory, with what they write and how they end.
+//! Tests of the top call: scripts of whole calls over objects in memory, with what they write and how they end. Beside them the
+//! tests that no call of it tells: of monitors against the definition, and of nodes with machines of another kind.
 #![tactic(auto)]
 
 #[cfg(test)]
@@ -14,7 +15,11 @@ mod limits;
 #[cfg(test)]
 mod losses;
 #[cfg(test)]
+mod machines;
+#[cfg(test)]
 mod network;
+#[cfg(test)]
+mod observers;
 #[cfg(test)]
 mod order;
 #[cfg(test)]
@@ -27,6 +32,8 @@ mod script;
 mod setups;
 #[cfg(test)]
 mod streams;
+#[cfg(test)]
+mod tables;
 #[cfg(test)]
 mod texts;
 #[cfg(test)]

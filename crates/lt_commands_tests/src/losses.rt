@@ -8,7 +8,7 @@ use lt_cli::Status;
 use rand_core::{Rng, SeedableRng};
 use rand_xoshiro::SplitMix64;
 use std::alloc::Global;
-use std::test::Fail;
+use std::process::Abort;
 
 const LOSSY: &str = "\
 - two nodes that read each other's last value: the acknowledgement and the message that are lost come again
@@ -163,15 +163,29 @@ fn runs_over_lossy_links(rt: HostRuntime) {
     holds(&rt, rt.alloc(), SETUPS);
 }
 
+// Draws a schedule, and gives its rows where a run along it is wrong.
+fn wrong(alloc: Global, dice: &mut SplitMix64) -> Result<Option<String>, Memory> {
+    let limit = dice.next_u64() % 4;
+    let drawn = draw(alloc, dice, limit)?;
+    if is_right(alloc, &drawn, limit, MEANING)? {
+        return Ok(None);
+    }
+    let rows = String::from_str(alloc, drawn.rows.as_str())?;
+    Ok(Some(rows))
+}
+
+fn must_be_right<R: Abort>(rt: &R, wrong: Result<Option<String>, Memory>, case: u32) {
+    match wrong {
+        Ok(None) => {}
+        Ok(Some(rows)) => assert!(rt; false, "case {case}: {}", rows.as_str()),
+        Err(_) => assert!(rt; false, "no memory in case {case}"),
+    }
+}
+
 #[test]
-fn drawn_losses_keep_the_meaning(rt: HostRuntime) -> Result<(), Fail> {
-    let alloc = rt.alloc();
+fn drawn_losses_keep_the_meaning(rt: HostRuntime) {
     let mut dice = SplitMix64::seed_from_u64(1);
     for case in 0..1_000 {
-        let limit = dice.next_u64() % 4;
-        let drawn = draw(alloc, &mut dice, limit)?;
-        let right = is_right(alloc, &drawn, limit, MEANING)?;
-        assert!(rt; right, "case {case}: {}", drawn.rows.as_str());
+        must_be_right(&rt, wrong(rt.alloc(), &mut dice), case);
     }
-    Ok(())
 }

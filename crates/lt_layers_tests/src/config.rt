@@ -7,7 +7,7 @@ use lt_base::{Memory, Or};
 use lt_config::{Config, ConfigFault, read_config};
 use lt_lead::lead_bound;
 use lt_place::Placement;
-use lt_plan::plan_text;
+use lt_texts::plan_text;
 use std::alloc::Global;
 
 /// The horizon of the plans that have one.

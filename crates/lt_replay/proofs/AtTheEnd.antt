@@ -35,7 +35,7 @@ use Rattle.lt_plant.proofs.LaidOut.{laid_out}
 use Rattle.lt_plant.proofs.Fitting.{has_inputs}
 use Rattle.lt_plant.specs.Layout.{IsLaidOut}
 use Rattle.lt_plant.specs.Whole.{RowsFit as HasInputs}
-use Rattle.lt_play.specs.Played.{IsLeast}
+use Rattle.lt_replay.specs.Played.{IsLeast}
 use Rattle.lt_replay.specs.declared.replayed.Replayed.{Replayed}
 use Rattle.lt_config.specs.declared.pace.Pace.{Pace}
 use Rattle.lt_lead.specs.Paced.{KeepsPace, bound_by}

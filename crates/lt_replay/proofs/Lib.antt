@@ -1,3 +1,9 @@
+pub mod OneMore
+pub mod AtEnd
+pub mod Outcomes
+pub mod FirstPlay
+pub mod RowsRead
+pub mod Stopping
 pub mod Members
 pub mod LossyBound
 pub mod SoundNetworks
@@ -7,3 +13,15 @@ pub mod AtTheEnd
 pub mod NextController
 pub mod AtTheStart
 pub mod Performed
+pub mod Fates
+pub mod ToldOn
+pub mod RanOn
+pub mod TellsNext
+pub mod NextLists
+pub mod LossyOneMore
+pub mod LossyFirstPlay
+pub mod LossyAtTheEnd
+pub mod LossyOutcomes
+pub mod LossyPerformed
+pub mod LossySoundNetworks
+pub mod LossyStopping

@@ -1,6 +1,6 @@
 -- What a network along a schedule answers, from what its net did.
 use Rattle.std.proofs.Common.{◌≡◌, ◌<◌, inl, inr, ℕ, suc, List, [], length, Option, Some, None, Result, Ok, Err, IsTrue, false, refl, sym, ap, ◌∙◌, subst, arith}
-use Rattle.std.specs.Prelude.{IsErrAnd}
+use Rattle.std.specs.Prelude.{IsErrAnd, OnOk}
 use Rattle.lt_base.specs.declared.value.Value.{Value}
 use Rattle.lt_base.specs.declared.memory.Or.{Or}
 use Rattle.lt_base.specs.declared.memory.Or.TheVariants.{Fault, Memory}
@@ -32,14 +32,14 @@ use Rattle.lt_place.specs.Layout.{IsPlaced}
 use Rattle.lt_net.specs.NetModel.{StoppableNet}
 use Rattle.lt_net.specs.Kept.{IsSized}
 use Rattle.lt_net.specs.Starts.{IsMadeOf}
-use Rattle.lt_play.specs.declared.fault.PlayFault.{PlayFault}
-use Rattle.lt_play.specs.declared.fault.PlayFault.TheVariants.{Schedule}
-use Rattle.lt_play.specs.Played.{world, IsAtEnd, EndsBy, play_verdict, HasPlayed}
-use Rattle.lt_play.specs.Plays.{KeepsPlay}
-use Rattle.lt_play.specs.Blamed.{play_blame}
+use Rattle.lt_replay.specs.declared.fault.PlayFault.{PlayFault}
+use Rattle.lt_replay.specs.declared.fault.PlayFault.TheVariants.{Schedule}
+use Rattle.lt_replay.specs.Played.{world, IsAtEnd, EndsBy, play_verdict, HasPlayed}
+use Rattle.lt_replay.specs.Plays.{KeepsPlay}
+use Rattle.lt_replay.specs.Blamed.{play_blame}
 use Rattle.lt_replay.specs.declared.replayed.Replayed.{Replayed}
 use Rattle.lt_replay.specs.Sound.{IsSound}
-use Rattle.lt_replay.specs.Replays.{IsTaken, IsReplay, EndsWith, replay_verdict, HasReplayed, link_fault}
+use Rattle.lt_replay.specs.Replays.{FinishesBy, IsTaken, IsReplay, EndsWith, replay_verdict, HasReplayed, link_fault}
 use Rattle.lt_replay.proofs.AtTheEnd.{is_replay}
 use Rattle.lt_replay.proofs.SoundNetworks.{sound_of_equals}
 
@@ -263,6 +263,19 @@ module _ {C M : Type 0} (phase : C → Phase) (stands : M → Function → List 
         opens = record { calls = one_call played.keeps; done = same_opens played.keeps };
         layout = taken_is.layout ∙ played.ended.1.fixed.layout ∙ is.layout;
       }
+
+  -- whatever came of the play
+  module _ (lent : List (List Value)) (same : lent ≡ inputs) where
+    pub at_end : (p : Result (Unit {0}) (Or PlayFault)) → HasPlayed phase stands made left size old new lent later name files files' mid fabric' p → OnOk p ((h : ℕ) × (new.plant.watch.horizon ≡ Some h))
+    at_end (Ok x) played = played.ended.1.horizon
+    at_end (Err e) played = tt
+
+    pub finished : (f : Originated) → IsPlaced f l → RowsFit f.func inputs → IsSound l s t (length inputs) → IsSized new.plant → length new.plant.tracks ≡ length new.plant.layout.outs → (p : Result (Unit {0}) (Or PlayFault)) →
+        HasPlayed phase stands made left size old new lent later name files files' mid fabric' p → (r : Result (Replayed M) (Or PlayFault)) → FinishesBy new.plant p r → HasReplayed stands made l s t inputs name files files' fabric fabric' r
+    finished f placed fit networks sized tracks (Ok x) played (Ok taken) ends = taken_so x lent same played f placed fit networks sized tracks taken ends
+    finished f placed fit networks sized tracks (Ok x) played (Err e) ends = untaken_by x lent same played (Err e) ends
+    finished f placed fit networks sized tracks (Err e) played r ends =
+        subst (λ answer. HasReplayed stands made l s t inputs name files files' fabric fabric' answer) (sym ends) (refused_by (Err e) e refl lent same played)
 
 -- the same of an equal layout, shape and timing
 pub of_equals : {M : Type 0} (stands : M → Function → List (List Value) → Type 0) (made : M → ℕ) (l l' : Layout) (s s' : Shape) (t t' : Timing) (inputs : List (List Value)) (name : List ℕ) (files files' : FilesState) (fabric fabric' : FabricState) (r : Result (Replayed M) (Or PlayFault)) →

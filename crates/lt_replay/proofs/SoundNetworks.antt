@@ -28,7 +28,7 @@ use Rattle.lt_lead.specs.Channels.{LeadShapesFit}
 use Rattle.lt_lead.specs.Paced.{KeepsPace, bound_by}
 use Rattle.lt_lead.specs.Laws as leading
 use Rattle.lt_lead.proofs.ByPace.{nodes_are}
-use Rattle.lt_play.specs.Played.{IsLeast}
+use Rattle.lt_replay.specs.Played.{IsLeast}
 use Rattle.lt_replay.specs.Sound.{IsSound, AreSound}
 use Rattle.lt_replay.proofs.LossyBound.{lossy_at_most}
 

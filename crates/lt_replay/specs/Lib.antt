@@ -1,4 +1,15 @@
+pub mod Plays
+pub mod Keeping
+pub mod Blamed
+pub mod Played
 pub mod Ready
 pub mod Sound
 pub mod Run
 pub mod Replays
+pub mod Rules
+pub mod Told
+pub mod LossyRun
+pub mod LossyReplays
+pub mod LossySound
+pub mod LossyPlays
+pub mod LossyKeeping

@@ -18,10 +18,10 @@ use Rattle.lt_judge.specs.Errand.{schedule_errand}
 use Rattle.lt_judge.specs.Verdict.{verdict}
 use Rattle.lt_place.specs.declared.layout.Layout.{Layout}
 use Rattle.lt_net.specs.Net.{NetState}
-use Rattle.lt_play.specs.declared.fault.PlayFault.{PlayFault}
-use Rattle.lt_play.specs.declared.fault.PlayFault.TheVariants.{Schedule, Link}
-use Rattle.lt_play.specs.Played.{world, IsNearPlay}
-use Rattle.lt_play.specs.Blamed.{play_blame}
+use Rattle.lt_replay.specs.declared.fault.PlayFault.{PlayFault}
+use Rattle.lt_replay.specs.declared.fault.PlayFault.TheVariants.{Schedule, Link}
+use Rattle.lt_replay.specs.Played.{world, IsNearPlay}
+use Rattle.lt_replay.specs.Blamed.{play_blame}
 use Rattle.lt_replay.specs.declared.replayed.Replayed.{Replayed}
 use Rattle.lt_replay.specs.Run.{IsRun, HasSteps}
 
@@ -31,6 +31,12 @@ pub record IsTaken {C M : Type 0} (net : NetState C M) (taken : Replayed M) : Ty
   pub horizon : net.watch.horizon ≡ Some taken.horizon
   pub machines : taken.machines ≡ net.machines
   pub layout : taken.layout ≡ net.layout
+
+-- after an answer to a whole file: what is taken from the net, or want of memory; else the fault of the answer
+abbrev pub FinishesBy : {C M : Type 0} → NetState C M → Result (Unit {0}) (Or PlayFault) → Result (Replayed M) (Or PlayFault) → Type 0
+FinishesBy net (Ok x) (Ok taken) = IsTaken net taken
+FinishesBy net (Ok x) (Err fault) = fault ≡ Memory
+FinishesBy net (Err e) result = result ≡ Err e
 
 -- a fabric's fault as one of the play
 abbrev pub link_fault : LinkErr → Or PlayFault

@@ -1,5 +1,5 @@
 // A network from its layout to what its outputs show.
-ghost use Rattle.std.specs.Prelude.{◌≡◌, ◌<◌, ◌≤◌, ◌-◌, ◌^◌, [], length};
+ghost use Rattle.std.specs.Prelude.{◌≡◌, ◌<◌, ◌≤◌, ◌-◌, ◌^◌, ℕ, [], length, Some, OnOk};
 ghost use Rattle.lt_base.specs.Behaviour.{RowsFit};
 ghost use Rattle.lt_arch.specs.Readers.{node_count, chan_count};
 ghost use Rattle.lt_timing.specs.Accepts.{Accepts};
@@ -11,18 +11,18 @@ ghost use Rattle.lt_place.specs.Sizes.{HasCodeRoom};
 ghost use Rattle.lt_plant.specs.Starts.{AreReady};
 ghost use Rattle.lt_replay.specs.Ready.{AreControllers};
 ghost use Rattle.lt_replay.specs.Sound.{IsPaced, IsSound};
-ghost use Rattle.lt_replay.specs.Replays.{HasReplayed, link_fault};
+ghost use Rattle.lt_replay.specs.Replays.{FinishesBy, HasReplayed, link_fault};
 
-use crate::Replayed;
 use crate::controllers::controllers_of;
 use crate::laws::networks_are_sound;
 use crate::setup::Setup;
 use crate::taking::take;
+use crate::{PlayFault, Playback, Replayed, play};
 use lt_arch::Controller;
 use lt_base::{Inputs, Or};
 use lt_io::{Fabric, Files, LinkErr};
 use lt_machine::Machine;
-use lt_play::{PlayFault, Playback, play};
+use lt_net::Net;
 use lt_rows::Lines;
 use std::alloc::Global;
 
@@ -32,6 +32,21 @@ fn link_fault(e: LinkErr) -> Or<PlayFault>
     match e {
         LinkErr::Failed => Or::Fault(PlayFault::Link),
         LinkErr::Memory => Or::Memory,
+    }
+}
+
+// What a net comes to that has taken a file to its end, or why it has not.
+fn finish<C: Controller, M: Machine>(
+    alloc: Global,
+    net: Net<C, M>,
+    played: Result<(), Or<PlayFault>>,
+) -> Result<Replayed<M>, Or<PlayFault>>
+    requires { OnOk played ((h : ℕ) × (net.plant.watch.horizon ≡ Some h)) }
+    ensures { FinishesBy net.plant played result }
+{
+    match played {
+        Ok(()) => Ok(take(alloc, net)?),
+        Err(fault) => Err(fault),
     }
 }
 
@@ -75,9 +90,9 @@ fn perform<F: Files, W: Fabric, C: Controller, M: Machine>(
     );
     match started {
         Ok(mut playback) => {
-            play(lines, files, schedule, &mut playback, fabric)?;
+            let played = play(lines, files, schedule, &mut playback, fabric);
             playback.net.kept();
-            Ok(take(alloc, playback.net)?)
+            finish(alloc, playback.net, played)
         }
         Err(e) => Err(link_fault(e)),
     }

@@ -21,10 +21,10 @@ use Rattle.lt_verdict.specs.Rules.{Raised}
 use Rattle.lt_judge.specs.declared.fault.ScheduleFault.{ScheduleFault}
 use Rattle.lt_judge.specs.declared.fault.ScheduleFault.TheVariants as schedule
 use Rattle.lt_judge.specs.Verdict.{verdict}
-use Rattle.lt_play.specs.declared.fault.PlayFault.{PlayFault}
-use Rattle.lt_play.specs.declared.fault.PlayFault.TheVariants as play
-use Rattle.lt_play.specs.Blamed.{play_blame}
-use Rattle.lt_play.specs.Played.{world, IsNearPlay}
+use Rattle.lt_replay.specs.declared.fault.PlayFault.{PlayFault}
+use Rattle.lt_replay.specs.declared.fault.PlayFault.TheVariants as play
+use Rattle.lt_replay.specs.Blamed.{play_blame}
+use Rattle.lt_replay.specs.Played.{world, IsNearPlay}
 use Rattle.lt_replay.specs.declared.replayed.Replayed.{Replayed}
 use Rattle.lt_replay.specs.Replays.{EndsWith, HasReplayed, IsReplay, replay_verdict}
 use Rattle.lt_load.proofs.Raising.{raised_value, raised_fault}

@@ -21,12 +21,12 @@ use Rattle.lt_judge.specs.declared.halt.Refusal.TheVariants as refusal
 use Rattle.lt_judge.specs.Rules.{file_judged_by}
 use Rattle.lt_lossy.specs.declared.event.LossyEvent.{LossyEvent}
 use Rattle.lt_lossy.specs.declared.event.LossyOffence.{LossyOffence}
-use Rattle.lt_play.specs.Played.{world}
+use Rattle.lt_replay.specs.Played.{world}
 use Rattle.lt_replay.specs.declared.replayed.Replayed.{Replayed}
-use Rattle.lt_lossy_replay.specs.declared.fault.LossyPlayFault.{LossyPlayFault}
-use Rattle.lt_lossy_replay.specs.declared.fault.LossyPlayFault.TheVariants as lossy
-use Rattle.lt_lossy_replay.specs.Rules.{lossy_rules_of, lossy_blame, IsNearLossy}
-use Rattle.lt_lossy_replay.specs.Replays.{HasLossyReplayed, IsLossyReplay, LossyEndsWith, lossy_replay_verdict}
+use Rattle.lt_replay.specs.declared.lossy.fault.LossyPlayFault.{LossyPlayFault}
+use Rattle.lt_replay.specs.declared.lossy.fault.LossyPlayFault.TheVariants as lossy
+use Rattle.lt_replay.specs.Rules.{lossy_rules_of, lossy_blame, IsNearLossy}
+use Rattle.lt_replay.specs.LossyReplays.{HasLossyReplayed, IsLossyReplay, LossyEndsWith, lossy_replay_verdict}
 use Rattle.lt_load.proofs.Raising.{raised_value, raised_fault}
 use Rattle.lt_run.specs.declared.fault.RunFault.{RunFault}
 use Rattle.lt_run.specs.declared.fault.RunFault.TheVariants.{Read}

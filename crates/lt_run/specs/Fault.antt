@@ -10,10 +10,10 @@ use Rattle.lt_lossy.specs.declared.event.LossyOffence.{LossyOffence}
 use Rattle.lt_judge.specs.declared.halt.Refusal.{Refusal}
 use Rattle.lt_judge.specs.declared.halt.Refusal.TheVariants as refusal
 use Rattle.lt_judge.specs.Near.{IsNearFile, IsNearIn}
-use Rattle.lt_play.specs.declared.fault.PlayFault.{PlayFault}
-use Rattle.lt_play.specs.declared.fault.PlayFault.TheVariants as play
-use Rattle.lt_lossy_replay.specs.declared.fault.LossyPlayFault.{LossyPlayFault}
-use Rattle.lt_lossy_replay.specs.declared.fault.LossyPlayFault.TheVariants as lossy
+use Rattle.lt_replay.specs.declared.fault.PlayFault.{PlayFault}
+use Rattle.lt_replay.specs.declared.fault.PlayFault.TheVariants as play
+use Rattle.lt_replay.specs.declared.lossy.fault.LossyPlayFault.{LossyPlayFault}
+use Rattle.lt_replay.specs.declared.lossy.fault.LossyPlayFault.TheVariants as lossy
 use Rattle.lt_run.specs.declared.fault.RunFault.{RunFault}
 use Rattle.lt_run.specs.declared.fault.RunFault.TheVariants.{Row, Offence, Lossy, Bytes, Read, Link}
 

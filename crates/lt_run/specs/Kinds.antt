@@ -20,8 +20,8 @@ use Rattle.lt_judge.specs.Verdict.{verdict}
 use Rattle.lt_lossy.specs.declared.event.LossyEvent.{LossyEvent}
 use Rattle.lt_lossy.specs.declared.event.LossyOffence.{LossyOffence}
 use Rattle.lt_lossy.specs.Schedule.{lossy_reached}
-use Rattle.lt_lossy_replay.specs.Rules.{lossy_rules_of}
-use Rattle.lt_lossy_replay.specs.Run.{IsLossyRun, HasLossySteps, executed_in}
+use Rattle.lt_replay.specs.Rules.{lossy_rules_of}
+use Rattle.lt_replay.specs.LossyRun.{IsLossyRun, HasLossySteps, executed_in}
 use Rattle.lt_replay.specs.Run.{IsRun, HasSteps}
 use Rattle.lt_run.specs.declared.fault.RunFault.{RunFault}
 use Rattle.lt_run.specs.declared.fault.RunFault.TheVariants.{Read}

@@ -17,7 +17,7 @@ use Rattle.lt_plant.specs.Local.{local_stream}
 use Rattle.lt_plant.specs.Payloads.{between, row_at}
 use Rattle.lt_answer.specs.Answered.{Answered, Verdict}
 use Rattle.lt_judge.specs.Errand.{schedule_errand}
-use Rattle.lt_play.specs.Played.{world}
+use Rattle.lt_replay.specs.Played.{world}
 use Rattle.lt_replay.specs.declared.replayed.Replayed.{Replayed}
 use Rattle.lt_load.specs.Main.{main_in}
 use Rattle.lt_load.specs.Plan.{LoadedPlan}

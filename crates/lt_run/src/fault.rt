@@ -5,8 +5,7 @@ ghost use Rattle.lt_run.specs.Fault.{of_lossy, of_play, of_refusal, of_schedule}
 use lt_arch::Offence;
 use lt_judge::{Refusal, ScheduleFault};
 use lt_lossy::LossyOffence;
-use lt_lossy_replay::LossyPlayFault;
-use lt_play::PlayFault;
+use lt_replay::{LossyPlayFault, PlayFault};
 use lt_rows::RowFault;
 
 /// Why the nodes of a loaded program do not take a schedule file to its end. Rows and events are counted from 1, and the header is row 0.

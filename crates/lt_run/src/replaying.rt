@@ -25,11 +25,10 @@ use lt_config::Pace;
 use lt_front::Checked;
 use lt_io::{Fabric, Files};
 use lt_load::{Loaded, main_of};
-use lt_lossy_replay::replay_lossy;
 use lt_machine::Machine;
 use lt_norm::Flat;
-use lt_replay::Replayed;
 use lt_replay::setup::{Setup, copies};
+use lt_replay::{Replayed, replay_lossy};
 use std::alloc::Global;
 use std::mem::forget;
 

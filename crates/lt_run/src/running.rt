@@ -3,7 +3,7 @@ ghost use Rattle.std.specs.Prelude.{◌≡◌, ◌<◌, ◌-◌, ◌^◌, [], le
 ghost use Rattle.lt_io.specs.FabricState.{OpensOnce};
 ghost use Rattle.lt_answer.specs.Answered.{Answered};
 ghost use Rattle.lt_plant.specs.Starts.{AreReady};
-ghost use Rattle.lt_play.specs.Played.{world};
+ghost use Rattle.lt_replay.specs.Played.{world};
 ghost use Rattle.lt_load.specs.Blamed.{command_blame};
 ghost use Rattle.lt_judge.specs.Errand.{schedule_errand};
 ghost use Rattle.lt_run.specs.Errands.{run_errands};

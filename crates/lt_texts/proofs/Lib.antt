@@ -1,3 +1,5 @@
 pub mod Missing
 pub mod Unnamed
 pub mod OutputLines
+pub mod PlanSome
+pub mod PlanLines

@@ -4,3 +4,5 @@ pub mod Lines
 pub mod FileLines
 pub mod ScheduleLines
 pub mod OutputLines
+pub mod PlanNumbers
+pub mod PlanText

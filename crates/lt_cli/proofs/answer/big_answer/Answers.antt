@@ -1,4 +1,4 @@
-use Rattle.lt_play.specs.Played.{world}
+use Rattle.lt_replay.specs.Played.{world}
 use Rattle.lt_cli.specs.declared.refusal.Refusal.TheVariants.{Command}
 use Rattle.lt_cli.specs.Commands.{summarized_text}
 use Rattle.lt_cli.proofs.Texts.{is_text_of, opens_shown}

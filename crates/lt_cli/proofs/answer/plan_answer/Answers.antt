@@ -1,4 +1,4 @@
-use Rattle.lt_plan.specs.Text.{plan_of}
+use Rattle.lt_texts.specs.PlanText.{plan_of}
 use Rattle.lt_load.specs.Loaded.{config_verdict}
 use Rattle.lt_cli.proofs.Texts.{is_text_of}
 use Rattle.lt_cli.proofs.answer.plan_answer.Goals as goal

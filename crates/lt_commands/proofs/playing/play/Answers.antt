@@ -2,7 +2,7 @@ use Rattle.std.proofs.Common.{◌∙◌, ◌++◌, ◌∷◌, [], List, ap}
 use Rattle.lt_io.specs.MemFiles.{mem_files_state}
 use Rattle.lt_io.specs.declared.mem_files.MemFile.{MemFile}
 use Rattle.lt_answer.proofs.Stages.{runs_short_by}
-use Rattle.lt_play.specs.Played.{world}
+use Rattle.lt_replay.specs.Played.{world}
 use Rattle.lt_commands.proofs.Held.{plays_held}
 use Rattle.lt_commands.proofs.playing.play.Goals as goal
 

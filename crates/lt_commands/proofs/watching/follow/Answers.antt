@@ -1,5 +1,5 @@
 use Rattle.std.proofs.Common.{subst, []}
-use Rattle.lt_play.specs.Played.{world}
+use Rattle.lt_replay.specs.Played.{world}
 use Rattle.lt_commands.specs.Blamed.{watch_blame}
 use Rattle.lt_commands.specs.Judged.{Tells}
 use Rattle.lt_commands.specs.Watch.{InCommand, run_along, told_verdict}

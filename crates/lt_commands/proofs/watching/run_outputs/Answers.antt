@@ -1,5 +1,5 @@
 use Rattle.std.proofs.Common.{Ok, Err, refl}
-use Rattle.lt_play.specs.Played.{world}
+use Rattle.lt_replay.specs.Played.{world}
 use Rattle.lt_load.specs.Blamed.{command_blame}
 use Rattle.lt_load.proofs.Raising.{raised_value, raised_fault}
 use Rattle.lt_run.specs.Run.{along_loaded}

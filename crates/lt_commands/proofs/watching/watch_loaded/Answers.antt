@@ -12,7 +12,7 @@ use Rattle.lt_load.proofs.Steps.{counts_on}
 use Rattle.lt_commands.specs.Blamed.{watch_blame}
 use Rattle.lt_commands.specs.Errands.{observer_errand}
 use Rattle.lt_commands.specs.Watch.{observer_verdict}
-use Rattle.lt_play.specs.Played.{world}
+use Rattle.lt_replay.specs.Played.{world}
 use Rattle.lt_commands.proofs.Stages.{no_observer, with_observer}
 use Rattle.lt_commands.proofs.Unwatched.{not_observed}
 use Rattle.lt_commands.proofs.watching.watch_loaded.Goals as goal

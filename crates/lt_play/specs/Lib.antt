@@ -1,4 +1,0 @@
-pub mod Plays
-pub mod Keeping
-pub mod Blamed
-pub mod Played

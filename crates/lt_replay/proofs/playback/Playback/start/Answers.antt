@@ -1,0 +1,23 @@
+use Rattle.std.proofs.Common.{ℕ, subst, sym}
+use Rattle.lt_arch.specs.Schedule.{OnePlace}
+use Rattle.lt_plant.specs.Starts.{AreReady}
+use Rattle.lt_replay.proofs.FirstPlay.{plays_first}
+use Rattle.lt_replay.proofs.playback.Playback.start.Goals as goal
+
+pub returns-clause-ready : goal.returns-clause-ready
+returns-clause-ready g c =
+    let net = c.in_ok-net.ensures in
+    let placed = c.requires.placed in
+    record {
+      reads = record { width_is = c.requires.width; room_is = c.in_ok-places.ensures.room; wide = c.requires.wide };
+      plays = plays_first g.C.Controller.phase g.M.Machine.stands g.M.Machine.made g.M.Machine.left g.M.Machine.size c.args.inputs.now.rows c.args.layout c.args.shape c.args.timing _ c.args.machines.items c.args.controllers.items c.in_ok-net.net (g.W.Fabric.state c.open.new.fabric)
+          net.running net.made c.requires.numbered
+          (net.opened c.args.inputs.now.rows (g.W.Fabric.state c.args.fabric.now) (g.W.Fabric.state c.open.new.fabric) c.open.ensures.keeps c.in_ok-places.ensures.opened)
+          (net.given placed.0 c.args.inputs.now.rows placed.1 placed.2 c.rows-count.ensures);
+    }
+
+pub start-requires-clause-one_place : goal.start-requires-clause-one_place
+start-requires-clause-one_place g c = subst (OnePlace c.args.shape c.args.timing) (sym c.rows-count.ensures) c.requires.one_place
+
+pub start-requires-clause-machines : goal.start-requires-clause-machines
+start-requires-clause-machines g c = subst (λ (count : ℕ). AreReady g.M.Machine.stands g.M.Machine.made g.M.Machine.left c.args.layout count c.args.machines.items) (sym c.rows-count.ensures) c.requires.machines
