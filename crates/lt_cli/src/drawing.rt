@@ -29,8 +29,12 @@ pub(crate) fn draw<O: Printer, E: Printer>(
     ensures short { result ≡ Status.Memory → IsDrawnShort loaded O.short E.short }
 {
     match loaded {
-        Ok(loaded) => draw_loaded(alloc, out, err, &loaded, seed, horizon),
-        Err(Or::Fault(fault)) => refuse(alloc, err, &Refusal::Command(fault)),
+        Ok(loaded) => {
+            let status = draw_loaded(alloc, out, err, &loaded, seed, horizon);
+            drop(loaded);
+            status
+        }
+        Err(Or::Fault(fault)) => refuse(alloc, err, Refusal::Command(fault)),
         Err(Or::Memory) => Status::Memory,
     }
 }
@@ -52,7 +56,7 @@ fn draw_loaded<O: Printer, E: Printer>(
 {
     match recorded_status(out.print_drawn(alloc, loaded, seed, horizon)) {
         Some(status) => status,
-        None => refuse(alloc, err, &too_many()),
+        None => refuse(alloc, err, too_many()),
     }
 }
 

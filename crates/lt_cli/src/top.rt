@@ -63,7 +63,7 @@ fn perform<F: Files, W: Fabric, O: Sink, E: Sink>(
 {
     match read_words(alloc, words) {
         Ok(Some(command)) => obey(alloc, command, files, fabric, out, err),
-        Ok(None) => refuse(alloc, err, &Refusal::Words),
+        Ok(None) => refuse(alloc, err, Refusal::Words),
         Err(_) => Status::Memory,
     }
 }
@@ -178,7 +178,7 @@ fn finish<O: Printer, E: Printer>(
             let printed = out.print_text(&text);
             ended(Status::Ok, printed)
         }
-        Err(Or::Fault(refusal)) => refuse(alloc, err, &refusal),
+        Err(Or::Fault(refusal)) => refuse(alloc, err, refusal),
         Err(Or::Memory) => Status::Memory,
     }
 }
@@ -195,11 +195,13 @@ fn ended(done: Status, printed: Result<(), SinkErr>) -> Status
 }
 
 /// Prints a refusal's line on `err`.
-pub(crate) fn refuse<E: Printer>(alloc: Global, err: &mut E, refusal: &Refusal) -> Status
+pub(crate) fn refuse<E: Printer>(alloc: Global, err: &mut E, refusal: Refusal) -> Status
     requires { (E.state err.old).faults < 2 ^ 64 - 1 }
-    ensures written { Written (refusal_status refusal.now) (line_of refusal.now ++ 10 ∷ []) (E.state err.old) (E.state err.new) result }
+    ensures written { Written (refusal_status refusal) (line_of refusal ++ 10 ∷ []) (E.state err.old) (E.state err.new) result }
     ensures short { result ≡ Status.Memory → E.short }
 {
-    let printed = err.print_line(alloc, refusal);
-    ended(refusal.status(), printed)
+    let printed = err.print_line(alloc, &refusal);
+    let status = refusal.status();
+    drop(refusal);
+    ended(status, printed)
 }

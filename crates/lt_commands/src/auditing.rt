@@ -65,8 +65,10 @@ fn audit_scene<F: Files>(
         (alone (F.state files.old)) (alone (F.state files.new)) result }
 {
     let tap = Tap::new(NOTHING, scene.shape.copy()?, selects);
-    let mut inspection = Inspection::start(alloc, scene.shape, scene.timing, scene.rows, tap)?;
-    audit_by(alloc, files, schedule, &mut inspection)
+    let mut inspection = Inspection::over(alloc, scene, tap)?;
+    let audited = audit_by(alloc, files, schedule, &mut inspection);
+    drop(inspection);
+    audited
 }
 
 // Has an inspection take the events of a schedule file, and tells of its auditor.

@@ -1,17 +1,17 @@
 // The events of a schedule, as they are taken one after another.
-ghost use Rattle.std.specs.Prelude.{◌≡◌, ◌++◌, ◌∷◌, [], List as Items, IfOk, OnOk};
+ghost use Rattle.std.specs.Prelude.{◌≡◌, ◌<◌, ◌^◌, ◌++◌, ◌∷◌, [], List as Items, IfOk, OnOk, length};
 ghost use Rattle.std.proofs.Common.{refl, ◌∙◌};
 ghost use Rattle.lt_arch.specs.declared.event.Event.{Event as OfEvent};
 ghost use Rattle.lt_arch.specs.Schedule.{IsEventOf, reached};
 ghost use Rattle.lt_arch.specs.Step.{offence_of};
 ghost use Rattle.lt_judge.specs.Long.{long_line};
 ghost use Rattle.lt_judge.specs.Verdict.{rules_of};
-ghost use Rattle.lt_audit.specs.Standing.{Judges};
-ghost use Rattle.lt_commands.specs.Grounded.{IsGrounded};
+ghost use Rattle.lt_audit.specs.Standing.{Judges, Stands};
 ghost use Rattle.lt_commands.specs.Inspecting.{IsInspected, added, stop_by};
 ghost use Rattle.lt_commands.specs.Traces.{header_text};
 
-use lt_arch::{Event, Offence, Shape, Timing};
+use crate::scene::Scene;
+use lt_arch::{Event, Offence};
 use lt_audit::{AuditFault, Auditor, Tap};
 use lt_base::{List, Memory, Steps};
 use lt_judge::{Replica, Stop};
@@ -30,25 +30,37 @@ pub struct Inspection {
 }
 
 impl Inspection {
-    /// Before the first event.
-    pub fn start(
-        alloc: Global,
-        shape: Shape,
-        timing: Timing,
-        rows: u32,
-        tap: Tap,
-    ) -> Result<Inspection, Memory>
-        requires grounded { IsGrounded shape timing }
-        requires tapped { tap.shape ≡ shape }
+    /// Before the first event over what was loaded; the rows of the events that the tap picks are written.
+    pub fn over(alloc: Global, scene: Scene, tap: Tap) -> Result<Inspection, Memory>
+        requires { tap.shape ≡ scene.shape }
         ensures fresh { IfOk result (λ i. IsInspected i.auditor i.tap.selection i.tap.shape i.text []) }
-        ensures shape { IfOk result (λ i. i.auditor.shape ≡ shape) }
-        ensures timing { IfOk result (λ i. i.auditor.watch.timing ≡ timing) }
-        ensures rows { IfOk result (λ i. i.auditor.rows ≡ rows) }
+        ensures shape { IfOk result (λ i. i.auditor.shape ≡ scene.shape) }
+        ensures timing { IfOk result (λ i. i.auditor.watch.timing ≡ scene.timing) }
+        ensures rows { IfOk result (λ i. i.auditor.rows ≡ scene.rows) }
         ensures selection { IfOk result (λ i. i.tap.selection ≡ tap.selection) }
     {
         let text = header(alloc)?;
-        let places = PlaceTable::new(alloc, &shape)?;
-        let auditor = Auditor::start(alloc, shape, timing, rows)?;
+        let places = PlaceTable::new(alloc, &scene.shape)?;
+        Inspection::begin(alloc, scene, tap, places, text)
+    }
+
+    // The same with the names by which events are read, and the header.
+    fn begin(
+        alloc: Global,
+        scene: Scene,
+        tap: Tap,
+        places: PlaceTable,
+        text: List<u8>,
+    ) -> Result<Inspection, Memory>
+        requires tapped { tap.shape ≡ scene.shape }
+        requires header { text ≡ header_text }
+        ensures fresh { IfOk result (λ i. IsInspected i.auditor i.tap.selection i.tap.shape i.text []) }
+        ensures shape { IfOk result (λ i. i.auditor.shape ≡ scene.shape) }
+        ensures timing { IfOk result (λ i. i.auditor.watch.timing ≡ scene.timing) }
+        ensures rows { IfOk result (λ i. i.auditor.rows ≡ scene.rows) }
+        ensures selection { IfOk result (λ i. i.tap.selection ≡ tap.selection) }
+    {
+        let auditor = Auditor::start(alloc, scene.shape, scene.timing, scene.rows)?;
         Ok(Inspection {
             auditor,
             places,

@@ -33,7 +33,9 @@ pub fn load_scene<F: Files>(
         (alone (F.state files.old)) (alone (F.state files.new)) result }
 {
     let checked = load_flat(alloc, files, program)?;
-    load_setup(alloc, files, &checked, inputs, config, node)
+    let scene = load_setup(alloc, files, &checked, inputs, config, node);
+    drop(checked);
+    scene
 }
 
 // Loads a program's setup, and then its inputs.

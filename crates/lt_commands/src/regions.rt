@@ -29,7 +29,9 @@ pub fn find_region(
     shapes_fit();
     accepted_is_clean();
     let layout = layout_of(alloc, checked, &setup)?;
-    let shape = shape_of(alloc, &layout, &setup.timing)?;
+    let shape = shape_of(alloc, &layout, &setup.timing);
+    drop(layout);
+    let shape = shape?;
     let node = find_node(alloc, checked, &shape, node)?;
     Ok(Region {
         shape,

@@ -56,9 +56,14 @@ fn trace_scene<F: Files>(
 {
     let selection = selection_of(&scene, from, to);
     let tap = Tap::new(selection, scene.shape.copy()?, selects);
-    let mut inspection = Inspection::start(alloc, scene.shape, scene.timing, scene.rows, tap)?;
-    inspect(alloc, files, schedule, &mut inspection)?;
-    Ok(inspection.into_text())
+    let mut inspection = Inspection::over(alloc, scene, tap)?;
+    match inspect(alloc, files, schedule, &mut inspection) {
+        Ok(()) => Ok(inspection.into_text()),
+        Err(e) => {
+            drop(inspection);
+            Err(e)
+        }
+    }
 }
 
 // The events at the node that is named, or at all nodes, within these bounds of time.

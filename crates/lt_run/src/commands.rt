@@ -56,8 +56,16 @@ fn streams(alloc: Global, checked: Examined, table: &Inputs) -> Result<Outputs, 
     let program = &checked.program;
     program.kept();
     limit_cells(alloc, program, table)?;
+    Ok(flat_streams(alloc, checked, table)?)
+}
+
+// The same of a program that has not too many cells, in its flat form.
+fn flat_streams(alloc: Global, checked: Examined, table: &Inputs) -> Result<Outputs, Memory>
+    requires { InputsFitMain checked.program table.now }
+    ensures { IfOk result (Prints checked.program (output_streams checked.program table.now.rows)) }
+{
     let flattened = checked.flatten(alloc)?;
-    Ok(show(alloc, &flattened, table)?)
+    show(alloc, &flattened, table)
 }
 
 // The outputs of a program with their streams on rows of inputs.

@@ -7,8 +7,8 @@ use Rattle.lt_cli.proofs.top.refuse.Goals as goal
 
 pub returns-clause-written : goal.returns-clause-written
 returns-clause-written g c =
-    rw (c.ended.ensures, c.status.ensures) (written_by (refusal_status c.args.refusal.now) _ _ _ c.print_line-printed.result c.print_line-printed.ensures.prints)
+    rw (c.ended.ensures, c.status-status.ensures) (written_by (refusal_status c.args.refusal) _ _ _ c.print_line-printed.result c.print_line-printed.ensures.prints)
 
 pub returns-clause-short : goal.returns-clause-short
 returns-clause-short g c = λ at.
-    c.print_line-printed.ensures.short (short_by c.status.result c.print_line-printed.result (λ is. not_memory c.args.refusal.now (sym c.status.ensures ∙ is)) (sym c.ended.ensures ∙ at))
+    c.print_line-printed.ensures.short (short_by c.status-status.result c.print_line-printed.result (λ is. not_memory c.args.refusal (sym c.status-status.ensures ∙ is)) (sym c.ended.ensures ∙ at))

@@ -4,7 +4,7 @@ use Rattle.lt_commands.proofs.auditing.audit_scene.Goals as goal
 pub returns : goal.returns
 returns g c =
     let first = c.in_ok-inspection.ensures in
-    c.audit_by.ensures c.args.scene first.shape first.timing first.rows
+    c.audit_by-audited.ensures c.args.scene first.shape first.timing first.rows
 
 pub returns-in_err-copy : goal.returns-in_err-copy
 returns-in_err-copy g c = runs_short_by _ _ c.from_residual.ensures.1

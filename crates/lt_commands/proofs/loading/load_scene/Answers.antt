@@ -16,8 +16,8 @@ returns-in_err-checked g c =
     refused_scene node (program_verdict ((g.F.Files.state c.args.files.now).named c.args.program.now))
     (λ names checked. setup_scene_verdict names c.args.inputs.now c.args.config.now node checked) _ _ (config_errand c.args.config.now ++ inputs_errand c.args.inputs.now) _ _ c.from_residual.ensures.1 (flat_fault _ _ _ _ c.in_err-checked.ensures)
 
-pub load_setup-requires : goal.load_setup-requires
-load_setup-requires g c = counts_on _ _ c.in_ok-checked.ensures.cause.files c.requires
+pub load_setup-scene-requires : goal.load_setup-scene-requires
+load_setup-scene-requires g c = counts_on _ _ c.in_ok-checked.ensures.cause.files c.requires
 
 pub returns : goal.returns
 unfolding scene_verdict
@@ -25,4 +25,4 @@ returns g c =
     let node = option_map (λ s. s.now) c.args.node in
     next_scene node (program_verdict ((g.F.Files.state c.args.files.now).named c.args.program.now))
     (λ names checked. setup_scene_verdict names c.args.inputs.now c.args.config.now node checked) _ _ (examined_part c.in_ok-checked.checked) _
-    (flat_value _ _ _ _ c.in_ok-checked.ensures) _ c.load_setup.ensures
+    (flat_value _ _ _ _ c.in_ok-checked.ensures) _ c.load_setup-scene.ensures

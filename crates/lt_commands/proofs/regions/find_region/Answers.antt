@@ -9,11 +9,11 @@ use Rattle.lt_commands.proofs.regions.find_region.Goals as goal
 pub returns-in_err-layout : goal.returns-in_err-layout
 returns-in_err-layout c = no_layout (examined_part c.args.checked.now) c.args.setup (option_map (λ s. s.now) c.args.node) _ _ c.from_residual.ensures.1 c.in_err-layout.ensures.answered
 
-pub shape_of-requires-clause-placed : goal.shape_of-requires-clause-placed
-shape_of-requires-clause-placed c = (c.args.checked.now.flat, c.in_ok-layout.ensures.placed)
+pub shape_of-shape-requires-clause-placed : goal.shape_of-shape-requires-clause-placed
+shape_of-shape-requires-clause-placed c = (c.args.checked.now.flat, c.in_ok-layout.ensures.placed)
 
-pub shape_of-requires-clause-numbered : goal.shape_of-requires-clause-numbered
-shape_of-requires-clause-numbered c = names_fit (examined_part c.args.checked.now) c.args.setup (option_map (λ s. s.now) c.args.node) c.in_ok-layout.layout c.in_ok-layout.ensures.answered
+pub shape_of-shape-requires-clause-numbered : goal.shape_of-shape-requires-clause-numbered
+shape_of-shape-requires-clause-numbered c = names_fit (examined_part c.args.checked.now) c.args.setup (option_map (λ s. s.now) c.args.node) c.in_ok-layout.layout c.in_ok-layout.ensures.answered
 
 pub returns-in_err-shape : goal.returns-in_err-shape
 returns-in_err-shape c = memory_settled (region_verdict (examined_part c.args.checked.now) c.args.setup (option_map (λ s. s.now) c.args.node)) _ c.from_residual-in_err-shape.ensures.1

@@ -17,5 +17,4 @@ returns c =
     let k : ExaminedText = c.args.checked in
     let rows = c.args.table.now.rows in
     let few : cell_count k.program rows ≤ most_cells = subst (λ (t : ExaminedText). cell_count t.program rows ≤ most_cells) c.checked.view_is c.in_ok-limit_cells.ensures.few in
-    let same : c.in_ok-flattened.flattened.program ≡ k.program = ap (λ (t : ExaminedText). t.program) c.in_ok-flattened.ensures in
-    cells_shown k c.args.table.now few (Ok c.in_ok-show.field-0) (subst (λ (p : WholeProgram). Prints p (output_streams p rows) c.in_ok-show.field-0) same c.in_ok-show.ensures)
+    cells_shown k c.args.table.now few (Ok c.in_ok-flat_streams.field-0) c.in_ok-flat_streams.ensures
