@@ -46,7 +46,10 @@ fn finish<C: Controller, M: Machine>(
 {
     match played {
         Ok(()) => Ok(take(alloc, net)?),
-        Err(fault) => Err(fault),
+        Err(fault) => {
+            drop(net);
+            Err(fault)
+        }
     }
 }
 

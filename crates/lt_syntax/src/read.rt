@@ -118,5 +118,7 @@ pub fn read(alloc: Global, bytes: &[u8]) -> Result<List<NodeText>, Or<SyntaxFaul
     ensures { Answers LIMIT bytes.now result }
 {
     let mut p = start(alloc);
-    take_tokens(alloc, &mut p, bytes)
+    let answer = take_tokens(alloc, &mut p, bytes);
+    drop(p);
+    answer
 }

@@ -54,7 +54,10 @@ fn finish<M: Machine>(
 {
     match answer {
         Ok(()) => take(alloc, net),
-        Err(halt) => Err(lossy_fault(halt)),
+        Err(halt) => {
+            drop(net);
+            Err(lossy_fault(halt))
+        }
     }
 }
 
