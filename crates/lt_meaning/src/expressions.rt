@@ -1,14 +1,15 @@
 // How an expression is lifted.
 
-ghost use Rattle.std.specs.Prelude.{◌≡◌, ◌∷◌, ℕ, ◌+◌, true, false, List as Items, Option as Maybe, IfOk, OnOk, length, map};
+ghost use Rattle.std.specs.Prelude.{◌≡◌, ◌∷◌, ℕ, ◌+◌, true, false, List as Items, Option as Maybe, Ok, IfOk, OnOk, length, map};
 ghost use denote.Bor.{Bor};
 ghost use Rattle.lt_base.specs.declared.expression.Expr.{Expr as Tree};
+ghost use Rattle.lt_base.specs.declared.value.Value.TheVariants.{Bool as Truth};
 ghost use Rattle.lt_base.specs.Expression.{shape, unary, binary, imported, choose, merged, follow, arrow, call as called, arguments_of};
 ghost use Rattle.lt_base.specs.Meaning.{outer as outer_pairs};
 ghost use Rattle.lt_meaning.specs.Form.{form, at as at_cell, kept as at_delay, one, two, named, either, joined};
 ghost use Rattle.lt_meaning.specs.Plan.{runs};
-ghost use Rattle.lt_meaning.specs.Lift.{form_of, forms_of};
-ghost use Rattle.lt_meaning.specs.Taken.{taken, after, after_arguments, with_wait, with_call, right_form};
+ghost use Rattle.lt_meaning.specs.Lift.{form_of, forms_of, first_wait};
+ghost use Rattle.lt_meaning.specs.Taken.{taken, after, after_arguments, with_wait, with_step, with_call, right_form};
 
 use crate::lifter::{Lifter, Waiting};
 use crate::node::Node;
@@ -58,6 +59,28 @@ fn lift_outside<'a>(to: &mut Lifter<'a>, e: &'a Expr, clock: &Clock) -> Result<N
     lift(to, e, &before)
 }
 
+// Lifts two expressions, one after the other.
+#[cycle(lifting)]
+fn lift_two<'a>(
+    to: &mut Lifter<'a>,
+    a: &'a Expr,
+    b: &'a Expr,
+    clock: &Clock,
+) -> Result<(Node, Node), Memory>
+    ensures first { IfOk result (λ nodes. form nodes.0 ≡ form_of (length (taken to.old).waits) (taken to.old).cells (shape a.now)) }
+    ensures second { IfOk result (λ nodes. form nodes.1 ≡ form_of (length (after (taken to.old) (shape a.now) clock.now).waits) (after (taken to.old) (shape a.now) clock.now).cells (shape b.now)) }
+    ensures grown { OnOk result (taken to.new ≡ after (after (taken to.old) (shape a.now) clock.now) (shape b.now) clock.now) }
+{
+    let first = lift(to, a, clock)?;
+    match lift(to, b, clock) {
+        Ok(second) => Ok((first, second)),
+        Err(memory) => {
+            drop(first);
+            Err(memory)
+        }
+    }
+}
+
 // Lifts an operator's operands, and the operator.
 #[cycle(lifting)]
 fn lift_binary<'a>(
@@ -70,8 +93,7 @@ fn lift_binary<'a>(
     ensures form { IfOk result (λ node. form node ≡ form_of (length (taken to.old).waits) (taken to.old).cells (binary o (shape a.now) (shape b.now))) }
     ensures grown { OnOk result (taken to.new ≡ after (taken to.old) (binary o (shape a.now) (shape b.now)) clock.now) }
 {
-    let a = lift(to, a, clock)?;
-    let b = lift(to, b, clock)?;
+    let (a, b) = lift_two(to, a, b, clock)?;
     two_of(to.alloc, o, a, b)
 }
 
@@ -87,8 +109,7 @@ fn lift_imported<'a>(
     ensures form { IfOk result (λ node. form node ≡ form_of (length (taken to.old).waits) (taken to.old).cells (imported o (shape a.now) (shape b.now))) }
     ensures grown { OnOk result (taken to.new ≡ after (taken to.old) (imported o (shape a.now) (shape b.now)) clock.now) }
 {
-    let a = lift(to, a, clock)?;
-    let b = lift(to, b, clock)?;
+    let (a, b) = lift_two(to, a, b, clock)?;
     named_of(to.alloc, o, a, b)
 }
 
@@ -105,9 +126,13 @@ fn lift_choice<'a>(
     ensures grown { OnOk result (taken to.new ≡ after (taken to.old) (choose (shape c.now) (shape a.now) (shape b.now)) clock.now) }
 {
     let c = lift(to, c, clock)?;
-    let a = lift(to, a, clock)?;
-    let b = lift(to, b, clock)?;
-    either_of(to.alloc, c, a, b)
+    match lift_two(to, a, b, clock) {
+        Ok((a, b)) => either_of(to.alloc, c, a, b),
+        Err(memory) => {
+            drop(c);
+            Err(memory)
+        }
+    }
 }
 
 // Lifts a merge, each branch at its own clock.
@@ -155,9 +180,13 @@ fn lift_follow<'a>(
     ensures grown { OnOk result (taken to.new ≡ after (taken to.old) (follow (shape a.now) (shape b.now)) clock.now) }
 {
     let a = lift(to, a, clock)?;
-    let begins = wait(to, clock, Value::Bool(true), None)?;
-    let kept = wait(to, clock, Value::Bool(true), Some(b))?;
-    either_of(to.alloc, begins, a, kept)
+    match wait_twice(to, b, clock) {
+        Ok((begins, kept)) => either_of(to.alloc, begins, a, kept),
+        Err(memory) => {
+            drop(a);
+            Err(memory)
+        }
+    }
 }
 
 // Lifts both sides of `->`.
@@ -171,10 +200,15 @@ fn lift_arrow<'a>(
     ensures form { IfOk result (λ node. form node ≡ form_of (length (taken to.old).waits) (taken to.old).cells (arrow (shape a.now) (shape b.now))) }
     ensures grown { OnOk result (taken to.new ≡ after (taken to.old) (arrow (shape a.now) (shape b.now)) clock.now) }
 {
-    let a = lift(to, a, clock)?;
-    let b = lift(to, b, clock)?;
-    let begins = wait(to, clock, Value::Bool(true), None)?;
-    either_of(to.alloc, begins, a, b)
+    let (a, b) = lift_two(to, a, b, clock)?;
+    match wait(to, clock, Value::Bool(true), None) {
+        Ok(begins) => either_of(to.alloc, begins, a, b),
+        Err(memory) => {
+            drop(a);
+            drop(b);
+            Err(memory)
+        }
+    }
 }
 
 // Lifts the arguments of a call, and the call.
@@ -229,6 +263,60 @@ fn wait<'a>(
     Ok(Node::Kept(number))
 }
 
+// The flag of the first instant, and a delay that waits.
+fn wait_twice<'a>(
+    to: &mut Lifter<'a>,
+    right: &'a Expr,
+    clock: &Clock,
+) -> Result<(Node, Node), Memory>
+    ensures flag { IfOk result (λ nodes. form nodes.0 ≡ at_delay (length (taken to.old).waits)) }
+    ensures delay { IfOk result (λ nodes. form nodes.1 ≡ at_delay (length (with_wait (taken to.old) (first_wait clock.now)).waits)) }
+    ensures grown { OnOk result (taken to.new ≡ with_wait (with_wait (taken to.old) (first_wait clock.now)) (record { clock = clock.now; first = Truth true; right = shape right.now })) }
+{
+    let begins = wait(to, clock, Value::Bool(true), None)?;
+    match wait(to, clock, Value::Bool(true), Some(right)) {
+        Ok(kept) => Ok((begins, kept)),
+        Err(memory) => {
+            drop(begins);
+            Err(memory)
+        }
+    }
+}
+
+// The cell of the next call: no call has it yet.
+fn next_cell(to: &Lifter<'_>) -> usize
+    ensures { result ≡ (taken to.now).cells }
+{
+    to.cells.len()
+}
+
+// The step of a call.
+fn push_call(
+    to: &mut Lifter<'_>,
+    cell: usize,
+    clock: &Clock,
+    function: usize,
+    args: Vec<Node>,
+) -> Result<(), Memory>
+    ensures { OnOk result (taken to.new ≡ with_step (taken to.old) (record { cell = cell; clock = clock.now; action = runs function (map form args.items) })) }
+{
+    let copied = clock.copy();
+    match copied {
+        Ok(clock) => {
+            to.steps.push(Step {
+                cell,
+                clock,
+                action: Action::Run(function, args),
+            })?;
+            Ok(())
+        }
+        Err(memory) => {
+            drop(args);
+            Err(memory)
+        }
+    }
+}
+
 // A call with a cell and a step of its own, and so with a state of its own: no two calls share one.
 fn call(
     to: &mut Lifter<'_>,
@@ -239,14 +327,9 @@ fn call(
     ensures form { IfOk result (λ node. form node ≡ at_cell (taken to.old).cells) }
     ensures grown { OnOk result (taken to.new ≡ with_call (taken to.old) (record { cell = (taken to.old).cells; clock = clock.now; action = runs function (map form args.items) })) }
 {
-    let cell = to.cells.len();
+    let cell = next_cell(to);
+    push_call(to, cell, clock, function, args)?;
     to.cells.push(None)?;
-    let clock = clock.copy()?;
-    to.steps.push(Step {
-        cell,
-        clock,
-        action: Action::Run(function, args),
-    })?;
     Ok(Node::Cell(cell))
 }
 
@@ -269,41 +352,55 @@ fn outer(alloc: Global, clock: &Clock) -> Result<Clock, Memory>
     Ok(Clock { steps: front })
 }
 
+// A node in a box of its own.
+fn boxed(alloc: Global, node: Node) -> Result<Box<Node>, Memory>
+    ensures { IfOk result (λ made. made.value ≡ node) }
+{
+    Ok(Box::new(alloc, node)?)
+}
+
+// Two boxes, where both were made.
+fn both(
+    a: Result<Box<Node>, Memory>,
+    b: Result<Box<Node>, Memory>,
+) -> Result<(Box<Node>, Box<Node>), Memory>
+    ensures { IfOk result (λ boxes. (a ≡ Ok boxes.0) × (b ≡ Ok boxes.1)) }
+{
+    let first = a?;
+    Ok((first, b?))
+}
+
 fn one_of(alloc: Global, o: Un, a: Node) -> Result<Node, Memory>
     ensures { IfOk result (λ node. form node ≡ one o (form a)) }
 {
-    Ok(Node::Unary(o, Box::new(alloc, a)?))
+    Ok(Node::Unary(o, boxed(alloc, a)?))
 }
 
 fn two_of(alloc: Global, o: Bin, a: Node, b: Node) -> Result<Node, Memory>
     ensures { IfOk result (λ node. form node ≡ two o (form a) (form b)) }
 {
-    let a = Box::new(alloc, a)?;
-    let b = Box::new(alloc, b)?;
+    let (a, b) = both(boxed(alloc, a), boxed(alloc, b))?;
     Ok(Node::Binary(o, a, b))
 }
 
 fn named_of(alloc: Global, o: Imp, a: Node, b: Node) -> Result<Node, Memory>
     ensures { IfOk result (λ node. form node ≡ named o (form a) (form b)) }
 {
-    let a = Box::new(alloc, a)?;
-    let b = Box::new(alloc, b)?;
+    let (a, b) = both(boxed(alloc, a), boxed(alloc, b))?;
     Ok(Node::Imported(o, a, b))
 }
 
 fn either_of(alloc: Global, c: Node, a: Node, b: Node) -> Result<Node, Memory>
     ensures { IfOk result (λ node. form node ≡ either (form c) (form a) (form b)) }
 {
-    let c = Box::new(alloc, c)?;
-    let a = Box::new(alloc, a)?;
-    let b = Box::new(alloc, b)?;
-    Ok(Node::Choose(c, a, b))
+    let c = boxed(alloc, c);
+    let (a, b) = both(boxed(alloc, a), boxed(alloc, b))?;
+    Ok(Node::Choose(c?, a, b))
 }
 
 fn joined_of(alloc: Global, c: u32, a: Node, b: Node) -> Result<Node, Memory>
     ensures { IfOk result (λ node. form node ≡ joined c (form a) (form b)) }
 {
-    let a = Box::new(alloc, a)?;
-    let b = Box::new(alloc, b)?;
+    let (a, b) = both(boxed(alloc, a), boxed(alloc, b))?;
     Ok(Node::Merge(c as usize, a, b))
 }

@@ -1,6 +1,6 @@
 // The plan of a function.
 
-ghost use Rattle.std.specs.Prelude.{◌≡◌, ℕ, ◌<◌, ◌∷◌, [], List as Items, Some, IfOk, OnOk, length, slice_get};
+ghost use Rattle.std.specs.Prelude.{◌≡◌, ℕ, ◌<◌, ◌++◌, ◌∷◌, [], List as Items, Some, IfOk, OnOk, length, map, slice_get};
 ghost use Rattle.lt_base.specs.declared.memory.Or.TheVariants.{Memory as OrMemory};
 ghost use Rattle.lt_base.specs.Expression.{Expression};
 ghost use Rattle.lt_base.specs.Program.{Function};
@@ -37,18 +37,12 @@ pub fn plan_of(alloc: Global, f: &Func) -> Result<Plan, Memory>
     for k in order.eqs.as_slice() {
         set(&mut to, &f.decls, &f.eqs.as_slice()[*k as usize])?;
     }
+    drop(order);
     let mut delays = Vec::new(alloc);
     while delays.len() < to.waiting.len() {
-        let delay = next_delay(&mut to, delays.len())?;
-        delays.push(delay)?;
+        push_delay(&mut to, &mut delays)?;
     }
-    Ok(Plan {
-        inputs: f.n_in as usize,
-        cells: to.cells.len(),
-        output: first_output(f),
-        steps: to.steps,
-        delays,
-    })
+    Ok(finished(f, to, delays))
 }
 
 // The order of the equations.
@@ -123,6 +117,18 @@ fn next_delay(to: &mut Lifter<'_>, number: usize) -> Result<Delay, Memory>
     })
 }
 
+// Appends the next delay.
+fn push_delay(to: &mut Lifter<'_>, delays: &mut Vec<Delay>) -> Result<(), Memory>
+    requires { length delays.old.items < length (taken to.old).waits }
+    ensures delay { (w : Wait) → slice_get (taken to.old).waits (length delays.old.items) ≡ Some w
+        → OnOk result (map delay_form delays.new.items ≡ map delay_form delays.old.items ++ record { clock = w.clock; first = w.first; right = form_of (length (taken to.old).waits) (taken to.old).cells w.right } ∷ []) }
+    ensures grown { (w : Wait) → slice_get (taken to.old).waits (length delays.old.items) ≡ Some w → OnOk result (taken to.new ≡ after (taken to.old) w.right w.clock) }
+{
+    let delay = next_delay(to, delays.len())?;
+    delays.push(delay)?;
+    Ok(())
+}
+
 fn lift_right<'a>(
     to: &mut Lifter<'a>,
     right: Option<&'a Expr>,
@@ -135,6 +141,42 @@ fn lift_right<'a>(
         Some(e) => lift(to, e, clock),
         None => Ok(Node::Literal(Value::Bool(false))),
     }
+}
+
+// The plan with these delays and with the steps so far.
+fn finished(f: &Func, to: Lifter<'_>, delays: Vec<Delay>) -> Plan
+    ensures inputs { result.inputs ≡ f.now.n_in }
+    ensures cells { result.cells ≡ length to.entry.cells.items }
+    ensures output { (y : ℕ) (ys : Items ℕ) → f.now.outs ≡ y ∷ ys → result.output ≡ y }
+    ensures steps { result.steps.items ≡ to.entry.steps.items }
+    ensures delays { result.delays.items ≡ delays.items }
+{
+    let inputs = f.n_in as usize;
+    let output = first_output(f);
+    let cells = to.cells.len();
+    let steps = steps_of(to);
+    Plan {
+        inputs,
+        cells,
+        output,
+        steps,
+        delays,
+    }
+}
+
+// The steps so far.
+fn steps_of(to: Lifter<'_>) -> Vec<Step>
+    ensures { result.items ≡ to.entry.steps.items }
+{
+    let Lifter {
+        alloc: _alloc,
+        cells,
+        steps,
+        waiting,
+    } = to;
+    drop(cells);
+    drop(waiting);
+    steps
 }
 
 // The cell of the first output, if there is one.

@@ -6,8 +6,8 @@ use Rattle.lt_base.specs.declared.expression.Expr.{Expr}
 use Rattle.lt_base.specs.Expression.{Expression, shape, unary, binary, imported, choose, merged, delayed, follow, arrow, call, arguments_of}
 use Rattle.lt_base.proofs.Shape.{shape-Call}
 use Rattle.lt_meaning.specs.Form.{form, one, two, named, joined}
-use Rattle.lt_meaning.specs.Lift.{forms_of}
-use Rattle.lt_meaning.specs.Taken.{taken, after, after_arguments}
+use Rattle.lt_meaning.specs.Lift.{form_of, forms_of, first_wait}
+use Rattle.lt_meaning.specs.Taken.{Taken, taken, after, after_arguments, with_wait}
 use Rattle.lt_meaning.proofs.Growing.{Lifts, one_lifts, two_lifts, choose_lifts, delayed_lifts, follow_lifts, arrow_lifts, call_lifts, argument_lifts, no_arguments_lift}
 use Rattle.lt_meaning.proofs.expressions.+lifting.Goals as goal
 
@@ -50,14 +50,26 @@ lift_call-returns t c =
     c.in_ok-lifted.ensures.forms c.in_ok-lifted.ensures.grown c.call.ensures.form c.call.ensures.grown in
     record { form = l.form; grown = l.grown }
 
+pub lift_two-returns-in-Ok : goal.lift_two-returns-in-Ok
+lift_two-returns-in-Ok t c =
+    let ck = c.args.clock.now in
+    let b = shape c.args.b.now in
+    let grown = c.in_ok-first.ensures.grown in
+    record {
+      first = c.in_ok-first.ensures.form;
+      second = c.in-Ok.ensures.form ∙ ap (λ (y : Taken). form_of (length y.waits) y.cells b) grown;
+      grown = c.in-Ok.ensures.grown ∙ ap (λ (y : Taken). after y b ck) grown;
+    }
+
 pub lift_binary-returns : goal.lift_binary-returns
 lift_binary-returns t c =
     let o = c.args.o in
     let ck = c.args.clock.now in
     let a = shape c.args.a.now in
     let b = shape c.args.b.now in
-    let l = two_lifts (taken c.args.to.now) (taken c.lift.new.to) (taken c.lift-2.new.to) (binary o a b) a b ck ck ck (two o) c.in_ok-a.a c.in_ok-b.b c.two_of.result (λ k c. refl) refl
-    c.in_ok-a.ensures.form c.in_ok-a.ensures.grown c.in_ok-b.ensures.form c.in_ok-b.ensures.grown c.two_of.ensures in
+    let x = taken c.args.to.now in
+    let l = two_lifts x (after x a ck) (taken c.lift_two.new.to) (binary o a b) a b ck ck ck (two o) c.in_ok-a.a c.in_ok-a.b c.two_of.result (λ k c. refl) refl
+    c.in_ok-a.ensures.first refl c.in_ok-a.ensures.second c.in_ok-a.ensures.grown c.two_of.ensures in
     record { form = l.form; grown = l.grown }
 
 pub lift_imported-returns : goal.lift_imported-returns
@@ -66,18 +78,20 @@ lift_imported-returns t c =
     let ck = c.args.clock.now in
     let a = shape c.args.a.now in
     let b = shape c.args.b.now in
-    let l = two_lifts (taken c.args.to.now) (taken c.lift.new.to) (taken c.lift-2.new.to) (imported o a b) a b ck ck ck (named o) c.in_ok-a.a c.in_ok-b.b c.named_of.result (λ k c. refl) refl
-    c.in_ok-a.ensures.form c.in_ok-a.ensures.grown c.in_ok-b.ensures.form c.in_ok-b.ensures.grown c.named_of.ensures in
+    let x = taken c.args.to.now in
+    let l = two_lifts x (after x a ck) (taken c.lift_two.new.to) (imported o a b) a b ck ck ck (named o) c.in_ok-a.a c.in_ok-a.b c.named_of.result (λ k c. refl) refl
+    c.in_ok-a.ensures.first refl c.in_ok-a.ensures.second c.in_ok-a.ensures.grown c.named_of.ensures in
     record { form = l.form; grown = l.grown }
 
-pub lift_choice-returns : goal.lift_choice-returns
-lift_choice-returns t c =
+pub lift_choice-returns-in-Ok : goal.lift_choice-returns-in-Ok
+lift_choice-returns-in-Ok t c =
     let ck = c.args.clock.now in
     let d = shape c.args.c.now in
     let a = shape c.args.a.now in
     let b = shape c.args.b.now in
-    let l = choose_lifts (taken c.args.to.now) (taken c.lift.new.to) (taken c.lift-2.new.to) (taken c.lift-3.new.to) d a b ck c.in_ok-c.c c.in_ok-a.a c.in_ok-b.b c.either_of.result
-    c.in_ok-c.ensures.form c.in_ok-c.ensures.grown c.in_ok-a.ensures.form c.in_ok-a.ensures.grown c.in_ok-b.ensures.form c.in_ok-b.ensures.grown c.either_of.ensures in
+    let y = taken c.lift.new.to in
+    let l = choose_lifts (taken c.args.to.now) y (after y a ck) (taken c.lift_two.new.to) d a b ck c.in_ok-c.c c.in-Ok.a c.in-Ok.b c.either_of.result
+    c.in_ok-c.ensures.form c.in_ok-c.ensures.grown c.in-Ok.ensures.first refl c.in-Ok.ensures.second c.in-Ok.ensures.grown c.either_of.ensures in
     record { form = l.form; grown = l.grown }
 
 pub lift_merge-returns : goal.lift_merge-returns
@@ -90,22 +104,24 @@ lift_merge-returns t c =
     c.in_ok-a.ensures.form c.in_ok-a.ensures.grown c.in_ok-b.ensures.form c.in_ok-b.ensures.grown c.joined_of.ensures in
     record { form = l.form; grown = l.grown }
 
-pub lift_follow-returns : goal.lift_follow-returns
-lift_follow-returns t c =
+pub lift_follow-returns-in-Ok : goal.lift_follow-returns-in-Ok
+lift_follow-returns-in-Ok t c =
     let ck = c.args.clock.now in
     let a = shape c.args.a.now in
     let b = shape c.args.b.now in
-    let l = follow_lifts (taken c.args.to.now) (taken c.lift.new.to) (taken c.wait.new.to) (taken c.wait-2.new.to) a b ck c.in_ok-a.a c.in_ok-begins.begins c.in_ok-kept.kept c.either_of.result
-    c.in_ok-a.ensures.form c.in_ok-a.ensures.grown c.in_ok-begins.ensures.form c.in_ok-begins.ensures.grown c.in_ok-kept.ensures.form c.in_ok-kept.ensures.grown c.either_of.ensures in
+    let y = taken c.lift.new.to in
+    let l = follow_lifts (taken c.args.to.now) y (with_wait y (first_wait ck)) (taken c.wait_twice.new.to) a b ck c.in_ok-a.a c.in-Ok.begins c.in-Ok.kept c.either_of.result
+    c.in_ok-a.ensures.form c.in_ok-a.ensures.grown c.in-Ok.ensures.flag refl c.in-Ok.ensures.delay c.in-Ok.ensures.grown c.either_of.ensures in
     record { form = l.form; grown = l.grown }
 
-pub lift_arrow-returns : goal.lift_arrow-returns
-lift_arrow-returns t c =
+pub lift_arrow-returns-in-Ok : goal.lift_arrow-returns-in-Ok
+lift_arrow-returns-in-Ok t c =
     let ck = c.args.clock.now in
     let a = shape c.args.a.now in
     let b = shape c.args.b.now in
-    let l = arrow_lifts (taken c.args.to.now) (taken c.lift.new.to) (taken c.lift-2.new.to) (taken c.wait.new.to) a b ck c.in_ok-a.a c.in_ok-b.b c.in_ok-begins.begins c.either_of.result
-    c.in_ok-a.ensures.form c.in_ok-a.ensures.grown c.in_ok-b.ensures.form c.in_ok-b.ensures.grown c.in_ok-begins.ensures.form c.in_ok-begins.ensures.grown c.either_of.ensures in
+    let x = taken c.args.to.now in
+    let l = arrow_lifts x (after x a ck) (taken c.lift_two.new.to) (taken c.wait.new.to) a b ck c.in_ok-a.a c.in_ok-a.b c.in-Ok.begins c.either_of.result
+    c.in_ok-a.ensures.first refl c.in_ok-a.ensures.second c.in_ok-a.ensures.grown c.in-Ok.ensures.form c.in-Ok.ensures.grown c.either_of.ensures in
     record { form = l.form; grown = l.grown }
 
 pub lift_all-loop-a-init : goal.lift_all-loop-a-init

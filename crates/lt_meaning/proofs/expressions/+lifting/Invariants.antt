@@ -18,11 +18,14 @@ decreases-lift l = 3 * the_size l.e.now
 abbrev pub decreases-lift_all : goal.decreases-lift_all
 decreases-lift_all l = 3 * goal.size-lift_all l + 1
 
+abbrev pub decreases-lift_two : goal.decreases-lift_two
+decreases-lift_two l = 3 * max (the_size l.a.now) (the_size l.b.now) + 1
+
 abbrev pub decreases-lift_binary : goal.decreases-lift_binary
-decreases-lift_binary l = 3 * max (the_size l.a.now) (the_size l.b.now) + 1
+decreases-lift_binary l = 3 * max (the_size l.a.now) (the_size l.b.now) + 2
 
 abbrev pub decreases-lift_imported : goal.decreases-lift_imported
-decreases-lift_imported l = 3 * max (the_size l.a.now) (the_size l.b.now) + 1
+decreases-lift_imported l = 3 * max (the_size l.a.now) (the_size l.b.now) + 2
 
 abbrev pub decreases-lift_merge : goal.decreases-lift_merge
 decreases-lift_merge l = 3 * max (the_size l.a.now) (the_size l.b.now) + 2
@@ -31,10 +34,10 @@ abbrev pub decreases-lift_follow : goal.decreases-lift_follow
 decreases-lift_follow l = 3 * max (the_size l.a.now) (the_size l.b.now) + 1
 
 abbrev pub decreases-lift_arrow : goal.decreases-lift_arrow
-decreases-lift_arrow l = 3 * max (the_size l.a.now) (the_size l.b.now) + 1
+decreases-lift_arrow l = 3 * max (the_size l.a.now) (the_size l.b.now) + 2
 
 abbrev pub decreases-lift_choice : goal.decreases-lift_choice
-decreases-lift_choice l = 3 * max (the_size l.c.now) (max (the_size l.a.now) (the_size l.b.now)) + 1
+decreases-lift_choice l = 3 * max (the_size l.c.now) (max (the_size l.a.now) (the_size l.b.now)) + 2
 
 abbrev pub decreases-lift_unary : goal.decreases-lift_unary
 decreases-lift_unary l = 3 * the_size l.a.now + 1

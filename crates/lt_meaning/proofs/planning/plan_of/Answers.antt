@@ -7,8 +7,8 @@ use Rattle.lt_base.specs.Program.{Function}
 use Rattle.lt_base.specs.Meaning.{clock_of}
 use Rattle.lt_base.specs.Order.{Ordered}
 use Rattle.lt_cause.specs.Orders.{IsOrder, place_in}
-use Rattle.lt_meaning.specs.Plan.{DelayForm, delay_form}
-use Rattle.lt_meaning.specs.Lift.{Wait, whole, step_of, delays_in}
+use Rattle.lt_meaning.specs.Plan.{step_form, DelayForm, delay_form}
+use Rattle.lt_meaning.specs.Lift.{Wait, form_of, whole, step_of, delays_in}
 use Rattle.lt_meaning.specs.Taken.{Taken, taken, wait_form, after, with_step}
 use Rattle.lt_meaning.proofs.Instant.{some_at, at_index}
 use Rattle.lt_meaning.proofs.Placing.{number_inside, left_declared}
@@ -82,13 +82,13 @@ loop-to-init c = λ fs height top good passes.
     let b = c.loop-k.invariant fs height top passes in
     (items, is, ordered, b.0, subst (λ (ds : List DelayForm). Settling fs height top f good passes items is ordered b.0 (taken c.loop-k.to) ds) (sym (ap (map delay_form) c.new-delays.ensures.items)) (settling_none fs height top f good passes items is ordered c.loop-k.k-index b.0 (taken c.loop-k.to) c.loop-k-test.false c.loop-k.auto.k-index-end b.1))
 
-pub next_delay-requires : goal.next_delay-requires
-next_delay-requires c =
+pub push_delay-requires : goal.push_delay-requires
+push_delay-requires c =
     let waits = length-map c.loop-to.to.waiting.items wait_form in
     let a = c.loop-to.to.waiting.ok.0 in
-    let b = c.len-in-loop-to.ensures in
-    let d = c.len.ensures in
-    let e = c.len-in-loop-to-2.ensures in
+    let d = c.loop-to.delays.ok.0 in
+    let b = c.len.ensures in
+    let e = c.len-in-loop-to.ensures in
     omega (arith, waits, a, b, d, e)
 
 pub loop-to-preserved : goal.loop-to-preserved
@@ -103,14 +103,11 @@ loop-to-preserved c = λ fs height top good passes.
     let b = c.loop-to.delays.ok.0 in
     let l = c.len.ensures in
     let m = c.len-in-loop-to.ensures in
-    let n = c.len-in-loop-to-2.ensures in
     let w = some_at x.waits (length ds) (omega (arith, waits, a, b, l, m, number)) in
-    let place : c.len-in-loop-to-2.result ≡ length ds = omega (arith, n, b, number) in
-    let at : slice_get x.waits c.len-in-loop-to-2.result ≡ Some w.0 = ap (slice_get x.waits) place ∙ w.1 in
-    let next = settling_next fs height top f good passes s.0 s.1 s.2 s.3 x (taken c.next_delay.new.to) ds w.0 (delay_form c.in_ok-delay.delay) s.4 w.1 (c.in_ok-delay.ensures.delay w.0 at) (c.in_ok-delay.ensures.grown w.0 at) in
-    let pushed : ds ++ delay_form c.in_ok-delay.delay ∷ [] ≡ map delay_form c.push.new.self.items =
-    sym (ap (map delay_form) c.in_ok-push.ensures.items ∙ map-append delay_form c.loop-to.delays.items (c.in_ok-delay.delay ∷ [])) in
-    (s.0, s.1, s.2, next.0, subst (λ (ds : List DelayForm). Settling fs height top f good passes s.0 s.1 s.2 next.0 (taken c.next_delay.new.to) ds) pushed next.1)
+    let at : slice_get x.waits (length c.loop-to.delays.items) ≡ Some w.0 = ap (slice_get x.waits) (sym number) ∙ w.1 in
+    let d : DelayForm = record { clock = w.0.clock; first = w.0.first; right = form_of (length x.waits) x.cells w.0.right } in
+    let next = settling_next fs height top f good passes s.0 s.1 s.2 s.3 x (taken c.push_delay.new.to) ds w.0 d s.4 w.1 refl (c.in_ok-push_delay.ensures.grown w.0 at) in
+    (s.0, s.1, s.2, next.0, subst (λ (ds : List DelayForm). Settling fs height top f good passes s.0 s.1 s.2 next.0 (taken c.push_delay.new.to) ds) (sym (c.in_ok-push_delay.ensures.delay w.0 at)) next.1)
 
 pub loop-to-smaller : goal.loop-to-smaller
 loop-to-smaller c =
@@ -120,13 +117,19 @@ loop-to-smaller c =
     let b = c.loop-to.delays.ok.0 in
     let l = c.len.ensures in
     let m = c.len-in-loop-to.ensures in
-    let n = c.len-in-loop-to-2.ensures in
-    let j = length c.loop-to.delays.items in
+    let old = c.loop-to.delays.items in
+    let new = c.push_delay.new.delays.items in
+    let j = length old in
     let w = some_at x.waits j (omega (arith, waits, a, b, l, m)) in
-    let at : slice_get x.waits c.len-in-loop-to-2.result ≡ Some w.0 = ap (slice_get x.waits) (omega (arith, n, b)) ∙ w.1 in
-    let made : (taken c.next_delay.new.to).waits ≡ x.waits ++ delays_in w.0.right w.0.clock = ap (λ (y : Taken). y.waits) (c.in_ok-delay.ensures.grown w.0 at) in
-    let more : length c.push.new.self.items ≡ suc j = let t = length-append c.loop-to.delays.items (c.in_ok-delay.delay ∷ []) in let p = ap length c.in_ok-push.ensures.items in omega (arith, t, p) in
-    subst (λ (ws : List Wait). weight (drop (length c.push.new.self.items) ws) < weight (drop j x.waits)) (sym made) (weight_falls x.waits j (length c.push.new.self.items) w.0 more w.1)
+    let d : DelayForm = record { clock = w.0.clock; first = w.0.first; right = form_of (length x.waits) x.cells w.0.right } in
+    let made : (taken c.push_delay.new.to).waits ≡ x.waits ++ delays_in w.0.right w.0.clock = ap (λ (y : Taken). y.waits) (c.in_ok-push_delay.ensures.grown w.0 w.1) in
+    let more : length new ≡ suc j =
+    let p = ap length (c.in_ok-push_delay.ensures.delay w.0 w.1) in
+    let t = length-append (map delay_form old) (d ∷ []) in
+    let u = length-map old delay_form in
+    let v = length-map new delay_form in
+    omega (arith, p, t, u, v) in
+    subst (λ (ws : List Wait). weight (drop (length new) ws) < weight (drop j x.waits)) (sym made) (weight_falls x.waits j (length new) w.0 more w.1)
 
 pub returns : goal.returns
 returns c = λ fs height top passes.
@@ -140,7 +143,6 @@ returns c = λ fs height top passes.
     let b = c.loop-to.delays.ok.0 in
     let l = c.len.ensures in
     let m = c.len-in-loop-to.ensures in
-    let n = c.len-2.ensures in
-    let cells = c.loop-to.to.cells.ok.0 in
-    planned fs height top f good passes s.0 s.1 s.2 s.3 x (map delay_form c.loop-to.delays.items) (record { inputs = c.f.inside.n_in; cells = c.len-2.result; output = c.first_output.result; steps = c.loop-to.to.steps; delays = c.loop-to.delays }) s.4
-    (omega (arith, waits, a, b, l, m, number)) refl refl (omega (arith, n, cells)) (ap (λ (f : Function). f.n_in) c.f.view_is) c.first_output.ensures
+    let made = c.finished.ensures in
+    planned fs height top f good passes s.0 s.1 s.2 s.3 x (map delay_form c.loop-to.delays.items) c.finished.result s.4
+    (omega (arith, waits, a, b, l, m, number)) (ap (map step_form) made.steps) (ap (map delay_form) made.delays) made.cells made.inputs made.output
