@@ -215,16 +215,19 @@ side_lifted known items x d e side r ds es ds' es' p l k s res h =
 -- ---- one turn of the loop
 
 module _ (known : Decls) (origin : List ℕ) (all taken : Eqs) (q : ℕ × Expression) (front : map (λ (z : ℕ × Expression). z) taken ≡ take (length taken) all) (inside : length taken < length all) (read : q ≡ get_or all (length taken) q) (ds : Decls) (eqs new : Eqs) (origins : List ℕ) (a : AllLifted known origin taken ds eqs new origins) where
-  pub room_at : (given : Eqs) → all ≡ given → length known + sum_by (λ q. cost 1 (λ _. 0) q.1) given < 2 ^ 32 → (side : Expression) → side ≡ q.1 → length ds + right_delays (plain known side) < 2 ^ 32
-  room_at given g room side p =
+  pub room_at : (given : Eqs) → all ≡ given → length known + sum_by (λ q. cost 1 (λ _. 0) q.1) given < 2 ^ 32 → length ds + right_delays (plain known q.1) < 2 ^ 32
+  room_at given g room =
       let here : length known + sum_by (λ q. cost 1 (λ _. 0) q.1) all < 2 ^ 32 = subst (λ (z : Eqs). length known + sum_by (λ q. cost 1 (λ _. 0) q.1) z < 2 ^ 32) (sym g) room in
       let so_far : AllLifted known origin (take (length taken) all) ds eqs new origins = subst (λ qs. AllLifted known origin qs ds eqs new origins) (sym (map-id taken) ∙ front) a in
-      subst (λ (e : Expression). length ds + right_delays (plain known e) < 2 ^ 32) (sym (p ∙ ap (λ (z : ℕ × Expression). z.1) read)) (room_more known origin all (length taken) q inside here ds eqs new origins so_far)
+      subst (λ (e : Expression). length ds + right_delays (plain known e) < 2 ^ 32) (sym (ap (λ (z : ℕ × Expression). z.1) read)) (room_more known origin all (length taken) q inside here ds eqs new origins so_far)
 
-  pub turned : (ds' : Decls) (eqs' new' : Eqs) (origins' : List ℕ) (r : Expression) → length origin ≡ length known → (left : ℕ) (side : Expression) → left ≡ q.0 → side ≡ q.1 → RightTo (clock_of known left) (plain known side) ds new ds' new' r → (pushed : ℕ × Expression) → pushed ≡ (left, r) → eqs' ≡ eqs ++ pushed ∷ [] → (n m : ℕ) (owners : List ℕ) → n ≡ length ds' → m ≡ length origins → owners ≡ origin → origins' ≡ take n origins ++ replicate (n - m) (get_or owners left 0) → AllLifted known origin (taken ++ q ∷ []) ds' eqs' new' origins'
-  turned ds' eqs' new' origins' r o left side l s t pushed p e n m owners k j w h =
-      let here : RightTo (clock_of known q.0) (plain known q.1) ds new ds' new' r = moved_right (clock_of known q.0) (clock_of known left) (plain known q.1) (plain known side) ds new ds' new' r (ap (clock_of known) (sym l)) (ap (plain known) (sym s)) t in
-      let pushed_is : eqs' ≡ eqs ++ (q.0, r) ∷ [] = e ∙ ap (λ z. eqs ++ z ∷ []) (p ∙ ap (λ x. (x, r)) l) in
-      let owner : get_or owners left 0 ≡ get_or origin q.0 0 = λ i. get_or (w i) (l i) 0 in
-      let resized_is = h ∙ ap (λ m. take n origins ++ replicate (n - m) (get_or owners left 0)) j ∙ resized known origin taken ds eqs new origins a o q ds' new' r here n k (get_or owners left 0) owner in
-      all_more known origin taken ds eqs new origins a q ds' eqs' new' origins' r here pushed_is resized_is
+-- an equation, as one turn leaves it
+pub turned : (known : Decls) (origin : List ℕ) (before : Eqs) (q : ℕ × Expression) (ds : Decls) (eqs new : Eqs) (origins : List ℕ) → AllLifted known origin before ds eqs new origins
+    → (ds' : Decls) (eqs' new' : Eqs) (origins' : List ℕ) (r : Expression) → length origin ≡ length known → RightTo (clock_of known q.0) (plain known q.1) ds new ds' new' r
+    → (left : ℕ) → left ≡ q.0 → (pushed : ℕ × Expression) → pushed ≡ (left, r) → eqs' ≡ eqs ++ pushed ∷ []
+    → (n m : ℕ) → n ≡ length ds' → m ≡ length origins → (owner : ℕ) → owner ≡ get_or origin left 0 → origins' ≡ take n origins ++ replicate (n - m) owner → AllLifted known origin (before ++ q ∷ []) ds' eqs' new' origins'
+turned known origin before q ds eqs new origins a ds' eqs' new' origins' r o t left l pushed p e n m k j owner w h =
+    let pushed_is : eqs' ≡ eqs ++ (q.0, r) ∷ [] = e ∙ ap (λ z. eqs ++ z ∷ []) (p ∙ ap (λ x. (x, r)) l) in
+    let owner_is : owner ≡ get_or origin q.0 0 = w ∙ ap (λ x. get_or origin x 0) l in
+    let resized_is = h ∙ ap (λ m. take n origins ++ replicate (n - m) owner) j ∙ resized known origin before ds eqs new origins a o q ds' new' r t n k owner owner_is in
+    all_more known origin before ds eqs new origins a q ds' eqs' new' origins' r t pushed_is resized_is

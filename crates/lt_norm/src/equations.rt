@@ -1,14 +1,16 @@
 // The normal form.
 
-ghost use Rattle.std.specs.Prelude.{◌≡◌, ◌+◌, ◌<◌, ◌^◌, length, All, IfOk, [], sum_by};
-ghost use Rattle.lt_base.specs.Expression.{shape};
+ghost use Rattle.std.specs.Prelude.{◌≡◌, ◌+◌, ◌<◌, ◌^◌, ◌++◌, ◌∷◌, [], ℕ, List as Items, get_or, length, All, IfOk, OnOk, sum_by};
+ghost use Rattle.lt_base.specs.Expression.{Expression, shape};
+ghost use Rattle.lt_base.specs.Meaning.{clock_of};
 ghost use Rattle.lt_base.specs.Typing.{TypedFunction};
 ghost use Rattle.lt_base.specs.Clocking.{ClockedFunction};
 ghost use Rattle.lt_base.specs.Dependence.{Causal};
 ghost use Rattle.lt_base.specs.Sizes.{cost, weight_with};
-ghost use Rattle.lt_norm.specs.Lift.{normal_form};
+ghost use Rattle.lt_norm.specs.Plain.{plain};
+ghost use Rattle.lt_norm.specs.Lift.{normal_form, right_delays};
 ghost use Rattle.lt_norm.specs.NormalForm.{NormalFormOf};
-ghost use Rattle.lt_norm.specs.Walk.{AllLifted};
+ghost use Rattle.lt_norm.specs.Walk.{AllLifted, RightTo};
 
 use crate::flat::Flat;
 use crate::lift::Lifting;
@@ -31,6 +33,75 @@ fn right_of(equation: Equation) -> Expr
     equation.right
 }
 
+// Lifts the delays out of the right side of an equation.
+fn lift_out(
+    alloc: Global,
+    known: &List<Decl>,
+    into: &mut Lifting,
+    equation: Equation,
+) -> Result<Expr, Memory>
+    requires left { equation.0 < length known.now }
+    requires room { length into.old.decls.items + right_delays (plain known.now equation.1) < 2 ^ 32 }
+    ensures { IfOk result (λ r. RightTo (clock_of known.now equation.0) (plain known.now equation.1) into.old.decls.items into.old.delays.items into.new.decls.items into.new.delays.items (shape r)) }
+{
+    let left = equation.left();
+    let mut right = right_of(equation);
+    lift_side(alloc, known, into, left, &mut right)?;
+    Ok(right)
+}
+
+// The variable of `main` from whose equation a variable arose.
+fn owner_of(origin: &List<u32>, variable: u32) -> u32
+    requires { variable < length origin.now }
+    ensures { result ≡ get_or origin.now variable 0 }
+{
+    origin.as_slice()[variable as usize]
+}
+
+// Lifts the delays out of one equation more.
+fn lift_equation(
+    alloc: Global,
+    known: &List<Decl>,
+    origin: &List<u32>,
+    equation: Equation,
+    parts: &mut Parts,
+) -> Result<(), Memory>
+    requires left { equation.0 < length known.now }
+    requires origins { length origin.now ≡ length known.now }
+    requires room { length parts.old.lifting.decls.items + right_delays (plain known.now equation.1) < 2 ^ 32 }
+    ensures { (before : Items (ℕ × Expression)) → AllLifted known.now origin.now before parts.old.lifting.decls.items parts.old.eqs.items parts.old.lifting.delays.items parts.old.origins.items
+        → OnOk result (AllLifted known.now origin.now (before ++ equation ∷ []) parts.new.lifting.decls.items parts.new.eqs.items parts.new.lifting.delays.items parts.new.origins.items) }
+{
+    let left = equation.left();
+    let right = lift_out(alloc, known, &mut parts.lifting, equation)?;
+    parts.eqs.push(Equation::new(left, right))?;
+    let owner = owner_of(origin, left);
+    parts.origins.resize(parts.lifting.decls.len(), owner)?;
+    Ok(())
+}
+
+// The parts before the first equation, with room for so many.
+fn empty_parts(
+    alloc: Global,
+    known: &List<Decl>,
+    origin: &List<u32>,
+    equations: usize,
+) -> Result<Parts, Memory>
+    ensures { IfOk result (λ r. AllLifted known.now origin.now [] r.lifting.decls.items r.eqs.items r.lifting.delays.items r.origins.items) }
+{
+    let decls = known.copy()?.into_vec();
+    let origins = origin.copy()?.into_vec();
+    let eqs = Vec::with_capacity(alloc, equations)?;
+    Ok(Parts {
+        lifting: Lifting {
+            decls,
+            delays: Vec::new(alloc),
+        },
+        eqs,
+        origins,
+    })
+}
+
 // Lifts the delays out of these equations.
 fn lift_equations(
     alloc: Global,
@@ -43,25 +114,11 @@ fn lift_equations(
     requires room { length known.now + sum_by (λ q. cost 1 (λ _. 0) q.1) equations < 2 ^ 32 }
     ensures { IfOk result (λ r. AllLifted known.now origin.now equations r.lifting.decls.items r.eqs.items r.lifting.delays.items r.origins.items) }
 {
-    let mut lifting = Lifting {
-        decls: known.copy()?.into_vec(),
-        delays: Vec::new(alloc),
-    };
-    let mut eqs = Vec::with_capacity(alloc, equations.len())?;
-    let mut origins = origin.copy()?.into_vec();
+    let mut parts = empty_parts(alloc, known, origin, equations.len())?;
     for equation in equations.into_vec() {
-        let left = equation.left();
-        let mut right = right_of(equation);
-        lift_side(alloc, known, &mut lifting, left, &mut right)?;
-        eqs.push(Equation::new(left, right))?;
-        let owner = origin.as_slice()[left as usize];
-        origins.resize(lifting.decls.len(), owner)?;
+        lift_equation(alloc, known, origin, equation, &mut parts)?;
     }
-    Ok(Parts {
-        lifting,
-        eqs,
-        origins,
-    })
+    Ok(parts)
 }
 
 /// The normal form of a function without calls. Each delay inside an expression becomes the equation of a variable of its own, on

@@ -1,6 +1,6 @@
 // Each delay inside an expression becomes the equation of a variable of its own.
 
-ghost use Rattle.std.specs.Prelude.{◌≡◌, ◌+◌, ◌<◌, ◌^◌, ◌++◌, ◌∷◌, [], length, OnOk};
+ghost use Rattle.std.specs.Prelude.{◌≡◌, ◌+◌, ◌<◌, ◌^◌, ◌++◌, ◌∷◌, [], length, IfOk, OnOk};
 ghost use Rattle.lt_base.specs.Expression.{shape, variable};
 ghost use Rattle.lt_base.specs.Value.{ty_of};
 ghost use Rattle.lt_norm.specs.Lift.{delays};
@@ -19,6 +19,25 @@ pub(crate) struct Lifting {
     pub delays: Vec<Equation>,
 }
 
+// The declaration of a variable without a name.
+fn nameless(alloc: Global, clock: Clock, first: Value) -> Decl
+    ensures { result ≡ record { name = []; ty = ty_of first; clock = clock } }
+{
+    Decl {
+        name: Name::of(String::new(alloc)),
+        ty: type_of_value(first),
+        clock,
+    }
+}
+
+// The same, on a clock that is needed again.
+fn nameless_on(alloc: Global, clock: &Clock, first: Value) -> Result<Decl, Memory>
+    ensures { IfOk result (λ decl. decl ≡ record { name = []; ty = ty_of first; clock = clock.now }) }
+{
+    let clock = clock.copy()?;
+    Ok(nameless(alloc, clock, first))
+}
+
 // Declares a variable without a name whose equation is this delay, and puts the variable in the delay's place.
 fn name(
     alloc: Global,
@@ -33,13 +52,9 @@ fn name(
     ensures delays { OnOk result (into.new.delays.items ≡ into.old.delays.items ++ (length into.old.decls.items, shape delay.old) ∷ []) }
 {
     let number = into.decls.len() as u32;
+    let decl = nameless_on(alloc, clock, first)?;
+    into.decls.push(decl)?;
     let right = replace(delay, Expr::Var(number));
-    let clock = clock.copy()?;
-    into.decls.push(Decl {
-        name: Name::of(String::new(alloc)),
-        ty: type_of_value(first),
-        clock,
-    })?;
     into.delays.push(Equation::new(number, right))?;
     Ok(())
 }

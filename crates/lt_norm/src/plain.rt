@@ -25,23 +25,44 @@ fn first(alloc: Global, a: Box<Expr>, b: Box<Expr>) -> Result<Expr, Memory>
     Ok(Expr::If(Box::new(alloc, flag)?, a, b))
 }
 
+// What a side had at the instant before.
+fn late(alloc: Global, ty: Ty, e: Box<Expr>) -> Result<Box<Expr>, Memory>
+    ensures { IfOk result (λ r. shape r.value ≡ delayed (blank ty) (shape e.value)) }
+{
+    Ok(Box::new(alloc, Expr::Fby(blank(ty), e))?)
+}
+
 // The first side at the first instant, and afterwards the second, late by one.
 fn followed(alloc: Global, ty: Ty, a: Box<Expr>, b: Box<Expr>) -> Result<Expr, Memory>
     ensures { IfOk result (λ r. shape r ≡ choose first_flag (shape a.value) (delayed (blank ty) (shape b.value))) }
 {
-    let late = Box::new(alloc, Expr::Fby(blank(ty), b))?;
-    first(alloc, a, late)
+    match late(alloc, ty, b) {
+        Ok(late) => first(alloc, a, late),
+        Err(memory) => {
+            drop(a);
+            Err(memory)
+        }
+    }
 }
 
 // The form of a `->`, or of a `fby` whose left side is no literal and has this type.
+fn begun(alloc: Global, ty: Ty, e: Expr) -> Result<Expr, Memory>
+    ensures { IfOk result (λ r. shape r ≡ begun ty (shape e)) }
+{
+    match e {
+        Expr::Follow(a, b) => followed(alloc, ty, a, b),
+        Expr::Arrow(a, b) => first(alloc, a, b),
+        other => Ok(other),
+    }
+}
+
+// Puts that form in its place.
 fn begin(alloc: Global, ty: Ty, e: &mut Expr) -> Result<(), Memory>
     ensures { OnOk result (shape e.new ≡ begun ty (shape e.old)) }
 {
-    match replace(e, Expr::Var(0)) {
-        Expr::Follow(a, b) => *e = followed(alloc, ty, a, b)?,
-        Expr::Arrow(a, b) => *e = first(alloc, a, b)?,
-        other => *e = other,
-    }
+    let whole = replace(e, Expr::Var(0));
+    let form = begun(alloc, ty, whole)?;
+    drop(replace(e, form));
     Ok(())
 }
 
