@@ -6,7 +6,7 @@ use Rattle.std.proofs.lemmas.List.{length-map, map-append, append_assoc, append-
 use Rattle.std.proofs.lemmas.List.Sums.{sum_by-cons, sum_by_more_le}
 use Rattle.lt_base.specs.declared.value.Value.{Value}
 use Rattle.lt_base.specs.declared.function.Decl.{Decl}
-use Rattle.lt_base.specs.Expression.{Expression, shape, literal, variable, unary, binary, imported, choose, sampled, merged, delayed, follow, arrow, call}
+use Rattle.lt_base.specs.Expression.{Expression, literal, variable, unary, binary, imported, choose, sampled, merged, delayed, follow, arrow, call}
 use Rattle.lt_base.specs.Program.{Function, GoodFunction}
 use Rattle.lt_base.specs.Meaning.{ClockPairs, clock_of}
 use Rattle.lt_base.specs.Sizes.{cost}
