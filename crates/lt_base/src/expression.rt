@@ -68,31 +68,31 @@ impl Expr {
             Expr::Var(x) => Ok(Expr::Var(*x)),
             Expr::Un(o, a) => Ok(Expr::Un(*o, twin(a)?)),
             Expr::Bin(o, a, b) => {
-                let a = twin(a)?;
-                Ok(Expr::Bin(*o, a, twin(b)?))
+                let (a, b) = both(a, b)?;
+                Ok(Expr::Bin(*o, a, b))
             }
             Expr::Imported(o, a, b) => {
-                let a = twin(a)?;
-                Ok(Expr::Imported(*o, a, twin(b)?))
+                let (a, b) = both(a, b)?;
+                Ok(Expr::Imported(*o, a, b))
             }
             Expr::If(c, a, b) => {
                 let c = twin(c)?;
-                let a = twin(a)?;
-                Ok(Expr::If(c, a, twin(b)?))
+                let (a, b) = both(a, b)?;
+                Ok(Expr::If(c, a, b))
             }
             Expr::When(e, c, b) => Ok(Expr::When(twin(e)?, *c, *b)),
             Expr::Merge(c, a, b) => {
-                let a = twin(a)?;
-                Ok(Expr::Merge(*c, a, twin(b)?))
+                let (a, b) = both(a, b)?;
+                Ok(Expr::Merge(*c, a, b))
             }
             Expr::Fby(v, e) => Ok(Expr::Fby(*v, twin(e)?)),
             Expr::Follow(a, b) => {
-                let a = twin(a)?;
-                Ok(Expr::Follow(a, twin(b)?))
+                let (a, b) = both(a, b)?;
+                Ok(Expr::Follow(a, b))
             }
             Expr::Arrow(a, b) => {
-                let a = twin(a)?;
-                Ok(Expr::Arrow(a, twin(b)?))
+                let (a, b) = both(a, b)?;
+                Ok(Expr::Arrow(a, b))
             }
             Expr::Call(g, args) => Ok(Expr::Call(*g, twins(args)?)),
         }
@@ -105,6 +105,15 @@ fn twin(e: &Box<Expr>) -> Result<Box<Expr>, Memory>
     ensures { IfOk result (λ r. shape r.value ≡ shape e.now.value) }
 {
     Ok(Box::new(*Box::allocator(e), e.copy()?)?)
+}
+
+// Two equal expressions, in boxes of their own.
+#[cycle(copying)]
+fn both(a: &Box<Expr>, b: &Box<Expr>) -> Result<(Box<Expr>, Box<Expr>), Memory>
+    ensures { IfOk result (λ r. (shape r.0.value ≡ shape a.now.value) × (shape r.1.value ≡ shape b.now.value)) }
+{
+    let a = twin(a)?;
+    Ok((a, twin(b)?))
 }
 
 // Equal expressions, one by one.
