@@ -1,5 +1,5 @@
 -- With its delays lifted a clocked function is clocked, and it is flat.
-use Rattle.std.proofs.Common.{◌≡◌, ℕ, suc, ◌+◌, ◌<◌, ◌≤◌, Bool, true, false, List, [], ◌∷◌, length, All, ◌∙◌, arith}
+use Rattle.std.proofs.Common.{◌≡◌, ℕ, suc, ◌+◌, ◌<◌, ◌≤◌, Bool, true, false, List, [], ◌∷◌, ◌++◌, length, All, ◌∙◌, arith}
 use Rattle.lt_base.specs.declared.value.Value.{Value}
 use Rattle.lt_base.specs.declared.function.Decl.{Decl}
 use Rattle.lt_base.specs.Expression.{Expression, literal, variable, unary, binary, imported, choose, sampled, merged, delayed, follow, arrow, call}
@@ -67,8 +67,8 @@ module _ (F : Function) (At : ClockPairs → Expression → Type 0) (inherited :
       rows_append P (fresh n ck a) _ (each_row a n ck k.0 (stand_left F n (fresh n ck a) _ s)) (each_row b (n + delays a) ck k.1 (stand_next F n ck a _ s))
   each_row (choose c a b) n ck h s =
       let k = inherited.three ck c a b h in
-      let s' = stand_next F n ck c _ s in
-      rows_append P (fresh n ck c) _ (each_row c n ck k.0 (stand_left F n (fresh n ck c) _ s)) (rows_append P (fresh (n + delays c) ck a) _ (each_row a (n + delays c) ck k.1 (stand_left F _ (fresh (n + delays c) ck a) _ s')) (each_row b ((n + delays c) + delays a) ck k.2 (stand_next F (n + delays c) ck a _ s')))
+      let s' = stand_next F n ck c (fresh (n + delays c) ck a ++ fresh ((n + delays c) + delays a) ck b) s in
+      rows_append P (fresh n ck c) (fresh (n + delays c) ck a ++ fresh ((n + delays c) + delays a) ck b) (each_row c n ck k.0 (stand_left F n (fresh n ck c) (fresh (n + delays c) ck a ++ fresh ((n + delays c) + delays a) ck b) s)) (rows_append P (fresh (n + delays c) ck a) (fresh ((n + delays c) + delays a) ck b) (each_row a (n + delays c) ck k.1 (stand_left F (n + delays c) (fresh (n + delays c) ck a) (fresh ((n + delays c) + delays a) ck b) s')) (each_row b ((n + delays c) + delays a) ck k.2 (stand_next F (n + delays c) ck a (fresh ((n + delays c) + delays a) ck b) s')))
   each_row (sampled e c b) n ck h s = each_row e n (outer ck) (inherited.up ck e c b h) s
   each_row (merged c a b) n ck h s =
       let k = inherited.down ck c a b h in
@@ -129,10 +129,10 @@ module _ (f : Function) (F : Function) (low : length f.decls ≤ length F.decls)
   lifted_clocked (imported o a b) n ck z k s =
       (lifted_clocked a n ck z.0 k.0 (stand_left F n (fresh n ck a) _ s), lifted_clocked b (n + delays a) ck z.1 k.1 (stand_next F n ck a _ s))
   lifted_clocked (choose c a b) n ck z k s =
-      let s' = stand_next F n ck c _ s in (
-        lifted_clocked c n ck z.0 k.0 (stand_left F n (fresh n ck c) _ s),
-        lifted_clocked a (n + delays c) ck z.1 k.1 (stand_left F _ (fresh (n + delays c) ck a) _ s'),
-        lifted_clocked b ((n + delays c) + delays a) ck z.2 k.2 (stand_next F (n + delays c) ck a _ s'),
+      let s' = stand_next F n ck c (fresh (n + delays c) ck a ++ fresh ((n + delays c) + delays a) ck b) s in (
+        lifted_clocked c n ck z.0 k.0 (stand_left F n (fresh n ck c) (fresh (n + delays c) ck a ++ fresh ((n + delays c) + delays a) ck b) s),
+        lifted_clocked a (n + delays c) ck z.1 k.1 (stand_left F (n + delays c) (fresh (n + delays c) ck a) (fresh ((n + delays c) + delays a) ck b) s'),
+        lifted_clocked b ((n + delays c) + delays a) ck z.2 k.2 (stand_next F (n + delays c) ck a (fresh ((n + delays c) + delays a) ck b) s'),
       )
   lifted_clocked (sampled e c b) n [] z k s = elim k [ ]
   lifted_clocked (sampled e c b) n ((d, a) ∷ ck) z k s = (k.0, k.1, (omega (arith, k.2.0, low), kept c k.2.0 ∙ k.2.1, lifted_clocked e n ck z k.2.2 s))

@@ -1,5 +1,5 @@
 -- With its delays lifted a causal function is causal.
-use Rattle.std.proofs.Common.{◌≡◌, ℕ, suc, ◌+◌, ◌<◌, ◌≤◌, true, false, List, [], ◌∷◌, length, Some, sym, ap, ◌∙◌, subst, arith}
+use Rattle.std.proofs.Common.{◌≡◌, ℕ, suc, ◌+◌, ◌<◌, ◌≤◌, true, false, List, [], ◌∷◌, ◌++◌, length, Some, sym, ap, ◌∙◌, subst, arith}
 use Rattle.std.specs.Prelude.{nat_lt, nat_le, if◌then◌else◌}
 use Rattle.std.proofs.lemmas.Bool.Decides.{nat_tests}
 use Rattle.lt_base.specs.declared.function.Decl.{Decl}
@@ -94,10 +94,10 @@ module _ (F : Function) (N : ℕ) (Old P : ℕ → Type 0) (hold : (y : ℕ) →
   reads_lifted (imported o a b) n ck l w s r k =
       (reads_lifted a n ck l w.0 (stand_left F n (fresh n ck a) _ s) r.0 k, reads_lifted b (n + delays a) ck (omega arith) w.1 (stand_next F n ck a _ s) r.1 k)
   reads_lifted (choose c a b) n ck l w s r k =
-      let s' = stand_next F n ck c _ s in (
-        reads_lifted c n ck l w.0 (stand_left F n (fresh n ck c) _ s) r.0 k,
-        reads_lifted a (n + delays c) ck (omega arith) w.1 (stand_left F _ (fresh (n + delays c) ck a) _ s') r.1 k,
-        reads_lifted b ((n + delays c) + delays a) ck (omega arith) w.2 (stand_next F (n + delays c) ck a _ s') r.2 k,
+      let s' = stand_next F n ck c (fresh (n + delays c) ck a ++ fresh ((n + delays c) + delays a) ck b) s in (
+        reads_lifted c n ck l w.0 (stand_left F n (fresh n ck c) (fresh (n + delays c) ck a ++ fresh ((n + delays c) + delays a) ck b) s) r.0 k,
+        reads_lifted a (n + delays c) ck (omega arith) w.1 (stand_left F (n + delays c) (fresh (n + delays c) ck a) (fresh ((n + delays c) + delays a) ck b) s') r.1 k,
+        reads_lifted b ((n + delays c) + delays a) ck (omega arith) w.2 (stand_next F (n + delays c) ck a (fresh ((n + delays c) + delays a) ck b) s') r.2 k,
       )
   reads_lifted (sampled e c b) n ck l w s r k = (reads_lifted e n (outer ck) l w s r.0 (outer_each Old ck k), hold c r.1)
   reads_lifted (merged c a b) n ck l w s r k = (

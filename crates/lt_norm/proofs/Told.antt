@@ -59,18 +59,18 @@ module _ (callee : Callee) (F : Function) (es : List Environment) (rows : List R
   told (variable x) n ck s = tells_same callee ck (variable x) es
   told (unary o a) n ck s = tells_unary callee ck o a (lifted n a) es (told a n ck s)
   told (binary o a b) n ck s =
-      let x = told a n ck (stand_left F n (fresh n ck a) _ s) in
-      let y = told b (n + delays a) ck (stand_next F n ck a _ s) in
+      let x = told a n ck (stand_left F n (fresh n ck a) (fresh (n + delays a) ck b) s) in
+      let y = told b (n + delays a) ck (stand_next F n ck a (fresh (n + delays a) ck b) s) in
       tells_binary callee ck o a (lifted n a) b (lifted (n + delays a) b) es x y
   told (imported o a b) n ck s =
-      let x = told a n ck (stand_left F n (fresh n ck a) _ s) in
-      let y = told b (n + delays a) ck (stand_next F n ck a _ s) in
+      let x = told a n ck (stand_left F n (fresh n ck a) (fresh (n + delays a) ck b) s) in
+      let y = told b (n + delays a) ck (stand_next F n ck a (fresh (n + delays a) ck b) s) in
       tells_imported callee ck o a (lifted n a) b (lifted (n + delays a) b) es x y
   told (choose c a b) n ck s =
-      let x = told c n ck (stand_left F n (fresh n ck c) _ s) in
-      let s' = stand_next F n ck c _ s in
-      let y = told a (n + delays c) ck (stand_left F (n + delays c) (fresh (n + delays c) ck a) _ s') in
-      let z = told b ((n + delays c) + delays a) ck (stand_next F (n + delays c) ck a _ s') in
+      let x = told c n ck (stand_left F n (fresh n ck c) (fresh (n + delays c) ck a ++ fresh ((n + delays c) + delays a) ck b) s) in
+      let s' = stand_next F n ck c (fresh (n + delays c) ck a ++ fresh ((n + delays c) + delays a) ck b) s in
+      let y = told a (n + delays c) ck (stand_left F (n + delays c) (fresh (n + delays c) ck a) (fresh ((n + delays c) + delays a) ck b) s') in
+      let z = told b ((n + delays c) + delays a) ck (stand_next F (n + delays c) ck a (fresh ((n + delays c) + delays a) ck b) s') in
       tells_choose callee ck c (lifted n c) a (lifted (n + delays c) a) b (lifted ((n + delays c) + delays a) b) es x y z
   told (sampled e c b) n ck s =
       let x = told e n (outer ck) s in
@@ -80,12 +80,12 @@ module _ (callee : Callee) (F : Function) (es : List Environment) (rows : List R
       outer_present env [] p = p
       outer_present env (q ∷ ck) p = and_left _ _ p
   told (merged c a b) n ck s =
-      let x = told a n ((c, true) ∷ ck) (stand_left F n (fresh n ((c, true) ∷ ck) a) _ s) in
-      let y = told b (n + delays a) ((c, false) ∷ ck) (stand_next F n ((c, true) ∷ ck) a _ s) in
+      let x = told a n ((c, true) ∷ ck) (stand_left F n (fresh n ((c, true) ∷ ck) a) (fresh (n + delays a) ((c, false) ∷ ck) b) s) in
+      let y = told b (n + delays a) ((c, false) ∷ ck) (stand_next F n ((c, true) ∷ ck) a (fresh (n + delays a) ((c, false) ∷ ck) b) s) in
       tells_merged callee ck c a (lifted n a) b (lifted (n + delays a) b) es x y
   told (delayed v e) n ck s =
-      let x = told e n ck (stand_left F n (fresh n ck e) _ s) in
-      let r = stand_next F n ck e _ s in
+      let x = told e n ck (stand_left F n (fresh n ck e) ((ck, v, lifted n e) ∷ []) s) in
+      let r = stand_next F n ck e ((ck, v, lifted n e) ∷ []) s in
       tells_lifted callee F (n + delays e) (delayed v e) (delayed v (lifted n e)) ck r.3 r.1 r.0 es rows solves (tells_delayed callee ck v e (lifted n e) es x)
   told (follow a b) n ck s = tells_same callee ck (follow a b) es
   told (arrow a b) n ck s = tells_same callee ck (arrow a b) es

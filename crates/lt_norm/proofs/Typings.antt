@@ -1,5 +1,5 @@
 -- The lifted form of a typed expression has its type.
-use Rattle.std.proofs.Common.{◌≡◌, ℕ, ◌+◌, ◌<◌, true, false, [], ◌∷◌, length, Option, Some, None, refl, ap, ◌∙◌}
+use Rattle.std.proofs.Common.{◌≡◌, ℕ, ◌+◌, ◌<◌, true, false, [], ◌∷◌, ◌++◌, length, Option, Some, None, refl, ap, ◌∙◌}
 use Rattle.std.specs.Option.{option_and_then}
 use Rattle.lt_base.specs.declared.value.Ty.{Ty}
 use Rattle.lt_base.specs.declared.value.Ty.TheVariants.{Int as IntTy, Bool as BoolTy}
@@ -63,8 +63,8 @@ module _ (f F : Function) (kept : (x : ℕ) → x < length f.decls → ty_at F.d
   lifted_typed (imported o x y) n ck c b s t h =
       both_has imported_type (type_of [] f.decls x) (type_of [] F.decls (lifted n x)) (type_of [] f.decls y) (type_of [] F.decls (lifted (n + delays x) y)) (lifted_typed x n ck c.0 b.0 (stand_left F n (fresh n ck x) _ s)) (lifted_typed y (n + delays x) ck c.1 b.1 (stand_next F n ck x _ s)) t h
   lifted_typed (choose d x y) n ck c b s t h =
-      let s' = stand_next F n ck d _ s in
-      under_has (type_of [] f.decls d) (type_of [] F.decls (lifted n d)) (both_types shared_type (type_of [] f.decls x) (type_of [] f.decls y)) (both_types shared_type (type_of [] F.decls (lifted (n + delays d) x)) (type_of [] F.decls (lifted ((n + delays d) + delays x) y))) (lifted_typed d n ck c.0 b.0 (stand_left F n (fresh n ck d) _ s)) (both_has shared_type (type_of [] f.decls x) (type_of [] F.decls (lifted (n + delays d) x)) (type_of [] f.decls y) (type_of [] F.decls (lifted ((n + delays d) + delays x) y)) (lifted_typed x (n + delays d) ck c.1 b.1 (stand_left F _ (fresh (n + delays d) ck x) _ s')) (lifted_typed y ((n + delays d) + delays x) ck c.2 b.2 (stand_next F (n + delays d) ck x _ s'))) t h
+      let s' = stand_next F n ck d (fresh (n + delays d) ck x ++ fresh ((n + delays d) + delays x) ck y) s in
+      under_has (type_of [] f.decls d) (type_of [] F.decls (lifted n d)) (both_types shared_type (type_of [] f.decls x) (type_of [] f.decls y)) (both_types shared_type (type_of [] F.decls (lifted (n + delays d) x)) (type_of [] F.decls (lifted ((n + delays d) + delays x) y))) (lifted_typed d n ck c.0 b.0 (stand_left F n (fresh n ck d) (fresh (n + delays d) ck x ++ fresh ((n + delays d) + delays x) ck y) s)) (both_has shared_type (type_of [] f.decls x) (type_of [] F.decls (lifted (n + delays d) x)) (type_of [] f.decls y) (type_of [] F.decls (lifted ((n + delays d) + delays x) y)) (lifted_typed x (n + delays d) ck c.1 b.1 (stand_left F (n + delays d) (fresh (n + delays d) ck x) (fresh ((n + delays d) + delays x) ck y) s')) (lifted_typed y ((n + delays d) + delays x) ck c.2 b.2 (stand_next F (n + delays d) ck x (fresh ((n + delays d) + delays x) ck y) s'))) t h
   lifted_typed (sampled e x p) n ck c b s t h = under_has (ty_at f.decls x) (ty_at F.decls x) (type_of [] f.decls e) (type_of [] F.decls (lifted n e)) (var_has x b.1) (lifted_typed e n (outer ck) c b.0 s) t h
   lifted_typed (merged d x y) n ck c b s t h =
       under_has (ty_at f.decls d) (ty_at F.decls d) (both_types shared_type (type_of [] f.decls x) (type_of [] f.decls y)) (both_types shared_type (type_of [] F.decls (lifted n x)) (type_of [] F.decls (lifted (n + delays x) y))) (var_has d b.0) (both_has shared_type (type_of [] f.decls x) (type_of [] F.decls (lifted n x)) (type_of [] f.decls y) (type_of [] F.decls (lifted (n + delays x) y)) (lifted_typed x n ((d, true) ∷ ck) c.0 b.1 (stand_left F n (fresh n ((d, true) ∷ ck) x) _ s)) (lifted_typed y (n + delays x) ((d, false) ∷ ck) c.1 b.2 (stand_next F n ((d, true) ∷ ck) x _ s))) t h
