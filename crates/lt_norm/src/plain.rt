@@ -67,6 +67,7 @@ fn begin(alloc: Global, ty: Ty, e: &mut Expr) -> Result<(), Memory>
 }
 
 /// Puts flags of the first instant and delays with literals in place of `->` and of every other `fby`.
+#[cycle(plain)]
 pub(crate) fn make_plain(alloc: Global, known: &List<Decl>, e: &mut Expr) -> Result<(), Memory>
     ensures { OnOk result (shape e.new ≡ plain known.now (shape e.old)) }
 {
@@ -77,33 +78,36 @@ pub(crate) fn make_plain(alloc: Global, known: &List<Decl>, e: &mut Expr) -> Res
         Expr::Un(_, a) => make_plain(alloc, known, a),
         Expr::When(a, _, _) => make_plain(alloc, known, a),
         Expr::Fby(_, a) => make_plain(alloc, known, a),
-        Expr::Bin(_, a, b) => {
-            make_plain(alloc, known, a)?;
-            make_plain(alloc, known, b)
-        }
-        Expr::Imported(_, a, b) => {
-            make_plain(alloc, known, a)?;
-            make_plain(alloc, known, b)
-        }
-        Expr::Merge(_, a, b) => {
-            make_plain(alloc, known, a)?;
-            make_plain(alloc, known, b)
-        }
+        Expr::Bin(_, a, b) => make_both_plain(alloc, known, a, b),
+        Expr::Imported(_, a, b) => make_both_plain(alloc, known, a, b),
+        Expr::Merge(_, a, b) => make_both_plain(alloc, known, a, b),
         Expr::If(c, a, b) => {
             make_plain(alloc, known, c)?;
-            make_plain(alloc, known, a)?;
-            make_plain(alloc, known, b)
+            make_both_plain(alloc, known, a, b)
         }
         Expr::Follow(a, b) => {
             let ty = kind(known, a);
-            make_plain(alloc, known, a)?;
-            make_plain(alloc, known, b)?;
+            make_both_plain(alloc, known, a, b)?;
             begin(alloc, ty, e)
         }
         Expr::Arrow(a, b) => {
-            make_plain(alloc, known, a)?;
-            make_plain(alloc, known, b)?;
+            make_both_plain(alloc, known, a, b)?;
             begin(alloc, Ty::Int, e)
         }
     }
+}
+
+// The same of two expressions.
+#[cycle(plain)]
+fn make_both_plain(
+    alloc: Global,
+    known: &List<Decl>,
+    a: &mut Expr,
+    b: &mut Expr,
+) -> Result<(), Memory>
+    ensures left { OnOk result (shape a.new ≡ plain known.now (shape a.old)) }
+    ensures right { OnOk result (shape b.new ≡ plain known.now (shape b.old)) }
+{
+    make_plain(alloc, known, a)?;
+    make_plain(alloc, known, b)
 }
