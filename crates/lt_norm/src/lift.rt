@@ -1,7 +1,9 @@
 // Each delay inside an expression becomes the equation of a variable of its own.
 
-ghost use Rattle.std.specs.Prelude.{◌≡◌, ◌+◌, ◌<◌, ◌^◌, ◌++◌, ◌∷◌, [], length, IfOk, OnOk};
-ghost use Rattle.lt_base.specs.Expression.{shape, variable};
+ghost use Rattle.std.specs.Prelude.{◌≡◌, ◌+◌, ◌<◌, ◌^◌, ◌++◌, ◌∷◌, [], ℕ, List as Items, length, IfOk, OnOk};
+ghost use Rattle.lt_base.specs.declared.function.Decl.{Decl as OneDecl};
+ghost use Rattle.lt_base.specs.Expression.{Expression, shape, variable};
+ghost use Rattle.lt_base.specs.Meaning.{outer as outer_pairs};
 ghost use Rattle.lt_base.specs.Value.{ty_of};
 ghost use Rattle.lt_norm.specs.Lift.{delays};
 ghost use Rattle.lt_norm.specs.Walk.{LiftedTo};
@@ -61,6 +63,7 @@ fn name(
 
 /// Puts a variable in place of each delay with a literal in an expression. These variables are declared after those so far, on the
 /// clocks of their places.
+#[cycle(lift)]
 pub(crate) fn lift(
     alloc: Global,
     into: &mut Lifting,
@@ -78,28 +81,16 @@ pub(crate) fn lift(
         Expr::Arrow(_, _) => Ok(()),
         Expr::Call(_, _) => Ok(()),
         Expr::Un(_, a) => lift(alloc, into, clock, a),
-        Expr::Bin(op, a, b) => {
-            lift(alloc, into, clock, a)?;
-            lift(alloc, into, clock, b)
-        }
-        Expr::Imported(op, a, b) => {
-            lift(alloc, into, clock, a)?;
-            lift(alloc, into, clock, b)
-        }
+        Expr::Bin(op, a, b) => lift_two(alloc, into, clock, a, b),
+        Expr::Imported(op, a, b) => lift_two(alloc, into, clock, a, b),
         Expr::If(c, a, b) => {
             lift(alloc, into, clock, c)?;
-            lift(alloc, into, clock, a)?;
-            lift(alloc, into, clock, b)
+            lift_two(alloc, into, clock, a, b)
         }
-        Expr::When(a, _, _) => {
-            let before = outer(clock)?;
-            lift(alloc, into, &before, a)
-        }
+        Expr::When(a, _, _) => lift_outside(alloc, into, clock, a),
         Expr::Merge(x, a, b) => {
-            let left = deeper(clock, *x, true)?;
-            lift(alloc, into, &left, a)?;
-            let right = deeper(clock, *x, false)?;
-            lift(alloc, into, &right, b)
+            lift_branch(alloc, into, clock, *x, true, a)?;
+            lift_branch(alloc, into, clock, *x, false, b)
         }
         Expr::Fby(first, a) => {
             let first = *first;
@@ -107,4 +98,61 @@ pub(crate) fn lift(
             name(alloc, into, clock, first, e)
         }
     }
+}
+
+// The same in two expressions.
+#[cycle(lift)]
+fn lift_two(
+    alloc: Global,
+    into: &mut Lifting,
+    clock: &Clock,
+    a: &mut Expr,
+    b: &mut Expr,
+) -> Result<(), Memory>
+    requires { length into.old.decls.items + (delays (shape a.old) + delays (shape b.old)) < 2 ^ 32 }
+    ensures room { OnOk result (length into.new.decls.items ≡ length into.old.decls.items + (delays (shape a.old) + delays (shape b.old))) }
+    ensures all { OnOk result ((decls : Items OneDecl) × (eqs : Items (ℕ × Expression))
+        × LiftedTo clock.now (shape a.old) into.old.decls.items into.old.delays.items decls eqs (shape a.new)
+        × LiftedTo clock.now (shape b.old) decls eqs into.new.decls.items into.new.delays.items (shape b.new)) }
+{
+    lift(alloc, into, clock, a)?;
+    lift(alloc, into, clock, b)
+}
+
+// The same at the clock without its innermost pair.
+#[cycle(lift)]
+fn lift_outside(
+    alloc: Global,
+    into: &mut Lifting,
+    clock: &Clock,
+    e: &mut Expr,
+) -> Result<(), Memory>
+    requires { length into.old.decls.items + delays (shape e.old) < 2 ^ 32 }
+    ensures room { OnOk result (length into.new.decls.items ≡ length into.old.decls.items + delays (shape e.old)) }
+    ensures all { OnOk result (LiftedTo (outer_pairs clock.now) (shape e.old) into.old.decls.items into.old.delays.items into.new.decls.items into.new.delays.items (shape e.new)) }
+{
+    let before = outer(clock)?;
+    let lifted = lift(alloc, into, &before, e);
+    drop(before);
+    lifted
+}
+
+// The same in a branch of a merge, where the variable has that truth value.
+#[cycle(lift)]
+fn lift_branch(
+    alloc: Global,
+    into: &mut Lifting,
+    clock: &Clock,
+    variable: u32,
+    polarity: bool,
+    e: &mut Expr,
+) -> Result<(), Memory>
+    requires { length into.old.decls.items + delays (shape e.old) < 2 ^ 32 }
+    ensures room { OnOk result (length into.new.decls.items ≡ length into.old.decls.items + delays (shape e.old)) }
+    ensures all { OnOk result (LiftedTo ((variable, polarity) ∷ clock.now) (shape e.old) into.old.decls.items into.old.delays.items into.new.decls.items into.new.delays.items (shape e.new)) }
+{
+    let at = deeper(clock, variable, polarity)?;
+    let lifted = lift(alloc, into, &at, e);
+    drop(at);
+    lifted
 }
