@@ -1,7 +1,7 @@
 // Expressions.
 
 ghost use Rattle.std.specs.Prelude.{◌≡◌, ◌^◌, ◌-◌, IfOk, map, min};
-ghost use Rattle.lt_base.specs.Expression.{shape, parts};
+ghost use Rattle.lt_base.specs.Expression.{shape, choose, parts};
 
 use crate::{Bin, Imp, Memory, Un, Value};
 
@@ -66,34 +66,39 @@ impl Expr {
         match self {
             Expr::Lit(v) => Ok(Expr::Lit(*v)),
             Expr::Var(x) => Ok(Expr::Var(*x)),
-            Expr::Un(o, a) => Ok(Expr::Un(*o, twin(a)?)),
-            Expr::Bin(o, a, b) => {
-                let (a, b) = both(a, b)?;
-                Ok(Expr::Bin(*o, a, b))
-            }
-            Expr::Imported(o, a, b) => {
-                let (a, b) = both(a, b)?;
-                Ok(Expr::Imported(*o, a, b))
-            }
-            Expr::If(c, a, b) => {
-                let c = twin(c)?;
-                let (a, b) = both(a, b)?;
-                Ok(Expr::If(c, a, b))
-            }
-            Expr::When(e, c, b) => Ok(Expr::When(twin(e)?, *c, *b)),
-            Expr::Merge(c, a, b) => {
-                let (a, b) = both(a, b)?;
-                Ok(Expr::Merge(*c, a, b))
-            }
-            Expr::Fby(v, e) => Ok(Expr::Fby(*v, twin(e)?)),
-            Expr::Follow(a, b) => {
-                let (a, b) = both(a, b)?;
-                Ok(Expr::Follow(a, b))
-            }
-            Expr::Arrow(a, b) => {
-                let (a, b) = both(a, b)?;
-                Ok(Expr::Arrow(a, b))
-            }
+            Expr::Un(o, a) => match twin(a) {
+                Ok(a) => Ok(Expr::Un(*o, a)),
+                Err(memory) => Err(memory),
+            },
+            Expr::Bin(o, a, b) => match both(a, b) {
+                Ok((a, b)) => Ok(Expr::Bin(*o, a, b)),
+                Err(memory) => Err(memory),
+            },
+            Expr::Imported(o, a, b) => match both(a, b) {
+                Ok((a, b)) => Ok(Expr::Imported(*o, a, b)),
+                Err(memory) => Err(memory),
+            },
+            Expr::If(c, a, b) => choice(c, a, b),
+            Expr::When(a, c, b) => match twin(a) {
+                Ok(a) => Ok(Expr::When(a, *c, *b)),
+                Err(memory) => Err(memory),
+            },
+            Expr::Merge(c, a, b) => match both(a, b) {
+                Ok((a, b)) => Ok(Expr::Merge(*c, a, b)),
+                Err(memory) => Err(memory),
+            },
+            Expr::Fby(v, a) => match twin(a) {
+                Ok(a) => Ok(Expr::Fby(*v, a)),
+                Err(memory) => Err(memory),
+            },
+            Expr::Follow(a, b) => match both(a, b) {
+                Ok((a, b)) => Ok(Expr::Follow(a, b)),
+                Err(memory) => Err(memory),
+            },
+            Expr::Arrow(a, b) => match both(a, b) {
+                Ok((a, b)) => Ok(Expr::Arrow(a, b)),
+                Err(memory) => Err(memory),
+            },
             Expr::Call(g, args) => Ok(Expr::Call(*g, twins(args)?)),
         }
     }
@@ -105,6 +110,16 @@ fn twin(e: &Box<Expr>) -> Result<Box<Expr>, Memory>
     ensures { IfOk result (λ r. shape r.value ≡ shape e.now.value) }
 {
     Ok(Box::new(*Box::allocator(e), e.copy()?)?)
+}
+
+// A choice that is equal to that of these expressions.
+#[cycle(copying)]
+fn choice(c: &Box<Expr>, a: &Box<Expr>, b: &Box<Expr>) -> Result<Expr, Memory>
+    ensures { IfOk result (λ r. shape r ≡ choose (shape c.now.value) (shape a.now.value) (shape b.now.value)) }
+{
+    let c = twin(c)?;
+    let (a, b) = both(a, b)?;
+    Ok(Expr::If(c, a, b))
 }
 
 // Two equal expressions, in boxes of their own.

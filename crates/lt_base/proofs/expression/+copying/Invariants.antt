@@ -7,13 +7,16 @@ abbrev pub invariant-twins-loop-e : goal.invariant-twins-loop-e
 invariant-twins-loop-e l = map shape l.copies.items ≡ map shape (take l.e-index l.e-items)
 
 abbrev pub decreases-Expr::copy : goal.decreases-Expr::copy
-decreases-Expr::copy l = 3 * the_size l.self.now
+decreases-Expr::copy l = 4 * the_size l.self.now
 
 abbrev pub decreases-twin : goal.decreases-twin
-decreases-twin l = 3 * the_size l.e.now.value + 1
+decreases-twin l = 4 * the_size l.e.now.value + 1
 
 abbrev pub decreases-both : goal.decreases-both
-decreases-both l = 3 * max (the_size l.a.now.value) (the_size l.b.now.value) + 2
+decreases-both l = 4 * max (the_size l.a.now.value) (the_size l.b.now.value) + 2
+
+abbrev pub decreases-choice : goal.decreases-choice
+decreases-choice l = 4 * max (the_size l.c.now.value) (max (the_size l.a.now.value) (the_size l.b.now.value)) + 3
 
 abbrev pub decreases-twins : goal.decreases-twins
-decreases-twins l = 3 * goal.size-twins l + 1
+decreases-twins l = 4 * goal.size-twins l + 1
