@@ -152,13 +152,14 @@ fn columns_of(
     let number = p.main as usize;
     let main = main_function(p);
     let decls = main.decls.as_slice();
-    let mut state = start(alloc, plans, number, plans.len())?;
     let mut columns = empty_columns(alloc, variables.len(), inputs.rows() as usize)?;
+    let mut state = start(alloc, plans, number, plans.len())?;
     for k in 0..inputs.rows() {
         load(inputs, main.n_in, k, &mut state.cells);
         run(plans, number, &mut state);
         show(&mut columns, variables, decls, state.cells.as_slice())?;
     }
+    drop(state);
     Ok(columns)
 }
 

@@ -3,7 +3,7 @@ use Rattle.std.proofs.Common.{◌≡◌, ◌∙◌, ◌++◌, ◌∷◌, ◌+◌
 use Rattle.std.proofs.Math.Seq.{take-suc}
 use Rattle.std.proofs.lemmas.List.{take_all, map-append}
 use Rattle.lt_base.specs.declared.expression.Expr.{Expr}
-use Rattle.lt_base.specs.Expression.{Expression, shape, unary, binary, imported, choose, merged, delayed, follow, arrow, call, arguments_of}
+use Rattle.lt_base.specs.Expression.{Expression, shape, unary, binary, imported, merged, delayed, call, arguments_of}
 use Rattle.lt_base.proofs.Shape.{shape-Call}
 use Rattle.lt_meaning.specs.Form.{form, one, two, named, joined}
 use Rattle.lt_meaning.specs.Lift.{form_of, forms_of, first_wait}

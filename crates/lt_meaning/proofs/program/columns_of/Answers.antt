@@ -1,4 +1,4 @@
-use Rattle.std.proofs.Common.{◌≡◌, ◌∙◌, ◌<◌, ◌++◌, ◌∷◌, ◌+◌, [], Some, ℕ, List, length, map, take, get_or, refl, sym, ap, subst, arith}
+use Rattle.std.proofs.Common.{◌≡◌, ◌∙◌, ◌<◌, ◌++◌, ◌∷◌, ◌+◌, [], Some, List, length, map, take, get_or, refl, sym, ap, subst, arith}
 use Rattle.std.specs.List.{All}
 use Rattle.lt_base.specs.declared.function.Decl.{Decl}
 use Rattle.lt_base.specs.Program.{Function, WholeProgram}
@@ -12,7 +12,6 @@ use Rattle.lt_meaning.specs.declared.state.State.TheViews.{out-roll-State, roll-
 use Rattle.lt_meaning.specs.Plan.{inputs_at}
 use Rattle.lt_meaning.specs.Stands.{Stands, Starts, cells_of, row_in}
 use Rattle.lt_meaning.specs.Ready.{cell_at_place}
-use Rattle.lt_meaning.specs.Streams.{main_of}
 use Rattle.lt_meaning.proofs.Instant.{some_at}
 use Rattle.lt_meaning.proofs.Answering.{refilled}
 use Rattle.lt_meaning.proofs.Tables.{row_width, newest_next, filled_is, room_of, shown_more, below_main, has_streams_of, fit_of}

@@ -1,4 +1,4 @@
-use Rattle.std.proofs.Common.{◌≡◌, ◌∙◌, ◌<◌, List, ℕ, length, sym, ap, subst}
+use Rattle.std.proofs.Common.{◌≡◌, ◌∙◌, ◌<◌, List, length, sym, ap, subst}
 use Rattle.std.specs.List.{All}
 use Rattle.lt_base.specs.Program.{Function}
 use Rattle.lt_base.specs.declared.value.Cell.{Cell}

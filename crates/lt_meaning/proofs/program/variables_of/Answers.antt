@@ -1,4 +1,4 @@
-use Rattle.std.proofs.Common.{◌≡◌, ◌∙◌, ◌+◌, ◌∷◌, [], ℕ, List, length, get_or, sym, ap, arith}
+use Rattle.std.proofs.Common.{◌∙◌, ◌+◌, ◌∷◌, [], ℕ, List, length, get_or, sym, ap, arith}
 use Rattle.std.proofs.lemmas.List.{length-append}
 use Rattle.lt_meaning.proofs.Columns.{numbers_next}
 use Rattle.lt_meaning.proofs.program.variables_of.Goals as goal
