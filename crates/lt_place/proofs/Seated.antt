@@ -6,6 +6,11 @@ use Rattle.std.specs.HashMap.{HashMap}
 use Rattle.std.proofs.lemmas.List.{length-map}
 use Rattle.std.proofs.lemmas.Bool.Decides.{nat_tests}
 use Rattle.lt_norm.specs.Flat.{Originated}
+use Rattle.lt_base.specs.declared.memory.Or.{Or}
+use Rattle.lt_base.specs.declared.memory.Or.TheVariants.{Fault, Memory}
+use Rattle.lt_base.specs.Or.{ForFault}
+use Rattle.lt_place.specs.declared.fault.PlaceFault.{PlaceFault}
+use Rattle.lt_place.specs.declared.fault.PlaceFault.TheVariants.{UnknownName}
 use Rattle.lt_place.specs.declared.named.NamedNode.{NamedNode}
 use Rattle.lt_place.specs.declared.nodes.NamedNodes.{NamedNodes}
 use Rattle.lt_place.specs.declared.placement.Placement.{Placement}
@@ -136,6 +141,11 @@ each_is f named m nodes e h each k = k (listings_from 0 nodes) h ∙ ap (λ ns. 
 
 pub known_are : {S : Type 0} (f : Originated) (named : NamedNodes) (m : HashMap (Bor (List ℕ)) ℕ S) (nodes : List NamedNode) → nodes ≡ named.nodes → KnowsMain f (count f) m → EachIn m (listings_from 0 nodes) → EachKnown f (listings_from 0 named.nodes)
 known_are f named m nodes e k h = each_known f m k (listings_from 0 named.nodes) (subst (λ ns. EachIn m (listings_from 0 ns)) e h)
+
+-- the fault of an unknown name, where there was memory for the name
+pub unknown_fault : (P : PlaceFault → Type 0) (e : Or PlaceFault) (name : List ℕ) → ForFault e (λ fault. fault ≡ UnknownName name) → P (UnknownName name) → ForFault e P
+unknown_fault P (Fault e) name is p = subst P (sym is) p
+unknown_fault P Memory name is p = tt
 
 pub unknown_is : {S : Type 0} (f : Originated) (named : NamedNodes) (m : HashMap (Bor (List ℕ)) ℕ S) (nodes : List NamedNode) → nodes ≡ named.nodes → KnowsMain f (count f) m → (name name' : List ℕ) → name' ≡ name → IsFirstOut m (listings_from 0 nodes) name → IsFirstUnknown f (Named named) name'
 unknown_is f named m nodes e k name name' s w = subst (IsFirstUnknown f (Named named)) (sym s) (record {

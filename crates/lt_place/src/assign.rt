@@ -2,6 +2,7 @@
 
 ghost use Rattle.std.specs.Prelude.{◌≡◌, ℕ, ◌<◌, ◌^◌, ◌↔◌, List, length, map, IfOk, IfErr, IsTrue, OnOk, MatchOption, replicate, slice_index};
 ghost use Rattle.lt_base.specs.Or.{ForFault};
+ghost use Rattle.lt_place.specs.declared.fault.PlaceFault.TheVariants.{UnknownName};
 ghost use Rattle.lt_place.specs.declared.nodes.NamedNodes.{NamedNodes as Listed};
 ghost use Rattle.lt_place.specs.declared.placement.Placement.TheVariants.{All as OnOne, Named as OnListed};
 ghost use Rattle.lt_place.specs.Placement.{node_names};
@@ -147,8 +148,9 @@ fn listed_seats(alloc: Global, f: &Flat, named: &NamedNodes) -> Result<Vec<Optio
 {
     let nodes = named.nodes.as_slice();
     let seats = seats(alloc, nodes)?;
-    let each = seat_each(alloc, f, &seats)?;
-    Ok(each)
+    let each = seat_each(alloc, f, &seats);
+    drop(seats);
+    each
 }
 
 // Passes where each variable of `main` has one seat. Else the first that has none, and if each has one, the first that has two.
@@ -169,6 +171,16 @@ fn seat_once(f: &Flat, each: &[Option<Seat>]) -> Result<(), PlaceFault>
     Ok(())
 }
 
+// The fault of this name, which is none of a variable of `main`.
+fn unknown_name(name: &Name) -> Or<PlaceFault>
+    ensures { ForFault result (λ fault. fault ≡ UnknownName name.now) }
+{
+    match name.copy() {
+        Ok(name) => Or::Fault(PlaceFault::UnknownName { name }),
+        Err(_) => Or::Memory,
+    }
+}
+
 // Passes where each listed name is that of a variable of `main`. Else the first that is not.
 fn know_all(alloc: Global, f: &Flat, named: &NamedNodes) -> Result<(), Or<PlaceFault>>
     requires origins { HasOrigins f.now }
@@ -178,11 +190,12 @@ fn know_all(alloc: Global, f: &Flat, named: &NamedNodes) -> Result<(), Or<PlaceF
 {
     let nodes = named.nodes.as_slice();
     let known = known(alloc, f)?;
-    if let Some(name) = first_unknown(&known, nodes) {
-        let name = name.copy()?;
-        return Err(Or::Fault(PlaceFault::UnknownName { name }));
+    let unknown = first_unknown(&known, nodes);
+    drop(known);
+    match unknown {
+        Some(name) => Err(unknown_name(name)),
+        None => Ok(()),
     }
-    Ok(())
 }
 
 // Every variable on the node that lists its origin.

@@ -99,14 +99,33 @@ pub(crate) fn part(alloc: Global, f: &Flat, s: &Spread, n: u32) -> Result<Part, 
     requires room { count f.now < 2 ^ 32 }
     ensures { IfOk result (λ q. IsBuilt f.now s.now n q) }
 {
-    let m = members_of(
+    let outs = outs(alloc, s.nodes.as_slice(), s.given.as_slice(), n)?;
+    let members = members_of(
         alloc,
         s.nodes.as_slice(),
         s.fed.as_slice(),
         s.free.as_slice(),
         n,
     )?;
-    let outs = outs(alloc, s.nodes.as_slice(), s.given.as_slice(), n)?;
+    part_of(alloc, f, s, n, members, outs)
+}
+
+// The part of node n, whose variables these are, and which gives these out.
+fn part_of(
+    alloc: Global,
+    f: &Flat,
+    s: &Spread,
+    n: u32,
+    m: Members,
+    outs: Vec<u32>,
+) -> Result<Part, Memory>
+    requires spread { IsSpread f.now s.now }
+    requires local { IsLocal f.now s.now.nodes.items }
+    requires room { count f.now < 2 ^ 32 }
+    requires members { HasMembers s.now.nodes.items s.now.fed.items n m.list.items m.own.items m.inputs }
+    requires outs { outs.items ≡ outs_below s.now.nodes.items s.now.given.items n (length s.now.nodes.items) }
+    ensures { IfOk result (λ q. IsBuilt f.now s.now n q) }
+{
     let func = function(alloc, f, s, n, &m, outs.as_slice())?;
     let feeds = feeds(alloc, s.places.as_slice(), &m.list[..m.inputs])?;
     let flat = Flat::new(func, List::of(m.list));

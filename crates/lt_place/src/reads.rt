@@ -1,10 +1,10 @@
 // What an equation reads.
 
-ghost use Rattle.std.specs.Prelude.{◌≡◌, ◌<◌, ◌++◌, MatchOption, IfOk, OnOk, length};
+ghost use Rattle.std.specs.Prelude.{◌≡◌, ◌<◌, ◌++◌, MatchOption, IfOk, OnOk, length, map};
 ghost use Rattle.lt_base.specs.declared.value.Value.{Value as Literal};
-ghost use Rattle.lt_base.specs.Expression.{shape, variable, delayed};
+ghost use Rattle.lt_base.specs.Expression.{shape, arguments_of, variable, delayed};
 ghost use Rattle.lt_base.specs.Meaning.{ClockPairs};
-ghost use Rattle.lt_base.specs.Dependence.{reads, clock_vars};
+ghost use Rattle.lt_base.specs.Dependence.{reads, arguments_reads, clock_vars};
 ghost use Rattle.lt_place.specs.Origins.{count};
 ghost use Rattle.lt_place.specs.Legal.{delayed_reads, direct_reads, parts_read, whole_read};
 ghost use Rattle.lt_place.specs.Faults.{unless_base};
@@ -17,6 +17,7 @@ use lt_norm::Flat;
 use std::alloc::Global;
 
 // Appends the variables that an expression reads outside the right side of every delay.
+#[cycle(push_reads)]
 fn push_reads(e: &Expr, to: &mut List<u32>) -> Result<(), Memory>
     ensures { OnOk result (to.new ≡ to.old ++ reads (shape e.now)) }
 {
@@ -24,18 +25,11 @@ fn push_reads(e: &Expr, to: &mut List<u32>) -> Result<(), Memory>
         Expr::Lit(_) => Ok(()),
         Expr::Var(x) => to.push(*x),
         Expr::Un(_, a) => push_reads(a, to),
-        Expr::Bin(_, a, b) => {
-            push_reads(a, to)?;
-            push_reads(b, to)
-        }
-        Expr::Imported(_, a, b) => {
-            push_reads(a, to)?;
-            push_reads(b, to)
-        }
+        Expr::Bin(_, a, b) => push_both(a, b, to),
+        Expr::Imported(_, a, b) => push_both(a, b, to),
         Expr::If(c, a, b) => {
             push_reads(c, to)?;
-            push_reads(a, to)?;
-            push_reads(b, to)
+            push_both(a, b, to)
         }
         Expr::When(e, c, _) => {
             push_reads(e, to)?;
@@ -43,22 +37,33 @@ fn push_reads(e: &Expr, to: &mut List<u32>) -> Result<(), Memory>
         }
         Expr::Merge(c, a, b) => {
             to.push(*c)?;
-            push_reads(a, to)?;
-            push_reads(b, to)
+            push_both(a, b, to)
         }
         Expr::Fby(_, _) => Ok(()),
         Expr::Follow(a, _) => push_reads(a, to),
-        Expr::Arrow(a, b) => {
-            push_reads(a, to)?;
-            push_reads(b, to)
-        }
-        Expr::Call(_, args) => {
-            for a in args {
-                push_reads(a, to)?;
-            }
-            Ok(())
-        }
+        Expr::Arrow(a, b) => push_both(a, b, to),
+        Expr::Call(_, args) => push_each(args, to),
     }
+}
+
+// Appends those of one expression and then those of another.
+#[cycle(push_reads)]
+fn push_both(a: &Expr, b: &Expr, to: &mut List<u32>) -> Result<(), Memory>
+    ensures { OnOk result (to.new ≡ to.old ++ reads (shape a.now) ++ reads (shape b.now)) }
+{
+    push_reads(a, to)?;
+    push_reads(b, to)
+}
+
+// Appends those of each of these expressions.
+#[cycle(push_reads)]
+fn push_each(args: &[Expr], to: &mut List<u32>) -> Result<(), Memory>
+    ensures { OnOk result (to.new ≡ to.old ++ arguments_reads (arguments_of (map shape args.now))) }
+{
+    for a in args {
+        push_reads(a, to)?;
+    }
+    Ok(())
 }
 
 // Appends the variables of a clock, innermost first.

@@ -1,12 +1,14 @@
 // The line of a refused program.
-ghost use Rattle.std.specs.Prelude.{◌≡◌, IfOk};
-ghost use Rattle.lt_texts.specs.Lines.{syntax_line, name_line, limit_line, type_line, clock_line, cycle_line, size_line, program_line};
+ghost use Rattle.std.specs.Prelude.{◌≡◌, ◌++◌, codes, IfOk, OnOk};
+ghost use Rattle.lt_texts.specs.Lines.{syntax_line, name_line, found_name_line, limit_line, type_line, clock_line, clock_text, place_text, cycle_line, size_line, program_line};
+ghost use Rattle.lt_texts.specs.Names.{function_name, variable_name};
+ghost use Rattle.lt_texts.specs.Words.{name_kind_text, ty_text, found_text};
 
 use crate::clocks::{append_clock, append_place};
 use crate::located::append_located;
 use crate::names::{append_function, append_name, append_variable};
 use crate::words::{found, name_kind, syntax_kind, ty};
-use lt_base::{List, Memory, Sizes};
+use lt_base::{List, Memory, Sizes, Ty};
 use lt_cause::Cycle;
 use lt_check::{ClockFault, TypeFault};
 use lt_front::ProgramFault;
@@ -43,16 +45,26 @@ fn name_line(alloc: Global, fault: &NameFault, tree: &Tree) -> Result<List<u8>, 
     match fault.kind {
         NameKind::NoMain => List::from_slice(alloc, b"name 6 NoMain"),
         NameKind::Limit => limit_line(alloc, fault),
-        kind => {
-            let mut line = List::from_slice(alloc, b"name ")?;
-            line.extend(name_kind(kind).as_bytes())?;
-            line.extend(b" in node ")?;
-            append_function(&mut line, tree, fault.func)?;
-            line.extend(b": ")?;
-            append_name(&mut line, &fault.name)?;
-            Ok(line)
-        }
+        _ => found_name_line(alloc, fault, tree),
     }
+}
+
+fn found_name_line(alloc: Global, fault: &NameFault, tree: &Tree) -> Result<List<u8>, Memory>
+    ensures { IfOk result (λ line. line ≡ found_name_line fault.now tree.now) }
+{
+    let mut line = List::from_slice(alloc, b"name ")?;
+    append_named(&mut line, fault, tree)?;
+    Ok(line)
+}
+
+// Appends the kind of a fault of names, its function and its name.
+fn append_named(line: &mut List<u8>, fault: &NameFault, tree: &Tree) -> Result<(), Memory>
+    ensures { OnOk result (line.new ≡ line.old ++ name_kind_text fault.now.kind ++ codes " in node " ++ function_name tree.now fault.now.func ++ codes ": " ++ fault.now.name) }
+{
+    line.extend(name_kind(fault.kind).as_bytes())?;
+    line.extend(b" in node ")?;
+    append_owner(line, tree, fault.func)?;
+    append_name(line, &fault.name)
 }
 
 fn limit_line(alloc: Global, fault: &NameFault) -> Result<List<u8>, Memory>
@@ -72,28 +84,67 @@ fn type_line(alloc: Global, fault: &TypeFault, tree: &Tree) -> Result<List<u8>, 
     ensures { IfOk result (λ line. line ≡ type_line fault.now tree.now) }
 {
     let mut line = List::from_slice(alloc, b"type in node ")?;
-    append_function(&mut line, tree, fault.func)?;
-    line.extend(b": ")?;
-    append_variable(&mut line, tree, fault.func, fault.var)?;
-    line.extend(b" is ")?;
-    line.extend(ty(fault.want).as_bytes())?;
-    line.extend(b", found ")?;
-    line.extend(found(fault.got).as_bytes())?;
+    append_mistyped(&mut line, fault, tree)?;
     Ok(line)
+}
+
+// Appends a function, its variable that is at fault, and the types.
+fn append_mistyped(line: &mut List<u8>, fault: &TypeFault, tree: &Tree) -> Result<(), Memory>
+    ensures { OnOk result (line.new ≡ line.old ++ function_name tree.now fault.now.func ++ codes ": " ++ variable_name tree.now fault.now.func fault.now.var ++ codes " is " ++ ty_text fault.now.want ++ codes ", found " ++ found_text fault.now.got) }
+{
+    append_owner(line, tree, fault.func)?;
+    append_variable(line, tree, fault.func, fault.var)?;
+    append_types(line, fault.want, fault.got)
+}
+
+// Appends the type that a variable has, and the one that was found.
+fn append_types(line: &mut List<u8>, want: Ty, got: Option<Ty>) -> Result<(), Memory>
+    ensures { OnOk result (line.new ≡ line.old ++ codes " is " ++ ty_text want ++ codes ", found " ++ found_text got) }
+{
+    line.extend(b" is ")?;
+    line.extend(ty(want).as_bytes())?;
+    line.extend(b", found ")?;
+    line.extend(found(got).as_bytes())
 }
 
 fn clock_line(alloc: Global, fault: &ClockFault, tree: &Tree) -> Result<List<u8>, Memory>
     ensures { IfOk result (λ line. line ≡ clock_line fault.now tree.now) }
 {
     let mut line = List::from_slice(alloc, b"clock in node ")?;
-    append_function(&mut line, tree, fault.func)?;
-    line.extend(b": ")?;
-    append_place(alloc, &mut line, fault.at)?;
-    line.extend(b" of ")?;
-    append_variable(&mut line, tree, fault.func, fault.var)?;
-    line.extend(b" on ")?;
-    append_clock(&mut line, tree, fault.func, &fault.want)?;
+    append_misclocked(alloc, &mut line, fault, tree)?;
     Ok(line)
+}
+
+// Appends a function, the place of its fault, and the clock.
+fn append_misclocked(
+    alloc: Global,
+    line: &mut List<u8>,
+    fault: &ClockFault,
+    tree: &Tree,
+) -> Result<(), Memory>
+    ensures { OnOk result (line.new ≡ line.old ++ function_name tree.now fault.now.func ++ codes ": " ++ place_text fault.now.at ++ codes " of " ++ variable_name tree.now fault.now.func fault.now.var ++ codes " on " ++ clock_text tree.now fault.now.func fault.now.want) }
+{
+    append_owner(line, tree, fault.func)?;
+    append_place(alloc, line, fault.at)?;
+    append_wanted(line, fault, tree)
+}
+
+// Appends the variable that is at fault and the clock that is wanted.
+fn append_wanted(line: &mut List<u8>, fault: &ClockFault, tree: &Tree) -> Result<(), Memory>
+    ensures { OnOk result (line.new ≡ line.old ++ codes " of " ++ variable_name tree.now fault.now.func fault.now.var ++ codes " on " ++ clock_text tree.now fault.now.func fault.now.want) }
+{
+    line.extend(b" of ")?;
+    append_variable(line, tree, fault.func, fault.var)?;
+    line.extend(b" on ")?;
+    append_clock(line, tree, fault.func, &fault.want)
+}
+
+// Appends a function's name and a colon.
+fn append_owner(line: &mut List<u8>, tree: &Tree, func: u32) -> Result<(), Memory>
+    ensures { OnOk result (line.new ≡ line.old ++ function_name tree.now func ++ codes ": ") }
+{
+    append_function(line, tree, func)?;
+    line.extend(b": ")
 }
 
 fn cycle_line(alloc: Global, func: u32, cycle: &Cycle, tree: &Tree) -> Result<List<u8>, Memory>
