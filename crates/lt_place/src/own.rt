@@ -110,6 +110,16 @@ pub(crate) fn own_decls(
     Ok(new)
 }
 
+// Whether an equation is one of node n that stays.
+fn stays(nodes: &[u32], fed: &[bool], n: u32, equation: &Equation) -> bool
+    requires left { equation.now.0 < length nodes.now }
+    requires fed { length fed.now ≡ length nodes.now }
+    ensures { result ≡ stays nodes.now fed.now n equation.now }
+{
+    let left = equation.left() as usize;
+    nodes[left] == n && !fed[left]
+}
+
 /// The equations of node n that stay, in its part.
 pub(crate) fn own_equations(
     alloc: Global,
@@ -128,10 +138,9 @@ pub(crate) fn own_equations(
 {
     let mut new = Vec::new(alloc);
     for equation in equations {
-        let left = equation.left() as usize;
-        if nodes[left] == n && !fed[left] {
+        if stays(nodes, fed, n, equation) {
             let right = own_right(own, equation.right())?;
-            new.push(Equation::new(own[left], right))?;
+            new.push(Equation::new(own[equation.left() as usize], right))?;
         }
     }
     Ok(new)

@@ -3,7 +3,7 @@
 ghost use Rattle.std.specs.Prelude.{◌≡◌, ◌<◌, ◌^◌, All, IfOk, length, map};
 ghost use Rattle.lt_norm.specs.Flat.{FlatFunction};
 ghost use Rattle.lt_place.specs.Origins.{count};
-ghost use Rattle.lt_place.specs.Spread.{HasMembers, IsBuilt, IsLocal, IsSpread, feed_of, outs_below, own_of, part_function};
+ghost use Rattle.lt_place.specs.Spread.{HasMembers, IsBuilt, IsLocal, IsSpread, feed_by, feed_of, outs_below, own_of, part_function};
 
 use crate::members::{Members, members_of};
 use crate::own::{own_decls, own_equations};
@@ -14,6 +14,16 @@ use lt_base::{Func, List, Memory};
 use lt_norm::Flat;
 use std::alloc::Global;
 
+// What feeds the input x: the crossing at its place, where it reads one.
+fn feed_by(x: u32, place: Option<u32>) -> Feed
+    ensures { result ≡ feed_by x place }
+{
+    match place {
+        Some(place) => Feed::Cross(place),
+        None => Feed::Input(x),
+    }
+}
+
 // What feeds these inputs.
 fn feeds(alloc: Global, places: &[Option<u32>], inputs: &[u32]) -> Result<Vec<Feed>, Memory>
     requires { All (λ x. x < length places.now) inputs.now }
@@ -21,11 +31,7 @@ fn feeds(alloc: Global, places: &[Option<u32>], inputs: &[u32]) -> Result<Vec<Fe
 {
     let mut feeds = Vec::with_capacity(alloc, inputs.len())?;
     for x in inputs {
-        let feed = match places[*x as usize] {
-            Some(place) => Feed::Cross(place),
-            None => Feed::Input(*x),
-        };
-        feeds.push(feed)?;
+        feeds.push(feed_by(*x, places[*x as usize]))?;
     }
     Ok(feeds)
 }
