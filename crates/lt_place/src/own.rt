@@ -11,6 +11,7 @@ use lt_base::{Clock, Decl, Equation, Expr, Memory};
 use std::alloc::Global;
 
 // Gives the variables of an expression without calls these numbers.
+#[cycle(renumber)]
 fn renumber(own: &[u32], e: &mut Expr)
     requires callless { EachCall (λ g. ⊥) (shape e.old) }
     requires inside { VarsBelow (length own.now) (shape e.old) }
@@ -26,33 +27,33 @@ fn renumber(own: &[u32], e: &mut Expr)
         }
         Expr::Merge(x, a, b) => {
             *x = own[*x as usize];
-            renumber(own, a);
-            renumber(own, b);
+            renumber_both(own, a, b);
         }
         Expr::Fby(_, a) => renumber(own, a),
-        Expr::Bin(_, a, b) => {
-            renumber(own, a);
-            renumber(own, b);
-        }
-        Expr::Imported(_, a, b) => {
-            renumber(own, a);
-            renumber(own, b);
-        }
-        Expr::Follow(a, b) => {
-            renumber(own, a);
-            renumber(own, b);
-        }
-        Expr::Arrow(a, b) => {
-            renumber(own, a);
-            renumber(own, b);
-        }
+        Expr::Bin(_, a, b) => renumber_both(own, a, b),
+        Expr::Imported(_, a, b) => renumber_both(own, a, b),
+        Expr::Follow(a, b) => renumber_both(own, a, b),
+        Expr::Arrow(a, b) => renumber_both(own, a, b),
         Expr::If(c, a, b) => {
             renumber(own, c);
-            renumber(own, a);
-            renumber(own, b);
+            renumber_both(own, a, b);
         }
         Expr::Call(_, _) => unreachable!(),
     }
+}
+
+// Gives those of two expressions these numbers.
+#[cycle(renumber)]
+fn renumber_both(own: &[u32], a: &mut Expr, b: &mut Expr)
+    requires left_callless { EachCall (λ g. ⊥) (shape a.old) }
+    requires right_callless { EachCall (λ g. ⊥) (shape b.old) }
+    requires left_inside { VarsBelow (length own.now) (shape a.old) }
+    requires right_inside { VarsBelow (length own.now) (shape b.old) }
+    ensures left { shape a.new ≡ renamed (own_of own.now) (shape a.old) }
+    ensures right { shape b.new ≡ renamed (own_of own.now) (shape b.old) }
+{
+    renumber(own, a);
+    renumber(own, b);
 }
 
 // An expression without calls, with these numbers for its variables.
