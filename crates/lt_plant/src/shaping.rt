@@ -1,6 +1,7 @@
 // The shape of a network: its nodes and channels, by the layout and the protocol.
 ghost use Rattle.std.specs.Prelude.{◌≡◌, ◌<◌, ◌^◌, [], false, length, IfOk, OnOk, Ok};
 ghost use Rattle.std.specs.List.{list_any};
+ghost use Rattle.lt_arch.specs.declared.timing.Protocol.TheVariants.{BackPressure as OnBackPressure};
 ghost use Rattle.lt_norm.specs.Flat.{Originated};
 ghost use Rattle.lt_place.specs.Layout.{IsPlaced};
 ghost use Rattle.lt_plant.specs.Layout.{joins};
@@ -21,14 +22,21 @@ pub fn is_crossed(cross: &[Crossing], from: u32, to: u32) -> bool
         .any(|crossing| crossing.from == from && crossing.to == to)
 }
 
+// Whether a channel of the kind from one node to another is used: to carry what crosses, or to acknowledge it.
+fn is_used(cross: &[Crossing], kind: ChanKind, from: u32, to: u32) -> bool
+    ensures { result ≡ has_channel cross.now OnBackPressure kind from to }
+{
+    match kind {
+        ChanKind::Data => is_crossed(cross, from, to),
+        ChanKind::Ack => is_crossed(cross, to, from),
+    }
+}
+
 fn has_channel(cross: &[Crossing], protocol: Protocol, kind: ChanKind, from: u32, to: u32) -> bool
     ensures { result ≡ has_channel cross.now protocol kind from to }
 {
     match protocol {
-        Protocol::BackPressure => match kind {
-            ChanKind::Data => is_crossed(cross, from, to),
-            ChanKind::Ack => is_crossed(cross, to, from),
-        },
+        Protocol::BackPressure => is_used(cross, kind, from, to),
         Protocol::TimeBased => match kind {
             ChanKind::Data => from != to,
             ChanKind::Ack => false,

@@ -103,6 +103,23 @@ pub fn append(exits: &[Exit], node: u32, outs: &[Cell], cells: &mut Vec<Track>)
     }
 }
 
+// One step of a machine on these values.
+fn step_on<M: Machine, L: Ledger>(
+    machine: &mut M,
+    values: &[Value],
+    outs: &mut [Cell],
+    steps: &mut Steps<L>,
+)
+    requires left { 0 < M.left machine.old }
+    requires wide { M.inputs machine.old ≡ length values.now }
+    requires long { M.outputs machine.old ≡ length outs.old }
+    ensures steps { MadeStep M.stands M.made M.left machine.old machine.new values.now outs.new }
+    ensures size { M.size machine.new ≡ M.size machine.old }
+    ensures cost { steps.new ≤ steps.old + M.size machine.old }
+{
+    machine.step(values, outs, steps);
+}
+
 // One step of a machine on what its part is fed with.
 fn run<M: Machine, L: Ledger>(
     part: &Part,
@@ -125,7 +142,7 @@ fn run<M: Machine, L: Ledger>(
     ensures cost { steps.new ≤ steps.old + M.size machine.old }
 {
     feed(part.feeds.as_slice(), routes, inboxes, row, values);
-    machine.step(&values[..part.feeds.len()], outs, steps);
+    step_on(machine, &values[..part.feeds.len()], outs, steps);
 }
 
 /// Runs an instant of a node's part on its input row, and puts its outputs where they go.
