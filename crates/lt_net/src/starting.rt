@@ -67,7 +67,54 @@ impl<C: Controller, M: Machine> Plant<C, M> {
         ensures room { IfOk result HasRoom }
         ensures configured { IfOk result (λ plant. AreConfigured C.protocol C.send C.execute plant.timing plant.controllers) }
     {
-        let (watch, initial) = at_start(alloc, &layout, &shape, &timing, rows)?;
+        match at_start(alloc, &layout, &shape, &timing, rows) {
+            Ok((watch, initial)) => {
+                let plant = Plant::assembled(
+                    layout,
+                    shape,
+                    timing,
+                    rows,
+                    machines,
+                    controllers,
+                    watch,
+                    initial,
+                );
+                Ok(plant)
+            }
+            Err(memory) => {
+                drop((layout, shape, timing));
+                drop((machines, controllers));
+                Err(memory)
+            }
+        }
+    }
+
+    // A plant of what nodes and channels have at the start.
+    fn assembled(
+        layout: Layout,
+        shape: Shape,
+        timing: Timing,
+        rows: u32,
+        machines: Vec<M>,
+        controllers: Vec<C>,
+        watch: Watch,
+        initial: Initial,
+    ) -> Plant<C, M>
+        requires placed { (f : Originated) × IsPlaced f layout }
+        requires shape { FitsLayout layout timing.protocol shape }
+        requires numbered { 2 * (node_count shape + chan_count shape) < 2 ^ 32 }
+        requires one_place { OnePlace shape timing rows }
+        requires machines { AreReady M.stands M.made M.left layout rows machines.items }
+        requires controllers { AreAtStart C.phase shape timing controllers.items }
+        requires configured { AreConfigured C.protocol C.send C.execute timing controllers.items }
+        requires watch { HasTimes watch shape timing (start timing.protocol) }
+        requires initial { IsInitial layout shape rows initial }
+        ensures made { IsMadeOf layout shape timing rows machines.items controllers.items result }
+        ensures fresh { IsFresh C.phase M.stands M.made M.left result }
+        ensures kept { Kept C.phase M.stands M.made M.left result }
+        ensures room { HasRoom result }
+        ensures configured { AreConfigured C.protocol C.send C.execute result.timing result.controllers }
+    {
         let Initial {
             executed,
             ends,
@@ -90,10 +137,10 @@ impl<C: Controller, M: Machine> Plant<C, M> {
             values: space.values,
             outs: space.outs,
         };
-        Ok(Plant {
+        Plant {
             bench,
             timing,
             watch,
-        })
+        }
     }
 }
