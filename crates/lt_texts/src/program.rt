@@ -1,5 +1,6 @@
 // The line of a refused program.
-ghost use Rattle.std.specs.Prelude.{◌≡◌, ◌++◌, codes, IfOk, OnOk};
+ghost use Rattle.std.specs.Prelude.{◌≡◌, ◌++◌, ◌∷◌, bytes_eq, codes, if◌then◌else◌, IfOk, OnOk};
+ghost use Rattle.std.specs.List.{flat_map};
 ghost use Rattle.lt_texts.specs.Lines.{syntax_line, name_line, found_name_line, limit_line, type_line, clock_line, clock_text, place_text, cycle_line, size_line, program_line};
 ghost use Rattle.lt_texts.specs.Names.{function_name, variable_name};
 ghost use Rattle.lt_texts.specs.Words.{name_kind_text, ty_text, found_text};
@@ -8,7 +9,7 @@ use crate::clocks::{append_clock, append_place};
 use crate::located::append_located;
 use crate::names::{append_function, append_name, append_variable};
 use crate::words::{found, name_kind, syntax_kind, ty};
-use lt_base::{List, Memory, Sizes, Ty};
+use lt_base::{List, Memory, Name, Sizes, Ty};
 use lt_cause::Cycle;
 use lt_check::{ClockFault, TypeFault};
 use lt_front::ProgramFault;
@@ -71,13 +72,20 @@ fn limit_line(alloc: Global, fault: &NameFault) -> Result<List<u8>, Memory>
     ensures { IfOk result (λ line. line ≡ limit_line fault.now.name) }
 {
     let mut line = List::from_slice(alloc, b"limit: ")?;
-    append_name(&mut line, &fault.name)?;
-    if fault.name.as_str() == "variables" {
-        line.extend(b" 4096")?;
-    } else {
-        line.extend(b" 64")?;
-    }
+    append_limit(&mut line, &fault.name)?;
     Ok(line)
+}
+
+// Appends the word of a quantity and its limit.
+fn append_limit(line: &mut List<u8>, word: &Name) -> Result<(), Memory>
+    ensures { OnOk result (line.new ≡ line.old ++ word.now ++ (if bytes_eq word.now (codes "variables") then codes " 4096" else codes " 64")) }
+{
+    append_name(line, word)?;
+    if word.as_str() == "variables" {
+        line.extend(b" 4096")
+    } else {
+        line.extend(b" 64")
+    }
 }
 
 fn type_line(alloc: Global, fault: &TypeFault, tree: &Tree) -> Result<List<u8>, Memory>
@@ -151,13 +159,28 @@ fn cycle_line(alloc: Global, func: u32, cycle: &Cycle, tree: &Tree) -> Result<Li
     ensures { IfOk result (λ line. line ≡ cycle_line func cycle.now.vars tree.now) }
 {
     let mut line = List::from_slice(alloc, b"cycle in node ")?;
-    append_function(&mut line, tree, func)?;
-    line.extend(b":")?;
-    for variable in cycle.vars.as_slice() {
-        line.extend(b" ")?;
-        append_variable(&mut line, tree, func, *variable)?;
-    }
+    append_cycle(&mut line, func, cycle, tree)?;
     Ok(line)
+}
+
+// Appends a function and the variables of its cycle.
+fn append_cycle(line: &mut List<u8>, func: u32, cycle: &Cycle, tree: &Tree) -> Result<(), Memory>
+    ensures { OnOk result (line.new ≡ line.old ++ function_name tree.now func ++ codes ":" ++ flat_map (λ x. 32 ∷ variable_name tree.now func x) cycle.now.vars) }
+{
+    append_function(line, tree, func)?;
+    line.extend(b":")?;
+    append_each(line, tree, func, cycle.vars.as_slice())
+}
+
+// Appends a space and a name for each of these variables of a function.
+fn append_each(line: &mut List<u8>, tree: &Tree, func: u32, variables: &[u32]) -> Result<(), Memory>
+    ensures { OnOk result (line.new ≡ line.old ++ flat_map (λ x. 32 ∷ variable_name tree.now func x) variables.now) }
+{
+    for variable in variables {
+        line.extend(b" ")?;
+        append_variable(line, tree, func, *variable)?;
+    }
+    Ok(())
 }
 
 fn size_line(alloc: Global, sizes: Sizes) -> Result<List<u8>, Memory>
