@@ -97,8 +97,14 @@ fn load_rows<F: Files>(
     ensures { Answered command_blame (inputs_errand inputs.now) (sited_verdict (F.state files.old).named inputs.now checked site)
         (alone (F.state files.old)) (alone (F.state files.new)) result }
 {
-    let table = load_inputs(alloc, files, inputs, &checked.program)?;
-    Ok(with_inputs(checked, site, table))
+    match load_inputs(alloc, files, inputs, &checked.program) {
+        Ok(table) => Ok(with_inputs(checked, site, table)),
+        Err(fault) => {
+            drop(checked);
+            drop(site);
+            Err(fault)
+        }
+    }
 }
 
 // A program at its site with its inputs.

@@ -46,8 +46,14 @@ fn fitted(
     ensures { result ≡ fitted (examined_part checked) setup }
 {
     match setup {
-        Ok(_) => Ok(checked.examined()),
-        Err(e) => Err(e),
+        Ok(setup) => {
+            drop(setup);
+            Ok(checked.examined())
+        }
+        Err(e) => {
+            drop(checked);
+            Err(e)
+        }
     }
 }
 
@@ -86,8 +92,14 @@ pub(crate) fn placed(
 {
     checked.kept();
     match legal_nodes(alloc, &checked.flat, &setup.placement) {
-        Ok(_) => Ok(setup),
-        Err(fault) => Err(as_place(main_of(&checked.program), fault)),
+        Ok(nodes) => {
+            drop(nodes);
+            Ok(setup)
+        }
+        Err(fault) => {
+            drop(setup);
+            Err(as_place(main_of(&checked.program), fault))
+        }
     }
 }
 
@@ -107,11 +119,14 @@ fn timed(alloc: Global, setup: Config) -> Result<Config, Or<CommandFault>>
     match accepts(&setup.timing) {
         Ok(()) => Ok(setup),
         Err(fault) => {
-            let names = setup.placement.names(alloc)?;
+            let mixed = setup.mixed;
+            let named = setup.placement.names(alloc);
+            drop(setup);
+            let names = named?;
             Err(Or::Fault(CommandFault::Timing {
                 fault,
                 names,
-                mixed: setup.mixed,
+                mixed,
             }))
         }
     }
@@ -134,7 +149,9 @@ fn in_window(alloc: Global, setup: Config) -> Result<Config, Or<CommandFault>>
     ensures { Settles (Passes setup (HasWindow setup.timing) (IsOutsideWindow setup)) result }
 {
     if let Err(fault) = window(&setup.timing) {
-        let names = setup.placement.names(alloc)?;
+        let named = setup.placement.names(alloc);
+        drop(setup);
+        let names = named?;
         return Err(Or::Fault(CommandFault::Window { fault, names }));
     }
     Ok(setup)
