@@ -26,7 +26,7 @@ ghost use Rattle.lt_replay.specs.Keeping.{keeps_itself, keeps_on};
 use crate::feeding::{given, read_next};
 use crate::opening::open;
 use lt_arch::{Controller, Event, Offence, Shape, Timing};
-use lt_base::{Inputs, Steps, Value};
+use lt_base::{Inputs, Memory, Steps, Value};
 use lt_io::{Fabric, LinkErr};
 use lt_judge::{Replica, Stop};
 use lt_machine::Machine;
@@ -80,16 +80,33 @@ impl<'a, C: Controller, M: Machine> Playback<'a, C, M> {
         ensures keeps { KeepsPromises (W.state fabric.old) (W.state fabric.new) }
         ensures sound { IsTrue (W.state fabric.old).sound → (W.state fabric.new).faults ≡ (W.state fabric.old).faults }
     {
-        let (places, row) = open(alloc, &layout, &shape, width, fabric)?;
-        let count = inputs.rows();
-        let net = Net::start(alloc, layout, shape, timing, count, machines, controllers)?;
-        Ok(Playback {
-            net,
-            inputs,
-            places,
-            width,
-            row,
-        })
+        match open(alloc, &layout, &shape, width, fabric) {
+            Ok((places, row)) => {
+                let count = inputs.rows();
+                match Net::start(alloc, layout, shape, timing, count, machines, controllers) {
+                    Ok(net) => Ok(Playback {
+                        net,
+                        inputs,
+                        places,
+                        width,
+                        row,
+                    }),
+                    Err(Memory) => {
+                        drop(places);
+                        drop(row);
+                        Err(LinkErr::Memory)
+                    }
+                }
+            }
+            Err(e) => {
+                drop(layout);
+                drop(shape);
+                drop(timing);
+                drop(machines);
+                drop(controllers);
+                Err(e)
+            }
+        }
     }
 }
 

@@ -19,7 +19,7 @@ use crate::setup::Setup;
 use crate::taking::take;
 use crate::{PlayFault, Playback, Replayed, play};
 use lt_arch::Controller;
-use lt_base::{Inputs, Or};
+use lt_base::{Inputs, Memory, Or};
 use lt_io::{Fabric, Files, LinkErr};
 use lt_machine::Machine;
 use lt_net::Net;
@@ -101,6 +101,58 @@ fn perform<F: Files, W: Fabric, C: Controller, M: Machine>(
     }
 }
 
+// Plays the schedule with a controller of the timing's protocol at each node.
+fn replay_by<F: Files, W: Fabric, M: Machine>(
+    alloc: Global,
+    lines: Lines,
+    files: &mut F,
+    schedule: &str,
+    fabric: &mut W,
+    setup: Setup,
+    machines: Vec<M>,
+    inputs: &Inputs,
+    width: u32,
+) -> Result<Replayed<M>, Or<PlayFault>>
+    requires fresh { lines ≡ fresh }
+    requires count { (F.state files.old).faults < 2 ^ 64 - 1 }
+    requires link_count { (W.state fabric.old).faults < 2 ^ 64 - 1 }
+    requires empty { (W.state fabric.old).kinds ≡ [] }
+    requires placed { (f : Originated) × IsPlaced f setup.layout × RowsFit f.func inputs.now.rows }
+    requires sound { IsSound setup.layout setup.shape setup.timing (length inputs.now.rows) }
+    requires few { length setup.layout.names ≤ 32 }
+    requires machines { AreReady M.stands M.made M.left setup.layout (length inputs.now.rows) machines.items }
+    requires width { inputs.now.width ≡ width }
+    requires wide { HasRowValues width inputs.now.rows }
+    ensures { HasReplayed M.stands M.made setup.layout setup.shape setup.timing inputs.now.rows schedule.now
+        (F.state files.old) (F.state files.new) (W.state fabric.old) (W.state fabric.new) result }
+{
+    let mut lines = lines;
+    match controllers_of(alloc, &setup.timing) {
+        Ok(controllers) => {
+            let replayed = perform(
+                alloc,
+                &mut lines,
+                files,
+                schedule,
+                fabric,
+                setup,
+                machines,
+                controllers,
+                inputs,
+                width,
+            );
+            drop(lines);
+            replayed
+        }
+        Err(Memory) => {
+            drop(lines);
+            drop(setup);
+            drop(machines);
+            Err(Or::Memory)
+        }
+    }
+}
+
 /// Takes the nodes of a layout along a schedule file, over a fabric that has no channels yet: its channels are those of the shape. The
 /// setup is given away, since a network keeps its own.
 /// There is a machine for each node, of its part, and `width` is the number of inputs of `main`.
@@ -131,18 +183,14 @@ pub fn replay<F: Files, W: Fabric, M: Machine>(
         (F.state files.old) (F.state files.new) (W.state fabric.old) (W.state fabric.new) result }
 {
     networks_are_sound();
-    let mut lines = Lines::new(alloc)?;
-    let controllers = controllers_of(alloc, &setup.timing)?;
-    perform(
-        alloc,
-        &mut lines,
-        files,
-        schedule,
-        fabric,
-        setup,
-        machines,
-        controllers,
-        inputs,
-        width,
-    )
+    match Lines::new(alloc) {
+        Ok(lines) => replay_by(
+            alloc, lines, files, schedule, fabric, setup, machines, inputs, width,
+        ),
+        Err(Memory) => {
+            drop(setup);
+            drop(machines);
+            Err(Or::Memory)
+        }
+    }
 }

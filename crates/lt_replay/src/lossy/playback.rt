@@ -22,7 +22,7 @@ use crate::lossy::feeding::read_next;
 use crate::lossy::reading::read_row;
 use crate::opening::open;
 use lt_arch::{Controller, Offence, Shape, Timing};
-use lt_base::{Inputs, Steps, Value};
+use lt_base::{Inputs, Memory, Steps, Value};
 use lt_bp::BackPressure;
 use lt_io::{Fabric, LinkErr};
 use lt_judge::{Replica, Stop};
@@ -73,17 +73,35 @@ impl<'a, M: Machine> LossyPlayback<'a, M> {
         ensures keeps { KeepsPromises (W.state fabric.old) (W.state fabric.new) }
         ensures sound { IsTrue (W.state fabric.old).sound → (W.state fabric.new).faults ≡ (W.state fabric.old).faults }
     {
-        let (places, row) = open(alloc, &layout, &shape, width, fabric)?;
-        let count = inputs.rows();
-        let net = LossyNet::start(alloc, layout, shape, timing, losses, count, machines)?;
-        net.kept();
-        Ok(LossyPlayback {
-            net,
-            inputs,
-            places,
-            width,
-            row,
-        })
+        match open(alloc, &layout, &shape, width, fabric) {
+            Ok((places, row)) => {
+                let count = inputs.rows();
+                match LossyNet::start(alloc, layout, shape, timing, losses, count, machines) {
+                    Ok(net) => {
+                        net.kept();
+                        Ok(LossyPlayback {
+                            net,
+                            inputs,
+                            places,
+                            width,
+                            row,
+                        })
+                    }
+                    Err(Memory) => {
+                        drop(places);
+                        drop(row);
+                        Err(LinkErr::Memory)
+                    }
+                }
+            }
+            Err(e) => {
+                drop(layout);
+                drop(shape);
+                drop(timing);
+                drop(machines);
+                Err(e)
+            }
+        }
     }
 }
 

@@ -17,7 +17,7 @@ use crate::lossy::playback::LossyPlayback;
 use crate::lossy::playing::play;
 use crate::setup::Setup;
 use crate::{LossyPlayFault, Replayed};
-use lt_base::{Inputs, Or};
+use lt_base::{Inputs, Memory, Or};
 use lt_io::{Fabric, Files, LinkErr};
 use lt_machine::Machine;
 use lt_plant::laws::shapes_fit;
@@ -107,8 +107,19 @@ pub fn replay_lossy<F: Files, W: Fabric, M: Machine>(
         (F.state files.old) (F.state files.new) (W.state fabric.old) (W.state fabric.new) result }
 {
     shapes_fit();
-    let mut lines = Lines::new(alloc)?;
-    perform(
-        alloc, &mut lines, files, schedule, fabric, setup, losses, inputs, width, machines,
-    )
+    match Lines::new(alloc) {
+        Ok(lines) => {
+            let mut lines = lines;
+            let replayed = perform(
+                alloc, &mut lines, files, schedule, fabric, setup, losses, inputs, width, machines,
+            );
+            drop(lines);
+            replayed
+        }
+        Err(Memory) => {
+            drop(setup);
+            drop(machines);
+            Err(Or::Memory)
+        }
+    }
 }

@@ -1,11 +1,12 @@
+use Rattle.std.proofs.Common.{refl}
 use Rattle.lt_replay.proofs.LossyPerformed.{no_memory}
 use Rattle.lt_replay.proofs.LossySoundNetworks.{is_sound}
 use Rattle.lt_replay.proofs.lossy.replaying.replay_lossy.Goals as goal
 
-pub returns-in_err-lines : goal.returns-in_err-lines
-returns-in_err-lines g c =
-    no_memory g.M.Machine.stands g.M.Machine.made c.args.setup.layout c.args.setup.shape c.args.setup.timing c.args.losses c.args.inputs.now.rows c.args.schedule.now (g.F.Files.state c.args.files.now) (g.W.Fabric.state c.args.fabric.now) _ c.from_residual.ensures.1
+pub returns-in-Err : goal.returns-in-Err
+returns-in-Err g c =
+    no_memory g.M.Machine.stands g.M.Machine.made c.args.setup.layout c.args.setup.shape c.args.setup.timing c.args.losses c.args.inputs.now.rows c.args.schedule.now (g.F.Files.state c.args.files.now) (g.W.Fabric.state c.args.fabric.now) _ refl
 
-pub perform-requires-clause-sound : goal.perform-requires-clause-sound
-perform-requires-clause-sound g c =
+pub perform-replayed-requires-clause-sound : goal.perform-replayed-requires-clause-sound
+perform-replayed-requires-clause-sound g c =
     is_sound c.shapes_fit.ensures c.requires.placed.0 c.args.setup.layout c.args.setup.shape c.args.setup.timing c.requires.placed.1 c.requires.protocol c.requires.shaped c.requires.timed c.requires.window c.requires.few

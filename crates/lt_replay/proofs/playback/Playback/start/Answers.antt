@@ -4,15 +4,15 @@ use Rattle.lt_plant.specs.Starts.{AreReady}
 use Rattle.lt_replay.proofs.FirstPlay.{plays_first}
 use Rattle.lt_replay.proofs.playback.Playback.start.Goals as goal
 
-pub returns-clause-ready : goal.returns-clause-ready
-returns-clause-ready g c =
-    let net = c.in_ok-net.ensures in
+pub returns-in-Ok-start-clause-ready : goal.returns-in-Ok-start-clause-ready
+returns-in-Ok-start-clause-ready g c =
+    let net = c.in-Ok-start.ensures in
     let placed = c.requires.placed in
     record {
-      reads = record { width_is = c.requires.width; room_is = c.in_ok-places.ensures.room; wide = c.requires.wide };
-      plays = plays_first g.C.Controller.phase g.M.Machine.stands g.M.Machine.made g.M.Machine.left g.M.Machine.size c.args.inputs.now.rows c.args.layout c.args.shape c.args.timing _ c.args.machines.items c.args.controllers.items c.in_ok-net.net (g.W.Fabric.state c.open.new.fabric)
+      reads = record { width_is = c.requires.width; room_is = c.in-Ok.ensures.room; wide = c.requires.wide };
+      plays = plays_first g.C.Controller.phase g.M.Machine.stands g.M.Machine.made g.M.Machine.left g.M.Machine.size c.args.inputs.now.rows c.args.layout c.args.shape c.args.timing _ c.args.machines.items c.args.controllers.items c.in-Ok-start.net (g.W.Fabric.state c.open.new.fabric)
           net.running net.made c.requires.numbered
-          (net.opened c.args.inputs.now.rows (g.W.Fabric.state c.args.fabric.now) (g.W.Fabric.state c.open.new.fabric) c.open.ensures.keeps c.in_ok-places.ensures.opened)
+          (net.opened c.args.inputs.now.rows (g.W.Fabric.state c.args.fabric.now) (g.W.Fabric.state c.open.new.fabric) c.open.ensures.keeps c.in-Ok.ensures.opened)
           (net.given placed.0 c.args.inputs.now.rows placed.1 placed.2 c.rows-count.ensures);
     }
 

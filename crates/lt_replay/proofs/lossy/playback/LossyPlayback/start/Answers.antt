@@ -6,13 +6,13 @@ use Rattle.lt_replay.proofs.lossy.playback.LossyPlayback.start.Goals as goal
 pub start-requires-clause-machines : goal.start-requires-clause-machines
 start-requires-clause-machines g c = subst (λ (count : ℕ). AreReady g.M.Machine.stands g.M.Machine.made g.M.Machine.left c.args.layout count c.args.machines.items) (sym c.rows-count.ensures) c.requires.machines
 
-pub returns-clause-ready : goal.returns-clause-ready
-returns-clause-ready g c =
-    let net = c.in_ok-net.ensures in
+pub returns-in-Ok-start-clause-ready : goal.returns-in-Ok-start-clause-ready
+returns-in-Ok-start-clause-ready g c =
+    let net = c.in-Ok-start.ensures in
     let placed = c.requires.placed in
-    let opened = c.in_ok-places.ensures.opened in
+    let opened = c.in-Ok.ensures.opened in
     record {
-      reads = record { width_is = c.requires.width; room_is = c.in_ok-places.ensures.room; wide = c.requires.wide };
-      plays = plays_first _ g.M.Machine.stands g.M.Machine.made g.M.Machine.left c.args.inputs.now.rows c.args.layout c.args.shape c.args.timing c.args.losses c.rows-count.result c.args.machines.items c.in_ok-net.net (g.W.Fabric.state c.args.fabric.now) (g.W.Fabric.state c.open.new.fabric)
+      reads = record { width_is = c.requires.width; room_is = c.in-Ok.ensures.room; wide = c.requires.wide };
+      plays = plays_first _ g.M.Machine.stands g.M.Machine.made g.M.Machine.left c.args.inputs.now.rows c.args.layout c.args.shape c.args.timing c.args.losses c.rows-count.result c.args.machines.items c.in-Ok-start.net (g.W.Fabric.state c.args.fabric.now) (g.W.Fabric.state c.open.new.fabric)
           net.running net.made c.rows-count.ensures c.requires.sound.numbered c.kept.ensures.kept.fixed net.counts placed.0 placed.1 placed.2 c.open.ensures.keeps opened (net.opened _ _ opened) (net.kinds _ _ opened);
     }
