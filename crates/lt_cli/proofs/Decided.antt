@@ -7,9 +7,10 @@ use Rattle.lt_front.specs.Limits.{is_limit}
 use Rattle.lt_verdict.proofs.Decided.{HasOneKind, HasOneOutcome, and_then}
 use Rattle.lt_load.specs.Loaded.{config_verdict}
 use Rattle.lt_load.specs.Setups.{check_verdict}
-use Rattle.lt_run.specs.Meaning.{meaning_verdict}
+use Rattle.lt_stream.specs.Meaning.{meaning_verdict}
+use Rattle.lt_stream.proofs.OneMeaning.{meaning_decided as one_meaning}
 use Rattle.lt_run.specs.Run.{run_verdict}
-use Rattle.lt_run.proofs.OneRun.{meaning_decided as one_meaning, run_decided as one_run}
+use Rattle.lt_run.proofs.OneRun.{run_decided as one_run}
 use Rattle.lt_arch.specs.declared.shape.Shape.{Shape}
 use Rattle.lt_front.specs.Flattened.{flat_of}
 use Rattle.lt_io.specs.FabricState.{FabricState}

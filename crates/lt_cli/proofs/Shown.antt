@@ -18,9 +18,9 @@ use Rattle.lt_lead.proofs.ByPace.{nodes_are}
 use Rattle.lt_plant.specs.Local.{local_stream, fed_row}
 use Rattle.lt_plant.specs.Payloads.{between, row_at}
 use Rattle.lt_plant.proofs.Firsts.{length-firsts}
-use Rattle.lt_run.specs.Main.{output_streams}
+use Rattle.lt_stream.specs.Main.{output_streams}
 use Rattle.lt_load.specs.Plan.{Plan, load_verdict}
-use Rattle.lt_run.specs.declared.outputs.Outputs.{Outputs}
+use Rattle.lt_stream.specs.declared.outputs.Outputs.{Outputs}
 use Rattle.lt_run.specs.Printed.{AreShown}
 use Rattle.lt_run.specs.Run.{IsLaidOutBy, Shows, along_verdict, ordered_verdict, run_verdict}
 use Rattle.lt_run.proofs.Reading.{has_read}

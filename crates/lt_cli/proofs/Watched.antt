@@ -9,7 +9,7 @@ use Rattle.lt_load.specs.declared.fault.What.{What}
 use Rattle.lt_load.specs.Loaded.{whole_verdict}
 use Rattle.lt_load.specs.Main.{main_in}
 use Rattle.lt_load.specs.Plan.{Plan, load_verdict}
-use Rattle.lt_run.specs.declared.outputs.Outputs.{Outputs}
+use Rattle.lt_stream.specs.declared.outputs.Outputs.{Outputs}
 use Rattle.lt_run.specs.Kinds.{executed_by}
 use Rattle.lt_run.specs.Run.{along_verdict}
 use Rattle.lt_commands.specs.declared.watched.Watched.{Watched}

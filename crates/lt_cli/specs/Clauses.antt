@@ -16,7 +16,7 @@ use Rattle.lt_texts.specs.PlanText.{plan_of}
 use Rattle.lt_load.specs.Loaded.{config_verdict}
 use Rattle.lt_load.specs.Setups.{check_verdict}
 use Rattle.lt_load.specs.Plan.{Plan}
-use Rattle.lt_run.specs.Meaning.{meaning_verdict}
+use Rattle.lt_stream.specs.Meaning.{meaning_verdict}
 use Rattle.lt_run.specs.Run.{run_verdict}
 use Rattle.lt_commands.specs.Big.{big_verdict}
 use Rattle.lt_commands.specs.declared.scene.Scene.{Scene}

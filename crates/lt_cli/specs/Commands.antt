@@ -13,9 +13,10 @@ use Rattle.lt_load.specs.declared.fault.CommandFault.{CommandFault}
 use Rattle.lt_load.specs.Errands.{config_errand, check_errands, load_errands}
 use Rattle.lt_load.specs.Loaded.{config_verdict}
 use Rattle.lt_load.specs.Setups.{check_verdict}
-use Rattle.lt_run.specs.declared.outputs.Outputs.{Outputs}
-use Rattle.lt_run.specs.Errands.{meaning_errands, run_errands}
-use Rattle.lt_run.specs.Meaning.{meaning_verdict}
+use Rattle.lt_stream.specs.declared.outputs.Outputs.{Outputs}
+use Rattle.lt_stream.specs.Errands.{meaning_errands}
+use Rattle.lt_stream.specs.Meaning.{meaning_verdict}
+use Rattle.lt_run.specs.Errands.{run_errands}
 use Rattle.lt_run.specs.Run.{run_verdict}
 use Rattle.lt_commands.specs.Big.{big_verdict}
 use Rattle.lt_commands.specs.Errands.{inspect_errands, watch_errands}

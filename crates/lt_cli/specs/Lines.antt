@@ -3,7 +3,7 @@ use Rattle.std.specs.Prelude.{ℕ, List, ◌++◌, codes}
 use Rattle.lt_base.specs.Program.{Function}
 use Rattle.lt_place.specs.declared.fault.PlaceFault.{PlaceFault}
 use Rattle.lt_place.specs.declared.fault.PlaceFault.TheVariants.{Unplaced, PlacedTwice, UnknownName, DirectCross, SlowCross, ClockElsewhere}
-use Rattle.lt_run.specs.Main.{name_in}
+use Rattle.lt_stream.specs.Main.{name_in}
 
 -- the line of a refused placement, with variables by the names that this function declares
 abbrev pub place_line : Function → PlaceFault → List ℕ

@@ -15,9 +15,9 @@ use Rattle.lt_lead.specs.Paced.{IsShapeBy, bound_by}
 use Rattle.lt_plant.specs.Local.{local_stream}
 use Rattle.lt_plant.specs.Payloads.{between, row_at}
 use Rattle.lt_front.specs.Flattened.{flat_of}
-use Rattle.lt_run.specs.Main.{output_streams}
+use Rattle.lt_stream.specs.Main.{output_streams}
 use Rattle.lt_load.specs.Plan.{Plan, load_verdict}
-use Rattle.lt_run.specs.declared.outputs.Outputs.{Outputs}
+use Rattle.lt_stream.specs.declared.outputs.Outputs.{Outputs}
 use Rattle.lt_run.specs.Kinds.{EventsBy, executed_by, verdict_by}
 use Rattle.lt_run.specs.Run.{Shows}
 use Rattle.lt_commands.specs.Texts.{horizon_of}

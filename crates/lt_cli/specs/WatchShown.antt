@@ -7,9 +7,9 @@ use Rattle.lt_lead.specs.Paced.{bound_by}
 use Rattle.lt_past.specs.Faults.{IsObserverOf}
 use Rattle.lt_past.specs.Observer.{Observing}
 use Rattle.lt_load.specs.Main.{main_in}
+use Rattle.lt_stream.specs.Main.{output_streams}
+use Rattle.lt_stream.specs.declared.outputs.Outputs.{Outputs}
 use Rattle.lt_run.specs.Kinds.{executed_by}
-use Rattle.lt_run.specs.Main.{output_streams}
-use Rattle.lt_run.specs.declared.outputs.Outputs.{Outputs}
 use Rattle.lt_commands.specs.declared.watched.Watched.{Watched}
 use Rattle.lt_commands.specs.Whole.{Judges, Counts}
 use Rattle.lt_cli.specs.Objects.{Objects}

@@ -21,7 +21,7 @@ use Rattle.lt_load.specs.Blamed.{command_blame}
 use Rattle.lt_load.specs.Plan.{Plan, LoadedPlan, IsLoadedFrom, Loads}
 use Rattle.lt_load.proofs.Onward.{not_loaded, then_loaded}
 use Rattle.lt_load.proofs.Steps.{untouched}
-use Rattle.lt_run.specs.declared.outputs.Outputs.{Outputs}
+use Rattle.lt_stream.specs.declared.outputs.Outputs.{Outputs}
 use Rattle.lt_run.specs.Fault.{of_schedule}
 use Rattle.lt_run.specs.Kinds.{EndsBy, file_verdict}
 use Rattle.lt_run.specs.Run.{IsLaidOutBy, Shows, placed_run_verdict}

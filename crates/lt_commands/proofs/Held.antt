@@ -15,7 +15,7 @@ use Rattle.lt_load.specs.declared.fault.CommandFault.{CommandFault}
 use Rattle.lt_load.specs.Blamed.{command_blame}
 use Rattle.lt_load.specs.Plan.{LoadedPlan, Loads}
 use Rattle.lt_load.specs.Pacing.{plain_load_verdict}
-use Rattle.lt_run.specs.declared.outputs.Outputs.{Outputs}
+use Rattle.lt_stream.specs.declared.outputs.Outputs.{Outputs}
 use Rattle.lt_run.specs.Run.{along_loaded}
 use Rattle.lt_commands.specs.Big.{files_of, named_of, loaded_verdict}
 use Rattle.lt_commands.specs.Stage.{Holds, AnsweredAlone, along_bytes}

@@ -31,8 +31,8 @@ use Rattle.lt_judge.specs.Errand.{schedule_errand}
 use Rattle.lt_load.specs.Errands.{load_errands}
 use Rattle.lt_load.specs.Main.{main_in}
 use Rattle.lt_load.specs.Plan.{Plan, LoadedPlan, IsLoadedFrom, Loads, load_verdict}
-use Rattle.lt_run.specs.declared.outputs.Outputs.{Outputs}
-use Rattle.lt_run.specs.Main.{output_streams}
+use Rattle.lt_stream.specs.declared.outputs.Outputs.{Outputs}
+use Rattle.lt_stream.specs.Main.{output_streams}
 use Rattle.lt_run.specs.Near.{ReadNear}
 use Rattle.lt_run.specs.Printed.{AreShown}
 use Rattle.lt_run.specs.Run.{Shows, IsLaidOutBy, along_loaded, along_verdict, placed_run_verdict}

@@ -11,7 +11,7 @@ use Rattle.lt_past.specs.Observer.{Observing}
 use Rattle.lt_past.specs.Naming.{below, named_outs, is_named}
 use Rattle.lt_past.specs.Faults.{IsObserverOf}
 use Rattle.lt_past.specs.Grammar.{names}
-use Rattle.lt_run.specs.Main.{output_streams}
+use Rattle.lt_stream.specs.Main.{output_streams}
 use Rattle.lt_commands.specs.declared.watched.Watched.{Watched}
 use Rattle.lt_commands.specs.declared.watched.Watched.TheVariants.{Holds, Fails}
 use Rattle.lt_commands.specs.Judged.{column, counted, signals_at, IsLeast, Tells, IsWatched}

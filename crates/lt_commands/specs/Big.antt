@@ -17,7 +17,7 @@ use Rattle.lt_load.specs.declared.fault.CommandFault.{CommandFault}
 use Rattle.lt_load.specs.declared.fault.CommandFault.TheVariants as fault
 use Rattle.lt_load.specs.Plan.{Plan}
 use Rattle.lt_load.specs.Pacing.{plain_load_verdict}
-use Rattle.lt_run.specs.declared.outputs.Outputs.{Outputs}
+use Rattle.lt_stream.specs.declared.outputs.Outputs.{Outputs}
 use Rattle.lt_run.specs.Run.{IsLaidOutBy, Shows}
 use Rattle.lt_sim.specs.Drawn.{drawn}
 use Rattle.lt_commands.specs.Texts.{program_text, setup_text, inputs_text, horizon_of}

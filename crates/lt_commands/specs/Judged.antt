@@ -8,7 +8,7 @@ use Rattle.lt_base.specs.Program.{WholeProgram}
 use Rattle.lt_io.specs.FabricState.{FabricState}
 use Rattle.lt_past.specs.Satisfaction.{Signals, Sat}
 use Rattle.lt_past.specs.Observer.{Observing}
-use Rattle.lt_run.specs.Main.{output_streams}
+use Rattle.lt_stream.specs.Main.{output_streams}
 use Rattle.lt_commands.specs.declared.watched.Watched.{Watched}
 use Rattle.lt_commands.specs.declared.watched.Watched.TheVariants.{Holds, Fails}
 

@@ -13,7 +13,7 @@ use Rattle.lt_judge.specs.Verdict.{verdict}
 use Rattle.lt_load.specs.Blamed.{command_blame}
 use Rattle.lt_load.specs.declared.fault.CommandFault.{CommandFault}
 use Rattle.lt_load.specs.Plan.{LoadedPlan}
-use Rattle.lt_run.specs.declared.outputs.Outputs.{Outputs}
+use Rattle.lt_stream.specs.declared.outputs.Outputs.{Outputs}
 use Rattle.lt_run.specs.Run.{along_loaded}
 use Rattle.lt_commands.specs.Texts.{horizon_of}
 use Rattle.lt_commands.specs.Big.{events_of, too_many, played_verdict}

@@ -15,7 +15,7 @@ use Rattle.lt_load.specs.declared.fault.What.TheVariants.{ObserverBytes}
 use Rattle.lt_load.specs.Loaded.{whole_verdict}
 use Rattle.lt_load.specs.Main.{main_in}
 use Rattle.lt_load.specs.Plan.{Plan, LoadedPlan, load_verdict}
-use Rattle.lt_run.specs.declared.outputs.Outputs.{Outputs}
+use Rattle.lt_stream.specs.declared.outputs.Outputs.{Outputs}
 use Rattle.lt_run.specs.Near.{ReadNear}
 use Rattle.lt_run.specs.Run.{along_loaded, along_verdict}
 use Rattle.lt_commands.specs.declared.fault.WatchFault.{WatchFault}

@@ -7,7 +7,8 @@ use crate::large::{file, held};
 use lt_base::{List, Or};
 use lt_io::Fabric;
 use lt_load::{CommandFault, Loaded};
-use lt_run::{Outputs, run_loaded};
+use lt_run::run_loaded;
+use lt_stream::Outputs;
 use std::alloc::Global;
 
 /// Runs what was loaded along the schedule of these bytes, as `run_loaded` does along a file.

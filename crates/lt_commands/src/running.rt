@@ -11,7 +11,7 @@ use crate::playing::play;
 use lt_base::Or;
 use lt_io::Fabric;
 use lt_load::{CommandFault, Loaded};
-use lt_run::Outputs;
+use lt_stream::Outputs;
 use std::alloc::Global;
 
 /// Runs the large input of so many instants, over a fabric that has no channel yet: its program is loaded with its setup and its

@@ -16,7 +16,8 @@ use lt_base::Or;
 use lt_io::{Fabric, Files};
 use lt_load::{Loaded, main_of};
 use lt_past::Observer;
-use lt_run::{Outputs, run_loaded};
+use lt_run::run_loaded;
+use lt_stream::Outputs;
 use std::alloc::Global;
 
 /// Runs a program as `lt_run::run` does, and has an observer judge the cells of the outputs. The files are read in this order: the

@@ -22,12 +22,12 @@ use Rattle.lt_replay.specs.declared.setup.Setup.{Setup}
 use Rattle.lt_front.specs.Checked.{IsChecked}
 use Rattle.lt_load.specs.Main.{main_in}
 use Rattle.lt_load.specs.Plan.{LoadedPlan, IsLoaded}
+use Rattle.lt_stream.specs.Main.{output_names}
 use Rattle.lt_run.specs.declared.fault.RunFault.{RunFault}
 use Rattle.lt_run.specs.declared.fault.RunFault.TheVariants.{Read}
 use Rattle.lt_run.specs.declared.printed.Printed.{Printed}
 use Rattle.lt_run.specs.Fault.{run_blame}
 use Rattle.lt_run.specs.Kinds.{EventsBy, EndsBy, HasStepsBy, fault_by, file_verdict, got_by, verdict_by}
-use Rattle.lt_run.specs.Main.{output_names}
 use Rattle.lt_run.specs.Printed.{HasPrinted, HasTaken, IsReplayBy, ReplayShows, ShowsAt}
 use Rattle.lt_run.proofs.Prefixes.{columns, shows}
 

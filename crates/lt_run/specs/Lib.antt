@@ -1,6 +1,3 @@
-pub mod Main
-pub mod Meaning
-pub mod Columns
 pub mod Fault
 pub mod Kinds
 pub mod Printed

@@ -21,11 +21,11 @@ use Rattle.lt_replay.specs.Played.{world}
 use Rattle.lt_replay.specs.declared.replayed.Replayed.{Replayed}
 use Rattle.lt_load.specs.Main.{main_in}
 use Rattle.lt_load.specs.Plan.{LoadedPlan}
+use Rattle.lt_stream.specs.Main.{output_names, output_streams}
 use Rattle.lt_run.specs.declared.fault.RunFault.{RunFault}
 use Rattle.lt_run.specs.declared.printed.Printed.{Printed}
 use Rattle.lt_run.specs.Fault.{run_blame, IsNearRun}
 use Rattle.lt_run.specs.Kinds.{EventsBy, executed_by, IsRunBy, got_by, HasStepsBy, file_verdict}
-use Rattle.lt_run.specs.Main.{output_names, output_streams}
 
 -- what outputs of these names and cells show, where each node has executed so many instants, each channel has delivered these payloads
 -- and the protocol promises at least so many instants

@@ -22,9 +22,9 @@ use Rattle.lt_load.specs.declared.fault.What.TheVariants.{ScheduleBytes}
 use Rattle.lt_load.specs.declared.fault.CommandFault.{CommandFault}
 use Rattle.lt_load.specs.declared.fault.CommandFault.TheVariants as fault
 use Rattle.lt_load.specs.Plan.{Plan, LoadedPlan, load_verdict}
+use Rattle.lt_stream.specs.declared.outputs.Outputs.{Outputs}
 use Rattle.lt_run.specs.declared.fault.RunFault.{RunFault}
 use Rattle.lt_run.specs.declared.fault.RunFault.TheVariants as run
-use Rattle.lt_run.specs.declared.outputs.Outputs.{Outputs}
 use Rattle.lt_run.specs.Fault.{run_blame, IsNearRun}
 use Rattle.lt_run.specs.Kinds.{EventsBy, file_verdict}
 use Rattle.lt_run.specs.Near.{ReadNear}

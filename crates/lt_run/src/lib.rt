@@ -1,20 +1,13 @@
-//! What a command does with what it loaded: the meaning of a program on inputs, and a run along a schedule.
+//! A run of a loaded program along a schedule, and what it shows.
 #![tactic(auto)]
 
-mod columns;
-mod commands;
 mod equipment;
-mod evaluating;
 mod fault;
-mod outputs;
 mod printed;
 mod replaying;
 mod running;
-mod streaming;
 
-pub use commands::meaning;
 pub use fault::RunFault;
-pub use outputs::Outputs;
 pub use printed::Printed;
 pub use replaying::replay;
 pub use running::{run, run_loaded};

@@ -1,12 +1,11 @@
 // What a replay of a loaded program answers.
 ghost use Rattle.std.specs.Prelude.{◌≡◌, IfOk, length, map};
-ghost use Rattle.lt_run.specs.Main.{name_in};
+ghost use Rattle.lt_stream.specs.Main.{name_in};
 
-use crate::Outputs;
-use crate::outputs::output_names;
 use lt_base::{Cell, Func, List, Memory, Name};
 use lt_place::Layout;
 use lt_replay::Replayed;
+use lt_stream::{Outputs, output_names};
 use std::alloc::Global;
 use std::mem::forget;
 

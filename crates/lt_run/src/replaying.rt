@@ -18,7 +18,7 @@ ghost use Rattle.lt_run.specs.Run.{HasOutputs};
 use crate::equipment::code_machines;
 use crate::fault::{of_lossy, of_play};
 use crate::printed::name_outputs;
-use crate::{Outputs, Printed, RunFault};
+use crate::{Printed, RunFault};
 use lt_base::tables::imp;
 use lt_base::{Inputs, Or};
 use lt_config::Pace;
@@ -29,6 +29,7 @@ use lt_machine::Machine;
 use lt_norm::Flat;
 use lt_replay::setup::{Setup, copies};
 use lt_replay::{Replayed, replay_lossy};
+use lt_stream::Outputs;
 use std::alloc::Global;
 use std::mem::forget;
 

@@ -10,15 +10,16 @@ ghost use Rattle.lt_run.specs.Errands.{run_errands};
 ghost use Rattle.lt_run.specs.Near.{IsNearCommand};
 ghost use Rattle.lt_run.specs.Run.{AsCommand, LeavesUnloaded, along_loaded, run_verdict};
 
+use crate::RunFault;
 use crate::equipment::{Equipment, equip};
 use crate::replaying::{replay_code, replay_given};
-use crate::{Outputs, RunFault};
 use lt_arch::Shape;
-use lt_base::Or;
 use lt_base::tables::imp;
+use lt_base::{Memory, Or};
 use lt_io::{Fabric, Files};
 use lt_load::{CommandFault, Loaded, What, load};
 use lt_machine::Machine;
+use lt_stream::Outputs;
 use std::alloc::Global;
 
 /// Runs a program on the nodes of a setup, or on one node without a setup: each node's machine makes a step for each instant that
@@ -62,8 +63,13 @@ fn run_whole<F: Files, W: Fabric>(
     ensures near { IsTrue (F.state files.old).told → IfErr result (IsNearCommand ((F.state files.old).named schedule.now) (F.state files.new).place) }
     ensures opens { OpensOnce (W.state fabric.old) (W.state fabric.new) result }
 {
-    let equipment = equip(alloc, &loaded, imp)?;
-    run_with(alloc, files, fabric, loaded, equipment, schedule)
+    match equip(alloc, &loaded, imp) {
+        Ok(equipment) => run_with(alloc, files, fabric, loaded, equipment, schedule),
+        Err(Memory) => {
+            drop(loaded);
+            Err(Or::Memory)
+        }
+    }
 }
 
 // The same by these machines, beside a copy of its shape, whose nodes a fault names.

@@ -1,7 +1,8 @@
+use Rattle.std.proofs.Common.{refl}
 use Rattle.lt_run.proofs.Onward.{not_run}
 use Rattle.lt_run.proofs.running.run_whole.Goals as goal
 
-pub returns-in_err-equipment : goal.returns-in_err-equipment
-returns-in_err-equipment g c =
-    let short = not_run c.args.loaded c.args.schedule.now _ _ _ c.from_residual.ensures.1 in
+pub returns-in-Err : goal.returns-in-Err
+returns-in-Err g c =
+    let short = not_run c.args.loaded c.args.schedule.now _ _ _ refl in
     record { answered = short.0; near = short.1; opens = short.2 }

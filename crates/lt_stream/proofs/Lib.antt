@@ -1,0 +1,5 @@
+pub mod Streams
+pub mod Longer
+pub mod Contents
+pub mod Showing
+pub mod OneMeaning

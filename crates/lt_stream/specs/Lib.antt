@@ -1,0 +1,4 @@
+pub mod Main
+pub mod Meaning
+pub mod Columns
+pub mod Errands
