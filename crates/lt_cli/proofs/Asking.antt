@@ -9,10 +9,10 @@ use Rattle.lt_answer.specs.World.{World}
 use Rattle.lt_answer.proofs.Stages.{refuses, runs_short, calm_itself, opens_none}
 use Rattle.lt_words.specs.declared.command.Command.{Command as Spoken}
 use Rattle.lt_words.specs.Reading.{Said, said_of, check, meaning, run, plan, sim, big, watch, audit, trace, command_of}
-use Rattle.lt_cli.specs.declared.refusal.Refusal.TheVariants.{Words}
-use Rattle.lt_cli.specs.declared.status.Status.{Status}
-use Rattle.lt_cli.specs.declared.status.Status.TheVariants as status
-use Rattle.lt_cli.specs.Texts.{line_of}
+use Rattle.lt_reply.specs.declared.refusal.Refusal.TheVariants.{Words}
+use Rattle.lt_reply.specs.declared.status.Status.{Status}
+use Rattle.lt_reply.specs.declared.status.Status.TheVariants as status
+use Rattle.lt_reply.specs.Texts.{line_of}
 use Rattle.lt_cli.specs.Written.{Written, Reaches, whole, broke, short}
 use Rattle.lt_cli.specs.Objects.{Objects, world_of}
 use Rattle.lt_cli.specs.Commands.{asked_verdict, asked_errands, words_verdict}

@@ -17,13 +17,13 @@ use Rattle.lt_commands.specs.Placed.{IsOfShape}
 use Rattle.lt_commands.specs.Scenes.{IsSceneOf, scene_verdict}
 use Rattle.lt_commands.specs.Inspected.{EndsWith, IsAudited, file_verdict, along_verdict, audit_verdict}
 use Rattle.lt_commands.proofs.ToldFirst.{admissible, in_time}
-use Rattle.lt_cli.specs.declared.status.Status.{Status}
-use Rattle.lt_cli.specs.declared.status.Status.TheVariants as status
+use Rattle.lt_reply.specs.declared.status.Status.{Status}
+use Rattle.lt_reply.specs.declared.status.Status.TheVariants as status
 use Rattle.lt_cli.specs.AuditShown.{HoldSchedule, TookClean, IsAuditShown}
 use Rattle.lt_cli.specs.Clauses.{IsExact}
 use Rattle.lt_cli.specs.Objects.{Objects}
 use Rattle.lt_cli.specs.Taken.{TookText}
-use Rattle.lt_cli.specs.Texts.{audit_text, audited_text}
+use Rattle.lt_reply.specs.Texts.{audit_text, audited_text}
 use Rattle.lt_cli.proofs.Decided.{scene_decided}
 use Rattle.lt_cli.proofs.Inspected.{AreAlike, alike}
 

@@ -9,12 +9,12 @@ use Rattle.lt_answer.specs.World.{IsCalm, Blame, Content, Reading, Linking, Blam
 use Rattle.lt_answer.specs.Answered.{RefusesReading}
 use Rattle.lt_load.specs.declared.fault.CommandFault.{CommandFault}
 use Rattle.lt_load.specs.declared.fault.CommandFault.TheVariants.{Read}
-use Rattle.lt_cli.specs.declared.refusal.Refusal.{Refusal}
-use Rattle.lt_cli.specs.declared.refusal.Refusal.TheVariants.{Command}
-use Rattle.lt_cli.specs.declared.status.Status.{Status}
-use Rattle.lt_cli.specs.declared.status.Status.TheVariants as status
-use Rattle.lt_cli.specs.Blamed.{blame_of}
-use Rattle.lt_cli.specs.Texts.{status_of, refusal_status, fault_status, line_of, out_text, err_text}
+use Rattle.lt_reply.specs.declared.refusal.Refusal.{Refusal}
+use Rattle.lt_reply.specs.declared.refusal.Refusal.TheVariants.{Command}
+use Rattle.lt_reply.specs.declared.status.Status.{Status}
+use Rattle.lt_reply.specs.declared.status.Status.TheVariants as status
+use Rattle.lt_reply.specs.Blamed.{blame_of}
+use Rattle.lt_reply.specs.Texts.{status_of, refusal_status, fault_status, line_of, out_text, err_text}
 use Rattle.lt_words.specs.Reading.{Said, command_of}
 use Rattle.lt_cli.specs.Commands.{answer_verdict, text_verdict, command_verdict, asked_verdict, words_verdict}
 use Rattle.lt_cli.specs.Asked.{LeavesFabric}
@@ -23,7 +23,7 @@ use Rattle.lt_cli.specs.Ran.{Ran, Ends, Printed, Reported, Took, OutcomeBlames}
 use Rattle.lt_cli.specs.Ran.{printed, unprinted, both_whole, out_broke, err_broke, both_short}
 use Rattle.lt_cli.specs.Taken.{TookLine}
 use Rattle.lt_cli.specs.Clauses.{IsMissingFor, IsMissingExact, IsOutsideCaused, IsWriteCaused}
-use Rattle.lt_cli.proofs.Refusals.{not_write, outside_blames, blamed_reads, reading_line, linking_line}
+use Rattle.lt_reply.proofs.Refusals.{not_write, outside_blames, blamed_reads, reading_line, linking_line}
 use Rattle.lt_cli.proofs.Exact.{refused_status}
 
 -- a failed call

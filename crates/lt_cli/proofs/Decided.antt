@@ -26,14 +26,14 @@ use Rattle.lt_load.specs.Pacing.{plain_load_verdict}
 use Rattle.lt_load.proofs.OneLoad.{config_decided}
 use Rattle.lt_load.proofs.OnePlain.{plain_load_decided}
 use Rattle.lt_load.proofs.OneShape.{one_shape}
-use Rattle.lt_cli.specs.Draws.{Drawing, too_many, drawing, plan_drawn_verdict, sim_verdict}
+use Rattle.lt_reply.specs.Draws.{Drawing, too_many, drawing, plan_drawn_verdict, sim_verdict}
 use Rattle.lt_cli.proofs.Inspected.{scene_once, audit_once, trace_once}
 use Rattle.lt_load.proofs.OneCheck.{check_decided as one_check}
 use Rattle.lt_commands.specs.Watch.{watch_verdict}
 use Rattle.lt_commands.proofs.OneWatch.{watch_decided}
-use Rattle.lt_cli.specs.declared.status.Status.TheVariants as status
-use Rattle.lt_cli.specs.Texts.{refusal_status, fault_status, program_status}
-use Rattle.lt_cli.specs.Commands.{watch_refusal}
+use Rattle.lt_reply.specs.declared.status.Status.TheVariants as status
+use Rattle.lt_reply.specs.Texts.{refusal_status, fault_status, program_status}
+use Rattle.lt_reply.specs.Replies.{watch_refusal}
 
 -- whether a limit is passed is all that the status tells of a program's fault
 tells_limits : (e f : ProgramFault) → is_limit e ≡ is_limit f → program_status e ≡ program_status f

@@ -25,20 +25,20 @@ use Rattle.lt_sim.specs.File.{file_text, text_of}
 use Rattle.lt_sim.specs.declared.fault.SimFault.{SimFault}
 use Rattle.lt_sim.specs.declared.fault.SimFault.TheVariants as sim
 use Rattle.lt_sim.specs.Recorded.{IsRecorded, IsBroken, IsTooMany, Records, TakesFront}
-use Rattle.lt_cli.specs.declared.refusal.Refusal.{Refusal}
-use Rattle.lt_cli.specs.declared.refusal.Refusal.TheVariants.{Command}
-use Rattle.lt_cli.specs.declared.status.Status.{Status}
-use Rattle.lt_cli.specs.declared.status.Status.TheVariants as status
-use Rattle.lt_cli.specs.Blamed.{blame_of}
-use Rattle.lt_cli.specs.Texts.{status_of, refusal_status, line_of, drawing_text}
+use Rattle.lt_reply.specs.declared.refusal.Refusal.{Refusal}
+use Rattle.lt_reply.specs.declared.refusal.Refusal.TheVariants.{Command}
+use Rattle.lt_reply.specs.declared.status.Status.{Status}
+use Rattle.lt_reply.specs.declared.status.Status.TheVariants as status
+use Rattle.lt_reply.specs.Blamed.{blame_of}
+use Rattle.lt_reply.specs.Texts.{status_of, refusal_status, line_of, drawing_text}
 use Rattle.lt_cli.specs.Written.{Written}
 use Rattle.lt_cli.specs.Objects.{Objects, world_of}
-use Rattle.lt_cli.specs.Draws.{Drawing, too_many, drawing, plan_drawn_verdict, recorded_status, sim_verdict}
+use Rattle.lt_reply.specs.Draws.{Drawing, too_many, drawing, plan_drawn_verdict, recorded_status, sim_verdict}
 use Rattle.lt_cli.specs.Commands.{text_verdict}
 use Rattle.lt_cli.specs.Ran.{Reported, OutcomeBlames}
 use Rattle.lt_cli.specs.Ran.{printed, both_whole, out_broke, err_broke, both_short}
 use Rattle.lt_cli.specs.Asked.{FinishesDrawn, IsReported, Obeys, drawn_outcome, shown_drawing}
-use Rattle.lt_cli.proofs.Refusals.{fault_not_words}
+use Rattle.lt_reply.proofs.Refusals.{fault_not_words}
 use Rattle.lt_cli.proofs.Ends.{took_nothing, front_of_none, keeps_sink, line_reported}
 use Rattle.lt_cli.proofs.Obeyed.{objects, visits_all, line_written, not_found}
 

@@ -6,11 +6,11 @@ use Rattle.lt_io.specs.SinkState.{SinkState, KeepsSink}
 use Rattle.lt_answer.specs.World.{World}
 use Rattle.lt_answer.specs.Answered.{Verdict}
 use Rattle.lt_answer.specs.Answered.{Answered}
-use Rattle.lt_cli.specs.declared.refusal.Refusal.{Refusal}
-use Rattle.lt_cli.specs.declared.status.Status.{Status}
-use Rattle.lt_cli.specs.declared.status.Status.TheVariants as status
-use Rattle.lt_cli.specs.Blamed.{blame_of}
-use Rattle.lt_cli.specs.Texts.{refusal_status, line_of}
+use Rattle.lt_reply.specs.declared.refusal.Refusal.{Refusal}
+use Rattle.lt_reply.specs.declared.status.Status.{Status}
+use Rattle.lt_reply.specs.declared.status.Status.TheVariants as status
+use Rattle.lt_reply.specs.Blamed.{blame_of}
+use Rattle.lt_reply.specs.Texts.{refusal_status, line_of}
 use Rattle.lt_cli.specs.Ran.{Ran, Reported, Took, TookFront}
 use Rattle.lt_cli.specs.Ran.{printed, unprinted, both_whole, out_broke, err_broke, both_short}
 use Rattle.lt_cli.specs.Written.{Written, Reaches, whole, broke, short}

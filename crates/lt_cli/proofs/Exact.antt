@@ -2,16 +2,16 @@
 use Rattle.std.proofs.Common.{◌≡◌, ◌≢◌, ℕ, List, ◌++◌, Result, Ok, Err, refl, sym, ◌∙◌, ap, append-nil}
 use Rattle.lt_answer.specs.Answered.{Verdict}
 use Rattle.lt_verdict.proofs.Decided.{HasOneKind}
-use Rattle.lt_cli.specs.declared.refusal.Refusal.{Refusal}
-use Rattle.lt_cli.specs.declared.status.Status.{Status}
-use Rattle.lt_cli.specs.declared.status.Status.TheVariants as status
-use Rattle.lt_cli.specs.Texts.{status_of, refusal_status, line_of, out_text, err_text}
+use Rattle.lt_reply.specs.declared.refusal.Refusal.{Refusal}
+use Rattle.lt_reply.specs.declared.status.Status.{Status}
+use Rattle.lt_reply.specs.declared.status.Status.TheVariants as status
+use Rattle.lt_reply.specs.Texts.{status_of, refusal_status, line_of, out_text, err_text}
 use Rattle.lt_cli.specs.Commands.{answer_verdict}
 use Rattle.lt_cli.specs.Objects.{Objects}
 use Rattle.lt_cli.specs.Taken.{TookLine, TookText}
 use Rattle.lt_cli.specs.Clauses.{IsExactFor}
 use Rattle.lt_cli.proofs.Gave.{Gave}
-use Rattle.lt_cli.proofs.Refusals.{not_ok}
+use Rattle.lt_reply.proofs.Refusals.{not_ok}
 
 module _ {T E : Type 0} (raise : E → Refusal) (shown : T → List ℕ) (V : Verdict T E) where
   shows : (outcome : Result (List ℕ) Refusal) → answer_verdict raise shown V outcome → status_of outcome ≡ status.Ok → (x : T) × V (Ok x) × (outcome ≡ Ok (shown x))

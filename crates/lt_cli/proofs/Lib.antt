@@ -3,7 +3,6 @@ pub mod Ends
 pub mod Obeyed
 pub mod Drawn
 pub mod Gave
-pub mod Refusals
 pub mod Exact
 pub mod Inspected
 pub mod Decided

@@ -11,17 +11,17 @@ use Rattle.lt_answer.specs.World.{World, alone}
 use Rattle.lt_answer.specs.Answered.{Verdict, Answered}
 use Rattle.lt_answer.proofs.Stages.{beside}
 use Rattle.lt_replay.specs.Played.{world}
-use Rattle.lt_cli.specs.declared.refusal.Refusal.{Refusal}
-use Rattle.lt_cli.specs.declared.refusal.Refusal.TheVariants.{Words, Command, Observer}
-use Rattle.lt_cli.specs.declared.status.Status.{Status}
-use Rattle.lt_cli.specs.declared.status.Status.TheVariants as status
-use Rattle.lt_cli.specs.Blamed.{blame_of}
-use Rattle.lt_cli.specs.Texts.{line_of, refusal_status}
+use Rattle.lt_reply.specs.declared.refusal.Refusal.{Refusal}
+use Rattle.lt_reply.specs.declared.refusal.Refusal.TheVariants.{Words, Command, Observer}
+use Rattle.lt_reply.specs.declared.status.Status.{Status}
+use Rattle.lt_reply.specs.declared.status.Status.TheVariants as status
+use Rattle.lt_reply.specs.Blamed.{blame_of}
+use Rattle.lt_reply.specs.Texts.{line_of, refusal_status}
 use Rattle.lt_cli.specs.Written.{Written, Reaches, whole, broke, short}
 use Rattle.lt_cli.specs.Objects.{Objects}
 use Rattle.lt_cli.specs.Commands.{answer_verdict}
 use Rattle.lt_cli.specs.Asked.{Answers, Finishes, IsOfCommand, Visits, Obeys}
-use Rattle.lt_cli.proofs.Refusals.{fault_not_words, not_ok}
+use Rattle.lt_reply.proofs.Refusals.{fault_not_words, not_ok}
 use Rattle.lt_cli.proofs.Ends.{ran_whole, ran_refused, ran_short}
 
 -- the objects of a call

@@ -16,12 +16,13 @@ use Rattle.lt_commands.specs.Inspected.{audit_verdict, trace_verdict}
 use Rattle.lt_commands.specs.declared.fault.WatchFault.TheVariants as watched
 use Rattle.lt_commands.specs.Watch.{watch_verdict}
 use Rattle.lt_load.specs.declared.fault.CommandFault.TheVariants as fault
-use Rattle.lt_cli.specs.declared.refusal.Refusal.TheVariants.{Command}
-use Rattle.lt_cli.specs.Draws.{sim_verdict}
-use Rattle.lt_cli.specs.Texts.{drawing_text, watched_text, audited_text}
-use Rattle.lt_cli.specs.declared.status.Status.{Status}
-use Rattle.lt_cli.specs.declared.status.Status.TheVariants as status
-use Rattle.lt_cli.specs.Commands.{checked_text, printed_text, summarized_text, watch_refusal, command_verdict, words_verdict}
+use Rattle.lt_reply.specs.declared.refusal.Refusal.TheVariants.{Command}
+use Rattle.lt_reply.specs.Draws.{sim_verdict}
+use Rattle.lt_reply.specs.Texts.{drawing_text, watched_text, audited_text}
+use Rattle.lt_reply.specs.declared.status.Status.{Status}
+use Rattle.lt_reply.specs.declared.status.Status.TheVariants as status
+use Rattle.lt_reply.specs.Replies.{checked_text, printed_text, summarized_text, watch_refusal}
+use Rattle.lt_cli.specs.Commands.{command_verdict, words_verdict}
 use Rattle.lt_cli.specs.Objects.{Objects, IsQuiet, Tells, world_of}
 use Rattle.lt_cli.specs.Asked.{Asked}
 use Rattle.lt_cli.specs.RunShown.{IsRunShown, IsBigShown}
@@ -32,7 +33,7 @@ use Rattle.lt_cli.proofs.Gave.{Gave, gave}
 use Rattle.lt_cli.proofs.Facts.{words_exact, asked_gave}
 use Rattle.lt_cli.proofs.Exact.{exact_for}
 use Rattle.lt_cli.proofs.Causes.{outside_caused, write_caused, missing_exact, missing_for, asked_ran, left_fabric}
-use Rattle.lt_cli.proofs.Refusals.{watch_reads}
+use Rattle.lt_reply.proofs.Refusals.{watch_reads}
 use Rattle.lt_cli.proofs.Failed.{call_failed}
 use Rattle.lt_cli.proofs.Shown.{run_shown, big_shown}
 use Rattle.lt_cli.proofs.Watched.{watch_shown}

@@ -27,7 +27,7 @@ use Rattle.lt_run.proofs.Reading.{has_read}
 use Rattle.lt_commands.specs.Big as big
 use Rattle.lt_commands.specs.Big.{ShowsList, big_verdict, loaded_verdict, events_of}
 use Rattle.lt_commands.proofs.Plainly.{plain_plan}
-use Rattle.lt_cli.specs.Commands.{printed_text, summarized_text}
+use Rattle.lt_reply.specs.Replies.{printed_text, summarized_text}
 use Rattle.lt_cli.specs.Objects.{Objects, world_of}
 use Rattle.lt_cli.specs.Taken.{TookText}
 use Rattle.lt_cli.specs.RunShown.{IsOutputShown, IsRunAlong, IsRunShown, IsBigShown}

@@ -5,8 +5,8 @@ use Rattle.lt_io.specs.declared.fault.SinkErr.TheVariants as sink
 use Rattle.lt_io.specs.Counts.{SinkCounted}
 use Rattle.lt_io.specs.SinkState.{SinkState, KeepsSink}
 use Rattle.lt_io.specs.Transfer.{IsFront}
-use Rattle.lt_cli.specs.declared.status.Status.{Status}
-use Rattle.lt_cli.specs.declared.status.Status.TheVariants as status
+use Rattle.lt_reply.specs.declared.status.Status.{Status}
+use Rattle.lt_reply.specs.declared.status.Status.TheVariants as status
 use Rattle.lt_cli.specs.Written.{Prints, Written, whole, broke, short, written_status}
 use Rattle.lt_cli.proofs.Ends.{keeps_sink, front_of_none}
 

@@ -13,15 +13,17 @@ use Rattle.lt_answer.proofs.Stages.{widened}
 use Rattle.lt_verdict.specs.Rules.{Shown}
 use Rattle.lt_load.specs.Blamed.{command_blame}
 use Rattle.lt_load.specs.declared.fault.CommandFault.{CommandFault}
-use Rattle.lt_cli.specs.declared.refusal.Refusal.{Refusal}
-use Rattle.lt_cli.specs.declared.refusal.Refusal.TheVariants.{Command}
-use Rattle.lt_cli.specs.Blamed.{blame_of}
+use Rattle.lt_reply.specs.declared.refusal.Refusal.{Refusal}
+use Rattle.lt_reply.specs.declared.refusal.Refusal.TheVariants.{Command}
+use Rattle.lt_reply.specs.Blamed.{blame_of}
 use Rattle.lt_commands.specs.declared.fault.WatchFault.{WatchFault}
 use Rattle.lt_commands.specs.declared.fault.WatchFault.TheVariants as watch
 use Rattle.lt_commands.specs.Blamed.{watch_blame}
-use Rattle.lt_cli.specs.Commands.{answer_verdict, watch_refusal}
-use Rattle.lt_cli.proofs.Refusals.{watch_blames}
-use Rattle.lt_cli.specs.Asked.{Answers, AnswersText, IsOfCommand, IsTextBy, IsTextOf}
+use Rattle.lt_reply.specs.Replies.{watch_refusal}
+use Rattle.lt_cli.specs.Commands.{answer_verdict}
+use Rattle.lt_reply.proofs.Refusals.{watch_blames}
+use Rattle.lt_reply.specs.Replies.{IsTextBy, IsTextOf}
+use Rattle.lt_cli.specs.Asked.{Answers, AnswersText, IsOfCommand}
 
 -- faults as refusals that blame the same, none of them that of the words
 pub record IsRaise {E : Type 0} (raise : E → Refusal) (blame : E → Blame) : Type 0 where

@@ -20,7 +20,7 @@ use Rattle.lt_commands.proofs.Whole.{instants, of_whole, counts_below, counts_re
 use Rattle.lt_cli.specs.Objects.{Objects, world_of}
 use Rattle.lt_cli.specs.RunShown.{IsRunAlong}
 use Rattle.lt_cli.specs.Taken.{TookText}
-use Rattle.lt_cli.specs.Texts.{watched_text}
+use Rattle.lt_reply.specs.Texts.{watched_text}
 use Rattle.lt_cli.specs.WatchShown.{HasCounted, AreInstants, IsWatchShown}
 use Rattle.lt_cli.proofs.Shown.{run_along}
 

@@ -1,9 +1,7 @@
 -- What a command does, and a call of `ltta` that is asked for it.
-use Rattle.std.specs.Prelude.{◌≡◌, ◌⊎◌, ℕ, List, [], ◌∷◌, ◌++◌, length, Option, Some, None, Result, Ok, Err, MatchResult, true, false}
+use Rattle.std.specs.Prelude.{◌≡◌, ◌⊎◌, ℕ, List, [], ◌∷◌, ◌++◌, length, Option, Some, None, Result, Ok, Err, true, false}
 use Rattle.lt_base.specs.declared.memory.Or.{Or}
 use Rattle.lt_base.specs.declared.memory.Or.TheVariants.{Fault, Memory}
-use Rattle.lt_base.specs.Or.{MapsFault}
-use Rattle.lt_io.specs.Counts.{IsMemory}
 use Rattle.lt_io.specs.Visits.{Errand, Visited}
 use Rattle.lt_io.specs.FabricState.{FabricState, OpensAtMostOnce}
 use Rattle.lt_io.specs.FilesState.{FilesState}
@@ -16,16 +14,16 @@ use Rattle.lt_load.specs.Plan.{LoadedPlan}
 use Rattle.lt_run.specs.Run.{LeavesUnloaded}
 use Rattle.lt_commands.specs.Big.{LeavesRefused}
 use Rattle.lt_commands.specs.Watch.{LeavesUnwatched}
-use Rattle.lt_cli.specs.declared.refusal.Refusal.{Refusal}
-use Rattle.lt_cli.specs.declared.refusal.Refusal.TheVariants.{Words, Command, Observer}
-use Rattle.lt_cli.specs.declared.status.Status.{Status}
-use Rattle.lt_cli.specs.declared.status.Status.TheVariants as status
-use Rattle.lt_cli.specs.Blamed.{blame_of}
-use Rattle.lt_cli.specs.Texts.{refusal_status, line_of, drawing_text}
+use Rattle.lt_reply.specs.declared.refusal.Refusal.{Refusal}
+use Rattle.lt_reply.specs.declared.refusal.Refusal.TheVariants.{Words, Command, Observer}
+use Rattle.lt_reply.specs.declared.status.Status.{Status}
+use Rattle.lt_reply.specs.declared.status.Status.TheVariants as status
+use Rattle.lt_reply.specs.Blamed.{blame_of}
+use Rattle.lt_reply.specs.Texts.{refusal_status, line_of, drawing_text}
 use Rattle.lt_cli.specs.Commands.{answer_verdict, command_verdict, said_errands, asked_errands, words_verdict}
 use Rattle.lt_cli.specs.Objects.{Objects, world_of}
 use Rattle.lt_cli.specs.Written.{Written}
-use Rattle.lt_cli.specs.Draws.{Drawing, drawing}
+use Rattle.lt_reply.specs.Draws.{Drawing, drawing}
 use Rattle.lt_cli.specs.Ran.{Ran, Reported}
 
 -- the words are not refused
@@ -57,16 +55,6 @@ pub record Answers {T E : Type 0} (raise : E → Refusal) (shown : T → List �
 
 abbrev pub AnswersText : {T : Type 0} (shown : T → List ℕ) (errands : List Errand) (V : Verdict T CommandFault) (old new : World) (result : Result (List ℕ) (Or Refusal)) → Type 0
 AnswersText shown errands V old new result = Answers (λ fault. Command fault) shown errands V old new result
-
--- a step's answer as a command's: the text of its value, unless no memory was found for it, or its fault, raised to a refusal
-abbrev pub IsTextBy : {T E : Type 0} (raise : E → Refusal) (shown : T → List ℕ) → Result T (Or E) → Result (List ℕ) (Or Refusal) → Type 0
-IsTextBy raise shown (Ok x) result = MatchResult result (λ text. text ≡ shown x) IsMemory
-IsTextBy raise shown (Err e) (Ok text) = ⊥
-IsTextBy raise shown (Err e) (Err f) = MapsFault e f (λ fault refusal. refusal ≡ raise fault)
-
--- the same where the fault is a command's
-abbrev pub IsTextOf : {T : Type 0} (shown : T → List ℕ) → Result T (Or CommandFault) → Result (List ℕ) (Or Refusal) → Type 0
-IsTextOf shown found result = IsTextBy (λ fault. Command fault) shown found result
 
 -- an answer ends a call: `out` takes its text, or `err` its refusal's line
 abbrev pub Finishes : Result (List ℕ) (Or Refusal) → (out out' err err' : SinkState) → (ends : Status) → Type 0

@@ -10,7 +10,7 @@ use Rattle.lt_commands.specs.Scenes.{IsSceneOf, scene_verdict}
 use Rattle.lt_commands.specs.Inspected.{IsAudited}
 use Rattle.lt_cli.specs.Objects.{Objects}
 use Rattle.lt_cli.specs.Taken.{TookText}
-use Rattle.lt_cli.specs.Texts.{audit_text, audited_text}
+use Rattle.lt_reply.specs.Texts.{audit_text, audited_text}
 
 -- these files hold a program, inputs and a setup that are not refused, and a schedule that reads as an admissible list of events over
 -- the nodes and channels of its scene

@@ -5,11 +5,11 @@ use Rattle.lt_timing.specs.Accepts.{Accepts}
 use Rattle.lt_answer.specs.Answered.{Verdict}
 use Rattle.lt_load.specs.declared.fault.CommandFault.{CommandFault}
 use Rattle.lt_load.specs.declared.fault.CommandFault.TheVariants.{Read}
-use Rattle.lt_cli.specs.declared.refusal.Refusal.{Refusal}
-use Rattle.lt_cli.specs.declared.refusal.Refusal.TheVariants.{Words, Command}
-use Rattle.lt_cli.specs.declared.status.Status.{Status}
-use Rattle.lt_cli.specs.declared.status.Status.TheVariants as status
-use Rattle.lt_cli.specs.Texts.{refusal_status, line_of, drawing_text, watched_text, audited_text}
+use Rattle.lt_reply.specs.declared.refusal.Refusal.{Refusal}
+use Rattle.lt_reply.specs.declared.refusal.Refusal.TheVariants.{Words, Command}
+use Rattle.lt_reply.specs.declared.status.Status.{Status}
+use Rattle.lt_reply.specs.declared.status.Status.TheVariants as status
+use Rattle.lt_reply.specs.Texts.{refusal_status, line_of, drawing_text, watched_text, audited_text}
 use Rattle.lt_words.specs.Reading.{command_of}
 use Rattle.lt_words.specs.Reading as said
 use Rattle.lt_texts.specs.PlanText.{plan_of}
@@ -23,8 +23,9 @@ use Rattle.lt_commands.specs.declared.scene.Scene.{Scene}
 use Rattle.lt_commands.specs.Inspected.{audit_verdict, trace_verdict}
 use Rattle.lt_commands.specs.declared.fault.WatchFault.TheVariants as watched
 use Rattle.lt_commands.specs.Watch.{watch_verdict}
-use Rattle.lt_cli.specs.Draws.{sim_verdict}
-use Rattle.lt_cli.specs.Commands.{checked_text, printed_text, summarized_text, watch_refusal, words_verdict}
+use Rattle.lt_reply.specs.Draws.{sim_verdict}
+use Rattle.lt_reply.specs.Replies.{checked_text, printed_text, summarized_text, watch_refusal}
+use Rattle.lt_cli.specs.Commands.{words_verdict}
 use Rattle.lt_cli.specs.Taken.{TookLine, TookText}
 use Rattle.lt_cli.specs.RunShown.{IsRunShown, IsBigShown}
 use Rattle.lt_cli.specs.WatchShown.{IsWatchShown}

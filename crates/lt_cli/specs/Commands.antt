@@ -1,7 +1,5 @@
 -- What is right to print for the words and the bytes of the files.
 use Rattle.std.specs.Prelude.{◌≡◌, ℕ, List, [], Option, Some, None, Err}
-use Rattle.lt_print.specs.Canonical.{canonical}
-use Rattle.lt_front.specs.Examined.{ExaminedText}
 use Rattle.lt_texts.specs.PlanText.{plan_of}
 use Rattle.lt_words.specs.Reading.{Said, check, meaning, run, plan, sim, big, audit, trace, command_of}
 use Rattle.lt_words.specs.Reading as said
@@ -13,7 +11,6 @@ use Rattle.lt_load.specs.declared.fault.CommandFault.{CommandFault}
 use Rattle.lt_load.specs.Errands.{config_errand, check_errands, load_errands}
 use Rattle.lt_load.specs.Loaded.{config_verdict}
 use Rattle.lt_load.specs.Setups.{check_verdict}
-use Rattle.lt_stream.specs.declared.outputs.Outputs.{Outputs}
 use Rattle.lt_stream.specs.Errands.{meaning_errands}
 use Rattle.lt_stream.specs.Meaning.{meaning_verdict}
 use Rattle.lt_run.specs.Errands.{run_errands}
@@ -21,14 +18,12 @@ use Rattle.lt_run.specs.Run.{run_verdict}
 use Rattle.lt_commands.specs.Big.{big_verdict}
 use Rattle.lt_commands.specs.Errands.{inspect_errands, watch_errands}
 use Rattle.lt_commands.specs.Inspected.{audit_verdict, trace_verdict}
-use Rattle.lt_commands.specs.declared.fault.WatchFault.{WatchFault}
-use Rattle.lt_commands.specs.declared.fault.WatchFault.TheVariants as watched
 use Rattle.lt_commands.specs.Watch.{watch_verdict}
-use Rattle.lt_cli.specs.declared.refusal.Refusal.{Refusal}
-use Rattle.lt_cli.specs.declared.refusal.Refusal.TheVariants.{Words, Command, Observer}
-use Rattle.lt_cli.specs.Draws.{sim_verdict}
-use Rattle.lt_texts.specs.OutputLines.{outputs_text, summary_text}
-use Rattle.lt_cli.specs.Texts.{watched_text, audited_text, drawing_text}
+use Rattle.lt_reply.specs.declared.refusal.Refusal.{Refusal}
+use Rattle.lt_reply.specs.declared.refusal.Refusal.TheVariants.{Words, Command}
+use Rattle.lt_reply.specs.Replies.{checked_text, printed_text, summarized_text, watch_refusal}
+use Rattle.lt_reply.specs.Draws.{sim_verdict}
+use Rattle.lt_reply.specs.Texts.{watched_text, audited_text, drawing_text}
 
 -- the text of what a command gives, or its refusal
 abbrev pub answer_verdict : {T E : Type 0} → (E → Refusal) → (T → List ℕ) → Verdict T E → Verdict (List ℕ) Refusal
@@ -36,23 +31,6 @@ answer_verdict raise shown V = Raised raise (Shown shown V)
 
 abbrev pub text_verdict : {T : Type 0} → (T → List ℕ) → Verdict T CommandFault → Verdict (List ℕ) Refusal
 text_verdict shown V = answer_verdict (λ fault. Command fault) shown V
-
--- the refusal of a watched run
-abbrev pub watch_refusal : WatchFault → Refusal
-watch_refusal (watched.Command fault) = Command fault
-watch_refusal (watched.Observer fault) = Observer fault
-
--- a program in its canonical form
-abbrev pub checked_text : ExaminedText → List ℕ
-checked_text checked = canonical checked.tree
-
--- the cells of outputs
-abbrev pub printed_text : Outputs → List ℕ
-printed_text printed = outputs_text printed.names printed.cells
-
--- how many cells the outputs have after a run of so many instants, and the last of them
-abbrev pub summarized_text : (instants : ℕ) → Outputs → List ℕ
-summarized_text instants printed = summary_text instants printed.names printed.cells
 
 -- a command on these files; that of a run says what the fabric holds when it has ended, and how far the schedule was read
 abbrev pub command_verdict : (named : List ℕ → Option (List ℕ)) → (new : World) → Said → Verdict (List ℕ) Refusal

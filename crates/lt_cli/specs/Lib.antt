@@ -1,8 +1,3 @@
-pub mod Status
-pub mod Lines
-pub mod Draws
-pub mod Texts
-pub mod Blamed
 pub mod Objects
 pub mod Ran
 pub mod Written

@@ -5,12 +5,12 @@ use Rattle.lt_io.specs.Transfer.{IsFront}
 use Rattle.lt_answer.specs.World.{IsCalm, Blames}
 use Rattle.lt_answer.specs.Answered.{Verdict}
 use Rattle.lt_answer.specs.Answered.{RefusesReading}
-use Rattle.lt_cli.specs.declared.refusal.Refusal.{Refusal}
-use Rattle.lt_cli.specs.declared.status.Status.{Status}
-use Rattle.lt_cli.specs.declared.status.Status.TheVariants.{Write, Memory}
-use Rattle.lt_cli.specs.Texts.{status_of, out_text, err_text}
+use Rattle.lt_reply.specs.declared.refusal.Refusal.{Refusal}
+use Rattle.lt_reply.specs.declared.status.Status.{Status}
+use Rattle.lt_reply.specs.declared.status.Status.TheVariants.{Write, Memory}
+use Rattle.lt_reply.specs.Texts.{status_of, out_text, err_text}
 use Rattle.lt_cli.specs.Objects.{Objects, world_of, KeepsObjects}
-use Rattle.lt_cli.specs.Blamed.{blame_of}
+use Rattle.lt_reply.specs.Blamed.{blame_of}
 
 -- the sink took this text, and did not fail
 pub record Took (text : List ℕ) (old new : SinkState) : Type 0 where

@@ -22,7 +22,7 @@ use Rattle.lt_run.specs.Kinds.{EventsBy, executed_by, verdict_by}
 use Rattle.lt_run.specs.Run.{Shows}
 use Rattle.lt_commands.specs.Texts.{horizon_of}
 use Rattle.lt_commands.specs.Big.{loaded_verdict, events_of}
-use Rattle.lt_cli.specs.Commands.{printed_text, summarized_text}
+use Rattle.lt_reply.specs.Replies.{printed_text, summarized_text}
 use Rattle.lt_cli.specs.Objects.{Objects}
 use Rattle.lt_cli.specs.Taken.{TookText}
 

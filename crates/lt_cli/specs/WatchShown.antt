@@ -15,7 +15,7 @@ use Rattle.lt_commands.specs.Whole.{Judges, Counts}
 use Rattle.lt_cli.specs.Objects.{Objects}
 use Rattle.lt_cli.specs.RunShown.{IsRunAlong}
 use Rattle.lt_cli.specs.Taken.{TookText}
-use Rattle.lt_cli.specs.Texts.{watched_text}
+use Rattle.lt_reply.specs.Texts.{watched_text}
 
 -- node n has an output that counts, as its own variable
 abbrev pub HasCounted : Layout → List ℕ → (n : ℕ) → Type 0

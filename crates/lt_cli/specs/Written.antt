@@ -3,8 +3,8 @@ use Rattle.std.specs.Prelude.{◌≡◌, ℕ, List, Result, Ok, Err}
 use Rattle.lt_io.specs.declared.fault.SinkErr.{SinkErr}
 use Rattle.lt_io.specs.declared.fault.SinkErr.TheVariants as sink
 use Rattle.lt_io.specs.SinkState.{SinkState, KeepsSink}
-use Rattle.lt_cli.specs.declared.status.Status.{Status}
-use Rattle.lt_cli.specs.declared.status.Status.TheVariants.{Write, Memory}
+use Rattle.lt_reply.specs.declared.status.Status.{Status}
+use Rattle.lt_reply.specs.declared.status.Status.TheVariants.{Write, Memory}
 use Rattle.lt_cli.specs.Ran.{Took, TookFront, Broke}
 
 -- how much of a text a sink took, by its answer

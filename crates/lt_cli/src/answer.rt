@@ -16,25 +16,18 @@ ghost use Rattle.lt_commands.specs.Big.{LeavesRefused, big_verdict};
 ghost use Rattle.lt_commands.specs.Errands.{inspect_errands, watch_errands};
 ghost use Rattle.lt_commands.specs.Inspected.{audit_verdict, trace_verdict};
 ghost use Rattle.lt_commands.specs.Watch.{LeavesUnwatched, watch_verdict};
-ghost use Rattle.lt_cli.specs.Texts.{audited_text, watched_text};
-ghost use Rattle.lt_cli.specs.Commands.{checked_text, printed_text, summarized_text, watch_refusal};
-ghost use Rattle.lt_cli.specs.Asked.{Answers, AnswersText, IsTextBy, IsTextOf};
+ghost use Rattle.lt_reply.specs.Texts.{audited_text, watched_text};
+ghost use Rattle.lt_reply.specs.Replies.{checked_text, printed_text, summarized_text, watch_refusal};
+ghost use Rattle.lt_cli.specs.Asked.{Answers, AnswersText};
 
-use crate::Refusal;
-use crate::judgement::{audited_text, watched_text};
-use crate::refusal::watch_refusal;
 use lt_base::{List, Or};
-use lt_commands::{Audited, WatchFault, Watched, audit, big, trace, watch};
-use lt_config::Config;
-use lt_front::Examined;
+use lt_commands::{audit, big, trace, watch};
 use lt_io::{Fabric, Files};
-use lt_load::{CommandFault, check_with, load_config, load_text};
-use lt_print::print;
+use lt_load::{check_with, load_config, load_text};
+use lt_reply::{Refusal, handed_on, judged, planned, printed, shown, summarized, told};
 use lt_run::run;
-use lt_stream::{Outputs, meaning};
-use lt_texts::{outputs_text, plan_text, summary_text};
+use lt_stream::meaning;
 use std::alloc::Global;
-use std::mem::forget;
 
 /// The canonical text of a program that passes all checks, with a setup's beside its own.
 pub(crate) fn check_answer<F: Files>(
@@ -65,16 +58,6 @@ fn text_answer<F: Files>(
     handed_on(text)
 }
 
-// The text of a step, or its fault as a refusal.
-fn handed_on(answer: Result<List<u8>, Or<CommandFault>>) -> Result<List<u8>, Or<Refusal>>
-    ensures { IsTextOf (λ text. text) answer result }
-{
-    match answer {
-        Ok(text) => Ok(text),
-        Err(e) => Err(e.map(Refusal::Command)),
-    }
-}
-
 // The canonical text of a program that passes all checks and that a setup fits.
 fn fitting_answer<F: Files>(
     alloc: Global,
@@ -89,24 +72,6 @@ fn fitting_answer<F: Files>(
     printed(alloc, checked)
 }
 
-// The canonical text of a program, or the fault of the step that was to read it.
-fn printed(
-    alloc: Global,
-    found: Result<Examined, Or<CommandFault>>,
-) -> Result<List<u8>, Or<Refusal>>
-    ensures { IsTextOf checked_text found result }
-{
-    match found {
-        Ok(checked) => {
-            let text = print(alloc, &checked.tree)?;
-            // The call is nearly over: to take a large tree and its program apart would be a sixth of its time.
-            forget(checked);
-            Ok(text)
-        }
-        Err(e) => Err(e.map(Refusal::Command)),
-    }
-}
-
 /// The outputs of a program on all rows of its inputs.
 pub(crate) fn meaning_answer<F: Files>(
     alloc: Global,
@@ -119,16 +84,6 @@ pub(crate) fn meaning_answer<F: Files>(
 {
     let found = meaning(alloc, files, program, inputs);
     shown(alloc, found)
-}
-
-// The text of outputs, or the fault of the step that was to find them.
-fn shown(alloc: Global, found: Result<Outputs, Or<CommandFault>>) -> Result<List<u8>, Or<Refusal>>
-    ensures { IsTextOf printed_text found result }
-{
-    match found {
-        Ok(outputs) => Ok(outputs_text(alloc, outputs.names, outputs.cells)?),
-        Err(e) => Err(e.map(Refusal::Command)),
-    }
 }
 
 /// The outputs of a run, with a setup as it says.
@@ -168,20 +123,6 @@ pub(crate) fn plan_answer<F: Files>(
     planned(alloc, setup, horizon)
 }
 
-// The plan of a setup, or the fault of the step that was to read it.
-fn planned(
-    alloc: Global,
-    found: Result<Config, Or<CommandFault>>,
-    horizon: Option<u64>,
-) -> Result<List<u8>, Or<Refusal>>
-    ensures { IsTextOf (λ setup. plan_of setup horizon) found result }
-{
-    match found {
-        Ok(setup) => Ok(plan_text(alloc, &setup, horizon)?),
-        Err(e) => Err(e.map(Refusal::Command)),
-    }
-}
-
 /// The summary of a run of the large input, for which no file is read.
 pub(crate) fn big_answer<W: Fabric>(
     alloc: Global,
@@ -196,23 +137,6 @@ pub(crate) fn big_answer<W: Fabric>(
 {
     let found = big(alloc, fabric, instants);
     summarized(alloc, instants, found)
-}
-
-// The summary of outputs, or the fault of the step that was to find them.
-fn summarized(
-    alloc: Global,
-    instants: u32,
-    found: Result<Outputs, Or<CommandFault>>,
-) -> Result<List<u8>, Or<Refusal>>
-    ensures { IsTextOf (summarized_text instants) found result }
-{
-    match found {
-        Ok(outputs) => {
-            let names = outputs.names.as_slice();
-            Ok(summary_text(alloc, instants, names, outputs.cells.as_slice())?)
-        }
-        Err(e) => Err(e.map(Refusal::Command)),
-    }
 }
 
 /// What an observer makes of a run.
@@ -240,16 +164,6 @@ pub(crate) fn watch_answer<F: Files, W: Fabric>(
     told(alloc, watched)
 }
 
-// What is told of a run, or the fault of the step that was to watch it.
-fn told(alloc: Global, watched: Result<Watched, Or<WatchFault>>) -> Result<List<u8>, Or<Refusal>>
-    ensures { IsTextBy watch_refusal watched_text watched result }
-{
-    match watched {
-        Ok(watched) => Ok(watched_text(alloc, watched)?),
-        Err(e) => Err(e.map(watch_refusal)),
-    }
-}
-
 /// The first event of a schedule at which a node executes with a message too few or too many.
 pub(crate) fn audit_answer<F: Files>(
     alloc: Global,
@@ -264,19 +178,6 @@ pub(crate) fn audit_answer<F: Files>(
 {
     let audited = audit(alloc, files, program, inputs, schedule, config);
     judged(alloc, audited)
-}
-
-// What is told of a schedule, or the fault of the step that was to judge it.
-fn judged(
-    alloc: Global,
-    audited: Result<Audited, Or<CommandFault>>,
-) -> Result<List<u8>, Or<Refusal>>
-    ensures { IsTextOf audited_text audited result }
-{
-    match audited {
-        Ok(audited) => Ok(audited_text(alloc, &audited)?),
-        Err(e) => Err(e.map(Refusal::Command)),
-    }
 }
 
 /// A schedule of the events that are selected.

@@ -1,14 +1,14 @@
 // A drawn schedule, written to `out` as it is drawn.
 ghost use Rattle.std.specs.Prelude.{◌≡◌, ◌⊎◌, ◌<◌, ◌≤◌, ◌-◌, ◌^◌};
 ghost use Rattle.lt_arch.specs.declared.limits.TheConstants.{GREATEST_TIME};
-ghost use Rattle.lt_cli.specs.Draws.{recorded_status};
+ghost use Rattle.lt_reply.specs.Draws.{recorded_status};
 ghost use Rattle.lt_cli.specs.Asked.{FinishesDrawn, IsDrawnShort, IsReported, drawn_outcome};
 
 use crate::printer::Printer;
 use crate::top::refuse;
-use crate::{Refusal, Status};
 use lt_base::Or;
 use lt_load::{CommandFault, Loaded};
+use lt_reply::{Refusal, Status};
 use lt_rows::RowFault;
 use lt_sim::SimFault;
 use std::alloc::Global;

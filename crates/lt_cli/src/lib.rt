@@ -3,15 +3,10 @@
 
 mod answer;
 mod drawing;
-mod judgement;
-mod place_line;
 mod printer;
 mod process;
-mod refusal;
-mod status;
 mod top;
 
+pub use lt_reply::{Refusal, Status};
 pub use process::program;
-pub use refusal::Refusal;
-pub use status::Status;
 pub use top::ltta;

@@ -6,14 +6,14 @@ ghost use Rattle.lt_io.specs.declared.fault.SinkErr.TheVariants.{Memory as SinkW
 ghost use Rattle.lt_io.specs.SinkState.{KeepsSink};
 ghost use Rattle.lt_sim.specs.Drawn.{drawn};
 ghost use Rattle.lt_sim.specs.Recorded.{Records};
-ghost use Rattle.lt_cli.specs.Texts.{line_of};
+ghost use Rattle.lt_reply.specs.Texts.{line_of};
 ghost use Rattle.lt_cli.specs.Written.{Prints};
 
-use crate::Refusal;
 use lt_base::{List, Memory, Or};
 use lt_io::{Sink, SinkErr, write_all};
 use lt_load::Loaded;
 use lt_replay::laws::networks_are_sound;
+use lt_reply::Refusal;
 use lt_sim::{SimFault, record};
 use std::alloc::Global;
 

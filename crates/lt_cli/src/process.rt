@@ -4,9 +4,9 @@ ghost use Rattle.std.specs.IoError.{error_kind};
 ghost use Rattle.lt_cli.specs.Clauses.{Performs};
 ghost use Rattle.lt_cli.specs.Objects.{Objects};
 
-use crate::Status;
 use crate::top::ltta;
 use lt_io::{Fabric, Files, RealSink, Sink};
+use lt_reply::Status;
 use std::alloc::Global;
 use std::io;
 use std::io::{ErrorKind, Stderr, Stdout};

@@ -5,7 +5,7 @@ ghost use Rattle.lt_cli.specs.Objects.{Objects};
 ghost use Rattle.lt_words.specs.Reading.{said_of};
 ghost use Rattle.lt_words.specs.Ranges.{HasRanges};
 ghost use Rattle.lt_cli.specs.Asked.{Asked, Finishes, IsShort, ObeysCommand};
-ghost use Rattle.lt_cli.specs.Texts.{refusal_status, line_of};
+ghost use Rattle.lt_reply.specs.Texts.{refusal_status, line_of};
 ghost use Rattle.lt_cli.specs.Written.{Written, written_status};
 
 use crate::answer::{
@@ -14,10 +14,10 @@ use crate::answer::{
 };
 use crate::drawing::draw;
 use crate::printer::Printer;
-use crate::{Refusal, Status};
 use lt_base::{List, Or};
 use lt_io::{Fabric, Files, Sink, SinkErr};
 use lt_load::load_plain;
+use lt_reply::{Refusal, Status};
 use lt_words::{Command, read_words};
 use std::alloc::Global;
 

@@ -39,7 +39,10 @@ pub(crate) fn draw(
         &mut sink,
     ) {
         Ok(_) => Ok(sink.into_bytes()),
-        Err(fault) => Err(fault.map(of_sim)),
+        Err(fault) => {
+            drop(sink);
+            Err(fault.map(of_sim))
+        }
     }
 }
 

@@ -41,7 +41,9 @@ pub fn inspect<F: Files>(
     ensures selection { inspection.new.tap.selection ≡ inspection.old.tap.selection }
 {
     let mut lines = Lines::new(alloc)?;
-    match replay_schedule(&mut lines, files, schedule, inspection, &mut ()) {
+    let replayed = replay_schedule(&mut lines, files, schedule, inspection, &mut ());
+    drop(lines);
+    match replayed {
         Ok(()) => Ok(()),
         Err(halt) => Err(as_fault(inspection.auditor.shape(), halt)),
     }

@@ -1,5 +1,5 @@
 // What the files of the large input are loaded as.
-ghost use Rattle.std.specs.Prelude.{◌≡◌, [], ◌∷◌, IfOk};
+ghost use Rattle.std.specs.Prelude.{◌≡◌, ◌++◌, [], ◌∷◌, IfOk, OnOk};
 ghost use Rattle.lt_io.specs.MemFiles.{mem_files_state};
 ghost use Rattle.lt_answer.specs.Answered.{Settles};
 ghost use Rattle.lt_load.specs.Plan.{Loads};
@@ -12,8 +12,8 @@ use lt_io::{MemFile, MemFiles};
 use lt_load::{CommandFault, Loaded, load_plain};
 use std::alloc::Global;
 
-/// A file of this name.
-pub(crate) fn file(alloc: Global, name: &str, bytes: List<u8>) -> Result<MemFile, Memory>
+// A file of this name.
+fn file(alloc: Global, name: &str, bytes: List<u8>) -> Result<MemFile, Memory>
     ensures { IfOk result (λ file. file ≡ record { name = name.now; bytes = bytes }) }
 {
     Ok(MemFile {
@@ -29,14 +29,35 @@ pub(crate) fn held(alloc: Global, files: List<MemFile>) -> MemFiles
     MemFiles::new(files, List::new(alloc))
 }
 
+/// Adds a file of this name.
+pub(crate) fn add(
+    alloc: Global,
+    files: &mut List<MemFile>,
+    name: &str,
+    bytes: List<u8>,
+) -> Result<(), Memory>
+    ensures { OnOk result (files.new ≡ files.old ++ record { name = name.now; bytes = bytes } ∷ []) }
+{
+    let file = file(alloc, name, bytes)?;
+    files.push(file)?;
+    Ok(())
+}
+
+// Adds the program, the setup and the inputs of so many instants.
+fn add_all(alloc: Global, files: &mut List<MemFile>, instants: u32) -> Result<(), Memory>
+    ensures { OnOk result (files.new ≡ files.old ++ files_of instants) }
+{
+    add(alloc, files, "program", program(alloc)?)?;
+    add(alloc, files, "setup", setup(alloc)?)?;
+    add(alloc, files, "inputs", inputs(alloc, instants)?)
+}
+
 // The program, the setup and the inputs of so many instants.
 fn files(alloc: Global, instants: u32) -> Result<List<MemFile>, Memory>
     ensures { IfOk result (λ files. files ≡ files_of instants) }
 {
     let mut files = List::new(alloc);
-    files.push(file(alloc, "program", program(alloc)?)?)?;
-    files.push(file(alloc, "setup", setup(alloc)?)?)?;
-    files.push(file(alloc, "inputs", inputs(alloc, instants)?)?)?;
+    add_all(alloc, &mut files, instants)?;
     Ok(files)
 }
 
@@ -45,5 +66,7 @@ pub(crate) fn load(alloc: Global, instants: u32) -> Result<Loaded, Or<CommandFau
     ensures { Settles (Loads (loaded_verdict instants)) result }
 {
     let mut files = held(alloc, files(alloc, instants)?);
-    load_plain(alloc, &mut files, "program", "inputs", "setup")
+    let loaded = load_plain(alloc, &mut files, "program", "inputs", "setup");
+    drop(files);
+    loaded
 }

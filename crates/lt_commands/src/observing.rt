@@ -60,7 +60,9 @@ pub(crate) fn load_observer<F: Files>(
     ensures { Answered watch_blame (observer_errand name.now) (observer_verdict main.now ((F.state files.old).named name.now)) (alone (F.state files.old)) (alone (F.state files.new)) result }
 {
     let bytes = fetch_observer(alloc, files, name)?;
-    match read_observer(alloc, bytes.as_slice(), main) {
+    let read = read_observer(alloc, bytes.as_slice(), main);
+    drop(bytes);
+    match read {
         Ok(observer) => Ok(observer),
         Err(e) => Err(e.map(WatchFault::Observer)),
     }

@@ -3,7 +3,7 @@ ghost use Rattle.std.specs.Prelude.{◌≡◌, ◌<◌, ◌-◌, ◌^◌, []};
 ghost use Rattle.lt_io.specs.FabricState.{OpensOnce};
 ghost use Rattle.lt_commands.specs.Stage.{AnsweredAlone, along_bytes};
 
-use crate::large::{file, held};
+use crate::large::{add, held};
 use lt_base::{List, Or};
 use lt_io::Fabric;
 use lt_load::{CommandFault, Loaded};
@@ -24,7 +24,9 @@ pub(crate) fn play<W: Fabric>(
     ensures opens { OpensOnce (W.state fabric.old) (W.state fabric.new) result }
 {
     let mut listed = List::new(alloc);
-    listed.push(file(alloc, "schedule", schedule)?)?;
+    add(alloc, &mut listed, "schedule", schedule)?;
     let mut files = held(alloc, listed);
-    run_loaded(alloc, &mut files, fabric, loaded, "schedule")
+    let outputs = run_loaded(alloc, &mut files, fabric, loaded, "schedule");
+    drop(files);
+    outputs
 }

@@ -32,7 +32,9 @@ pub fn big<W: Fabric>(
     ensures untouched { LeavesRefused instants (W.state fabric.old) (W.state fabric.new) }
 {
     let loaded = load(alloc, instants)?;
-    run(alloc, fabric, &loaded, instants)
+    let outputs = run(alloc, fabric, &loaded, instants);
+    drop(loaded);
+    outputs
 }
 
 // Runs what was loaded along the schedule that is drawn for it.

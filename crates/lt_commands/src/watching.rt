@@ -41,7 +41,9 @@ pub fn watch<F: Files, W: Fabric>(
     ensures untouched { LeavesUnwatched (F.state files.old) program.now inputs.now observer.now (option_map (λ s. s.now) config.entry) (W.state fabric.old) (W.state fabric.new) }
 {
     let loaded = load_run(alloc, files, program, inputs, config)?;
-    watch_loaded(alloc, files, fabric, &loaded, schedule, observer)
+    let watched = watch_loaded(alloc, files, fabric, &loaded, schedule, observer);
+    drop(loaded);
+    watched
 }
 
 // What was loaded: its observer, and then the run.
@@ -63,7 +65,9 @@ fn watch_loaded<F: Files, W: Fabric>(
 {
     let checked = &loaded.checked;
     let observer = load_observer(alloc, files, observer, main_of(&checked.program))?;
-    follow(alloc, files, fabric, loaded, schedule, &observer)
+    let watched = follow(alloc, files, fabric, loaded, schedule, &observer);
+    drop(observer);
+    watched
 }
 
 // The run, and then what its observer makes of it.
@@ -84,7 +88,9 @@ fn follow<F: Files, W: Fabric>(
 {
     observer.kept();
     let outputs = run_outputs(alloc, files, fabric, loaded, schedule)?;
-    Ok(judge(alloc, observer, outputs.cells.as_slice())?)
+    let judged = judge(alloc, observer, outputs.cells.as_slice());
+    drop(outputs);
+    Ok(judged?)
 }
 
 // The outputs of the run.

@@ -24,7 +24,11 @@ pub fn tell_config(
         return tell_plain(alloc, line);
     }
     match read_config(alloc, text) {
-        Ok(config) => tell_of_config(alloc, line, what, &config),
+        Ok(config) => {
+            let told = tell_of_config(alloc, line, what, &config);
+            drop(config);
+            told
+        }
         Err(Or::Fault(fault)) => tell_fault(line, &fault),
         Err(Or::Memory) => Err(Memory),
     }
@@ -109,7 +113,11 @@ fn tell_lead(line: &mut String, timing: &Timing) -> Result<(), Memory> {
 // Tells what there is without a setup.
 fn tell_plain(alloc: Global, line: &mut String) -> Result<(), Memory> {
     match Config::plain(alloc) {
-        Ok(config) => tell_one_node(line, &config),
+        Ok(config) => {
+            let told = tell_one_node(line, &config);
+            drop(config);
+            told
+        }
         Err(_) => Err(Memory),
     }
 }

@@ -12,8 +12,15 @@ pub fn tell_fault_line(alloc: Global, line: &mut String, text: &[u8]) -> Result<
         return Err(Memory);
     }
     match examine(alloc, text) {
-        Ok(_) => tell_bytes(line, b""),
-        Err(Or::Fault(fault)) => tell_line(alloc, line, &fault),
+        Ok(examined) => {
+            drop(examined);
+            tell_bytes(line, b"")
+        }
+        Err(Or::Fault(fault)) => {
+            let told = tell_line(alloc, line, &fault);
+            drop(fault);
+            told
+        }
         Err(Or::Memory) => Err(Memory),
     }
 }
@@ -35,14 +42,24 @@ pub fn tell_flat_sizes(alloc: Global, line: &mut String, text: &[u8]) -> Result<
 }
 
 fn tell_sizes(alloc: Global, line: &mut String, checked: Checked) -> Result<(), Memory> {
-    tell_variables(line, &checked)?;
-    match checked.examined().flatten(alloc) {
-        Ok(again) => tell_variables(line, &again),
-        Err(_) => Err(Memory),
-    }
+    tell(line, variables_of(&checked))?;
+    let again = variables_again(alloc, checked)?;
+    tell(line, again)
 }
 
-// Tells the number of variables of a flat form.
-fn tell_variables(line: &mut String, checked: &Checked) -> Result<(), Memory> {
-    tell(line, checked.flat.func.decls.len())
+// The number of variables of a flat form.
+fn variables_of(checked: &Checked) -> usize {
+    checked.flat.func.decls.len()
+}
+
+// That of the flat form that is made again.
+fn variables_again(alloc: Global, checked: Checked) -> Result<usize, Memory> {
+    match checked.examined().flatten(alloc) {
+        Ok(again) => {
+            let variables = variables_of(&again);
+            drop(again);
+            Ok(variables)
+        }
+        Err(_) => Err(Memory),
+    }
 }

@@ -125,15 +125,25 @@ fn read_at(rt: HostRuntime, path: &PathBuf) -> Result<String, Fail> {
     Ok(line)
 }
 
+// Whether this is read of a file.
+fn is_read(rt: HostRuntime, path: &PathBuf, wanted: &str) -> Result<bool, Fail> {
+    let read = read_at(rt, path)?;
+    Ok(read.as_str() == wanted)
+}
+
+// Whether a file that is written is read, and then, once it is removed, is missing.
+fn is_written_and_read(rt: HostRuntime, path: &PathBuf) -> Result<bool, Fail> {
+    write_at(rt, path)?;
+    let is_written = is_read(rt, path, " \"one two\"")?;
+    fs::remove_file(&rt, path)?;
+    Ok(is_written && is_read(rt, path, " \"failed\"")?)
+}
+
 #[test]
 fn a_real_file_is_written_and_read(rt: HostRuntime) -> Result<(), Fail> {
     let path = path_of(rt)?;
-    write_at(rt, &path)?;
-    let read = read_at(rt, &path)?;
-    assert!(rt; read.as_str() == " \"one two\"");
-    fs::remove_file(&rt, &path)?;
-    let read = read_at(rt, &path)?;
-    assert!(rt; read.as_str() == " \"failed\"");
+    let holds = is_written_and_read(rt, &path)?;
+    assert!(rt; holds);
     Ok(())
 }
 
@@ -155,7 +165,9 @@ fn carry_two<W: Fabric>(
         List::new(alloc),
         List::from_slice(alloc, &[Ty::Int, Ty::Bool])?,
     ];
-    fabric.open(&kinds)?;
+    let opened = fabric.open(&kinds);
+    drop(kinds);
+    opened?;
     fabric.send(1, &first, true)?;
     fabric.send(1, &second, false)?;
     let mut one = [Value::Int(0); 2];

@@ -33,7 +33,11 @@ pub fn tell_names(alloc: Global, line: &mut String, what: &str, tree: &Tree) -> 
         return Err(Memory);
     }
     match resolve(alloc, tree) {
-        Ok(p) => tell_resolved(alloc, line, what, &p),
+        Ok(p) => {
+            let told = tell_resolved(alloc, line, what, &p);
+            drop(p);
+            told
+        }
         Err(Or::Fault(fault)) => tell_fault(line, &fault),
         Err(Or::Memory) => Err(Memory),
     }
@@ -73,6 +77,14 @@ fn tell_of_program(alloc: Global, line: &mut String, what: &str, p: &Program) ->
     if what == "clocks" {
         return tell_clocks(alloc, line, p);
     }
+    tell_fitting(alloc, line, what, p)
+}
+
+// Whether a program is within its limits, its sizes, and its copies.
+fn tell_fitting(alloc: Global, line: &mut String, what: &str, p: &Program) -> Result<(), Memory>
+    requires calls { NotRecursive p.now.funcs }
+    requires variables { All (λ f. length f.decls < 2 ^ 32) p.now.funcs }
+{
     if what == "fits" {
         return tell_fits(alloc, line, p);
     }

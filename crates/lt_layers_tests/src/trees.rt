@@ -16,7 +16,11 @@ pub fn tell_parsed(
     text: &[u8],
 ) -> Result<(), Memory> {
     match parse(alloc, text) {
-        Ok(tree) => tell_of_tree(alloc, line, what, &tree),
+        Ok(tree) => {
+            let told = tell_of_tree(alloc, line, what, &tree);
+            drop(tree);
+            told
+        }
         Err(Or::Fault(fault)) => tell_fault(line, fault),
         Err(Or::Memory) => Err(Memory),
     }
@@ -41,14 +45,22 @@ fn tell_fault(line: &mut String, fault: SyntaxFault) -> Result<(), Memory> {
 // Tells the canonical text of a tree, after it is copied, printed and parsed again.
 fn tell_canonical(alloc: Global, line: &mut String, tree: &Tree) -> Result<(), Memory> {
     match tree.copy() {
-        Ok(copy) => tell_again(alloc, line, &copy),
+        Ok(copy) => {
+            let told = tell_again(alloc, line, &copy);
+            drop(copy);
+            told
+        }
         Err(_) => Err(Memory),
     }
 }
 
 fn tell_again(alloc: Global, line: &mut String, copy: &Tree) -> Result<(), Memory> {
     match parse_of_print(alloc, copy) {
-        Ok(tree) => tell_printed(alloc, line, &tree),
+        Ok(tree) => {
+            let told = tell_printed(alloc, line, &tree);
+            drop(tree);
+            told
+        }
         Err(_) => Err(Memory),
     }
 }

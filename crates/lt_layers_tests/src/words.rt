@@ -46,7 +46,13 @@ fn texts_of<'a>(command: &Command<'a>) -> [&'a str; 5] {
             config,
             ..
         } => [*program, *inputs, *config, "", ""],
-        Command::Big { .. } => ["", "", "", "", ""],
+        _ => texts_of_views(command),
+    }
+}
+
+// Those of a command that looks at a run.
+fn texts_of_views<'a>(command: &Command<'a>) -> [&'a str; 5] {
+    match command {
         Command::Watch {
             program,
             inputs,
@@ -74,6 +80,7 @@ fn texts_of<'a>(command: &Command<'a>) -> [&'a str; 5] {
             node,
             ..
         } => [*program, *inputs, *schedule, *config, node.unwrap_or("")],
+        _ => [""; 5],
     }
 }
 

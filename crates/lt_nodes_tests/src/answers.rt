@@ -23,7 +23,11 @@ fn tell_asked(alloc: Global, line: &mut String, question: Question) -> Result<()
         return Err(Memory);
     }
     match front(alloc, question.program.as_bytes()) {
-        Ok(checked) => tell(alloc, line, &checked, question),
+        Ok(checked) => {
+            let told = tell(alloc, line, &checked, question);
+            drop(checked);
+            told
+        }
         Err(_) => Err(Memory),
     }
 }
@@ -50,6 +54,18 @@ fn tell(
     if what == "layout" {
         return tell_layout(alloc, line, checked, rest);
     }
+    tell_run(alloc, line, checked, what, rest, question.inputs)
+}
+
+// What machines show on the rows of a text, and the streams of a table of inputs.
+fn tell_run(
+    alloc: Global,
+    line: &mut String,
+    checked: &Checked,
+    what: &str,
+    rest: &str,
+    inputs: &str,
+) -> Result<(), Memory> {
     if what == "code" {
         return tell_code(alloc, line, checked, rest);
     }
@@ -60,10 +76,10 @@ fn tell(
         return tell_table(alloc, line, checked, rest);
     }
     if what == "streams" {
-        return tell_streams(alloc, line, checked, question.inputs);
+        return tell_streams(alloc, line, checked, inputs);
     }
     if what == "outputs" {
-        return tell_outputs(alloc, line, checked, question.inputs);
+        return tell_outputs(alloc, line, checked, inputs);
     }
     Err(Memory)
 }

@@ -16,7 +16,11 @@ pub fn tell_whole(
 ) -> Result<(), Memory> {
     checked.kept();
     match expand(alloc, &checked.program) {
-        Ok(whole) => tell_expanded(line, &whole, what),
+        Ok(whole) => {
+            let told = tell_expanded(line, &whole, what);
+            drop(whole);
+            told
+        }
         Err(_) => Err(Memory),
     }
 }
@@ -31,7 +35,11 @@ fn tell_expanded(line: &mut String, whole: &Whole, what: &str) -> Result<(), Mem
 /// Tells something of a copy of a flat function.
 pub fn tell_copy(line: &mut String, flat: &Flat, what: &str) -> Result<(), Memory> {
     match flat.copy() {
-        Ok(copy) => tell_flat(line, &copy, what),
+        Ok(copy) => {
+            let told = tell_flat(line, &copy, what);
+            drop(copy);
+            told
+        }
         Err(_) => Err(Memory),
     }
 }

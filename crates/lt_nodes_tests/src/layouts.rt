@@ -42,7 +42,11 @@ pub fn tell_layout(
     what: &str,
 ) -> Result<(), Memory> {
     match two_nodes(alloc) {
-        Ok(placement) => tell_placed(alloc, line, checked, &placement, what),
+        Ok(placement) => {
+            let told = tell_placed(alloc, line, checked, &placement, what);
+            drop(placement);
+            told
+        }
         Err(_) => Err(Memory),
     }
 }
@@ -58,7 +62,11 @@ fn tell_placed(
 {
     checked.kept();
     match place(alloc, &checked.flat, placement) {
-        Ok(layout) => tell(line, &layout, what),
+        Ok(layout) => {
+            let told = tell(line, &layout, what);
+            drop(layout);
+            told
+        }
         Err(_) => Err(Memory),
     }
 }

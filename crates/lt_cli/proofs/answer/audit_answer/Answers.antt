@@ -1,4 +1,4 @@
-use Rattle.lt_cli.specs.Texts.{audited_text}
+use Rattle.lt_reply.specs.Texts.{audited_text}
 use Rattle.lt_cli.proofs.Texts.{is_text_of}
 use Rattle.lt_cli.proofs.answer.audit_answer.Goals as goal
 

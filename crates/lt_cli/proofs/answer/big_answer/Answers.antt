@@ -1,6 +1,6 @@
 use Rattle.lt_replay.specs.Played.{world}
-use Rattle.lt_cli.specs.declared.refusal.Refusal.TheVariants.{Command}
-use Rattle.lt_cli.specs.Commands.{summarized_text}
+use Rattle.lt_reply.specs.declared.refusal.Refusal.TheVariants.{Command}
+use Rattle.lt_reply.specs.Replies.{summarized_text}
 use Rattle.lt_cli.proofs.Texts.{is_text_of, opens_shown}
 use Rattle.lt_cli.proofs.answer.big_answer.Goals as goal
 

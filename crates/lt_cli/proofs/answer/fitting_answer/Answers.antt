@@ -1,5 +1,5 @@
 use Rattle.lt_load.specs.Setups.{with_setup_verdict}
-use Rattle.lt_cli.specs.Commands.{checked_text}
+use Rattle.lt_reply.specs.Replies.{checked_text}
 use Rattle.lt_cli.proofs.Texts.{is_text_of}
 use Rattle.lt_cli.proofs.answer.fitting_answer.Goals as goal
 

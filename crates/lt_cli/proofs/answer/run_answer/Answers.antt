@@ -1,4 +1,4 @@
-use Rattle.lt_cli.specs.Commands.{printed_text}
+use Rattle.lt_reply.specs.Replies.{printed_text}
 use Rattle.lt_cli.proofs.Texts.{is_text_of}
 use Rattle.lt_cli.proofs.answer.run_answer.Goals as goal
 

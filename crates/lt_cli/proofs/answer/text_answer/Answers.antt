@@ -1,7 +1,7 @@
 use Rattle.lt_verdict.specs.Rules.{Shown}
 use Rattle.lt_load.specs.Loaded.{program_verdict}
-use Rattle.lt_cli.specs.declared.refusal.Refusal.TheVariants.{Command}
-use Rattle.lt_cli.specs.Commands.{checked_text}
+use Rattle.lt_reply.specs.declared.refusal.Refusal.TheVariants.{Command}
+use Rattle.lt_reply.specs.Replies.{checked_text}
 use Rattle.lt_cli.proofs.Texts.{is_text_of, text_of_text}
 use Rattle.lt_cli.proofs.answer.text_answer.Goals as goal
 

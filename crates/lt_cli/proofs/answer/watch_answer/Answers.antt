@@ -1,6 +1,6 @@
 use Rattle.lt_commands.specs.Blamed.{watch_blame}
-use Rattle.lt_cli.specs.Texts.{watched_text}
-use Rattle.lt_cli.specs.Commands.{watch_refusal}
+use Rattle.lt_reply.specs.Texts.{watched_text}
+use Rattle.lt_reply.specs.Replies.{watch_refusal}
 use Rattle.lt_cli.proofs.Texts.{answer_text, opens_shown, watch_raise}
 use Rattle.lt_cli.proofs.answer.watch_answer.Goals as goal
 

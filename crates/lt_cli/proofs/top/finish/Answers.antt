@@ -1,5 +1,5 @@
 use Rattle.std.proofs.Common.{refl, sym, ◌∙◌}
-use Rattle.lt_cli.specs.declared.status.Status.TheVariants as status
+use Rattle.lt_reply.specs.declared.status.Status.TheVariants as status
 use Rattle.lt_cli.proofs.Sinks.{written_by, short_by}
 use Rattle.lt_cli.proofs.top.finish.Goals as goal
 

@@ -1,6 +1,6 @@
 use Rattle.std.proofs.Common.{refl}
-use Rattle.lt_cli.specs.declared.refusal.Refusal.TheVariants.{Command}
-use Rattle.lt_cli.specs.Commands.{watch_refusal}
+use Rattle.lt_reply.specs.declared.refusal.Refusal.TheVariants.{Command}
+use Rattle.lt_reply.specs.Replies.{watch_refusal}
 use Rattle.lt_cli.proofs.Drawn.{drawn_obeyed}
 use Rattle.lt_cli.proofs.Obeyed.{text_obeyed, beside_obeyed}
 use Rattle.lt_cli.proofs.top.obey.Goals as goal

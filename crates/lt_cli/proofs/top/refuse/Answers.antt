@@ -1,7 +1,7 @@
 use Rattle.std.proofs.Common.{◌≡◌, sym, ◌∙◌, subst}
-use Rattle.lt_cli.specs.declared.status.Status.{Status}
-use Rattle.lt_cli.specs.Texts.{refusal_status}
-use Rattle.lt_cli.proofs.Refusals.{not_memory}
+use Rattle.lt_reply.specs.declared.status.Status.{Status}
+use Rattle.lt_reply.specs.Texts.{refusal_status}
+use Rattle.lt_reply.proofs.Refusals.{not_memory}
 use Rattle.lt_cli.proofs.Sinks.{written_by, short_by}
 use Rattle.lt_cli.proofs.top.refuse.Goals as goal
 

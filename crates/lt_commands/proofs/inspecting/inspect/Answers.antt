@@ -7,19 +7,19 @@ use Rattle.lt_commands.proofs.inspecting.inspect.Goals as goal
 
 pub returns-in-Ok-clause-answered : goal.returns-in-Ok-clause-answered
 returns-in-Ok-clause-answered g c =
-    let i = c.replay_schedule.new.replica in
-    took _ _ _ (λ events done. IsInspected i.auditor i.tap.selection i.tap.shape i.text events) _ _ c.args.schedule.now c.replay_schedule.ensures.keeps_files c.in-Ok.ensures.visits c.in-Ok.ensures.cause c.in-Ok.ensures.judged
+    let i = c.replay_schedule-replayed.new.replica in
+    took _ _ _ (λ events done. IsInspected i.auditor i.tap.selection i.tap.shape i.text events) _ _ c.args.schedule.now c.replay_schedule-replayed.ensures.keeps_files c.in-Ok.ensures.visits c.in-Ok.ensures.cause c.in-Ok.ensures.judged
 
 pub returns-in-Ok-clause-ended : goal.returns-in-Ok-clause-ended
 returns-in-Ok-clause-ended g c = (c.in-Ok.ensures.judged.1.events, c.in-Ok.ensures.judged.1.stands_for)
 
-pub returns-clause-answered : goal.returns-clause-answered
-returns-clause-answered g c =
-    let i = c.replay_schedule.new.replica in
+pub returns-in-Err-clause-answered : goal.returns-in-Err-clause-answered
+returns-in-Err-clause-answered g c =
+    let i = c.replay_schedule-replayed.new.replica in
     halted c.args.inspection.now.auditor.shape c.args.inspection.now.auditor.watch.timing c.args.inspection.now.auditor.rows (λ events done. IsInspected i.auditor i.tap.selection i.tap.shape i.text events) _ _ c.args.schedule.now
-    c.replay_schedule.ensures.keeps_files c.in-Err.halt c.as_fault.result
-    (subst (λ (s : Shape). AsFault s c.in-Err.halt c.as_fault.result) (c.shape.ensures ∙ c.replay_schedule.ensures.keeps.0) c.as_fault.ensures)
-    c.in-Err.ensures.visits c.in-Err.ensures.cause c.in-Err.ensures.link_cause c.replay_schedule.ensures.sound c.in-Err.ensures.judged
+    c.replay_schedule-replayed.ensures.keeps_files c.in-Err.halt c.as_fault.result
+    (subst (λ (s : Shape). AsFault s c.in-Err.halt c.as_fault.result) (c.shape.ensures ∙ c.replay_schedule-replayed.ensures.keeps.0) c.as_fault.ensures)
+    c.in-Err.ensures.visits c.in-Err.ensures.cause c.in-Err.ensures.link_cause c.replay_schedule-replayed.ensures.sound c.in-Err.ensures.judged
 
 pub returns-in_err-lines-clause-answered : goal.returns-in_err-lines-clause-answered
 returns-in_err-lines-clause-answered g c = runs_short_by _ _ c.from_residual.ensures.1

@@ -38,8 +38,8 @@ returns-in_err-observer-clause-answered g c =
     no_observer c.args.schedule.now c.args.observer.now a b fabric c.args.loaded.now (world b fabric) _ _ c.from_residual.ensures.1
     (subst (λ (f : Function). Answered watch_blame (observer_errand c.args.observer.now) (observer_verdict f (a.named c.args.observer.now)) (alone a) (alone b) (Err c.in_err-observer.field-0.0)) main c.in_err-observer.ensures)
 
-pub follow-requires-clause-count : goal.follow-requires-clause-count
-follow-requires-clause-count g c = counts_on _ _ c.in_ok-observer.ensures.cause.files c.requires.count
+pub follow-watched-requires-clause-count : goal.follow-watched-requires-clause-count
+follow-watched-requires-clause-count g c = counts_on _ _ c.in_ok-observer.ensures.cause.files c.requires.count
 
 pub returns-clause-answered : goal.returns-clause-answered
 returns-clause-answered g c =
@@ -48,8 +48,8 @@ returns-clause-answered g c =
     let fabric = g.W.Fabric.state c.args.fabric.now in
     let program = ap (λ (t : CheckedText). t.program) c.checked.view_is ∙ ap (λ (k : LoadedPlan). k.checked.program) c.loaded.view_is in
     let main : c.main_of.result.now ≡ main_in c.args.loaded.now.checked.program = c.main_of.ensures ∙ ap main_in program in
-    with_observer c.args.schedule.now c.args.observer.now a b fabric c.args.loaded.now (g.F.Files.state c.follow.new.files) (g.W.Fabric.state c.follow.new.fabric) c.in_ok-observer.observer _
-    (subst (λ (f : Function). Answered watch_blame (observer_errand c.args.observer.now) (observer_verdict f (a.named c.args.observer.now)) (alone a) (alone b) (Ok c.in_ok-observer.observer)) main c.in_ok-observer.ensures) c.follow.ensures.answered
+    with_observer c.args.schedule.now c.args.observer.now a b fabric c.args.loaded.now (g.F.Files.state c.follow-watched.new.files) (g.W.Fabric.state c.follow-watched.new.fabric) c.in_ok-observer.observer _
+    (subst (λ (f : Function). Answered watch_blame (observer_errand c.args.observer.now) (observer_verdict f (a.named c.args.observer.now)) (alone a) (alone b) (Ok c.in_ok-observer.observer)) main c.in_ok-observer.ensures) c.follow-watched.ensures.answered
 
 pub returns-clause-untouched : goal.returns-clause-untouched
 returns-clause-untouched g c told e refused =

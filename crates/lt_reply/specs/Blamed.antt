@@ -1,7 +1,7 @@
 -- Whose fault a refusal is.
 use Rattle.lt_answer.specs.World.{Blame, Content}
-use Rattle.lt_cli.specs.declared.refusal.Refusal.{Refusal}
-use Rattle.lt_cli.specs.declared.refusal.Refusal.TheVariants.{Words, Command, Observer}
+use Rattle.lt_reply.specs.declared.refusal.Refusal.{Refusal}
+use Rattle.lt_reply.specs.declared.refusal.Refusal.TheVariants.{Words, Command, Observer}
 use Rattle.lt_load.specs.Blamed.{command_blame}
 
 abbrev pub blame_of : Refusal → Blame

@@ -1,8 +1,8 @@
 // Why a command is refused.
 ghost use Rattle.std.specs.Prelude.{◌≡◌, ◌++◌, IfOk, OnOk};
-ghost use Rattle.lt_cli.specs.Commands.{watch_refusal};
+ghost use Rattle.lt_reply.specs.Replies.{watch_refusal};
 ghost use Rattle.lt_texts.specs.Lines.{program_line};
-ghost use Rattle.lt_cli.specs.Texts.{fault_line, fault_status, inputs_status, limit_line, line_of, program_status, refusal_status, row_status};
+ghost use Rattle.lt_reply.specs.Texts.{fault_line, fault_status, inputs_status, limit_line, line_of, program_status, refusal_status, row_status};
 
 use crate::Status;
 use crate::place_line::append_placement;

@@ -1,7 +1,7 @@
 // The texts of what is told of a run and of a schedule.
 ghost use Rattle.std.specs.Prelude.{◌≡◌, ◌++◌, ◌∷◌, [], IfOk, OnOk};
 ghost use Rattle.std.specs.Fmt.{decimal};
-ghost use Rattle.lt_cli.specs.Texts.{audited_text, executes_text, miss_text, watched_text};
+ghost use Rattle.lt_reply.specs.Texts.{audited_text, executes_text, miss_text, watched_text};
 
 use lt_arch::Shape;
 use lt_audit::Miss;

@@ -1,7 +1,7 @@
 // The line of a refused placement.
 ghost use Rattle.std.specs.Prelude.{◌≡◌, ◌++◌, codes, OnOk};
 ghost use Rattle.lt_stream.specs.Main.{name_in};
-ghost use Rattle.lt_cli.specs.Lines.{place_line};
+ghost use Rattle.lt_reply.specs.Lines.{place_line};
 
 use lt_base::{Func, List, Memory, Name};
 use lt_place::PlaceFault;

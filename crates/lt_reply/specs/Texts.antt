@@ -15,17 +15,17 @@ use Rattle.lt_load.specs.declared.fault.CommandFault.TheVariants as fault
 use Rattle.lt_texts.specs.Lines.{program_line}
 use Rattle.lt_texts.specs.FileLines.{config_line, timing_line, window_line, inputs_line, observer_line}
 use Rattle.lt_texts.specs.ScheduleLines.{row_line, offence_line, lossy_line, node_name, channel_text}
-use Rattle.lt_cli.specs.Lines.{place_line}
+use Rattle.lt_reply.specs.Lines.{place_line}
 use Rattle.lt_audit.specs.declared.miss.Miss.{Miss}
 use Rattle.lt_commands.specs.declared.audited.Audited.{Audited}
 use Rattle.lt_sim.specs.File.{file_text}
 use Rattle.lt_commands.specs.declared.watched.Watched.{Watched}
 use Rattle.lt_commands.specs.declared.watched.Watched.TheVariants.{Holds, Fails}
-use Rattle.lt_cli.specs.Draws.{Drawing}
-use Rattle.lt_cli.specs.declared.refusal.Refusal.{Refusal}
-use Rattle.lt_cli.specs.declared.refusal.Refusal.TheVariants.{Words, Command, Observer}
-use Rattle.lt_cli.specs.declared.status.Status.{Status}
-use Rattle.lt_cli.specs.declared.status.Status.TheVariants as status
+use Rattle.lt_reply.specs.Draws.{Drawing}
+use Rattle.lt_reply.specs.declared.refusal.Refusal.{Refusal}
+use Rattle.lt_reply.specs.declared.refusal.Refusal.TheVariants.{Words, Command, Observer}
+use Rattle.lt_reply.specs.declared.status.Status.{Status}
+use Rattle.lt_reply.specs.declared.status.Status.TheVariants as status
 
 -- what is printed of a refusal, without its line feed
 

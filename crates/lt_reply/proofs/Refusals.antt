@@ -10,16 +10,16 @@ use Rattle.lt_rows.specs.declared.fault.RowFault.TheVariants as row
 use Rattle.lt_load.specs.Blamed.{command_blame}
 use Rattle.lt_load.specs.declared.fault.CommandFault.{CommandFault}
 use Rattle.lt_load.specs.declared.fault.CommandFault.TheVariants as fault
-use Rattle.lt_cli.specs.declared.refusal.Refusal.{Refusal}
-use Rattle.lt_cli.specs.declared.refusal.Refusal.TheVariants.{Words, Command, Observer}
-use Rattle.lt_cli.specs.declared.status.Status.{Status}
-use Rattle.lt_cli.specs.declared.status.Status.TheVariants as status
-use Rattle.lt_cli.specs.Blamed.{blame_of}
+use Rattle.lt_reply.specs.declared.refusal.Refusal.{Refusal}
+use Rattle.lt_reply.specs.declared.refusal.Refusal.TheVariants.{Words, Command, Observer}
+use Rattle.lt_reply.specs.declared.status.Status.{Status}
+use Rattle.lt_reply.specs.declared.status.Status.TheVariants as status
+use Rattle.lt_reply.specs.Blamed.{blame_of}
 use Rattle.lt_commands.specs.declared.fault.WatchFault.{WatchFault}
 use Rattle.lt_commands.specs.declared.fault.WatchFault.TheVariants as watch
 use Rattle.lt_commands.specs.Blamed.{watch_blame}
-use Rattle.lt_cli.specs.Commands.{watch_refusal}
-use Rattle.lt_cli.specs.Texts.{refusal_status, fault_status, inputs_status, row_status, line_of}
+use Rattle.lt_reply.specs.Replies.{watch_refusal}
+use Rattle.lt_reply.specs.Texts.{refusal_status, fault_status, inputs_status, row_status, line_of}
 
 -- a status that says nothing of what the files hold
 record IsNoContent (code : Status) : Type 0 where

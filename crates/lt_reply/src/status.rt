@@ -29,7 +29,7 @@ pub enum Status {
 }
 
 impl Status {
-    ghost use Rattle.lt_cli.specs.Status.{number_of};
+    ghost use Rattle.lt_reply.specs.Status.{number_of};
 
     /// The number with which a process ends.
     pub fn number(self) -> u8

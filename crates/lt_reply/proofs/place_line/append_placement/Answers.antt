@@ -1,4 +1,4 @@
-use Rattle.lt_cli.proofs.place_line.append_placement.Goals as goal
+use Rattle.lt_reply.proofs.place_line.append_placement.Goals as goal
 
 pub returns-in-DirectCross : goal.returns-in-DirectCross
 returns-in-DirectCross c = rw c.in-DirectCross.is c.append_pair.ensures
