@@ -59,11 +59,10 @@ impl Part {
     pub fn copy(&self) -> Result<Part, Memory>
         ensures { IfOk result (λ copy. copy ≡ self.now) }
     {
-        Ok(Part {
-            flat: self.flat.copy()?,
-            feeds: self.feeds.copy()?,
-            outs: self.outs.copy()?,
-        })
+        let outs = self.outs.copy()?;
+        let feeds = self.feeds.copy()?;
+        let flat = self.flat.copy()?;
+        Ok(Part { flat, feeds, outs })
     }
 }
 
