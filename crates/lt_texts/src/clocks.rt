@@ -1,5 +1,5 @@
 // Clocks.
-ghost use Rattle.std.specs.Prelude.{◌≡◌, ◌++◌, OnOk};
+ghost use Rattle.std.specs.Prelude.{◌≡◌, ◌++◌, codes, if◌then◌else◌, OnOk};
 ghost use Rattle.lt_texts.specs.Lines.{clock_text, step_text, place_text};
 
 use crate::names::{append_number, append_variable};
@@ -32,12 +32,15 @@ fn append_step(
 ) -> Result<(), Memory>
     ensures { OnOk result (line.new ≡ line.old ++ step_text tree.now func (variable, polarity)) }
 {
-    if polarity {
-        line.extend(b" on ")?;
-    } else {
-        line.extend(b" on not ")?;
-    }
+    line.extend(polarity_text(polarity).as_bytes())?;
     append_variable(line, tree, func, variable)
+}
+
+// What stands before a variable of a clock.
+fn polarity_text(polarity: bool) -> &'static str
+    ensures { result.now ≡ (if polarity then codes " on " else codes " on not ") }
+{
+    if polarity { " on " } else { " on not " }
 }
 
 /// Appends where a clock is at fault: a declaration, or an equation by its number from 1 on.
