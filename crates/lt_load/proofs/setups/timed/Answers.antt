@@ -1,0 +1,7 @@
+use Rattle.std.proofs.Common.{refl}
+use Rattle.lt_load.specs.Setups.{timed_verdict}
+use Rattle.lt_load.proofs.setups.timed.Goals as goal
+
+pub returns-in-Ok : goal.returns-in-Ok
+unfolding timed_verdict
+returns-in-Ok c = (c.in-Ok.ensures, refl)
