@@ -65,7 +65,7 @@ x files 1 12
 x files 13 13
 0 time,event,place/0,act,all/4,act,all/8,act,all/12,end,/
 - the second piece of this schedule would be the ninth call
-s time,event,place/5,act,all/5,act,all/{1000000*x}
+s time,event,place/5,act,all/5,act,all/{10000000*x}
 > run p i s
 x files 8 8
 6 fault: read/
