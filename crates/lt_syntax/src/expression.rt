@@ -1,7 +1,8 @@
 // The parser of expressions: what each token does to the forms that are begun.
-ghost use Rattle.std.specs.Prelude.{◌≡◌, ◌<◌, ◌≤◌, ◌+◌, ◌^◌, ◌++◌, ◌∷◌, [], ℕ, List, map, IfOk};
+ghost use Rattle.std.specs.Prelude.{◌≡◌, ◌<◌, ◌≤◌, ◌+◌, ◌^◌, ◌++◌, ◌∷◌, [], ℕ, List, map, IfOk, Ok};
 ghost use Rattle.lt_tokens.specs.declared.token.Token.TheVariants as token;
 ghost use Rattle.lt_tokens.specs.Fronts.{IsSmall};
+ghost use Rattle.lt_syntax.specs.declared.frame.Next.TheVariants as next;
 ghost use Rattle.lt_syntax.specs.Machine as machine;
 ghost use Rattle.lt_syntax.specs.Machine.{Held, HasRoom};
 ghost use Rattle.lt_syntax.specs.Views.{operand_of, frame_of, stack_of, mode_of, next_of, tm_of};
@@ -73,16 +74,27 @@ fn end_call(
     call(alloc, f, with_argument(xs, b)?, height)
 }
 
+/// The newest form does not wait for the token.
+fn bad(newest: Option<Frame>) -> Result<Next, Memory>
+    ensures { result ≡ Ok next.Bad }
+{
+    drop(newest);
+    Ok(Next::Bad)
+}
+
 fn after_close(alloc: Global, frames: &mut Vec<Frame>, b: Operand) -> Result<Next, Memory>
     requires { HasRoom LIMIT (stack_of frames.old.items) (operand_of b) }
     ensures { IfOk result (λ n. next_of n (stack_of frames.new.items) ≡ machine.after token.Close (stack_of frames.old.items) (operand_of b)) }
 {
     match pop(frames) {
-        Some(Frame::InParen) => Ok(Next::Go(Mode::Has(paren(b)))),
+        Some(form @ Frame::InParen) => {
+            drop(form);
+            Ok(Next::Go(Mode::Has(paren(b))))
+        }
         Some(Frame::InCall(f, xs, h)) => {
             has_operand(end_call(alloc, f, xs, h.max(b.height), b.term))
         }
-        _ => Ok(Next::Bad),
+        newest => bad(newest),
     }
 }
 
@@ -105,7 +117,7 @@ fn after_comma(frames: &mut Vec<Frame>, b: Operand) -> Result<Next, Memory>
 {
     match pop(frames) {
         Some(Frame::InCall(f, xs, h)) => next_argument(frames, f, xs, h.max(b.height), b.term),
-        _ => Ok(Next::Bad),
+        newest => bad(newest),
     }
 }
 
@@ -113,8 +125,11 @@ fn after_then(frames: &mut Vec<Frame>, b: Operand) -> Result<Next, Memory>
     ensures { IfOk result (λ n. next_of n (stack_of frames.new.items) ≡ machine.after token.Then (stack_of frames.old.items) (operand_of b)) }
 {
     match pop(frames) {
-        Some(Frame::AfterIf) => begin(frames, Frame::AfterThen(b)),
-        _ => Ok(Next::Bad),
+        Some(form @ Frame::AfterIf) => {
+            drop(form);
+            begin(frames, Frame::AfterThen(b))
+        }
+        newest => bad(newest),
     }
 }
 
@@ -123,7 +138,7 @@ fn after_else(frames: &mut Vec<Frame>, b: Operand) -> Result<Next, Memory>
 {
     match pop(frames) {
         Some(Frame::AfterThen(c)) => begin(frames, Frame::AfterElse(c, b)),
-        _ => Ok(Next::Bad),
+        newest => bad(newest),
     }
 }
 
@@ -153,7 +168,7 @@ fn second(alloc: Global, t: Token, frames: &mut Vec<Frame>, b: Operand) -> Resul
 {
     match pop(frames) {
         Some(Frame::FirstPart(c)) => begin_with(alloc, t, frames, Frame::SecondPart(c, b)),
-        _ => Ok(Next::Bad),
+        newest => bad(newest),
     }
 }
 
@@ -216,7 +231,7 @@ fn want_close(alloc: Global, frames: &mut Vec<Frame>) -> Result<Next, Memory>
 {
     match pop(frames) {
         Some(Frame::InCall(f, xs, _)) => empty_call(alloc, f, xs),
-        _ => Ok(Next::Bad),
+        newest => bad(newest),
     }
 }
 
@@ -278,7 +293,7 @@ fn clock_not(frames: &mut Vec<Frame>) -> Result<Next, Memory>
 {
     match pop(frames) {
         Some(Frame::Sampling(a, polarity)) => sampling_not(a, polarity, frames),
-        _ => Ok(Next::Bad),
+        newest => bad(newest),
     }
 }
 
@@ -288,8 +303,11 @@ fn clock_name(alloc: Global, c: Name, frames: &mut Vec<Frame>) -> Result<Next, M
 {
     match pop(frames) {
         Some(Frame::Sampling(a, b)) => has_operand(sampled(alloc, a, c, b)),
-        Some(Frame::AfterMerge) => begin(frames, Frame::FirstPart(c)),
-        _ => Ok(Next::Bad),
+        Some(form @ Frame::AfterMerge) => {
+            drop(form);
+            begin(frames, Frame::FirstPart(c))
+        }
+        newest => bad(newest),
     }
 }
 

@@ -475,7 +475,7 @@ fn move_on(alloc: Global, phase: Phase, t: Token) -> Result<Phase, Or<Kind>>
 fn enter(phase: &mut Phase, next: Phase)
     ensures { phase.new ≡ next }
 {
-    *phase = next;
+    drop(replace(phase, next));
 }
 
 /// The next phase, in which no form is begun.
