@@ -1,6 +1,7 @@
 -- The command is one of which clap gives the matches.
-use Rattle.std.proofs.Common.{◌≡◌, ◌≢◌, List, [], true, Option, None, Result, Ok, Err, IfOk, OnOk, refl, ap, sym, subst, ◌∙◌, inl, inr}
-use Rattle.clap.specs.Words.{is_simple, App, Text, app_of, IsParsedFrom, has_subcommand, takes, fault_of, kind_of, HasKind}
+use Rattle.std.proofs.Common.{◌≡◌, ◌≢◌, List, [], true, Option, Some, None, option_map, is_some, IfSome, Result, Ok, Err, IfOk, OnOk, refl, ap, sym, subst, ◌∙◌, inl, inr}
+use Rattle.std.proofs.lemmas.Bool.{false≢true}
+use Rattle.clap.specs.Words.{is_simple, App, Text, app_of, HasMatchesOf, subcommand_of, subcommand_rows_of, IsParsedFrom, has_subcommand, takes, fault_of, kind_of, HasKind}
 use Rattle.clap.specs.declared.builder.command.Command.{Command}
 use Rattle.clap.specs.declared.builder.command.Command.TheViews.{out-Command}
 use Rattle.clap.specs.declared.parser.matches.ArgMatches.{ArgMatches}
@@ -12,6 +13,8 @@ use Rattle.clap.proofs.OnLiterals.{clap_on_literals}
 use Rattle.lt_base.specs.declared.memory.Memory.{Memory}
 use Rattle.lt_words.specs.declared.command.Command.{Command as Said}
 use Rattle.lt_words.specs.Commands.{program_app}
+use Rattle.lt_words.specs.Reading.{said_by, said_of}
+use Rattle.lt_words.specs.Ranges.{HasRanges}
 use Rattle.lt_words.specs.Told.{Told}
 
 pub program_is_simple : is_simple program_app ≡ true
@@ -44,3 +47,14 @@ pub told_none : (ws : List Text) (r : Result (Option Said) Memory) (e : Error) �
     → (kind_of e ≢ kind.OutOfMemory → (takes program_app ws ≢ true) × (fault_of program_app ws ≢ [])) → Told ws r
 told_none ws (Err m) e none calm refused = tt
 told_none ws (Ok c) e none calm refused = subst (λ x. Told ws (Ok x)) (sym none) (refused calm)
+
+-- so is one that says a command, that of the matches
+pub told_some : (ws : List Text) (a : App) (m : ArgMatches) (r : Option Said) → a ≡ program_app → HasMatchesOf a ws m → (is_simple_and_free a ≡ true → fault_of a ws ≡ [])
+    → is_some r ≡ true → option_map said_of r ≡ option_map (λ p. said_by p.0 p.1) (subcommand_rows_of m) → IfSome r HasRanges → Told ws (Ok r)
+told_some ws a m None is matches kinds some said ranges = absurd (false≢true some)
+told_some ws a m (Some c) is matches kinds some said ranges =
+    let rows = (matches (ap is_simple is ∙ program_is_simple)).1 in (
+      sym (said ∙ ap (option_map (λ p. said_by p.0 p.1)) (rows ∙ ap (λ x. subcommand_of x ws) is)),
+      sym (ap (λ x. fault_of x ws) is) ∙ kinds (ap is_simple_and_free is ∙ program_is_free),
+      ranges,
+    )

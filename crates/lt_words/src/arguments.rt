@@ -1,7 +1,7 @@
 // Arguments, and how a command takes them.
 ghost use Rattle.std.specs.Prelude.{◌≡◌, false, IfOk};
 ghost use Rattle.clap.specs.Words.{App, rule_of, with_rule, with_subcommand};
-ghost use Rattle.lt_words.specs.Local.{IsLocal, Makes};
+ghost use Rattle.lt_words.specs.Local.{IsLocal, IsMadeAs, Makes};
 ghost use Rattle.lt_words.specs.Commands.{text_rule, optional_rule, number_rule, needed_number_rule, counted_rule, name_rule};
 
 use clap::builder::ValueParser;
@@ -59,6 +59,14 @@ pub fn name<'a>(alloc: Global, id: &'a str) -> Arg<'a>
     Arg::new(alloc, id).long(id)
 }
 
+/// The command with one more argument.
+fn add_argument<'a>(command: Command<'a>, argument: Arg<'a>) -> Result<Command<'a>, Memory>
+    requires { argument.global ≡ false }
+    ensures { (app : App) → IsMadeAs app command.entry → Makes (with_rule app (rule_of argument.entry)) result }
+{
+    Ok(command.arg(argument)?)
+}
+
 /// The command with one more argument, where memory was found for it.
 pub fn with_argument<'a>(
     command: Result<Command<'a>, Memory>,
@@ -67,7 +75,38 @@ pub fn with_argument<'a>(
     requires { argument.global ≡ false }
     ensures { (app : App) → Makes app command.entry → Makes (with_rule app (rule_of argument.entry)) result }
 {
-    Ok(command?.arg(argument)?)
+    match command {
+        Ok(command) => add_argument(command, argument),
+        Err(error) => {
+            drop(argument);
+            Err(error)
+        }
+    }
+}
+
+/// The command with one more command below it.
+fn add_command<'a>(command: Command<'a>, below: Command<'a>) -> Result<Command<'a>, Memory>
+    requires { IsLocal below }
+    ensures { (app down : App) → IsMadeAs app command.entry → IsMadeAs down below.entry → Makes (with_subcommand app down.top) result }
+{
+    Ok(command.subcommand(below)?)
+}
+
+/// The command with one more command below it, where memory was found for that.
+fn add_made<'a>(
+    command: Command<'a>,
+    below: Result<Command<'a>, Memory>,
+) -> Result<Command<'a>, Memory>
+    requires { IfOk below IsLocal }
+    ensures { (app down : App) → IsMadeAs app command.entry → Makes down below.entry → Makes (with_subcommand app down.top) result }
+{
+    match below {
+        Ok(below) => add_command(command, below),
+        Err(error) => {
+            drop(command);
+            Err(error)
+        }
+    }
 }
 
 /// The command with one more command below it, where memory was found for both.
@@ -78,5 +117,11 @@ pub fn with_command<'a>(
     requires { IfOk below IsLocal }
     ensures { (app down : App) → Makes app command.entry → Makes down below.entry → Makes (with_subcommand app down.top) result }
 {
-    Ok(command?.subcommand(below?)?)
+    match command {
+        Ok(command) => add_made(command, below),
+        Err(error) => {
+            drop(below);
+            Err(error)
+        }
+    }
 }

@@ -1,7 +1,8 @@
 // What the words say.
-ghost use Rattle.std.specs.Prelude.{◌≡◌, ◌≢◌, ◌≤◌, None, true, Ok, [], map, option_map, unwrap_or, IfOk, IfSome, OnOk, OnErr, string_bytes, codes};
+ghost use Rattle.std.specs.Prelude.{◌≡◌, ◌≢◌, ◌≤◌, None, true, Ok, [], map, is_some, option_map, unwrap_or, IfOk, IfSome, OnOk, OnErr, string_bytes, codes};
 ghost use Rattle.clap.specs.Values.{kind_of};
-ghost use Rattle.clap.specs.Words.{rows_of, first_of, found_of, takes};
+ghost use Rattle.clap.specs.Words.{rows_of, first_of, found_of, takes, has_subcommand, subcommand_rows_of};
+ghost use Rattle.lt_words.specs.Local.{IsMadeAs};
 ghost use Rattle.lt_words.specs.Commands.{program_app};
 ghost use Rattle.lt_words.specs.Numbers.{number_text};
 ghost use Rattle.lt_words.specs.Reading.{said_of, said_by, said_besides, command_of};
@@ -11,7 +12,7 @@ ghost use Rattle.lt_words.specs.Told.{Told};
 use crate::Command;
 use crate::commands::{GREATEST_TIME, MOST_INSTANTS, program};
 use crate::numbers::number_text;
-use clap::ArgMatches;
+use clap::{ArgMatches, Command as ClapCommand};
 use clap::error::{Error, ErrorKind};
 use lt_base::Memory;
 use std::alloc::Global;
@@ -48,32 +49,60 @@ fn command_of<'a>(name: &str, matches: &ArgMatches<'a>) -> Command<'a>
     ensures ranges { HasRanges result }
 {
     if name == "check" {
-        let program = text_or_empty(matches, "program");
-        let config = text_at(matches, "config");
-        return Command::Check { program, config };
+        return check(matches);
     }
     if name == "meaning" {
-        let program = text_or_empty(matches, "program");
-        let inputs = text_or_empty(matches, "inputs");
-        return Command::Meaning { program, inputs };
+        return meaning(matches);
     }
     if name == "run" {
-        let program = text_or_empty(matches, "program");
-        let inputs = text_or_empty(matches, "inputs");
-        let schedule = text_or_empty(matches, "schedule");
-        return Command::Run {
-            program,
-            inputs,
-            schedule,
-            config: text_at(matches, "config"),
-        };
+        return run(matches);
     }
     if name == "plan" {
-        let config = text_or_empty(matches, "config");
-        let horizon = number_at(matches, "horizon", GREATEST_TIME);
-        return Command::Plan { config, horizon };
+        return plan(matches);
     }
     command_besides(name, matches)
+}
+
+fn check<'a>(matches: &ArgMatches<'a>) -> Command<'a>
+    ensures said { said_of result ≡ said_by (codes "check") (rows_of (found_of matches.now)) }
+    ensures ranges { HasRanges result }
+{
+    Command::Check {
+        program: text_or_empty(matches, "program"),
+        config: text_at(matches, "config"),
+    }
+}
+
+fn meaning<'a>(matches: &ArgMatches<'a>) -> Command<'a>
+    ensures said { said_of result ≡ said_by (codes "meaning") (rows_of (found_of matches.now)) }
+    ensures ranges { HasRanges result }
+{
+    Command::Meaning {
+        program: text_or_empty(matches, "program"),
+        inputs: text_or_empty(matches, "inputs"),
+    }
+}
+
+fn run<'a>(matches: &ArgMatches<'a>) -> Command<'a>
+    ensures said { said_of result ≡ said_by (codes "run") (rows_of (found_of matches.now)) }
+    ensures ranges { HasRanges result }
+{
+    Command::Run {
+        program: text_or_empty(matches, "program"),
+        inputs: text_or_empty(matches, "inputs"),
+        schedule: text_or_empty(matches, "schedule"),
+        config: text_at(matches, "config"),
+    }
+}
+
+fn plan<'a>(matches: &ArgMatches<'a>) -> Command<'a>
+    ensures said { said_of result ≡ said_by (codes "plan") (rows_of (found_of matches.now)) }
+    ensures ranges { HasRanges result }
+{
+    Command::Plan {
+        config: text_or_empty(matches, "config"),
+        horizon: number_at(matches, "horizon", GREATEST_TIME),
+    }
 }
 
 // The command of this name that draws a schedule or looks at a run.
@@ -90,27 +119,10 @@ fn command_besides<'a>(name: &str, matches: &ArgMatches<'a>) -> Command<'a>
     if name == "watch" {
         return watch(matches);
     }
-    let program = text_or_empty(matches, "program");
-    let inputs = text_or_empty(matches, "inputs");
-    let schedule = text_or_empty(matches, "schedule");
-    let config = text_or_empty(matches, "config");
     if name == "audit" {
-        return Command::Audit {
-            program,
-            inputs,
-            schedule,
-            config,
-        };
+        return audit(matches);
     }
-    Command::Trace {
-        program,
-        inputs,
-        schedule,
-        config,
-        node: text_at(matches, "node"),
-        from: number_at(matches, "from", GREATEST_TIME).unwrap_or(0),
-        to: number_at(matches, "to", GREATEST_TIME).unwrap_or(GREATEST_TIME),
-    }
+    trace(matches)
 }
 
 fn sim<'a>(matches: &ArgMatches<'a>) -> Command<'a>
@@ -148,28 +160,74 @@ fn watch<'a>(matches: &ArgMatches<'a>) -> Command<'a>
     }
 }
 
-// The command that the words say, if `clap` takes them.
-#[tactic(auto, using(crate::proofs::Simple::program_is_simple, crate::proofs::Simple::program_is_free))]
-fn read<'a>(alloc: Global, words: &'a [String]) -> Result<Option<Command<'a>>, Memory>
-    ensures { Told (map string_bytes words.entry.now) result }
+fn audit<'a>(matches: &ArgMatches<'a>) -> Command<'a>
+    ensures said { said_of result ≡ said_besides (codes "audit") (rows_of (found_of matches.now)) }
+    ensures ranges { HasRanges result }
 {
-    let command = program(alloc)?;
-    match command.try_get_matches_from(words) {
-        Ok(matches) => match matches.subcommand() {
-            Some((name, inner)) => Ok(Some(command_of(name, inner))),
-            None => Ok(None),
-        },
-        Err(error) => refused(&error),
+    Command::Audit {
+        program: text_or_empty(matches, "program"),
+        inputs: text_or_empty(matches, "inputs"),
+        schedule: text_or_empty(matches, "schedule"),
+        config: text_or_empty(matches, "config"),
     }
 }
 
-// Words that `clap` refuses say no command, but for its own want of memory.
-fn refused<'a>(error: &Error) -> Result<Option<Command<'a>>, Memory>
-    ensures none { IfOk result (λ command. command ≡ None) }
-    ensures refused { OnOk result (kind_of error.now ≢ ErrorKind.OutOfMemory) }
-    ensures memory { OnErr result (kind_of error.now ≡ ErrorKind.OutOfMemory) }
+fn trace<'a>(matches: &ArgMatches<'a>) -> Command<'a>
+    ensures said { said_of result ≡ said_besides (codes "trace") (rows_of (found_of matches.now)) }
+    ensures ranges { HasRanges result }
 {
-    match error.kind() {
+    Command::Trace {
+        program: text_or_empty(matches, "program"),
+        inputs: text_or_empty(matches, "inputs"),
+        schedule: text_or_empty(matches, "schedule"),
+        config: text_or_empty(matches, "config"),
+        node: text_at(matches, "node"),
+        from: number_at(matches, "from", GREATEST_TIME).unwrap_or(0),
+        to: number_at(matches, "to", GREATEST_TIME).unwrap_or(GREATEST_TIME),
+    }
+}
+
+// The command of the matches, if they have one.
+fn found<'a>(matches: ArgMatches<'a>) -> Option<Command<'a>>
+    ensures said { option_map said_of result ≡ option_map (λ p. said_by p.0 p.1) (subcommand_rows_of matches.entry) }
+    ensures ranges { IfSome result HasRanges }
+    ensures variant { is_some result ≡ has_subcommand matches.entry }
+{
+    let command = match matches.subcommand() {
+        Some((name, inner)) => Some(command_of(name, inner)),
+        None => None,
+    };
+    drop(matches);
+    command
+}
+
+// The command that the words say, if this one takes them.
+fn taken<'a>(command: ClapCommand<'a>, words: &'a [String]) -> Result<Option<Command<'a>>, Memory>
+    requires { IsMadeAs program_app command }
+    ensures { Told (map string_bytes words.entry.now) result }
+{
+    match command.try_get_matches_from(words) {
+        Ok(matches) => Ok(found(matches)),
+        Err(error) => refused(error),
+    }
+}
+
+// The command that the words say, if `clap` takes them.
+fn read<'a>(alloc: Global, words: &'a [String]) -> Result<Option<Command<'a>>, Memory>
+    ensures { Told (map string_bytes words.entry.now) result }
+{
+    taken(program(alloc)?, words)
+}
+
+// Words that `clap` refuses say no command, but for its own want of memory.
+fn refused<'a>(error: Error) -> Result<Option<Command<'a>>, Memory>
+    ensures none { IfOk result (λ command. command ≡ None) }
+    ensures refused { OnOk result (kind_of error ≢ ErrorKind.OutOfMemory) }
+    ensures memory { OnErr result (kind_of error ≡ ErrorKind.OutOfMemory) }
+{
+    let kind = error.kind();
+    drop(error);
+    match kind {
         ErrorKind::OutOfMemory => Err(Memory),
         _ => Ok(None),
     }
