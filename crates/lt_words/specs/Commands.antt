@@ -42,6 +42,14 @@ name_rule id = record (new_rule id) { long = Some id }
 abbrev pub check_app : App
 check_app = with_rule (with_rule (new_app (codes "check")) (text_rule (codes "program"))) (optional_rule (codes "config"))
 
+-- a command of this name on a program and its inputs
+abbrev pub fed_app : (name : Text) → App
+fed_app name = with_rule (with_rule (new_app name) (text_rule (codes "program"))) (text_rule (codes "inputs"))
+
+-- and a schedule
+abbrev pub scheduled_app : (name : Text) → App
+scheduled_app name = with_rule (fed_app name) (text_rule (codes "schedule"))
+
 abbrev pub meaning_app : App
 meaning_app = with_rule (with_rule (new_app (codes "meaning")) (text_rule (codes "program"))) (text_rule (codes "inputs"))
 

@@ -2,7 +2,7 @@
 ghost use Rattle.std.specs.Prelude.{IfOk};
 ghost use Rattle.clap.specs.Words.{App, new_app};
 ghost use Rattle.lt_words.specs.Local.{IsMadeAs, Makes};
-ghost use Rattle.lt_words.specs.Commands.{check_app, meaning_app, run_app, plan_app, placed_app, sim_app, big_app, replayed_app, watch_app, audit_app, trace_app};
+ghost use Rattle.lt_words.specs.Commands.{check_app, meaning_app, run_app, plan_app, fed_app, scheduled_app, placed_app, sim_app, big_app, replayed_app, watch_app, audit_app, trace_app};
 ghost use Rattle.lt_words.specs.Commands.{with_programs, with_drawings, with_views, bare_app, program_app};
 
 use crate::arguments::{
@@ -32,20 +32,31 @@ fn check<'a>(alloc: Global) -> Result<Command<'a>, Memory>
     with_argument(command, optional_text(alloc, "config"))
 }
 
+// A command of this name on a program and its inputs.
+fn fed<'a>(alloc: Global, name: &'a str) -> Result<Command<'a>, Memory>
+    ensures { Makes (fed_app name.entry.now) result }
+{
+    let command = with_argument(plain(alloc, name), text(alloc, "program"));
+    with_argument(command, text(alloc, "inputs"))
+}
+
+// A command of this name on a program, its inputs and a schedule.
+fn scheduled<'a>(alloc: Global, name: &'a str) -> Result<Command<'a>, Memory>
+    ensures { Makes (scheduled_app name.entry.now) result }
+{
+    with_argument(fed(alloc, name), text(alloc, "schedule"))
+}
+
 fn meaning<'a>(alloc: Global) -> Result<Command<'a>, Memory>
     ensures { Makes meaning_app result }
 {
-    let command = with_argument(plain(alloc, "meaning"), text(alloc, "program"));
-    with_argument(command, text(alloc, "inputs"))
+    fed(alloc, "meaning")
 }
 
 fn run<'a>(alloc: Global) -> Result<Command<'a>, Memory>
     ensures { Makes run_app result }
 {
-    let command = with_argument(plain(alloc, "run"), text(alloc, "program"));
-    let command = with_argument(command, text(alloc, "inputs"));
-    let needed = with_argument(command, text(alloc, "schedule"));
-    with_argument(needed, optional_text(alloc, "config"))
+    with_argument(scheduled(alloc, "run"), optional_text(alloc, "config"))
 }
 
 fn plan<'a>(alloc: Global) -> Result<Command<'a>, Memory>
@@ -59,9 +70,7 @@ fn plan<'a>(alloc: Global) -> Result<Command<'a>, Memory>
 fn placed<'a>(alloc: Global, name: &'a str) -> Result<Command<'a>, Memory>
     ensures { Makes (placed_app name.entry.now) result }
 {
-    let command = with_argument(plain(alloc, name), text(alloc, "program"));
-    let command = with_argument(command, text(alloc, "inputs"));
-    with_argument(command, text(alloc, "config"))
+    with_argument(fed(alloc, name), text(alloc, "config"))
 }
 
 fn sim<'a>(alloc: Global) -> Result<Command<'a>, Memory>
@@ -84,10 +93,7 @@ fn big<'a>(alloc: Global) -> Result<Command<'a>, Memory>
 fn replayed<'a>(alloc: Global, name: &'a str, file: &'a str) -> Result<Command<'a>, Memory>
     ensures { Makes (replayed_app name.entry.now file.entry.now) result }
 {
-    let command = with_argument(plain(alloc, name), text(alloc, "program"));
-    let command = with_argument(command, text(alloc, "inputs"));
-    let command = with_argument(command, text(alloc, "schedule"));
-    with_argument(command, text(alloc, file))
+    with_argument(scheduled(alloc, name), text(alloc, file))
 }
 
 fn watch<'a>(alloc: Global) -> Result<Command<'a>, Memory>

@@ -87,10 +87,11 @@ fn run<'a>(matches: &ArgMatches<'a>) -> Command<'a>
     ensures said { said_of result ≡ said_by (codes "run") (rows_of (found_of matches.now)) }
     ensures ranges { HasRanges result }
 {
+    let schedule = text_or_empty(matches, "schedule");
     Command::Run {
         program: text_or_empty(matches, "program"),
         inputs: text_or_empty(matches, "inputs"),
-        schedule: text_or_empty(matches, "schedule"),
+        schedule,
         config: text_at(matches, "config"),
     }
 }

@@ -4,8 +4,4 @@ use Rattle.lt_words.proofs.commands.run.Goals as goal
 
 pub returns : goal.returns
 returns c =
-    taken _ with_rule _ _ _ _ c.with_argument.ensures c.optional_text.ensures.rule
-    (taken _ with_rule _ _ _ _ c.with_argument-needed.ensures c.text-3.ensures.rule
-    (taken _ with_rule _ _ _ _ c.with_argument-command-2.ensures c.text-2.ensures.rule
-    (taken _ with_rule _ _ _ _ c.with_argument-command.ensures c.text.ensures.rule
-    c.plain.ensures)))
+    taken _ with_rule _ _ _ _ c.with_argument.ensures c.optional_text.ensures.rule c.scheduled.ensures

@@ -1,6 +1,6 @@
 use Rattle.clap.specs.Words.{with_rule}
 use Rattle.lt_words.proofs.Steps.{taken}
-use Rattle.lt_words.proofs.commands.meaning.Goals as goal
+use Rattle.lt_words.proofs.commands.fed.Goals as goal
 
 pub returns : goal.returns
 returns c =
