@@ -1,10 +1,11 @@
 -- The sizes of functions from their shares.
-use Rattle.std.proofs.Common.{◌≡◌, ℕ, zero, suc, ◌+◌, ◌-◌, ◌≤◌, true, eqb-true, List, [], ◌∷◌, ◌++◌, map, Option, Some, None, Result, Ok, Err, refl, sym, ap, ◌∙◌, subst, arith}
+use Rattle.std.proofs.Common.{◌≡◌, ℕ, zero, suc, ◌+◌, ◌-◌, ◌≤◌, true, eqb-true, List, [], ◌∷◌, ◌++◌, map, take, length, get_or, ◌<◌, Option, Some, None, Result, Ok, Err, refl, sym, ap, ◌∙◌, subst, arith}
 use Rattle.std.specs.Prelude.{nat_eq}
 use Rattle.std.specs.Result.{OnOk}
-use Rattle.std.specs.List.{sum_by}
+use Rattle.std.specs.List.{All, sum_by}
 use Rattle.std.specs.Cmp.Lexicographic.{pointwise}
-use Rattle.std.proofs.lemmas.List.{append_assoc}
+use Rattle.std.proofs.lemmas.List.{append_assoc, take_more}
+use Rattle.std.proofs.lemmas.List.Elements.{All-push}
 use Rattle.std.proofs.lemmas.List.Sums.{sum_by-cons, sum_by-append}
 use Rattle.lt_base.specs.declared.expression.Expr.{Expr}
 use Rattle.lt_base.specs.Expression.{Expression, literal, variable, unary, binary, imported, choose, sampled, merged, delayed, follow, arrow, call, Arguments, no_arguments, argument, shape, arguments_of, parts}
@@ -30,6 +31,27 @@ called_in (Ok u) old mid new g es slice e is same pushed h =
     ∙ append_assoc old (g ∷ []) (arguments_called (arguments_of (map shape es)))
     ∙ ap (λ x. old ++ called x) (sym is)
 called_in (Err f) old mid new g es slice e is same pushed h = tt
+
+-- an expression whose one part was gone over
+pub one_called : {E : Type 0} (r : Result (Unit {0}) E) (old new xs ys : List ℕ) → ys ≡ xs → OnOk r (new ≡ old ++ xs) → OnOk r (new ≡ old ++ ys)
+one_called r old new xs ys e h = subst (λ z. OnOk r (new ≡ old ++ z)) (sym e) h
+
+-- and one whose parts were gone over in two steps
+pub two_called : {E : Type 0} (r : Result (Unit {0}) E) (old mid new xs ys zs : List ℕ) → zs ≡ xs ++ ys → mid ≡ old ++ xs → OnOk r (new ≡ mid ++ ys) → OnOk r (new ≡ old ++ zs)
+two_called r old mid new xs ys zs e first h = subst (λ z. OnOk r (new ≡ z)) (ap (λ m. m ++ ys) first ∙ append_assoc old xs ys ∙ ap (λ z. old ++ z) (sym e)) h
+
+-- ---- one more share
+
+map_snoc : {S F : Type 0} (f : S → F) (xs : List S) (x : S) → map f (xs ++ x ∷ []) ≡ map f xs ++ f x ∷ []
+map_snoc f [] x = refl
+map_snoc f (y ∷ xs) x = ap (λ z. f y ∷ z) (map_snoc f xs x)
+
+pub one_more : {S F : Type 0} (f : S → F) (items : List F) (i : ℕ) (d : F) (old new : List S) (s : S) → i < length items → new ≡ old ++ s ∷ [] → f s ≡ get_or items i d → map f old ≡ take i items → map f new ≡ take (i + 1) items
+one_more f items i d old new s within pushed is done =
+    ap (map f) pushed ∙ map_snoc f old s ∙ ap (λ z. z ++ f s ∷ []) done ∙ ap (λ z. take i items ++ z ∷ []) is ∙ sym (take_more items i d within)
+
+pub all_more : {S : Type 0} (P : S → Type 0) (old new : List S) (s : S) → new ≡ old ++ s ∷ [] → All P old → P s → All P new
+all_more P old new s pushed all p = subst (All P) (sym pushed) (All-push P old s all p)
 
 -- ---- what an expression costs, without its calls and of its calls
 

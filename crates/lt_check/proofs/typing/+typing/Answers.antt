@@ -1,10 +1,10 @@
-use Rattle.std.proofs.Common.{◌≡◌, ◌≢◌, ◌∙◌, sym, ap, arith, length, map, Some}
+use Rattle.std.proofs.Common.{◌≡◌, ◌≢◌, ◌∙◌, sym, ap, ap₂, arith, length, map, Some}
 use Rattle.std.specs.List.{slice_get}
 use Rattle.lt_base.specs.Expression.{shape}
 use Rattle.lt_base.specs.declared.expression.Expr.{Expr}
 use Rattle.lt_base.specs.Meaning.{function_of}
 use Rattle.lt_base.specs.Program.{Function}
-use Rattle.lt_base.specs.Typing.{type_of, input_types, answer_type, arguments_fit}
+use Rattle.lt_base.specs.Typing.{type_of, bin_type, imported_type, shared_type, both_types, input_types, answer_type, arguments_fit}
 use Rattle.lt_check.proofs.Calls.{call_typed, fit_misfit, fit_goes, fit_fails}
 use Rattle.lt_check.proofs.typing.+typing.Goals as goal
 
@@ -47,3 +47,23 @@ type_of-returns-in-Some t c =
     c.call_type.ensures
     ∙ ap (λ l. arguments_fit (input_types f) (map (λ e. type_of fs ds (shape e)) l) (answer_type f.decls f.outs)) c.deref-in-Some.ensures.value
     ∙ sym (call_typed fs ds c.args.e.now c.in-Call.g c.in-Call.args f c.in-Call.is there)
+
+pub type_of-returns-in-Bin : goal.type_of-returns-in-Bin
+type_of-returns-in-Bin t c =
+    let ty = λ (x : Expr). type_of c.args.funcs.now c.args.decls.now (shape x) in
+    c.bin_type.ensures ∙ ap₂ (both_types (bin_type c.in-Bin.op)) (c.type_of-in-Bin.ensures ∙ ap ty c.deref-in-Bin.ensures) (c.type_of-in-Bin-2.ensures ∙ ap ty c.deref-in-Bin-2.ensures) ∙ sym (ap ty c.in-Bin.is)
+
+pub type_of-returns-in-Imported : goal.type_of-returns-in-Imported
+type_of-returns-in-Imported t c =
+    let ty = λ (x : Expr). type_of c.args.funcs.now c.args.decls.now (shape x) in
+    c.imported_type.ensures ∙ ap₂ (both_types imported_type) (c.type_of-in-Imported.ensures ∙ ap ty c.deref-in-Imported.ensures) (c.type_of-in-Imported-2.ensures ∙ ap ty c.deref-in-Imported-2.ensures) ∙ sym (ap ty c.in-Imported.is)
+
+pub type_of-returns-in-Follow : goal.type_of-returns-in-Follow
+type_of-returns-in-Follow t c =
+    let ty = λ (x : Expr). type_of c.args.funcs.now c.args.decls.now (shape x) in
+    c.shared_type-in-Follow.ensures ∙ ap₂ (both_types shared_type) (c.type_of-in-Follow.ensures ∙ ap ty c.deref-in-Follow.ensures) (c.type_of-in-Follow-2.ensures ∙ ap ty c.deref-in-Follow-2.ensures) ∙ sym (ap ty c.in-Follow.is)
+
+pub type_of-returns-in-Arrow : goal.type_of-returns-in-Arrow
+type_of-returns-in-Arrow t c =
+    let ty = λ (x : Expr). type_of c.args.funcs.now c.args.decls.now (shape x) in
+    c.shared_type-in-Arrow.ensures ∙ ap₂ (both_types shared_type) (c.type_of-in-Arrow.ensures ∙ ap ty c.deref-in-Arrow.ensures) (c.type_of-in-Arrow-2.ensures ∙ ap ty c.deref-in-Arrow-2.ensures) ∙ sym (ap ty c.in-Arrow.is)
