@@ -55,6 +55,13 @@ pub and_false : (a b : Bool) → b ≡ false → (a && b) ≡ false
 and_false true b h = h
 and_false false b h = refl
 
+-- a part, and where it holds the other one
+pub both_hold : (p q x y : Bool) → p ≡ true → p ≡ x → q ≡ y → q ≡ (x && y)
+both_hold p q x y holds e h = h ∙ ap (λ b. b && y) (sym holds ∙ e)
+
+pub one_fails : (p x y : Bool) → p ≡ false → p ≡ x → p ≡ (x && y)
+one_fails p x y fails e = fails ∙ ap (λ b. b && y) (sym fails ∙ e)
+
 -- ---- pairs
 
 pub steps_decide : (a b : ℕ × Bool) → Decides (nat_eq a.0 b.0 && beq a.1 b.1) (a ≡ b)
