@@ -12,8 +12,8 @@ ghost use Rattle.lt_words.specs.Told.{Told};
 use crate::Command;
 use crate::commands::{GREATEST_TIME, MOST_INSTANTS, program};
 use crate::numbers::number_text;
-use clap::{ArgMatches, Command as ClapCommand};
 use clap::error::{Error, ErrorKind};
+use clap::{ArgMatches, Command as ClapCommand};
 use lt_base::Memory;
 use std::alloc::Global;
 
