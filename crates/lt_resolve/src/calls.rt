@@ -57,19 +57,15 @@ pub fn collect<'a>(
     ensures { OnOk result (calls.new.items ≡ calls.old.items ++ sites_in functions.now caller (tm_of term.now)) }
 {
     match term {
-        Term::Lit(_) => Ok(()),
-        Term::Var(_) => Ok(()),
-        Term::Un(_, a) => collect(functions, caller, a, calls),
-        Term::Bin(_, a, b) => collect_pair(functions, caller, a, b, calls),
-        Term::If(c, a, b) => {
-            collect(functions, caller, c, calls)?;
-            collect_pair(functions, caller, a, b, calls)
+        Term::Lit(_) | Term::Var(_) => Ok(()),
+        Term::Un(_, a) | Term::When(a, _, _) | Term::Fby(_, a) => {
+            collect(functions, caller, a, calls)
         }
-        Term::When(a, _, _) => collect(functions, caller, a, calls),
-        Term::Merge(_, a, b) => collect_pair(functions, caller, a, b, calls),
-        Term::Fby(_, a) => collect(functions, caller, a, calls),
-        Term::Follow(a, b) => collect_pair(functions, caller, a, b, calls),
-        Term::Arrow(a, b) => collect_pair(functions, caller, a, b, calls),
+        Term::Bin(_, a, b)
+        | Term::Merge(_, a, b)
+        | Term::Follow(a, b)
+        | Term::Arrow(a, b) => collect_pair(functions, caller, a, b, calls),
+        Term::If(c, a, b) => collect_choice(functions, caller, c, a, b, calls),
         Term::Call(f, args) => collect_call(functions, caller, f, args, calls),
     }
 }
@@ -87,6 +83,22 @@ fn collect_pair<'a>(
 {
     collect(functions, caller, a, calls)?;
     collect(functions, caller, b, calls)
+}
+
+/// Appends the calls in a choice.
+#[cycle(collect)]
+fn collect_choice<'a>(
+    functions: &Names,
+    caller: u32,
+    c: &'a Term,
+    a: &'a Term,
+    b: &'a Term,
+    calls: &mut Vec<Call<'a>>,
+) -> Result<(), Memory>
+    ensures { OnOk result (calls.new.items ≡ calls.old.items ++ (sites_in functions.now caller (tm_of c.now) ++ (sites_in functions.now caller (tm_of a.now) ++ sites_in functions.now caller (tm_of b.now)))) }
+{
+    collect(functions, caller, c, calls)?;
+    collect_pair(functions, caller, a, b, calls)
 }
 
 /// Appends a call, and the calls in its arguments.

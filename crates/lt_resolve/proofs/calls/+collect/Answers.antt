@@ -1,9 +1,8 @@
-use Rattle.std.proofs.Common.{◌≡◌, ◌++◌, List, map, length, refl, sym, ap}
+use Rattle.std.proofs.Common.{◌++◌, List, map, length, refl}
 use Rattle.lt_syntax.specs.declared.term.Term.{Term}
 use Rattle.lt_syntax.specs.Tree.{Call, tms}
 use Rattle.lt_syntax.specs.Views.{tm_of}
 use Rattle.lt_resolve.specs.Uses.{Site, sites_in}
-use Rattle.lt_resolve.proofs.Forms.{if_is}
 use Rattle.lt_resolve.proofs.Sites.{collected, sites_then, sites_next, sites_end}
 use Rattle.lt_resolve.proofs.calls.+collect.Goals as goal
 
@@ -13,16 +12,13 @@ collect_call-returns t c =
     collected c.args.functions.now c.args.caller c.args.f.now c.as_str-name.result.now args args (Call c.args.f.now (tms (map tm_of args))) c.number.result (length args)
     refl c.as_str-name.ensures c.number.ensures refl refl c.collect_arguments.result c.args.calls.now.items c.push.new.self.items c.collect_arguments.new.calls.items c.in_ok-push.ensures.items c.collect_arguments.ensures
 
-pub collect-returns-in_ok-collect-in-If : goal.collect-returns-in_ok-collect-in-If
-collect-returns-in_ok-collect-in-If t c =
+pub collect_choice-returns : goal.collect_choice-returns
+collect_choice-returns t c =
     let S : Term → List Site = λ s. sites_in c.args.functions.now c.args.caller (tm_of s) in
-    let x = c.deref-in-If.result.now in
-    let y = c.deref-in-If-2.result.now in
-    let z = c.deref-in-If-3.result.now in
-    let parts : S c.args.term.now ≡ S x ++ (S y ++ S z) =
-    ap (sites_in c.args.functions.now c.args.caller) (sym (if_is c.args.term.now c.in-If.c c.in-If.a c.in-If.b x y z c.in-If.is c.deref-in-If.ensures c.deref-in-If-2.ensures c.deref-in-If-3.ensures)) in
-    sites_then c.collect_pair-in-If.result c.args.calls.now.items c.collect-in-If.new.calls.items c.collect_pair-in-If.new.calls.items (S x) (S y ++ S z) (S c.args.term.now)
-    parts c.in_ok-collect-in-If.ensures c.collect_pair-in-If.ensures
+    let x = S c.args.c.now in
+    let y = S c.args.a.now ++ S c.args.b.now in
+    sites_then c.collect_pair.result c.args.calls.now.items c.collect.new.calls.items c.collect_pair.new.calls.items x y (x ++ y)
+    refl c.in_ok-collect.ensures c.collect_pair.ensures
 
 pub collect_pair-returns : goal.collect_pair-returns
 collect_pair-returns t c =

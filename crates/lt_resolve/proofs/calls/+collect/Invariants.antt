@@ -14,6 +14,9 @@ decreases-collect l = 3 * the_size l.term.now
 abbrev pub decreases-collect_pair : goal.decreases-collect_pair
 decreases-collect_pair l = 3 * max (the_size l.a.now) (the_size l.b.now) + 1
 
+abbrev pub decreases-collect_choice : goal.decreases-collect_choice
+decreases-collect_choice l = 3 * max (the_size l.c.now) (max (the_size l.a.now) (the_size l.b.now)) + 2
+
 abbrev pub decreases-collect_arguments : goal.decreases-collect_arguments
 decreases-collect_arguments l = 3 * goal.size-collect_arguments l + 1
 
