@@ -5,9 +5,9 @@ use Rattle.std.proofs.lemmas.List.Sums.{sum_by-cons}
 use Rattle.std.specs.Option.{option_or}
 use Rattle.lt_syntax.specs.declared.term.Term.{Term, fold-roll-Term}
 use Rattle.lt_syntax.specs.declared.term.Term as term
-use Rattle.lt_syntax.specs.declared.term.Term.TheVariants.{rolls-Call}
+use Rattle.lt_syntax.specs.declared.term.Term.TheVariants.{rolls-Var, rolls-Call}
 use Rattle.lt_syntax.specs.declared.term.Term.TheOpen as layer
-use Rattle.lt_syntax.specs.Tree.{Tm, Call, Tms, tms}
+use Rattle.lt_syntax.specs.Tree.{Tm, Var, Call, Tms, tms}
 use Rattle.lt_syntax.specs.Views.{tm_step, tm_of}
 use Rattle.lt_base.specs.declared.expression.Expr.{Expr}
 use Rattle.lt_base.specs.declared.expression.Expr as expr
@@ -34,6 +34,10 @@ argument_delays_are (a ∷ args) = ap (λ n. delays (tm_of a) + n) (argument_del
 -- the shape of a call
 pub tm_of-Call : (f : Name) (args : Vec Term Global) → tm_of (term.Call f args) ≡ Call f (tms (map tm_of args.items))
 tm_of-Call f args = ap tm_of (sym (rolls-Call f args)) ∙ fold-roll-Term Tm tm_step (layer.Call f args)
+
+-- the shape of a variable
+pub tm_of-Var : (x : Name) → tm_of (term.Var x) ≡ Var x
+tm_of-Var x = ap tm_of (sym (rolls-Var x)) ∙ fold-roll-Term Tm tm_step (layer.Var x)
 
 -- arguments with numbers
 pub translated_arguments : (vars funcs : List Name) (args : List Term) (es : List Expr) → Along (λ a e. IsTranslated vars funcs (tm_of a) (shape e)) args es → AreTranslated vars funcs (tms (map tm_of args)) (arguments_of (map shape es))

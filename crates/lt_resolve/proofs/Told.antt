@@ -1,6 +1,6 @@
 -- What checks answer, one after another.
-use Rattle.std.proofs.Common.{◌≡◌, ℕ, ◌<◌, List, length, get_or, drop, Option, None, Result, Ok, Err, sym, ◌∙◌, subst, Bor}
-use Rattle.std.specs.Result.{IsErrAnd}
+use Rattle.std.proofs.Common.{◌≡◌, ℕ, ◌<◌, List, length, get_or, drop, Option, None, Result, Ok, Err, sym, ◌∙◌, subst, Bor, Box, Global}
+use Rattle.std.specs.Result.{IsErrAnd, IfOk}
 use Rattle.std.specs.Option.{option_or}
 use Rattle.lt_base.specs.declared.memory.Or.{Or}
 use Rattle.lt_base.specs.declared.memory.Or.TheVariants.{Fault, Memory}
@@ -42,3 +42,13 @@ pub tells_as : {T : Type 0} (o p : Option Name) (r : Result T (Or (Bor Name))) �
 tells_as o p (Ok x) e h = e ∙ h
 tells_as o p (Err (Fault y)) e h = e ∙ h
 tells_as o p (Err Memory) e h = tt
+
+-- what follows of a value that was made
+pub if_ok : {T E : Type 0} (P Q : T → Type 0) → ((x : T) → P x → Q x) → (r : Result T E) → IfOk r P → IfOk r Q
+if_ok P Q f (Ok x) h = f x h
+if_ok P Q f (Err e) h = tt
+
+-- what holds of a value that was made, once it is in a box
+pub boxed_as : {T E F : Type 0} (P : T → Type 0) (r : Result T E) (s : Result (Box T Global) F) → IfOk r P → IfOk s (λ b. r ≡ Ok b.value) → IfOk s (λ b. P b.value)
+boxed_as P r (Ok b) h is = subst (λ r. IfOk r P) is h
+boxed_as P r (Err e) h is = tt

@@ -1,10 +1,11 @@
 // Names to numbers in expressions.
-ghost use Rattle.std.specs.Prelude.{◌≡◌, IfOk, length, map, vec_len};
+ghost use Rattle.std.specs.Prelude.{◌≡◌, ℕ, List, Option, None, Ok, IfOk, length, map, vec_len};
 ghost use Rattle.std.specs.Option.{option_or};
 ghost use Rattle.lt_base.specs.Expression.{shape, arguments_of};
 ghost use Rattle.lt_syntax.specs.Tree as tree;
 ghost use Rattle.lt_syntax.specs.Tree.{tms};
 ghost use Rattle.lt_syntax.specs.Views.{tm_of};
+ghost use Rattle.lt_resolve.specs.Names.{if_missing};
 ghost use Rattle.lt_resolve.specs.Named.{operator_of};
 ghost use Rattle.lt_resolve.specs.Uses.{if_uncallable, unknown, unknown_argument};
 ghost use Rattle.lt_resolve.specs.Told.{NeedsNoMemory, Tells};
@@ -67,12 +68,33 @@ fn operation(alloc: Global, operator: Imp, mut args: Vec<Expr>) -> Result<Expr, 
     Ok(Expr::Imported(operator, a, b))
 }
 
-fn call(alloc: Global, callee: Callee, args: Vec<Expr>) -> Result<Expr, Memory>
-    ensures { IfOk result (λ e. IsCalled callee (vec_len args) (arguments_of (map shape args.items)) (shape e)) }
+/// What is called, with its arguments.
+fn call<'t>(alloc: Global, callee: Callee, args: Vec<Expr>) -> Result<Expr, Or<&'t str>>
+    ensures told { Tells None result }
+    ensures called { IfOk result (λ e. IsCalled callee (vec_len args) (arguments_of (map shape args.items)) (shape e)) }
 {
     match callee {
         Callee::Function(g) => Ok(Expr::Call(g, args)),
-        Callee::Operator(operator) => operation(alloc, operator, args),
+        Callee::Operator(operator) => Ok(operation(alloc, operator, args)?),
+    }
+}
+
+/// A variable by its number; refuses a name that is not declared.
+fn variable<'t>(variables: &Names, name: &'t Name) -> Result<Expr, Or<&'t str>>
+    ensures told { Tells (if_missing variables.now name.now) result }
+    ensures named { IfOk result (λ e. (functions : List (List ℕ)) → IsTranslated variables.now functions (tree.Var name.now) (shape e)) }
+{
+    Ok(Expr::Var(variables.find(name.as_str())?))
+}
+
+/// The expression that was made, in a box.
+fn in_box<'t>(alloc: Global, made: Result<Expr, Or<&'t str>>) -> Result<Box<Expr>, Or<&'t str>>
+    ensures told { (unknown : Option (List ℕ)) → Tells unknown made.entry → Tells unknown result }
+    ensures boxed { IfOk result (λ e. made.entry ≡ Ok e.value) }
+{
+    match made {
+        Ok(e) => Ok(Box::new(alloc, e)?),
+        Err(error) => Err(error),
     }
 }
 
@@ -90,7 +112,7 @@ pub fn expression<'t>(
 {
     match term {
         Term::Lit(v) => Ok(Expr::Lit(*v)),
-        Term::Var(x) => Ok(Expr::Var(variables.find(x.as_str())?)),
+        Term::Var(x) => variable(variables, x),
         Term::Un(o, a) => unary(alloc, variables, functions, *o, a),
         Term::Bin(o, a, b) => binary(alloc, variables, functions, *o, a, b),
         Term::If(c, a, b) => choice(alloc, variables, functions, c, a, b),
@@ -114,10 +136,7 @@ fn boxed<'t>(
     ensures told { Tells (unknown variables.now functions.now (tm_of term.now)) result }
     ensures named { IfOk result (λ e. IsTranslated variables.now functions.now (tm_of term.now) (shape e.value)) }
 {
-    match expression(alloc, variables, functions, term) {
-        Ok(e) => Ok(Box::new(alloc, e)?),
-        Err(error) => Err(error),
-    }
+    in_box(alloc, expression(alloc, variables, functions, term))
 }
 
 /// Two operands, in boxes.
@@ -301,7 +320,7 @@ fn called<'t>(
 {
     let callee = callee_of(functions, name.as_str())?;
     let args = arguments(alloc, variables, functions, args)?;
-    Ok(call(alloc, callee, args)?)
+    call(alloc, callee, args)
 }
 
 #[cycle(expression)]

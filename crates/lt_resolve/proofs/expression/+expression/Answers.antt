@@ -1,16 +1,16 @@
-use Rattle.std.proofs.Common.{Some, None, refl, ◌≡◌, map, sym, subst, ◌∙◌, arith, vec_len}
+use Rattle.std.proofs.Common.{ℕ, List, IfOk, Some, None, refl, ap, ◌≡◌, map, sym, subst, ◌∙◌, arith, vec_len}
 use Rattle.lt_base.specs.Expression.{shape, arguments_of}
-use Rattle.lt_syntax.specs.Tree.{tms}
+use Rattle.lt_syntax.specs.Tree.{Var, Call, tms}
 use Rattle.lt_syntax.specs.Views.{tm_of}
 use Rattle.lt_resolve.specs.Names.{number_of, if_missing}
-use Rattle.lt_resolve.specs.Uses.{unknown, count}
+use Rattle.lt_resolve.specs.Uses.{unknown, if_uncallable, count}
 use Rattle.lt_resolve.specs.Told.{Tells}
-use Rattle.lt_resolve.specs.Known.{StandsFor, IsTranslated}
+use Rattle.lt_resolve.specs.Known.{StandsFor, IsCalled, IsTranslated}
 use Rattle.lt_resolve.proofs.Pairs.{along_more, along_all}
 use Rattle.lt_resolve.proofs.Lists.{or_none, some_next, some_none}
-use Rattle.lt_resolve.proofs.Told.{refuses_first, refuses_then, tells_at, tells_on}
+use Rattle.lt_resolve.proofs.Told.{refuses_first, refuses_then, tells_at, tells_on, tells_then, if_ok, boxed_as}
 use Rattle.lt_resolve.proofs.Sites.{count_is}
-use Rattle.lt_resolve.proofs.Terms.{unknown_arguments, translated_arguments, translated_call}
+use Rattle.lt_resolve.proofs.Terms.{tm_of-Var, unknown_arguments, translated_arguments, translated_call}
 use Rattle.lt_resolve.proofs.expression.+expression.Goals as goal
 
 pub arguments-returns-in_err-expression-clause-told : goal.arguments-returns-in_err-expression-clause-told
@@ -45,6 +45,21 @@ arguments-returns-clause-named t c =
     translated_arguments c.args.variables.now c.args.functions.now c.args.args.now c.arguments.exprs.items
     (along_all (λ a e. IsTranslated c.args.variables.now c.args.functions.now (tm_of a) (shape e)) c.args.args.now c.arguments.a-index c.arguments.exprs.items c.arguments-test.false c.arguments.invariant.along)
 
+pub expression-returns-in-Var-clause-named : goal.expression-returns-in-Var-clause-named
+expression-returns-in-Var-clause-named t c =
+    let vars = c.args.variables.now in
+    let funcs = c.args.functions.now in
+    subst
+    (λ a. IfOk c.variable.result (λ e. IsTranslated vars funcs a (shape e)))
+    (sym (ap tm_of c.in-Var.is ∙ tm_of-Var c.in-Var.x))
+    (if_ok (λ e. (functions : List (List ℕ)) → IsTranslated vars functions (Var c.in-Var.x) (shape e)) (λ e. IsTranslated vars funcs (Var c.in-Var.x) (shape e)) (λ e named. named funcs) c.variable.result c.variable.ensures.named)
+
+pub called-returns-clause-told : goal.called-returns-clause-told
+called-returns-clause-told t c =
+    let funcs = c.args.functions.now in
+    let callable : if_uncallable funcs c.args.name.now ≡ None = subst (λ x. if_uncallable funcs x ≡ None) c.as_str.ensures c.in_ok-callee.ensures.told in
+    tells_then _ _ c.call.result callable (subst (λ o. Tells o c.call.result) (sym c.in_ok-args.ensures.told) c.call.ensures.told)
+
 pub called-returns-clause-named : goal.called-returns-clause-named
 called-returns-clause-named t c =
     let vars = c.args.variables.now in
@@ -54,7 +69,19 @@ called-returns-clause-named t c =
     let es = arguments_of (map shape c.in_ok-args.args.items) in
     let many : vec_len c.in_ok-args.args ≡ count (tms (map tm_of args)) = c.in_ok-args.ensures.len ∙ sym (count_is args) in
     let stands = subst (λ x. StandsFor funcs x c.in_ok-callee.callee) c.as_str.ensures c.in_ok-callee.ensures.found in
-    translated_call vars funcs f (tms (map tm_of args)) (vec_len c.in_ok-args.args) es many c.in_ok-args.ensures.named c.in_ok-callee.callee (shape c.in_ok-call.field-0) stands c.in_ok-call.ensures
+    if_ok
+    (λ e. IsCalled c.in_ok-callee.callee (vec_len c.in_ok-args.args) es (shape e))
+    (λ e. IsTranslated vars funcs (Call f (tms (map tm_of args))) (shape e))
+    (λ e called. translated_call vars funcs f (tms (map tm_of args)) (vec_len c.in_ok-args.args) es many c.in_ok-args.ensures.named c.in_ok-callee.callee (shape e) stands called)
+    c.call.result
+    c.call.ensures.called
+
+pub boxed-returns-clause-told : goal.boxed-returns-clause-told
+boxed-returns-clause-told t c = c.in_box.ensures.told (unknown c.args.variables.now c.args.functions.now (tm_of c.args.term.now)) c.expression.ensures.told
+
+pub boxed-returns-clause-named : goal.boxed-returns-clause-named
+boxed-returns-clause-named t c =
+    boxed_as (λ e. IsTranslated c.args.variables.now c.args.functions.now (tm_of c.args.term.now) (shape e)) c.expression.result c.in_box.result c.expression.ensures.named c.in_box.ensures.boxed
 
 pub operands-returns-in_err-a-clause-told : goal.operands-returns-in_err-a-clause-told
 operands-returns-in_err-a-clause-told t c = tells_on _ c.in_err-a.field-0.0 _ c.from_residual.ensures.1 (refuses_first _ _ _ c.in_err-a.ensures.told)
