@@ -1,5 +1,5 @@
 -- The calls of functions as edges.
-use Rattle.std.proofs.Common.{◌≡◌, ℕ, ◌+◌, ◌<◌, ◌≤◌, List, [], ◌∷◌, ◌++◌, length, get_or, Option, None, Some, slice_get, refl, sym, ap, ◌∙◌, subst, arith}
+use Rattle.std.proofs.Common.{◌≡◌, ℕ, ◌+◌, ◌<◌, ◌≤◌, List, [], ◌∷◌, ◌++◌, length, get_or, drop, Option, None, Some, slice_get, refl, sym, ap, ◌∙◌, subst, arith, add-one, drop-cons}
 use Rattle.std.proofs.lemmas.List.{append_assoc, length-map, get_or-map}
 use Rattle.std.proofs.lemmas.List.Elements.{All-nil, All-cons, All-append}
 use Rattle.std.proofs.lemmas.Option.{get_or_from_slice_get, slice_get_within}
@@ -22,6 +22,13 @@ use Rattle.lt_resolve.proofs.Numbers.{number_below}
 pub edges_append : (xs ys : List Site) → edges (xs ++ ys) ≡ edges xs ++ edges ys
 edges_append [] ys = refl
 edges_append (s ∷ xs) ys = ap (λ l. edge s.caller s.callee ++ l) (edges_append xs ys) ∙ sym (append_assoc (edge s.caller s.callee) (edges xs) (edges ys))
+
+-- the edges of the calls from one place on, once that of the call there was appended
+pub edges_next : (calls : List Site) (i : ℕ) (x : Site) (old new all : List (ℕ × ℕ)) → i < length calls → x ≡ get_or calls i x → new ≡ old ++ edge x.caller x.callee → old ++ edges (drop i calls) ≡ all → new ++ edges (drop (i + 1) calls) ≡ all
+edges_next calls i x old new all l e added rest =
+    let here : edges (drop i calls) ≡ edge x.caller x.callee ++ edges (drop (i + 1) calls) =
+    ap edges (drop-cons calls i x l) ∙ (λ j. edge (sym e j).caller (sym e j).callee ++ edges (drop (sym (add-one i) j) calls)) in
+    ap (λ n. n ++ edges (drop (i + 1) calls)) added ∙ append_assoc old (edge x.caller x.callee) (edges (drop (i + 1) calls)) ∙ ap (λ w. old ++ w) (sym here) ∙ rest
 
 -- ---- their ends are functions
 
