@@ -61,10 +61,8 @@ pub fn collect<'a>(
         Term::Un(_, a) | Term::When(a, _, _) | Term::Fby(_, a) => {
             collect(functions, caller, a, calls)
         }
-        Term::Bin(_, a, b)
-        | Term::Merge(_, a, b)
-        | Term::Follow(a, b)
-        | Term::Arrow(a, b) => collect_pair(functions, caller, a, b, calls),
+        Term::Bin(_, a, b) | Term::Merge(_, a, b) | Term::Follow(a, b) | Term::Arrow(a, b) =>
+            collect_pair(functions, caller, a, b, calls),
         Term::If(c, a, b) => collect_choice(functions, caller, c, a, b, calls),
         Term::Call(f, args) => collect_call(functions, caller, f, args, calls),
     }

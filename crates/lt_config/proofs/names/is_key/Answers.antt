@@ -8,8 +8,7 @@ use Rattle.lt_config.proofs.names.is_key.Goals as goal
 pub loop-key-preserved : goal.loop-key-preserved
 loop-key-preserved c =
     let name = c.args.name.now in
-    let there : c.loop-key.key-index < 12 = omega (arith, c.loop-key-test.true) in
-    (
+    let there : c.loop-key.key-index < 12 = omega (arith, c.loop-key-test.true) in (
       c.loop-key.invariant.0 ∙ any-skip (λ k. bytes_eq name (key_text k)) keys c.loop-key.key-index Protocol there (sym (c.eq.ensures ∙ ap (bytes_eq name) c.key_text.ensures) ∙ c.if-eq.false),
       refl,
     )
