@@ -1,9 +1,8 @@
 -- The lines of refused programs, without their line feeds.
-use Rattle.std.specs.Prelude.{ℕ, ◌+◌, Bool, List, ◌++◌, ◌∷◌, Option, Some, None, codes, bytes_eq, nat_lt, reverse, if◌then◌else◌}
+use Rattle.std.specs.Prelude.{ℕ, List, ◌++◌, ◌∷◌, codes, bytes_eq, nat_lt, if◌then◌else◌}
 use Rattle.std.specs.List.{flat_map}
 use Rattle.std.specs.Fmt.{decimal}
 use Rattle.lt_base.specs.declared.program.Sizes.{Sizes}
-use Rattle.lt_base.specs.Meaning.{ClockPairs}
 use Rattle.lt_syntax.specs.declared.fault.SyntaxFault.{SyntaxFault}
 use Rattle.lt_syntax.specs.declared.tree.NodeText.{NodeText}
 use Rattle.lt_resolve.specs.declared.fault.NameFault.{NameFault}
@@ -13,8 +12,9 @@ use Rattle.lt_check.specs.declared.typing.TypeFault.{TypeFault}
 use Rattle.lt_check.specs.declared.clocking.ClockFault.{ClockFault}
 use Rattle.lt_front.specs.declared.fault.ProgramFault.{ProgramFault}
 use Rattle.lt_front.specs.declared.fault.ProgramFault.TheVariants as fault
+use Rattle.lt_outputs.specs.Names.{function_name, variable_name}
+use Rattle.lt_outputs.specs.Clocks.{clock_text, place_text}
 use Rattle.lt_texts.specs.Words.{syntax_kind_text, name_kind_text, ty_text, found_text}
-use Rattle.lt_texts.specs.Names.{function_name, variable_name}
 
 abbrev pub syntax_line : SyntaxFault → List ℕ
 syntax_line f = codes "syntax " ++ syntax_kind_text f.kind ++ codes " at byte " ++ decimal f.at
@@ -37,19 +37,6 @@ name_line f t = name_line_of f.kind f t
 abbrev pub type_line : TypeFault → List NodeText → List ℕ
 type_line f t =
     codes "type in node " ++ function_name t f.func ++ codes ": " ++ variable_name t f.func f.var ++ codes " is " ++ ty_text f.want ++ codes ", found " ++ found_text f.got
-
--- a pair of a clock
-abbrev pub step_text : List NodeText → ℕ → ℕ × Bool → List ℕ
-step_text t func p = (if p.1 then codes " on " else codes " on not ") ++ variable_name t func p.0
-
--- a clock, from the base clock inwards
-abbrev pub clock_text : List NodeText → ℕ → ClockPairs → List ℕ
-clock_text t func ck = codes "base" ++ flat_map (λ p. step_text t func p) (reverse ck)
-
--- a declaration, or an equation by its number from 1 on
-abbrev pub place_text : Option ℕ → List ℕ
-place_text None = codes "declaration"
-place_text (Some k) = codes "equation " ++ decimal (k + 1)
 
 abbrev pub clock_line : ClockFault → List NodeText → List ℕ
 clock_line f t =

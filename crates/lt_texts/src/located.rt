@@ -2,8 +2,8 @@
 ghost use Rattle.std.specs.Prelude.{◌≡◌, ◌++◌, OnOk};
 ghost use Rattle.std.specs.Fmt.{decimal};
 
-use crate::numbers::append_size;
 use lt_base::{List, Memory};
+use lt_outputs::append_size;
 
 /// Appends a fault's kind and its place, each with some text before it.
 pub(crate) fn append_located(

@@ -1,18 +1,18 @@
 // The line of a refused program.
 ghost use Rattle.std.specs.Prelude.{◌≡◌, ◌++◌, ◌∷◌, bytes_eq, codes, if◌then◌else◌, IfOk, OnOk};
 ghost use Rattle.std.specs.List.{flat_map};
-ghost use Rattle.lt_texts.specs.Lines.{syntax_line, name_line, found_name_line, limit_line, type_line, clock_line, clock_text, place_text, cycle_line, size_line, program_line};
-ghost use Rattle.lt_texts.specs.Names.{function_name, variable_name};
+ghost use Rattle.lt_texts.specs.Lines.{syntax_line, name_line, found_name_line, limit_line, type_line, clock_line, cycle_line, size_line, program_line};
+ghost use Rattle.lt_outputs.specs.Names.{function_name, variable_name};
+ghost use Rattle.lt_outputs.specs.Clocks.{clock_text, place_text};
 ghost use Rattle.lt_texts.specs.Words.{name_kind_text, ty_text, found_text};
 
-use crate::clocks::{append_clock, append_place};
 use crate::located::append_located;
-use crate::names::{append_function, append_name, append_variable};
 use crate::words::{found, name_kind, syntax_kind, ty};
 use lt_base::{List, Memory, Name, Sizes, Ty};
 use lt_cause::Cycle;
 use lt_check::{ClockFault, TypeFault};
 use lt_front::ProgramFault;
+use lt_outputs::{append_clock, append_function, append_name, append_place, append_variable};
 use lt_resolve::{NameFault, NameKind};
 use lt_syntax::{SyntaxFault, Tree};
 use std::alloc::Global;

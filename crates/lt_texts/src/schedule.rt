@@ -5,10 +5,10 @@ ghost use Rattle.lt_lossy.specs.declared.event.LossyOffence.TheVariants.{TooMany
 ghost use Rattle.lt_texts.specs.ScheduleLines.{row_kind_text, row_line, offence_name, place_text, offence_line, lossy_line, node_text, node_name, channel_text, ends_text};
 
 use crate::located::append_located;
-use crate::numbers::append_count;
 use lt_arch::{Chan, ChanKind, Offence, Shape};
 use lt_base::{List, Memory};
 use lt_lossy::LossyOffence;
+use lt_outputs::append_count;
 use lt_rows::RowFault;
 
 /// Appends the line of a row that is no event, or of too many, without a line feed.

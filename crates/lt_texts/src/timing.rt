@@ -3,9 +3,9 @@ ghost use Rattle.std.specs.Prelude.{◌≡◌, ◌++◌, true, codes, OnOk};
 ghost use Rattle.std.specs.Fmt.{decimal};
 ghost use Rattle.lt_texts.specs.FileLines.{at_node, timing_line, which_text, window_line};
 
-use crate::numbers::append_ticks;
 use lt_base::{List, Memory, Name};
 use lt_lossy::WindowFault;
+use lt_outputs::append_ticks;
 use lt_timing::{TimingFault, Which};
 
 /// Appends the line of a timing that is not accepted, without a line feed. The node is named where nodes or pairs differ.

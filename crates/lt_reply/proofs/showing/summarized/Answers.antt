@@ -1,5 +1,5 @@
 use Rattle.std.proofs.Common.{◌∙◌}
-use Rattle.lt_texts.specs.OutputLines.{summary_text}
+use Rattle.lt_outputs.specs.OutputLines.{summary_text}
 use Rattle.lt_reply.proofs.showing.summarized.Goals as goal
 
 pub returns-in_ok-summary_text-in-Ok : goal.returns-in_ok-summary_text-in-Ok

@@ -1,6 +1,6 @@
 use Rattle.std.proofs.Common.{◌≡◌, ◌++◌, ◌∷◌, take}
 use Rattle.std.specs.List.{flat_map}
-use Rattle.lt_texts.specs.Names.{variable_name}
+use Rattle.lt_outputs.specs.Names.{variable_name}
 use Rattle.lt_texts.proofs.program.append_each.Given as goal
 
 abbrev pub invariant-loop-variable : goal.invariant-loop-variable

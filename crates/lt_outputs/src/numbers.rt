@@ -19,8 +19,8 @@ pub fn append_size(line: &mut List<u8>, size: usize) -> Result<(), Memory>
     line.extend(Buffer::new().format(size).as_bytes())
 }
 
-// Appends a number of ticks in decimal digits.
-pub(crate) fn append_ticks(line: &mut List<u8>, ticks: u128) -> Result<(), Memory>
+/// Appends a number of ticks in decimal digits.
+pub fn append_ticks(line: &mut List<u8>, ticks: u128) -> Result<(), Memory>
     ensures { OnOk result (line.new ≡ line.old ++ decimal ticks) }
 {
     line.extend(Buffer::new().format(ticks).as_bytes())

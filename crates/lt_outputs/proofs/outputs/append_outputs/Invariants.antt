@@ -1,6 +1,6 @@
 use Rattle.std.proofs.Common.{◌≡◌, ◌≤◌, ◌++◌, ℕ, [], take, length, get_or}
-use Rattle.lt_texts.specs.OutputLines.{outputs_text}
-use Rattle.lt_texts.proofs.outputs.append_outputs.Given as goal
+use Rattle.lt_outputs.specs.OutputLines.{outputs_text}
+use Rattle.lt_outputs.proofs.outputs.append_outputs.Given as goal
 
 -- the lines so far, and the columns that are still there
 abbrev pub invariant-loop-output : goal.invariant-loop-output

@@ -1,6 +1,6 @@
 // Clocks.
 ghost use Rattle.std.specs.Prelude.{◌≡◌, ◌++◌, codes, if◌then◌else◌, OnOk};
-ghost use Rattle.lt_texts.specs.Lines.{clock_text, step_text, place_text};
+ghost use Rattle.lt_outputs.specs.Clocks.{clock_text, step_text, place_text};
 
 use crate::names::{append_number, append_variable};
 use lt_base::{Clock, List, Memory};
@@ -8,7 +8,7 @@ use lt_syntax::Tree;
 use std::alloc::Global;
 
 /// Appends a clock: `base`, and then each pair from there inwards.
-pub(crate) fn append_clock(
+pub fn append_clock(
     line: &mut List<u8>,
     tree: &Tree,
     func: u32,
@@ -44,7 +44,7 @@ fn polarity_text(polarity: bool) -> &'static str
 }
 
 /// Appends where a clock is at fault: a declaration, or an equation by its number from 1 on.
-pub(crate) fn append_place(
+pub fn append_place(
     alloc: Global,
     line: &mut List<u8>,
     at: Option<u32>,

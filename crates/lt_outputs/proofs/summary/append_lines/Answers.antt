@@ -1,9 +1,9 @@
 use Rattle.std.proofs.Common.{◌++◌, ℕ, List, take, get_or, ap, sym, ◌∙◌, append_assoc, arith}
 use Rattle.std.proofs.lemmas.List.{take_all}
 use Rattle.lt_base.specs.declared.value.Cell.{Cell}
-use Rattle.lt_texts.specs.OutputLines.{summary_line, summary_lines}
-use Rattle.lt_texts.proofs.OutputLines.{summary_lines-more}
-use Rattle.lt_texts.proofs.summary.append_lines.Goals as goal
+use Rattle.lt_outputs.specs.OutputLines.{summary_line, summary_lines}
+use Rattle.lt_outputs.proofs.OutputLines.{summary_lines-more}
+use Rattle.lt_outputs.proofs.summary.append_lines.Goals as goal
 
 pub loop-output-preserved : goal.loop-output-preserved
 loop-output-preserved c =

@@ -1,6 +1,6 @@
 // The text of outputs.
 ghost use Rattle.std.specs.Prelude.{◌≡◌, ◌++◌, ◌∷◌, [], OnOk, IfOk, length};
-ghost use Rattle.lt_texts.specs.OutputLines.{cell_text, cells_text, output_line, outputs_text};
+ghost use Rattle.lt_outputs.specs.OutputLines.{cell_text, cells_text, output_line, outputs_text};
 
 use itoa::Buffer;
 use lt_base::{Cell, List, Memory, Name, Value};
@@ -70,7 +70,7 @@ fn append_cells(text: &mut List<u8>, cells: &[Cell]) -> Result<(), Memory>
 }
 
 /// Appends a cell: a number, a truth value or the sign of an absence.
-pub(crate) fn append_cell(text: &mut List<u8>, cell: Cell) -> Result<(), Memory>
+pub fn append_cell(text: &mut List<u8>, cell: Cell) -> Result<(), Memory>
     ensures { OnOk result (text.new ≡ text.old ++ cell_text cell) }
 {
     match cell {

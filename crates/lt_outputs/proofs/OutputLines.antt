@@ -3,7 +3,7 @@ use Rattle.std.proofs.Common.{◌≡◌, ℕ, zero, suc, ◌+◌, ◌<◌, List,
 use Rattle.std.specs.List.{flat_map}
 use Rattle.std.proofs.lemmas.Grind.{flat_map-append}
 use Rattle.lt_base.specs.declared.value.Cell.{Cell}
-use Rattle.lt_texts.specs.OutputLines.{output_line, outputs_text, summary_line, summary_lines}
+use Rattle.lt_outputs.specs.OutputLines.{output_line, outputs_text, summary_line, summary_lines}
 
 zip-take_more : {A B : Type 0} (xs : List A) (ys : List B) (i : ℕ) (d : A) (e : B) → i < length xs → i < length ys → zip (take (suc i) xs) ys ≡ zip (take i xs) ys ++ (get_or xs i d, get_or ys i e) ∷ []
 zip-take_more [] ys i d e h k = absurd (omega arith)

@@ -3,7 +3,7 @@ use Rattle.std.proofs.Common.{◌≡◌, ℕ, ◌≤◌, List, ◌++◌, length,
 use Rattle.std.proofs.lemmas.Option.{slice_get_past}
 use Rattle.std.specs.List.{slice_get}
 use Rattle.lt_syntax.specs.declared.tree.NodeText.{NodeText}
-use Rattle.lt_texts.specs.Names.{function_name, variable_name, name_of, variable_in}
+use Rattle.lt_outputs.specs.Names.{function_name, variable_name, name_of, variable_in}
 
 past_end : (t : List NodeText) (n : ℕ) → length t ≤ n → slice_get t n ≡ None
 past_end t n past = slice_get_past t n past

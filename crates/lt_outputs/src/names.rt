@@ -1,14 +1,14 @@
 // Names of functions and variables, from a tree.
 ghost use Rattle.std.specs.Prelude.{◌≡◌, ◌++◌, ◌+◌, OnOk, IfOk, slice_get, slice_index_or, MatchOption, None, Some};
 ghost use Rattle.std.specs.Fmt.{decimal};
-ghost use Rattle.lt_texts.specs.Names.{function_name, variable_name, name_in};
+ghost use Rattle.lt_outputs.specs.Names.{function_name, variable_name, name_in};
 
 use lt_base::{List, Memory, Name};
 use lt_syntax::{DeclText, NodeText, Tree};
 use std::alloc::Global;
 
 /// Appends the name of the function of this number.
-pub(crate) fn append_function(line: &mut List<u8>, tree: &Tree, func: u32) -> Result<(), Memory>
+pub fn append_function(line: &mut List<u8>, tree: &Tree, func: u32) -> Result<(), Memory>
     ensures { OnOk result (line.new ≡ line.old ++ function_name tree.now func) }
 {
     match tree.nodes.as_slice().get(func as usize) {
@@ -18,7 +18,7 @@ pub(crate) fn append_function(line: &mut List<u8>, tree: &Tree, func: u32) -> Re
 }
 
 /// Appends the name of the function's variable of this number.
-pub(crate) fn append_variable(
+pub fn append_variable(
     line: &mut List<u8>,
     tree: &Tree,
     func: u32,
@@ -33,14 +33,14 @@ pub(crate) fn append_variable(
 }
 
 /// Appends a name.
-pub(crate) fn append_name(line: &mut List<u8>, name: &Name) -> Result<(), Memory>
+pub fn append_name(line: &mut List<u8>, name: &Name) -> Result<(), Memory>
     ensures { OnOk result (line.new ≡ line.old ++ name.now) }
 {
     line.extend(name.as_str().as_bytes())
 }
 
 /// Appends a number in decimal digits.
-pub(crate) fn append_number(alloc: Global, line: &mut List<u8>, number: u64) -> Result<(), Memory>
+pub fn append_number(alloc: Global, line: &mut List<u8>, number: u64) -> Result<(), Memory>
     ensures { OnOk result (line.new ≡ line.old ++ decimal number) }
 {
     let digits = format!(in alloc; "{number}")?;

@@ -1,9 +1,9 @@
 use Rattle.std.proofs.Common.{◌≡◌, ◌++◌, ◌<◌, ℕ, List, [], take, length, get_or, ap, sym, ◌∙◌, append_assoc, arith, length-set}
 use Rattle.std.proofs.lemmas.List.{get_or_default, get_or-set_other}
 use Rattle.lt_base.specs.declared.value.Cell.{Cell}
-use Rattle.lt_texts.specs.OutputLines.{output_line, outputs_text}
-use Rattle.lt_texts.proofs.OutputLines.{outputs_text-more}
-use Rattle.lt_texts.proofs.outputs.append_outputs.Goals as goal
+use Rattle.lt_outputs.specs.OutputLines.{output_line, outputs_text}
+use Rattle.lt_outputs.proofs.OutputLines.{outputs_text-more}
+use Rattle.lt_outputs.proofs.outputs.append_outputs.Goals as goal
 
 pub loop-output-preserved : goal.loop-output-preserved
 loop-output-preserved c =

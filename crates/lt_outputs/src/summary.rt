@@ -1,6 +1,6 @@
 // The summary of a run.
 ghost use Rattle.std.specs.Prelude.{◌≡◌, ◌++◌, OnOk, IfOk, length, slice_get, ◌-◌};
-ghost use Rattle.lt_texts.specs.OutputLines.{last_text, summary_line, summary_lines, summary_text};
+ghost use Rattle.lt_outputs.specs.OutputLines.{last_text, summary_line, summary_lines, summary_text};
 
 use crate::numbers::{append_count, append_size};
 use crate::outputs::append_cell;
