@@ -4,7 +4,7 @@ ghost use Rattle.lt_norm.specs.Flat.{Originated};
 ghost use Rattle.lt_place.specs.Layout.{IsPlaced};
 ghost use Rattle.lt_place.specs.Sizes.{HasCodeRoom, IsCompilable};
 ghost use Rattle.lt_plant.specs.Starts.{AreReady};
-ghost use Rattle.lt_replay.specs.Ready.{IsReady, AreReadySoFar, AreCompilable};
+ghost use Rattle.lt_ready.specs.Ready.{IsReady, AreReadySoFar, AreCompilable};
 
 use lt_base::Memory;
 use lt_machine::{Machine, TableMachine};

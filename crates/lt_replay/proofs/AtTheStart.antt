@@ -7,7 +7,7 @@ use Rattle.lt_arch.specs.Shapes.{HaveSameNodes}
 use Rattle.lt_arch.specs.State.{Phase}
 use Rattle.lt_plant.specs.Starts.{AreAtStart}
 use Rattle.lt_plant.specs.Wakes.{AreConfigured}
-use Rattle.lt_replay.specs.Ready.{AreControllers}
+use Rattle.lt_replay.specs.Controllers.{AreControllers}
 
 module _ {C : Type 0} (phase : C → Phase) (protocol : C → Protocol) (send execute : C → ℕ) (t : Timing) where
   pub at_start : (s : Shape) (cs : List C) → HaveSameNodes s t → AreControllers phase protocol send execute t cs → AreAtStart phase s t cs

@@ -2,13 +2,10 @@ pub mod OneMore
 pub mod AtEnd
 pub mod Outcomes
 pub mod FirstPlay
-pub mod RowsRead
 pub mod Stopping
 pub mod Members
 pub mod LossyBound
 pub mod SoundNetworks
-pub mod PartRead
-pub mod ReadySoFar
 pub mod AtTheEnd
 pub mod NextController
 pub mod AtTheStart

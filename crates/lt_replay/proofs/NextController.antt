@@ -6,8 +6,8 @@ use Rattle.lt_arch.specs.declared.timing.Protocol.TheVariants.{TimeBased}
 use Rattle.lt_arch.specs.declared.timing.Timing.{Timing}
 use Rattle.lt_arch.specs.Readers.{send_of, execute_of}
 use Rattle.lt_arch.specs.State.{Phase, first_phase}
-use Rattle.lt_replay.specs.Ready.{IsControllerOf}
-use Rattle.lt_replay.proofs.ReadySoFar.{one_more}
+use Rattle.lt_replay.specs.Controllers.{IsControllerOf}
+use Rattle.lt_ready.proofs.ReadySoFar.{one_more}
 
 module _ {C : Type 0} (phase : C → Phase) (protocol : C → Protocol) (send execute : C → ℕ) (t : Timing) where
   -- the controller of the next node

@@ -2,7 +2,7 @@ pub mod Plays
 pub mod Keeping
 pub mod Blamed
 pub mod Played
-pub mod Ready
+pub mod Controllers
 pub mod Sound
 pub mod Run
 pub mod Replays

@@ -1,6 +1,6 @@
 // The controllers of the nodes.
 ghost use Rattle.std.specs.Prelude.{IfOk};
-ghost use Rattle.lt_replay.specs.Ready.{AreControllers};
+ghost use Rattle.lt_replay.specs.Controllers.{AreControllers};
 
 use lt_arch::{Controller, Timing};
 use lt_base::Memory;

@@ -1,13 +1,11 @@
-//! A network from its layout to what its outputs show: its machines and controllers are made, its nodes take the events of a
+//! A network from its layout to what its outputs show: its controllers are made, its nodes take the events of a
 //! schedule file row by row over a fabric, and the cells are taken; also over links that lose messages.
 #![tactic(auto)]
 
 mod controllers;
 mod fault;
-pub mod feeding;
 pub mod laws;
 mod lossy;
-mod machines;
 mod opening;
 mod playback;
 mod playing;
@@ -18,7 +16,6 @@ mod taking;
 
 pub use fault::PlayFault;
 pub use lossy::{LossyPlayFault, replay_lossy};
-pub use machines::machines_of;
 pub use playback::Playback;
 pub use playing::play;
 pub use replayed::Replayed;

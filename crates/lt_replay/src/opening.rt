@@ -5,11 +5,11 @@ ghost use Rattle.lt_io.specs.Counts.{LinkCounted};
 ghost use Rattle.lt_io.specs.FabricState.{KeepsPromises, OpensFabric, OpensOnce};
 ghost use Rattle.lt_plant.specs.Starts.{kinds_for};
 
-use crate::feeding::room_for;
 use lt_arch::Shape;
 use lt_base::Value;
 use lt_io::{Fabric, LinkErr};
 use lt_place::Layout;
+use lt_ready::room_for;
 use lt_plant::literals::kinds_of;
 use lt_rows::PlaceTable;
 use std::alloc::Global;

@@ -23,7 +23,6 @@ ghost use Rattle.lt_replay.specs.Blamed.{IsStopOf};
 ghost use Rattle.lt_replay.specs.Plays.{IsPlaying, KeepsPlay, LeavesNet};
 ghost use Rattle.lt_replay.specs.Keeping.{keeps_itself, keeps_on};
 
-use crate::feeding::{given, read_next};
 use crate::opening::open;
 use lt_arch::{Controller, Event, Offence, Shape, Timing};
 use lt_base::{Inputs, Memory, Steps, Value};
@@ -32,6 +31,7 @@ use lt_judge::{Replica, Stop};
 use lt_machine::Machine;
 use lt_net::{Net, NetFault};
 use lt_place::Layout;
+use lt_ready::{given, read_next};
 use lt_rows::PlaceTable;
 use std::alloc::Global;
 use std::sync::ledger::Ledger;

@@ -9,7 +9,7 @@ ghost use Rattle.lt_step.specs.Run.{HasRowValues};
 ghost use Rattle.lt_place.specs.Layout.{IsPlaced};
 ghost use Rattle.lt_place.specs.Sizes.{HasCodeRoom};
 ghost use Rattle.lt_plant.specs.Starts.{AreReady};
-ghost use Rattle.lt_replay.specs.Ready.{AreControllers};
+ghost use Rattle.lt_replay.specs.Controllers.{AreControllers};
 ghost use Rattle.lt_replay.specs.Sound.{IsPaced, IsSound};
 ghost use Rattle.lt_replay.specs.Replays.{FinishesBy, HasReplayed, link_fault};
 

@@ -9,7 +9,7 @@ use lt_arch::Shape;
 use lt_base::{Imp, Memory};
 use lt_load::Loaded;
 use lt_machine::{Import, Machine, StepMachine};
-use lt_replay::machines_of;
+use lt_ready::machines_of;
 use std::alloc::Global;
 
 /// A machine of step code for each node, and a copy of the shape, whose nodes a fault names.

@@ -1,10 +1,9 @@
 // The streams of a program's outputs on its inputs.
-ghost use Rattle.std.specs.Prelude.{◌≡◌, ◌<◌, ◌≤◌, [], true, false, IfOk, IfErr, OnOk};
+ghost use Rattle.std.specs.Prelude.{◌≡◌, ◌<◌, ◌≤◌, true, false, IfOk, IfErr, OnOk};
 ghost use Rattle.lt_base.specs.Checked.{CheckedProgram};
 ghost use Rattle.lt_answer.specs.Answered.{Refuses};
 ghost use Rattle.lt_meaning.specs.Streams.{HasOutputStreams, InputsFitMain, cell_count, most_cells};
 ghost use Rattle.lt_place.specs.Sizes.{IsCompilable};
-ghost use Rattle.lt_step.specs.Compile.{CodeOf};
 ghost use Rattle.lt_step.specs.Run.{HasRowValues};
 ghost use Rattle.lt_stream.specs.Columns.{HasColumns};
 ghost use Rattle.lt_stream.specs.Main.{cells_verdict};
@@ -12,13 +11,12 @@ ghost use Rattle.lt_stream.specs.Main.{cells_verdict};
 use crate::streaming::streams_by;
 use lt_base::tables::imp;
 use lt_base::{Cell, Inputs, List, Memory, Or, Program, sizes};
-use lt_cause::causal;
 use lt_front::Checked;
 use lt_load::CommandFault;
-use lt_machine::{Import, Machine, StepMachine};
+use lt_machine::Import;
 use lt_meaning::GREATEST_CELLS;
 use lt_norm::Flat;
-use lt_step::{Code, compile};
+use lt_ready::machine_of;
 use std::alloc::Global;
 use std::marker::Brand;
 use std::sync::ledger::Blank;
@@ -48,28 +46,6 @@ pub(crate) fn limit_cells(
         return Err(Or::Fault(CommandFault::TooManyCells));
     }
     Ok(())
-}
-
-// The step code of a flat function.
-fn code_of(alloc: Global, flat: &Flat) -> Result<Code, Memory>
-    requires { IsCompilable flat.now.func }
-    ensures { IfOk result (CodeOf flat.now.func) }
-{
-    match causal(alloc, &flat.func) {
-        Ok(order) => compile(alloc, flat, &order),
-        Err(Or::Memory) => Err(Memory),
-        Err(Or::Fault(_)) => unreachable!(),
-    }
-}
-
-// A machine of a flat function, with a step for each row.
-fn machine_of(alloc: Global, flat: &Flat, import: Import, rows: u32) -> Result<StepMachine, Memory>
-    requires { IsCompilable flat.now.func }
-    ensures stands { IfOk result (λ m. ⟦<StepMachine as Machine>⟧.stands m flat.now.func []) }
-    ensures left { IfOk result (λ m. ⟦<StepMachine as Machine>⟧.left m ≡ rows) }
-{
-    let code = code_of(alloc, flat)?;
-    StepMachine::start(alloc, code, import, rows)
 }
 
 // The streams of the outputs of a flat function.

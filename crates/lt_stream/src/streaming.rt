@@ -10,7 +10,7 @@ ghost use Rattle.lt_stream.specs.Columns.{HasColumns};
 use crate::columns::{empty_columns, push_cells};
 use lt_base::{Cell, Func, Inputs, List, Memory, Steps, Value};
 use lt_machine::Machine;
-use lt_replay::feeding::{read_row, room_for};
+use lt_ready::{read_row, room_for};
 use std::alloc::Global;
 use std::sync::ledger::{Blank, Ledger};
 

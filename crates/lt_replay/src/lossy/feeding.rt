@@ -4,12 +4,12 @@ ghost use Rattle.lt_lossy.specs.Events.{IsLossyPlacedIn};
 ghost use Rattle.lt_step.specs.Run.{HasRowValues};
 ghost use Rattle.lt_replay.specs.LossyPlays.{lossy_row_for};
 
-use crate::feeding::read_row;
 use lt_arch::Event;
 use lt_base::{Inputs, Value};
 use lt_lossy::LossyEvent;
 use lt_lossy_net::LossyNet;
 use lt_machine::Machine;
+use lt_ready::read_row;
 
 /// Puts the row of inputs that an event needs in place of another, and says whether there is one: at an activation that of the
 /// node's next instant.

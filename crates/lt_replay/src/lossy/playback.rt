@@ -17,7 +17,6 @@ ghost use Rattle.lt_replay.specs.LossySound.{IsLossySound};
 ghost use Rattle.lt_replay.specs.LossyPlays.{IsPlayingLossy, KeepsLossyPlay, LeavesNet};
 ghost use Rattle.lt_replay.specs.LossyKeeping.{long_lossy_line, lossy_keeps_itself, lossy_keeps_on};
 
-use crate::feeding::given;
 use crate::lossy::feeding::read_next;
 use crate::lossy::reading::read_row;
 use crate::opening::open;
@@ -30,6 +29,7 @@ use lt_lossy::{LossyEvent, LossyOffence};
 use lt_lossy_net::{LossyFault, LossyNet};
 use lt_machine::Machine;
 use lt_place::Layout;
+use lt_ready::given;
 use lt_rows::PlaceTable;
 use std::alloc::Global;
 use std::sync::ledger::Ledger;

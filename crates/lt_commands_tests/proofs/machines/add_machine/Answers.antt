@@ -1,8 +1,8 @@
 use Rattle.std.proofs.Common.{◌<◌, length, subst, arith}
 use Rattle.lt_place.specs.declared.layout.Part.{Part}
 use Rattle.lt_place.specs.Sizes.{IsCompilable}
-use Rattle.lt_replay.proofs.PartRead.{part_read}
-use Rattle.lt_replay.proofs.ReadySoFar.{next_machine}
+use Rattle.lt_ready.proofs.PartRead.{part_read}
+use Rattle.lt_ready.proofs.ReadySoFar.{next_machine}
 use Rattle.lt_commands_tests.proofs.machines.add_machine.Goals as goal
 
 pub machine_of-requires : goal.machine_of-requires

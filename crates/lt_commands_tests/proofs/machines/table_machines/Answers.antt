@@ -1,4 +1,4 @@
-use Rattle.lt_replay.proofs.ReadySoFar.{all_ready}
+use Rattle.lt_ready.proofs.ReadySoFar.{all_ready}
 use Rattle.lt_commands_tests.proofs.machines.table_machines.Goals as goal
 
 pub returns : goal.returns

@@ -1,7 +1,7 @@
 use Rattle.std.proofs.Common.{◌≡◌, ℕ, length, Some}
 use Rattle.std.specs.Prelude.{slice_get}
 use Rattle.lt_judge.specs.declared.controller.NodeController.{NodeController}
-use Rattle.lt_replay.specs.Ready.{IsControllerOf}
+use Rattle.lt_replay.specs.Controllers.{IsControllerOf}
 use Rattle.lt_replay.proofs.Members.{controller_phase, controller_protocol, controller_send, controller_execute}
 use Rattle.lt_replay.proofs.controllers.controllers_of.Given as goal
 

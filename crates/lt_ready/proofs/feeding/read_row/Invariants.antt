@@ -1,6 +1,6 @@
 use Rattle.std.proofs.Common.{◌≡◌, ◌<◌, ℕ, [], length, get_or}
 use Rattle.lt_base.specs.declared.value.Value.{Value}
-use Rattle.lt_replay.proofs.feeding.read_row.Given as goal
+use Rattle.lt_ready.proofs.feeding.read_row.Given as goal
 
 abbrev pub invariant-loop-input : goal.invariant-loop-input
 invariant-loop-input l =

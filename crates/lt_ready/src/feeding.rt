@@ -34,7 +34,7 @@ pub fn read_row(inputs: &Inputs, instant: u32, width: u32, row: &mut Vec<Value>)
 
 /// Puts the row of inputs that an event needs in place of another, and says whether there is one: at an activation that of the
 /// node's next instant.
-pub(crate) fn read_next<C: Controller, M: Machine>(
+pub fn read_next<C: Controller, M: Machine>(
     net: &Net<C, M>,
     inputs: &Inputs,
     width: u32,

@@ -1,9 +1,9 @@
 use Rattle.std.proofs.Common.{◌<◌, length, subst, arith}
 use Rattle.lt_place.specs.declared.layout.Part.{Part}
 use Rattle.lt_place.specs.Sizes.{IsCompilable}
-use Rattle.lt_replay.proofs.PartRead.{part_read}
-use Rattle.lt_replay.proofs.ReadySoFar.{next_machine}
-use Rattle.lt_replay.proofs.machines.add_machine.Goals as goal
+use Rattle.lt_ready.proofs.PartRead.{part_read}
+use Rattle.lt_ready.proofs.ReadySoFar.{next_machine}
+use Rattle.lt_ready.proofs.machines.add_machine.Goals as goal
 
 pub machine_of-requires : goal.machine_of-requires
 machine_of-requires g c =
@@ -14,4 +14,4 @@ pub returns-clause-ready : goal.returns-clause-ready
 returns-clause-ready g c =
     let low : c.len.result < length c.args.layout.now.nodes = let len = c.len.ensures in let more = c.requires.more in omega (arith, len, more) in
     next_machine _ _ _ c.args.layout.now c.args.rows c.args.machines.now.items _ c.len.result c.index-as_slice-len.result _ c.in_ok-machine.machine c.as_slice.ensures (let len = c.len.ensures in omega (arith, len)) low c.index-as_slice-len.is c.in_ok-push.ensures.items
-    c.requires.ready c.in_ok-machine.ensures
+    c.requires.ready (record { stand = c.in_ok-machine.ensures.stands; unmade = c.in_ok-machine.ensures.made; enough = let left = c.in_ok-machine.ensures.left in omega (arith, left) })

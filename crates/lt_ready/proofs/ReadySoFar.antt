@@ -7,8 +7,8 @@ use Rattle.lt_place.specs.declared.layout.Part.{Part}
 use Rattle.lt_place.specs.declared.layout.Layout.{Layout}
 use Rattle.lt_place.specs.Layout.{part_of}
 use Rattle.lt_plant.specs.Starts.{AreReady}
-use Rattle.lt_replay.specs.Ready.{IsReady, AreReadySoFar}
-use Rattle.lt_replay.proofs.PartRead.{part_read}
+use Rattle.lt_ready.specs.Ready.{IsReady, AreReadySoFar}
+use Rattle.lt_ready.proofs.PartRead.{part_read}
 
 -- what holds of each element and its place holds so with one more at the end
 pub one_more : {A : Type 0} (P : ℕ → A → Type 0) (xs : List A) (y : A) → ((n : ℕ) (x : A) → slice_get xs n ≡ Some x → P n x) → P (length xs) y → (n : ℕ) (x : A) → slice_get (xs ++ y ∷ []) n ≡ Some x → P n x

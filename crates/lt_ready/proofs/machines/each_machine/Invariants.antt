@@ -1,7 +1,7 @@
 use Rattle.std.proofs.Common.{◌≡◌, length}
 use Rattle.lt_machine.specs.contracts.step_machine.StepMachineMachine.TheImpl.{stands-value, made-value, left-value}
-use Rattle.lt_replay.specs.Ready.{AreReadySoFar}
-use Rattle.lt_replay.proofs.machines.each_machine.Given as goal
+use Rattle.lt_ready.specs.Ready.{AreReadySoFar}
+use Rattle.lt_ready.proofs.machines.each_machine.Given as goal
 
 abbrev pub invariant-loop-import : goal.invariant-loop-import
 invariant-loop-import g l = record {

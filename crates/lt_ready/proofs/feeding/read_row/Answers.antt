@@ -1,6 +1,6 @@
 use Rattle.std.proofs.Common.{arith}
-use Rattle.lt_replay.proofs.RowsRead.{row_all}
-use Rattle.lt_replay.proofs.feeding.read_row.Goals as goal
+use Rattle.lt_ready.proofs.RowsRead.{row_all}
+use Rattle.lt_ready.proofs.feeding.read_row.Goals as goal
 
 pub returns-clause-row : goal.returns-clause-row
 returns-clause-row c =

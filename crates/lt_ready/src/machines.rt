@@ -1,11 +1,11 @@
 // The machines of the nodes.
-ghost use Rattle.std.specs.Prelude.{◌≡◌, ◌<◌, ◌+◌, length, IfOk, OnOk};
+ghost use Rattle.std.specs.Prelude.{◌≡◌, ◌<◌, ◌+◌, [], length, IfOk, OnOk};
 ghost use Rattle.lt_norm.specs.Flat.{Originated};
 ghost use Rattle.lt_step.specs.Compile.{CodeOf};
 ghost use Rattle.lt_place.specs.Layout.{IsPlaced};
 ghost use Rattle.lt_place.specs.Sizes.{HasCodeRoom, IsCompilable};
 ghost use Rattle.lt_plant.specs.Starts.{AreReady};
-ghost use Rattle.lt_replay.specs.Ready.{IsReady, AreReadySoFar, AreCompilable};
+ghost use Rattle.lt_ready.specs.Ready.{AreReadySoFar, AreCompilable};
 
 use lt_base::{Memory, Or};
 use lt_cause::causal;
@@ -16,7 +16,7 @@ use lt_place::laws::parts_compile;
 use lt_step::{Code, compile};
 use std::alloc::Global;
 
-// The step code of a part.
+// The step code of a flat function.
 fn code_of(alloc: Global, flat: &Flat) -> Result<Code, Memory>
     requires { IsCompilable flat.now.func }
     ensures { IfOk result (CodeOf flat.now.func) }
@@ -28,10 +28,17 @@ fn code_of(alloc: Global, flat: &Flat) -> Result<Code, Memory>
     }
 }
 
-// A machine of a part, with a step for each row.
-fn machine_of(alloc: Global, flat: &Flat, import: Import, rows: u32) -> Result<StepMachine, Memory>
+/// A machine of a flat function, with a step for each row and none made.
+pub fn machine_of(
+    alloc: Global,
+    flat: &Flat,
+    import: Import,
+    rows: u32,
+) -> Result<StepMachine, Memory>
     requires { IsCompilable flat.now.func }
-    ensures { IfOk result (IsReady ⟦<StepMachine as Machine>⟧.stands ⟦<StepMachine as Machine>⟧.made ⟦<StepMachine as Machine>⟧.left flat.now.func rows) }
+    ensures stands { IfOk result (λ m. ⟦<StepMachine as Machine>⟧.stands m flat.now.func []) }
+    ensures made { IfOk result (λ m. ⟦<StepMachine as Machine>⟧.made m ≡ 0) }
+    ensures left { IfOk result (λ m. ⟦<StepMachine as Machine>⟧.left m ≡ rows) }
 {
     let code = code_of(alloc, flat)?;
     StepMachine::start(alloc, code, import, rows)

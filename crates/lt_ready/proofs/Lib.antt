@@ -1,0 +1,3 @@
+pub mod RowsRead
+pub mod PartRead
+pub mod ReadySoFar
