@@ -8,7 +8,7 @@ use Rattle.lt_arch.specs.declared.chan.ChanKind.TheVariants.{Data, Ack}
 use Rattle.lt_arch.specs.declared.shape.Shape.{Shape}
 use Rattle.lt_arch.specs.Readers.{node_count, chan_count, chan_of, from_of, to_of, carries_data, is_data}
 use Rattle.lt_norm.specs.Flat.{Originated}
-use Rattle.lt_place.specs.declared.layout.Crossing.{Crossing}
+use Rattle.lt_reads.specs.declared.crossing.Crossing.{Crossing}
 use Rattle.lt_place.specs.declared.layout.Layout.{Layout}
 use Rattle.lt_place.specs.declared.nodes.NamedNodes.{NamedNodes}
 use Rattle.lt_place.specs.Names.{names_of}

@@ -7,7 +7,7 @@ use Rattle.lt_arch.specs.declared.chan.ChanKind.TheVariants.{Data, Ack}
 use Rattle.lt_arch.specs.declared.timing.Protocol.TheVariants.{TimeBased}
 use Rattle.lt_arch.specs.declared.shape.Shape.{Shape}
 use Rattle.lt_norm.specs.Flat.{Originated}
-use Rattle.lt_place.specs.declared.layout.Crossing.{Crossing}
+use Rattle.lt_reads.specs.declared.crossing.Crossing.{Crossing}
 use Rattle.lt_place.specs.declared.layout.Layout.{Layout}
 use Rattle.lt_place.specs.Layout.{IsPlaced}
 use Rattle.lt_plant.specs.Layout.{joins}

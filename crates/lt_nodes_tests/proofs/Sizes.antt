@@ -15,7 +15,7 @@ use Rattle.lt_front.specs.Checked.{CheckedText, IsChecked}
 use Rattle.lt_front.specs.Examined.{ExaminedText, IsExamined}
 use Rattle.lt_front.specs.Flattened.{KeepsMain, main_function}
 use Rattle.lt_front.proofs.Rooms.{equations_fit}
-use Rattle.lt_place.specs.Origins.{HasOrigins}
+use Rattle.lt_reads.specs.Origins.{HasOrigins}
 use Rattle.lt_meaning.specs.Streams.{NumbersFit, HasRoom}
 
 -- what is kept of the same program

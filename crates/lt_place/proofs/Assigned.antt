@@ -1,18 +1,18 @@
 -- The names that a placement lists, and the variables of `main`.
-use Rattle.std.proofs.Common.{◌≡◌, ℕ, zero, suc, ◌+◌, ◌-◌, ◌<◌, ◌≤◌, Bool, true, false, cond, List, [], ◌∷◌, ◌++◌, length, map, take, drop, replicate, get_or, Option, Some, None, refl, sym, ap, ◌∙◌, subst, arith, ⊎_elim, Bor}
+use Rattle.std.proofs.Common.{◌≡◌, ℕ, zero, suc, ◌+◌, ◌-◌, ◌<◌, Bool, true, false, cond, List, [], ◌∷◌, ◌++◌, length, map, take, drop, replicate, get_or, Option, Some, None, refl, sym, ap, ◌∙◌, subst, arith, ⊎_elim, Bor}
 use Rattle.std.specs.Option.{is_some}
 use Rattle.std.specs.Str.{bytes_eq}
 use Rattle.std.specs.HashMap.{HashMap}
-use Rattle.std.proofs.lemmas.List.{append_assoc, append-nil, take_more, map_more}
+use Rattle.std.proofs.lemmas.List.{append_assoc, append-nil, map_more}
 use Rattle.std.proofs.lemmas.Bool.{cases_eq}
 use Rattle.std.proofs.lemmas.Slice.Eq.{bytes_eq-Decides}
 use Rattle.lt_base.specs.declared.function.Decl.{Decl}
 use Rattle.lt_norm.specs.Flat.{Originated}
+use Rattle.lt_reads.specs.Origins.{IsMain, HasOrigins, count, name_in, name_of}
 use Rattle.lt_place.specs.declared.named.NamedNode.{NamedNode}
 use Rattle.lt_place.specs.declared.seats.Seat.{Seat}
-use Rattle.lt_place.specs.Origins.{IsMain, HasOrigins, count, name_in, name_of}
 use Rattle.lt_place.specs.Nodes.{Listing, listings_on, listings_from, IsKnown, EachKnown}
-use Rattle.lt_place.specs.Seats.{at_name, KnowsMain, EachIn, IsFirstOut, seat_of, seats_of, HasSeats}
+use Rattle.lt_place.specs.Seats.{at_name, KnowsMain, EachIn, IsFirstOut, seat_of, seats_of}
 use Rattle.lt_place.proofs.Lists.{name_get}
 
 abbrev Named : Type 0 → Type 0 → Type 0

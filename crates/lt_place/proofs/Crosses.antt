@@ -1,30 +1,28 @@
 -- What the crossings are.
-use Rattle.std.proofs.Common.{◌≡◌, ◌≢◌, ℕ, zero, suc, ◌+◌, ◌<◌, ◌≤◌, Bool, true, false, List, [], ◌∷◌, ◌++◌, length, map, get_or, Option, Some, None, refl, sym, ap, ◌∙◌, subst, arith, ⊎_elim, All}
+use Rattle.std.proofs.Common.{◌≡◌, ◌≢◌, ℕ, zero, suc, ◌+◌, ◌<◌, ◌≤◌, Bool, true, false, List, [], ◌∷◌, ◌++◌, length, map, get_or, Option, Some, None, refl, sym, ap, ◌∙◌, subst, arith, All}
 use Rattle.std.specs.Prelude.{nat_eq, slice_get, if◌then◌else◌}
 use Rattle.std.specs.Str.{bytes_eq}
-use Rattle.std.proofs.lemmas.Bool.{cases_eq, cases_Bool}
 use Rattle.lt_base.specs.declared.value.Value.{Value}
 use Rattle.lt_base.specs.Expression.{Expression, literal, variable, unary, binary, imported, choose, sampled, merged, delayed, follow, arrow, call}
 use Rattle.lt_base.specs.Program.{GoodFunction, VarsBelow}
 use Rattle.lt_base.specs.Meaning.{ClockPairs, clock_of, right_of}
-use Rattle.lt_base.specs.Clocking.{Clocked, ClockedFunction}
-use Rattle.lt_base.specs.Dependence.{has}
+use Rattle.lt_base.specs.Clocking.{ClockedFunction}
 use Rattle.lt_base.proofs.Lookups.{right_all, left_below, same_self}
 use Rattle.lt_base.proofs.Reading.{or_left}
 use Rattle.lt_norm.specs.Flat.{Originated}
+use Rattle.lt_reads.specs.declared.crossing.Crossing.{Crossing}
+use Rattle.lt_reads.specs.Origins.{count, name_of}
+use Rattle.lt_reads.specs.Crossings.{cross_of, cross_in, cross_by, HasReaders, HasPlaces}
+use Rattle.lt_reads.proofs.Crossed.{differ}
 use Rattle.lt_place.specs.declared.named.NamedNode.{NamedNode}
 use Rattle.lt_place.specs.declared.placement.Placement.{Placement}
 use Rattle.lt_place.specs.declared.placement.Placement.TheVariants.{All as OnOne, Named as OnListed}
-use Rattle.lt_place.specs.declared.layout.Crossing.{Crossing}
 use Rattle.lt_place.specs.declared.layout.Layout.{Layout}
 use Rattle.lt_place.specs.Names.{names_of}
 use Rattle.lt_place.specs.Placement.{node_names}
-use Rattle.lt_place.specs.Origins.{count, name_of}
-use Rattle.lt_place.specs.Nodes.{Listing, listings_on, listings_from, node_listed, node_named, nodes_of, node_of}
+use Rattle.lt_place.specs.Nodes.{listings_on, listings_from, node_listed, node_named, nodes_of, node_of}
 use Rattle.lt_place.specs.Layout.{HasCrossings, crossing_of, no_crossing}
-use Rattle.lt_place.specs.Spread.{cross_of, cross_in, cross_by, cross_at, HasReaders, HasPlaces, IsLocal}
-use Rattle.lt_place.proofs.Crossed.{differ}
-use Rattle.lt_place.proofs.Turns.{var_at, at_inside}
+use Rattle.lt_place.specs.Spread.{IsLocal}
 
 -- what a crossing is made of
 pub record IsCross (nodes : List ℕ) (x : ℕ) (o : Option Expression) (c : Crossing) : Type 0 where

@@ -1,20 +1,19 @@
 -- At most one fault is the first, and it excludes a legal placement.
-use Rattle.std.proofs.Common.{◌≡◌, ◌≢◌, ◌⊎◌, inl, inr, ℕ, zero, suc, ◌+◌, ◌<◌, ◌≤◌, true, List, [], ◌∷◌, ◌++◌, length, Option, Some, None, refl, sym, ap, ◌∙◌, subst, arith, ⊎_elim}
+use Rattle.std.proofs.Common.{◌≡◌, ◌≢◌, ℕ, ◌<◌, true, List, [], ◌∷◌, ◌++◌, Some, sym, ap, ◌∙◌, subst, arith, ⊎_elim}
 use Rattle.std.specs.Prelude.{slice_get}
 use Rattle.std.proofs.lemmas.Bool.{cases_order}
-use Rattle.lt_base.specs.Expression.{Expression}
 use Rattle.lt_base.specs.Meaning.{ClockPairs, clock_of}
 use Rattle.lt_base.specs.Dependence.{has}
 use Rattle.lt_base.specs.Program.{GoodFunction}
 use Rattle.lt_base.proofs.Lookups.{left_below}
 use Rattle.lt_norm.specs.Flat.{Originated}
+use Rattle.lt_reads.specs.Reads.{unless_base}
 use Rattle.lt_place.specs.declared.placement.Placement.{Placement}
 use Rattle.lt_place.specs.declared.fault.PlaceFault.{PlaceFault}
 use Rattle.lt_place.specs.declared.fault.PlaceFault.TheVariants.{Unplaced, PlacedTwice, UnknownName, DirectCross, SlowCross, ClockElsewhere}
-use Rattle.lt_place.specs.Origins.{IsMain, name_of}
-use Rattle.lt_place.specs.Nodes.{Listing, listings, puts, IsKnown, EachKnown}
+use Rattle.lt_place.specs.Nodes.{Listing, listings, IsKnown, EachKnown}
 use Rattle.lt_place.specs.Legal.{Legal}
-use Rattle.lt_place.specs.Faults.{IsLowest, IsUnplaced, IsPlacedTwice, AllPlaced, AllOnce, IsFirstUnknown, ReadsElsewhere, IsClear, IsReached, IsFirstFault, judged, clock_reads, plain_reads, slow_reads, unless_base, IsClockElsewhere, IsDirectCross, IsSlowCross}
+use Rattle.lt_place.specs.Faults.{IsLowest, IsUnplaced, IsPlacedTwice, AllOnce, IsFirstUnknown, IsClear, IsReached, IsFirstFault, judged, IsClockElsewhere, IsDirectCross, IsSlowCross}
 
 same_lowest : (P : ℕ → Type 0) (m n : ℕ) → IsLowest P m → IsLowest P n → m ≡ n
 same_lowest P m n a b = let p = a.lowest n b.holds in let q = b.lowest m a.holds in omega (arith, p, q)

@@ -1,7 +1,6 @@
 -- What is reported is what is read on other nodes.
-use Rattle.std.proofs.Common.{◌≡◌, ◌≢◌, ◌⊎◌, inl, inr, ℕ, zero, suc, ◌+◌, ◌<◌, ◌≤◌, Bool, true, false, List, [], ◌∷◌, ◌++◌, length, get_or, Option, Some, None, refl, sym, ap, ◌∙◌, subst, arith, ⊎_elim, eqb-true}
-use Rattle.std.specs.Prelude.{◌||◌, nat_eq, MatchOption, if◌then◌else◌}
-use Rattle.std.proofs.lemmas.Bool.Decides.{eqb_tells}
+use Rattle.std.proofs.Common.{◌≡◌, ◌≢◌, ◌⊎◌, inl, inr, ℕ, ◌<◌, Bool, true, false, List, [], ◌∷◌, ◌++◌, length, get_or, Option, Some, None, refl, sym, ap, ◌∙◌, subst, ⊎_elim, eqb-true}
+use Rattle.std.specs.Prelude.{nat_eq, MatchOption, if◌then◌else◌}
 use Rattle.lt_base.specs.Expression.{Expression}
 use Rattle.lt_base.specs.Meaning.{right_of}
 use Rattle.lt_base.specs.Dependence.{has}
@@ -11,11 +10,9 @@ use Rattle.lt_base.proofs.Lookups.{all_found, same_self}
 use Rattle.lt_base.proofs.Reading.{has_one, or_left, or_right}
 use Rattle.lt_norm.specs.Flat.{Originated}
 use Rattle.lt_place.specs.declared.placement.Placement.{Placement}
-use Rattle.lt_place.specs.declared.look.Look.{Look}
-use Rattle.lt_place.specs.Origins.{origin_of, count}
-use Rattle.lt_place.specs.Nodes.{node_of, nodes_of}
+use Rattle.lt_place.specs.Nodes.{nodes_of}
 use Rattle.lt_place.specs.Faults.{IsLowest, ReadsElsewhere}
-use Rattle.lt_place.specs.Reports.{Report, In, elsewhere, reports, LeastAt, HasLeast, Marks, looked}
+use Rattle.lt_place.specs.Reports.{Report, In, elsewhere, reports, LeastAt, HasLeast}
 
 -- ---- membership
 

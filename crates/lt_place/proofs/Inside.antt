@@ -1,25 +1,25 @@
 -- What the equations of a function read are its variables.
-use Rattle.std.proofs.Common.{◌≡◌, ℕ, zero, suc, ◌+◌, ◌<◌, ◌≤◌, Bool, true, List, [], ◌∷◌, ◌++◌, length, take, get_or, Option, refl, sym, ap, ◌∙◌, subst, arith, All}
+use Rattle.std.proofs.Common.{◌≡◌, ℕ, ◌+◌, ◌<◌, true, List, [], ◌∷◌, ◌++◌, length, take, get_or, Option, sym, ap, ◌∙◌, subst, arith, All}
 use Rattle.std.proofs.lemmas.List.{append_assoc, append-nil, take_more}
 use Rattle.std.proofs.lemmas.List.Elements.{All-nil, All-cons}
 use Rattle.lt_base.specs.declared.value.Ty.TheVariants.{Int as IntTy}
 use Rattle.lt_base.specs.declared.function.Decl.{Decl}
 use Rattle.lt_base.specs.Expression.{Expression, literal, variable, unary, binary, imported, choose, sampled, merged, delayed, follow, arrow, call, Arguments, no_arguments, argument}
-use Rattle.lt_base.specs.Program.{Function, GoodFunction, VarsBelow, ArgumentVarsBelow}
+use Rattle.lt_base.specs.Program.{GoodFunction, VarsBelow, ArgumentVarsBelow}
 use Rattle.lt_base.specs.Meaning.{ClockPairs, clock_of}
-use Rattle.lt_base.specs.Dependence.{has, reads, clock_vars}
+use Rattle.lt_base.specs.Dependence.{has, reads}
 use Rattle.lt_base.specs.Order.{EachRead, EachArgumentRead, EachClockVar}
 use Rattle.lt_base.proofs.Lookups.{same_self}
 use Rattle.lt_base.proofs.Reading.{has_one, each_at, each_clock_at, or_left, or_right}
 use Rattle.lt_norm.specs.Flat.{Originated}
-use Rattle.lt_norm.proofs.Loop.{lefts_inside}
-use Rattle.lt_place.specs.declared.look.Look.{Look}
-use Rattle.lt_place.specs.declared.look.Look.TheVariants.{Clocks, Direct, Slow}
-use Rattle.lt_place.specs.Origins.{HasOrigins, origin_of, count}
-use Rattle.lt_place.specs.Legal.{parts_read, whole_read, direct_reads, delayed_reads}
-use Rattle.lt_place.specs.Faults.{unless_base}
-use Rattle.lt_place.specs.Reports.{Report, HasLeast, looked, elsewhere, reports}
-use Rattle.lt_place.proofs.Lists.{each_of_all, clock_get}
+use Rattle.lt_reads.specs.declared.look.Look.{Look}
+use Rattle.lt_reads.specs.declared.look.Look.TheVariants.{Clocks, Direct, Slow}
+use Rattle.lt_reads.specs.Origins.{HasOrigins, count}
+use Rattle.lt_reads.specs.Reads.{parts_read, whole_read, direct_reads, delayed_reads, unless_base, looked}
+use Rattle.lt_reads.proofs.Decls.{clock_get}
+use Rattle.lt_reads.proofs.Lefts.{lefts_below}
+use Rattle.lt_place.specs.Reports.{Report, HasLeast, elsewhere, reports}
+use Rattle.lt_place.proofs.Lists.{each_of_all}
 
 mutual
   each_below : (n : ℕ) (e : Expression) → VarsBelow n e → EachRead (λ y. y < n) e
@@ -121,23 +121,14 @@ module _ (f : Originated) (good : GoodFunction f.func) where
   looked_below Direct x e l h y r = direct_below (count f) e h y r
   looked_below Slow x e l h y r = unless_below (count f) (clock_of f.func.decls x) (delayed_reads e) (delayed_below (count f) e h) y r
 
-  pub lefts_below : All (λ q. q.0 < count f) f.func.eqs
-  lefts_below = lefts_inside f.func good
-
   pub looked_inside : (look : Look) (q : ℕ × Expression) (items : List (ℕ × Expression)) (i : ℕ) → items ≡ f.func.eqs → i < length items → q ≡ get_or items i q → All (λ y. y < count f) (looked look f q.0 q.1)
   looked_inside look q items i e l r =
       let here : q ≡ get_or f.func.eqs i q = r ∙ ap (λ qs. get_or qs i q) e in
       let k : i < length f.func.eqs = let z = ap length e in omega (arith, z, l) in
       all_from_has (λ y. y < count f) (looked look f q.0 q.1)
       (looked_below look q.0 q.1
-      (subst (λ (q : ℕ × Expression). q.0 < count f) (sym here) (lefts_below i q k))
+      (subst (λ (q : ℕ × Expression). q.0 < count f) (sym here) (lefts_below f good i q k))
       (subst (λ (q : ℕ × Expression). VarsBelow (count f) q.1) (sym here) (good.rights i q k)))
-
-  pub left_inside : (q : ℕ × Expression) (items : List (ℕ × Expression)) (i : ℕ) → items ≡ f.func.eqs → i < length items → q ≡ get_or items i q → q.0 < count f
-  left_inside q items i e l r =
-      let here : q ≡ get_or f.func.eqs i q = r ∙ ap (λ qs. get_or qs i q) e in
-      let k : i < length f.func.eqs = let z = ap length e in omega (arith, z, l) in
-      subst (λ (q : ℕ × Expression). q.0 < count f) (sym here) (lefts_below i q k)
 
 module _ (f : Originated) (h : HasOrigins f) (origin : List ℕ) (o : origin ≡ f.origin) where
   pub origin_size : length origin ≡ count f

@@ -1,22 +1,22 @@
 -- The loop that judges the equations of `main`.
-use Rattle.std.proofs.Common.{◌≡◌, ℕ, zero, suc, ◌+◌, ◌<◌, ◌≤◌, List, [], ◌∷◌, length, get_or, All, Option, Some, None, refl, sym, ap, ◌∙◌, subst, arith, ⊎_elim}
+use Rattle.std.proofs.Common.{◌≡◌, ℕ, ◌+◌, ◌<◌, ◌≤◌, List, length, get_or, Option, Some, None, sym, ap, ◌∙◌, subst, arith, ⊎_elim}
 use Rattle.std.specs.Prelude.{slice_get}
 use Rattle.std.proofs.lemmas.Bool.{cases_eq}
-use Rattle.lt_base.specs.Expression.{Expression}
 use Rattle.lt_base.specs.Program.{GoodFunction}
 use Rattle.lt_norm.specs.Flat.{Originated}
+use Rattle.lt_reads.specs.declared.look.Look.{Look}
+use Rattle.lt_reads.specs.declared.look.Look.TheVariants.{Clocks, Direct, Slow}
+use Rattle.lt_reads.specs.Origins.{HasOrigins, count}
+use Rattle.lt_reads.specs.Reads.{looked}
+use Rattle.lt_reads.proofs.Lefts.{lefts_below}
 use Rattle.lt_place.specs.declared.placement.Placement.{Placement}
 use Rattle.lt_place.specs.declared.fault.PlaceFault.{PlaceFault}
-use Rattle.lt_place.specs.declared.look.Look.{Look}
-use Rattle.lt_place.specs.declared.look.Look.TheVariants.{Clocks, Direct, Slow}
-use Rattle.lt_place.specs.Origins.{IsMain, HasOrigins, count}
 use Rattle.lt_place.specs.Legal.{Legal}
 use Rattle.lt_place.specs.Faults.{IsFirstFault, judged}
-use Rattle.lt_place.specs.Reports.{HasLeast, Marks, IsAssigned, fault_at, looked, reports}
+use Rattle.lt_place.specs.Reports.{HasLeast, Marks, IsAssigned, fault_at, reports}
 use Rattle.lt_place.proofs.Found.{lowest}
 use Rattle.lt_place.proofs.Turns.{is_judged, var_inside, var_at, at_inside}
 use Rattle.lt_place.proofs.Verdicts.{Silent, silent, clear, first_fault, legal}
-use Rattle.lt_place.proofs.Inside.{lefts_below}
 use Rattle.lt_place.proofs.Marked.{default_free}
 
 module _ (f : Originated) (good : GoodFunction f.func) (origins : HasOrigins f) (nodes : List ℕ) where

@@ -1,11 +1,11 @@
 -- The layout of a legal function.
-use Rattle.std.proofs.Common.{◌≡◌, ◌≢◌, ◌⊎◌, inl, inr, ℕ, zero, suc, ◌+◌, ◌<◌, ◌≤◌, Bool, true, false, List, [], ◌∷◌, ◌++◌, length, map, get_or, Option, Some, None, refl, sym, ap, ◌∙◌, subst, arith, ⊎_elim, ltb-true}
+use Rattle.std.proofs.Common.{◌≡◌, ◌⊎◌, inl, inr, ℕ, zero, suc, ◌<◌, Bool, true, false, List, [], ◌∷◌, length, map, get_or, Option, Some, None, refl, sym, ap, ◌∙◌, subst, arith, ⊎_elim, ltb-true}
 use Rattle.std.specs.Prelude.{nat_eq, nat_lt, ◌||◌, slice_get}
 use Rattle.std.specs.Option.{is_some}
 use Rattle.std.proofs.lemmas.Bool.{or_cases, cases_Bool}
 use Rattle.lt_base.specs.Expression.{Expression}
 use Rattle.lt_base.specs.Program.{GoodFunction}
-use Rattle.lt_base.specs.Meaning.{clock_of, right_of}
+use Rattle.lt_base.specs.Meaning.{right_of}
 use Rattle.lt_base.specs.Typing.{TypedFunction}
 use Rattle.lt_base.specs.Clocking.{ClockedFunction}
 use Rattle.lt_base.specs.Dependence.{Causal, has}
@@ -13,18 +13,19 @@ use Rattle.lt_base.specs.Placed.{renamed}
 use Rattle.lt_base.proofs.Lookups.{input_none, left_below, same_self}
 use Rattle.lt_base.proofs.Reading.{or_left, or_right, has_one}
 use Rattle.lt_norm.specs.Flat.{Originated, FlatFunction}
+use Rattle.lt_reads.specs.declared.crossing.Crossing.{Crossing}
+use Rattle.lt_reads.specs.Origins.{count, origin_of}
+use Rattle.lt_reads.specs.Crossings.{HasPlaces}
 use Rattle.lt_place.specs.declared.placement.Placement.{Placement}
-use Rattle.lt_place.specs.declared.layout.Crossing.{Crossing}
 use Rattle.lt_place.specs.declared.layout.Part.{Part}
 use Rattle.lt_place.specs.declared.layout.Layout.{Layout}
 use Rattle.lt_place.specs.declared.spread.Spread.{Spread}
 use Rattle.lt_place.specs.Placement.{node_names}
-use Rattle.lt_place.specs.Origins.{count, origin_of}
 use Rattle.lt_place.specs.Nodes.{nodes_of, node_of}
 use Rattle.lt_place.specs.Legal.{Legal}
-use Rattle.lt_place.specs.Layout.{IsLayoutOf, IsPartOf, part_of, crossing_of, no_part, no_crossing}
-use Rattle.lt_place.specs.Spread.{IsSpread, IsLocal, IsBuilt, AllBuilt, HasPlaces, built}
-use Rattle.lt_place.proofs.Splitting.{splits, placed_cross}
+use Rattle.lt_place.specs.Layout.{IsLayoutOf, IsPartOf, part_of, crossing_of, no_crossing}
+use Rattle.lt_place.specs.Spread.{IsSpread, IsLocal, IsBuilt, AllBuilt}
+use Rattle.lt_place.proofs.Splitting.{splits}
 use Rattle.lt_place.proofs.Crosses.{IsCross, cross_is, crossings, node_below}
 use Rattle.lt_place.proofs.Parts.{Splits, Wires, Out, part_is, part_equation}
 

@@ -9,13 +9,10 @@ mod Vars
 mod Lists
 mod Assigned
 mod Seated
-mod Pushed
-mod Looked
 mod Marked
 mod Inside
 mod Judging
 mod Refused
-mod Crossed
 mod Crosses
 mod Steps
 mod Outs

@@ -1,10 +1,8 @@
 -- Mapped declarations and equations.
-use Rattle.std.proofs.Common.{◌≡◌, ℕ, zero, suc, ◌+◌, ◌<◌, ◌≤◌, Bool, true, false, cond, List, [], ◌∷◌, ◌++◌, length, map, take, get_or, Option, Some, None, refl, sym, ap, ◌∙◌, subst, arith, All, eqb-true}
+use Rattle.std.proofs.Common.{◌≡◌, ℕ, zero, suc, ◌+◌, ◌<◌, ◌≤◌, Bool, true, false, cond, List, [], ◌∷◌, length, map, take, get_or, Some, refl, sym, ap, ◌∙◌, subst, arith, All, eqb-true}
 use Rattle.std.specs.Prelude.{nat_eq, if◌then◌else◌}
-use Rattle.std.specs.List.{count_by, filter}
-use Rattle.std.proofs.lemmas.List.{length-map}
+use Rattle.std.specs.List.{filter}
 use Rattle.std.proofs.lemmas.List.Elements.{All-nil, All-cons, All-head, All-tail}
-use Rattle.std.proofs.lemmas.List.Sums.{sum_by-cons}
 use Rattle.lt_base.specs.declared.function.Decl.{Decl}
 use Rattle.lt_base.specs.Expression.{Expression}
 use Rattle.lt_base.specs.Meaning.{ClockPairs, clock_of, right_of}
@@ -13,7 +11,7 @@ use Rattle.lt_base.specs.Equations.{lefts}
 use Rattle.lt_base.specs.Order.{EachClockVar}
 use Rattle.lt_base.specs.Placed.{renamed, below}
 use Rattle.lt_base.proofs.Lookups.{lefts_cons, same_self}
-use Rattle.lt_place.specs.Origins.{name_in}
+use Rattle.lt_reads.specs.Origins.{name_in}
 
 -- ---- declarations
 
@@ -32,11 +30,6 @@ module _ (g : ℕ → Decl) where
   name_map [] k l = absurd (omega arith)
   name_map (x ∷ xs) zero l = refl
   name_map (x ∷ xs) (suc k) l = name_map xs k (omega arith)
-
-pub clock_get : (ds : List Decl) (x : ℕ) (d : Decl) → x < length ds → clock_of ds x ≡ (get_or ds x d).clock
-clock_get [] x d l = absurd (omega arith)
-clock_get (e ∷ ds) zero d l = refl
-clock_get (e ∷ ds) (suc x) d l = clock_get ds x d (omega arith)
 
 pub ty_get : (ds : List Decl) (x : ℕ) (d : Decl) → x < length ds → ty_at ds x ≡ Some (get_or ds x d).ty
 ty_get [] x d l = absurd (omega arith)

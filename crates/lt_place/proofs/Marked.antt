@@ -1,11 +1,10 @@
 -- The lowest numbers, one report more at a time.
-use Rattle.std.proofs.Common.{◌≡◌, ◌≢◌, ◌⊎◌, inl, inr, ℕ, zero, suc, ◌+◌, ◌<◌, ◌≤◌, Bool, true, false, cond, min, List, [], ◌∷◌, ◌++◌, length, take, get_or, set, Option, Some, None, refl, sym, ap, ◌∙◌, subst, arith, ⊎_elim, All, get_or-set_same, get_or-set_other}
+use Rattle.std.proofs.Common.{◌≡◌, ◌≢◌, ◌⊎◌, inl, inr, ℕ, zero, suc, ◌+◌, ◌<◌, ◌≤◌, Bool, true, false, min, List, [], ◌∷◌, ◌++◌, length, take, get_or, set, Option, Some, None, refl, sym, ap, ◌∙◌, subst, arith, ⊎_elim, get_or-set_same, get_or-set_other}
 use Rattle.std.specs.Prelude.{nat_eq, if◌then◌else◌}
-use Rattle.std.proofs.lemmas.List.{append_assoc, append-nil, length-set, take_more, take_all}
+use Rattle.std.proofs.lemmas.List.{append_assoc, append-nil, length-set, take_more}
 use Rattle.std.proofs.lemmas.Bool.{cases_eq, cases_lt}
 use Rattle.std.proofs.lemmas.Bool.Decides.{nat_tests}
-use Rattle.lt_base.specs.Expression.{Expression}
-use Rattle.lt_place.specs.Reports.{Report, In, LeastAt, HasLeast, elsewhere, reports}
+use Rattle.lt_place.specs.Reports.{Report, In, LeastAt, HasLeast, elsewhere}
 use Rattle.lt_place.proofs.Found.{in_left, in_right, in_cases}
 
 -- a number after one more was noted

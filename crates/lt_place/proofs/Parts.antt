@@ -1,30 +1,32 @@
 -- A part that was built for a node.
-use Rattle.std.proofs.Common.{◌≡◌, ◌≢◌, ◌⊎◌, inl, inr, ℕ, zero, suc, ◌+◌, ◌<◌, ◌≤◌, Bool, true, false, not, cond, List, [], ◌∷◌, ◌++◌, length, map, take, get_or, Option, Some, None, refl, sym, ap, ◌∙◌, subst, arith, ⊎_elim, All, eqb-true}
+use Rattle.std.proofs.Common.{◌≡◌, ◌⊎◌, ℕ, zero, suc, ◌<◌, ◌≤◌, Bool, true, false, not, List, [], ◌∷◌, length, map, take, get_or, Option, Some, None, refl, sym, ap, ◌∙◌, subst, arith, ⊎_elim, All, eqb-true}
 use Rattle.std.specs.Prelude.{nat_eq, nat_le, nat_lt, ◌&&◌, slice_get, if◌then◌else◌}
-use Rattle.std.specs.List.{count_by, filter}
+use Rattle.std.specs.List.{filter}
 use Rattle.std.proofs.lemmas.List.{length-map, length-take-le}
-use Rattle.std.proofs.lemmas.List.Elements.{All-map, All-filter, All-from_get_or, filter_passes}
-use Rattle.std.proofs.lemmas.Bool.{cases_eq, cases_lt, cases_Bool}
+use Rattle.std.proofs.lemmas.List.Elements.{All-map, All-filter, All-from_get_or}
+use Rattle.std.proofs.lemmas.Bool.{cases_lt}
 use Rattle.std.proofs.lemmas.Bool.Decides.{nat_tests}
 use Rattle.lt_base.specs.declared.value.Ty.TheVariants.{Bool as BoolTy}
 use Rattle.lt_base.specs.declared.function.Decl.{Decl}
 use Rattle.lt_base.specs.Expression.{Expression, parts}
 use Rattle.lt_base.specs.Program.{Function, GoodFunction, VarsBelow}
-use Rattle.lt_base.specs.Meaning.{ClockPairs, clock_of, right_of}
+use Rattle.lt_base.specs.Meaning.{clock_of, right_of}
 use Rattle.lt_base.specs.Typing.{ty_at, type_of, TypedFunction}
 use Rattle.lt_base.specs.Clocking.{Clocked, ClockedFunction, WellFormed}
-use Rattle.lt_base.specs.Dependence.{has, clock_vars, Causal}
-use Rattle.lt_base.specs.Order.{EachRead, EachClockVar, Ranked}
+use Rattle.lt_base.specs.Dependence.{has, Causal}
+use Rattle.lt_base.specs.Order.{EachRead, EachClockVar}
 use Rattle.lt_base.specs.Equations.{lefts, EquationsIn}
 use Rattle.lt_base.specs.Calls.{EachCall}
 use Rattle.lt_base.specs.Placed.{StandsIn, renamed, below}
-use Rattle.lt_base.proofs.Lookups.{all_found, input_none, is_input, left_below, right_all, same_self}
+use Rattle.lt_base.proofs.Lookups.{all_found, is_input, left_below, same_self}
 use Rattle.lt_base.proofs.Reading.{each_clock_map}
 use Rattle.lt_base.proofs.Order.{causal_from_ranks}
 use Rattle.lt_base.proofs.Behaviour.{causal_by_ranks}
 use Rattle.lt_norm.specs.Flat.{Originated, FlatRight, FlatFunction}
+use Rattle.lt_reads.specs.Origins.{count}
+use Rattle.lt_reads.proofs.Decls.{clock_get}
+use Rattle.lt_reads.proofs.Lefts.{lefts_below}
 use Rattle.lt_place.specs.declared.layout.Part.{Part}
-use Rattle.lt_place.specs.Origins.{count}
 use Rattle.lt_place.specs.Spread.{HasMembers, own_of, own_decl, own_equation, stays, built, no_decl, outs_below, feed_of, feed_by}
 use Rattle.lt_place.specs.declared.placement.Placement.{Placement}
 use Rattle.lt_place.specs.declared.layout.Feed.{Feed}
@@ -32,8 +34,7 @@ use Rattle.lt_place.specs.declared.layout.Layout.{Layout}
 use Rattle.lt_place.specs.Nodes.{nodes_of, node_of}
 use Rattle.lt_place.specs.Sizes.{IsNoLarger}
 use Rattle.lt_place.specs.Layout.{IsPartOf, Gives, FeedFits, crossing_of}
-use Rattle.lt_place.proofs.Lists.{clock_map, ty_map, name_map, clock_get, ty_get, name_get, clock_beyond, each_of_all, all_below, each_clock_both, Was, was, all_kept, all_take, lefts_kept, lefts_none}
-use Rattle.lt_place.proofs.Inside.{clocks_below, lefts_below}
+use Rattle.lt_place.proofs.Lists.{clock_map, ty_map, name_map, ty_get, name_get, clock_beyond, each_of_all, all_below, each_clock_both, was, all_kept, all_take, lefts_kept, lefts_none}
 use Rattle.lt_place.proofs.Outs.{outs_in, outs_out, outs_ascend, outs_once}
 use Rattle.lt_place.proofs.Sizes.{delays, delays_renamed, parts_renamed, length_below, length_picked, sum_picked, sum_made}
 use Rattle.lt_place.proofs.Turns.{var_at}

@@ -1,5 +1,5 @@
 -- What the seats of the variables say of a placement.
-use Rattle.std.proofs.Common.{◌≡◌, ℕ, zero, suc, ◌+◌, ◌<◌, ◌≤◌, Bool, true, false, cond, List, [], ◌∷◌, ◌++◌, length, map, get_or, Option, Some, None, refl, sym, ap, ◌∙◌, subst, arith, Bor}
+use Rattle.std.proofs.Common.{◌≡◌, ℕ, zero, suc, ◌+◌, ◌<◌, ◌≤◌, Bool, true, false, cond, List, [], ◌∷◌, length, map, get_or, Option, Some, None, refl, sym, ap, ◌∙◌, subst, arith, Bor}
 use Rattle.std.specs.Prelude.{nat_eq, nat_le, if◌then◌else◌}
 use Rattle.std.specs.Str.{bytes_eq}
 use Rattle.std.specs.HashMap.{HashMap}
@@ -9,6 +9,7 @@ use Rattle.lt_norm.specs.Flat.{Originated}
 use Rattle.lt_base.specs.declared.memory.Or.{Or}
 use Rattle.lt_base.specs.declared.memory.Or.TheVariants.{Fault, Memory}
 use Rattle.lt_base.specs.Or.{ForFault}
+use Rattle.lt_reads.specs.Origins.{IsMain, HasOrigins, count, name_of, origin_of}
 use Rattle.lt_place.specs.declared.fault.PlaceFault.{PlaceFault}
 use Rattle.lt_place.specs.declared.fault.PlaceFault.TheVariants.{UnknownName}
 use Rattle.lt_place.specs.declared.named.NamedNode.{NamedNode}
@@ -16,7 +17,6 @@ use Rattle.lt_place.specs.declared.nodes.NamedNodes.{NamedNodes}
 use Rattle.lt_place.specs.declared.placement.Placement.{Placement}
 use Rattle.lt_place.specs.declared.placement.Placement.TheVariants.{Named}
 use Rattle.lt_place.specs.declared.seats.Seat.{Seat}
-use Rattle.lt_place.specs.Origins.{IsMain, HasOrigins, count, name_of, origin_of}
 use Rattle.lt_place.specs.Nodes.{Listing, listings_from, times, node_listed, nodes_of, EachKnown}
 use Rattle.lt_place.specs.Faults.{IsLowest, IsUnplaced, IsPlacedTwice, AllPlaced, AllOnce, IsFirstUnknown}
 use Rattle.lt_place.specs.Seats.{seat_of, seats_of, seat_node, is_again, IsVacant, IsAgain, HasSeats, KnowsMain, EachIn, IsFirstOut}

@@ -1,20 +1,21 @@
 -- A legal function can be split.
-use Rattle.std.proofs.Common.{◌≡◌, ◌≢◌, ◌⊎◌, inl, inr, ℕ, zero, suc, ◌+◌, ◌<◌, ◌≤◌, Bool, true, false, List, [], ◌∷◌, ◌++◌, length, map, get_or, Option, Some, None, refl, sym, ap, ◌∙◌, subst, arith, ⊎_elim, All, eqb-true, ltb-true, ltb-false}
-use Rattle.std.specs.Prelude.{nat_eq, nat_lt, ◌||◌}
+use Rattle.std.proofs.Common.{◌≡◌, ◌≢◌, ℕ, ◌<◌, Bool, true, false, List, [], ◌∷◌, get_or, Option, Some, None, refl, sym, ap, ◌∙◌, arith, ⊎_elim, ltb-true, ltb-false}
+use Rattle.std.specs.Prelude.{nat_lt, ◌||◌}
 use Rattle.std.specs.Option.{is_some}
 use Rattle.std.proofs.lemmas.Bool.{cases_eq, or_cases}
 use Rattle.lt_base.specs.declared.value.Value.{Value}
 use Rattle.lt_base.specs.Expression.{Expression, literal, variable, unary, binary, imported, choose, sampled, merged, delayed, follow, arrow, call}
 use Rattle.lt_base.specs.Program.{GoodFunction, VarsBelow}
 use Rattle.lt_base.specs.Meaning.{ClockPairs, clock_of, right_of}
-use Rattle.lt_base.specs.Dependence.{has, clock_vars}
+use Rattle.lt_base.specs.Dependence.{has}
 use Rattle.lt_base.proofs.Lookups.{right_all, left_below, same_self}
 use Rattle.lt_base.proofs.Reading.{has_one, or_left, each_clock_at}
 use Rattle.lt_norm.specs.Flat.{Originated, FlatRight, FlatFunction}
-use Rattle.lt_place.specs.declared.layout.Crossing.{Crossing}
-use Rattle.lt_place.specs.Origins.{count}
-use Rattle.lt_place.specs.Legal.{whole_read, delayed_reads, direct_reads}
-use Rattle.lt_place.specs.Spread.{cross_by, cross_at, HasReaders, HasPlaces, HasFed, IsLocal}
+use Rattle.lt_reads.specs.declared.crossing.Crossing.{Crossing}
+use Rattle.lt_reads.specs.Origins.{count}
+use Rattle.lt_reads.specs.Reads.{whole_read, delayed_reads}
+use Rattle.lt_reads.specs.Crossings.{cross_by, HasReaders, HasPlaces}
+use Rattle.lt_place.specs.Spread.{HasFed, IsLocal}
 use Rattle.lt_place.proofs.Inputs.{input_clock}
 use Rattle.lt_place.proofs.Inside.{direct_below, delayed_below, clocks_below}
 use Rattle.lt_place.proofs.Crosses.{IsCross, cross_is, is_cross}

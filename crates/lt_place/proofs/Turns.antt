@@ -10,7 +10,7 @@ use Rattle.lt_base.specs.Meaning.{right_of}
 use Rattle.lt_base.specs.Program.{GoodFunction}
 use Rattle.lt_base.proofs.Lookups.{is_input, same_self}
 use Rattle.lt_norm.specs.Flat.{Originated}
-use Rattle.lt_place.specs.Origins.{IsMain, origin_of, count}
+use Rattle.lt_reads.specs.Origins.{IsMain, count}
 use Rattle.lt_place.specs.Faults.{main_lefts, main_below, judged}
 
 other : (a b : ℕ) → (a ≡ b → ⊥) → nat_eq a b ≡ false

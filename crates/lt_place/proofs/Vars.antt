@@ -1,10 +1,9 @@
 -- Facts of each variable of an expression without calls, and the expression under other numbers.
-use Rattle.std.proofs.Common.{◌≡◌, ℕ, ◌+◌, ◌<◌, Bool, true, false, List, [], ◌∷◌, ◌++◌, length, Option, Some, Vec, Global, refl, sym, ap, ◌∙◌, subst, arith, ⊎_elim}
+use Rattle.std.proofs.Common.{◌≡◌, ℕ, ◌<◌, true, false, List, [], ◌∷◌, ◌++◌, length, Some, Vec, Global, refl, sym, ap, ◌∙◌, subst}
 use Rattle.std.specs.Option.{option_and_then}
 use Rattle.lt_base.specs.declared.expression.Expr.{Expr, Call}
 use Rattle.lt_base.proofs.Shape.{shape-Call}
 use Rattle.lt_base.specs.declared.function.Decl.{Decl}
-use Rattle.lt_base.specs.declared.value.Value.{Value}
 use Rattle.lt_base.specs.Value.{ty_of}
 use Rattle.lt_base.specs.Expression.{Expression, shape, literal, variable, unary, binary, imported, choose, sampled, merged, delayed, follow, arrow, call}
 use Rattle.lt_base.specs.Program.{VarsBelow}
@@ -18,7 +17,7 @@ use Rattle.lt_base.specs.Placed.{renamed, below}
 use Rattle.lt_base.proofs.Reading.{has_front, has_back, or_left, or_right}
 use Rattle.lt_base.proofs.Lookups.{same_self}
 use Rattle.lt_norm.specs.Flat.{Direct, FlatRight}
-use Rattle.lt_place.specs.Legal.{whole_read, parts_read, delayed_reads, direct_reads}
+use Rattle.lt_reads.specs.Reads.{whole_read, parts_read, delayed_reads, direct_reads}
 
 -- a fact of each variable of an expression, in which there is no call
 abbrev pub EachVar : (ℕ → Type 0) → Expression → Type 0

@@ -1,5 +1,5 @@
 -- What the tables of reads on other nodes say of a placement.
-use Rattle.std.proofs.Common.{◌≡◌, ◌≢◌, ℕ, zero, suc, ◌+◌, ◌<◌, ◌≤◌, true, List, [], ◌∷◌, length, get_or, Option, Some, None, refl, sym, ap, ◌∙◌, subst, arith, ⊎_elim}
+use Rattle.std.proofs.Common.{◌≡◌, ◌≢◌, ℕ, ◌<◌, true, List, [], ◌∷◌, get_or, Option, Some, None, refl, sym, ap, ◌∙◌, subst, ⊎_elim}
 use Rattle.std.specs.Prelude.{MatchOption, slice_get}
 use Rattle.std.proofs.lemmas.Bool.{cases_eq}
 use Rattle.lt_base.specs.Expression.{Expression}
@@ -8,14 +8,15 @@ use Rattle.lt_base.specs.Dependence.{has, clock_vars}
 use Rattle.lt_base.specs.Program.{GoodFunction}
 use Rattle.lt_base.proofs.Lookups.{is_input, left_below}
 use Rattle.lt_norm.specs.Flat.{Originated}
+use Rattle.lt_reads.specs.declared.look.Look.TheVariants.{Clocks, Direct, Slow}
+use Rattle.lt_reads.specs.Origins.{IsMain, HasOrigins, origin_of, count}
+use Rattle.lt_reads.specs.Reads.{delayed_reads, clock_reads, plain_reads, slow_reads, unless_base}
 use Rattle.lt_place.specs.declared.placement.Placement.{Placement}
 use Rattle.lt_place.specs.declared.fault.PlaceFault.{PlaceFault}
 use Rattle.lt_place.specs.declared.fault.PlaceFault.TheVariants.{DirectCross, SlowCross, ClockElsewhere}
-use Rattle.lt_place.specs.declared.look.Look.TheVariants.{Clocks, Direct, Slow}
-use Rattle.lt_place.specs.Origins.{IsMain, HasOrigins, origin_of, count}
 use Rattle.lt_place.specs.Nodes.{node_of}
-use Rattle.lt_place.specs.Legal.{Legal, direct_reads, delayed_reads}
-use Rattle.lt_place.specs.Faults.{IsLowest, ReadsElsewhere, IsClear, IsReached, IsFirstFault, judged, clock_reads, plain_reads, slow_reads, unless_base}
+use Rattle.lt_place.specs.Legal.{Legal}
+use Rattle.lt_place.specs.Faults.{IsLowest, ReadsElsewhere, IsClear, IsReached, IsFirstFault, judged}
 use Rattle.lt_place.specs.Reports.{Marks, IsAssigned, fault_at}
 use Rattle.lt_place.proofs.Inputs.{input_clock}
 

@@ -1,15 +1,15 @@
 -- Why a placement is refused, and which fault comes first.
-use Rattle.std.specs.Prelude.{◌≡◌, ◌≢◌, ℕ, zero, suc, ◌<◌, ◌≤◌, true, Some, List, [], ◌∷◌, ◌++◌, length, get_or, nat_eq, slice_get, slice_index, if◌then◌else◌}
+use Rattle.std.specs.Prelude.{◌≡◌, ◌≢◌, ℕ, zero, suc, ◌<◌, ◌≤◌, true, Some, List, [], ◌∷◌, ◌++◌, nat_eq, slice_get, slice_index, if◌then◌else◌}
 use Rattle.lt_base.specs.Expression.{Expression}
-use Rattle.lt_base.specs.Meaning.{ClockPairs, clock_of, right_of}
-use Rattle.lt_base.specs.Dependence.{has, clock_vars}
+use Rattle.lt_base.specs.Meaning.{right_of}
+use Rattle.lt_base.specs.Dependence.{has}
 use Rattle.lt_norm.specs.Flat.{Originated}
+use Rattle.lt_reads.specs.Origins.{IsMain, name_of, origin_of}
+use Rattle.lt_reads.specs.Reads.{clock_reads, plain_reads, slow_reads}
 use Rattle.lt_place.specs.declared.placement.Placement.{Placement}
 use Rattle.lt_place.specs.declared.fault.PlaceFault.{PlaceFault}
 use Rattle.lt_place.specs.declared.fault.PlaceFault.TheVariants.{Unplaced, PlacedTwice, UnknownName, DirectCross, SlowCross, ClockElsewhere}
-use Rattle.lt_place.specs.Origins.{IsMain, name_of, origin_of}
 use Rattle.lt_place.specs.Nodes.{Listing, listings, puts, node_of, IsKnown, EachKnown}
-use Rattle.lt_place.specs.Legal.{delayed_reads, direct_reads}
 
 -- the number has the property, and no lower one has it
 pub record IsLowest (P : ℕ → Type 0) (n : ℕ) : Type 0 where
@@ -44,22 +44,6 @@ pub record IsFirstUnknown (f : Originated) (p : Placement) (name : List ℕ) : T
   pub unknown : IsKnown f name → ⊥
 
 -- ---- reads and clocks
-
--- the variables of a variable's clock
-abbrev pub clock_reads : Originated → ℕ → Expression → List ℕ
-clock_reads f x e = clock_vars (clock_of f.func.decls x)
-
--- those that a variable's right side reads otherwise than as all that a delay delays
-abbrev pub plain_reads : Originated → ℕ → Expression → List ℕ
-plain_reads f x e = direct_reads e
-
--- the one that is all that a delay delays which is on another clock than the base clock
-abbrev pub unless_base : ClockPairs → List ℕ → List ℕ
-unless_base [] ys = []
-unless_base (p ∷ ck) ys = ys
-
-abbrev pub slow_reads : Originated → ℕ → Expression → List ℕ
-slow_reads f x e = unless_base (clock_of f.func.decls x) (delayed_reads e)
 
 -- among the equations that arose from the equation of m one reads in this way a variable of another node, which arose from that of n
 pub record ReadsElsewhere (f : Originated) (p : Placement) (read_by : ℕ → Expression → List ℕ) (m n : ℕ) : Type 0 where

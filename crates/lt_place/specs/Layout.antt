@@ -1,5 +1,5 @@
 -- A function on its nodes.
-use Rattle.std.specs.Prelude.{◌≡◌, ◌≢◌, ◌⊎◌, ℕ, ◌<◌, true, false, Some, None, List, [], ◌∷◌, length, get_or, slice_get}
+use Rattle.std.specs.Prelude.{◌≡◌, ◌≢◌, ◌⊎◌, ℕ, ◌<◌, true, false, Some, None, [], length, get_or, slice_get}
 use Rattle.lt_base.specs.declared.value.Value.{Value}
 use Rattle.lt_base.specs.declared.value.Value.TheVariants.{Bool as Truth}
 use Rattle.lt_base.specs.Expression.{Expression, variable, delayed}
@@ -10,13 +10,13 @@ use Rattle.lt_base.specs.Clocking.{ClockedFunction}
 use Rattle.lt_base.specs.Dependence.{Causal, has}
 use Rattle.lt_base.specs.Placed.{StandsIn, below, renamed}
 use Rattle.lt_norm.specs.Flat.{Originated, FlatFunction}
+use Rattle.lt_reads.specs.declared.crossing.Crossing.{Crossing}
+use Rattle.lt_reads.specs.Origins.{count, name_of, origin_of}
 use Rattle.lt_place.specs.declared.layout.Feed.{Feed}
 use Rattle.lt_place.specs.declared.layout.Feed.TheVariants.{Input, Cross}
-use Rattle.lt_place.specs.declared.layout.Crossing.{Crossing}
 use Rattle.lt_place.specs.declared.layout.Part.{Part}
 use Rattle.lt_place.specs.declared.layout.Layout.{Layout}
 use Rattle.lt_place.specs.declared.placement.Placement.{Placement}
-use Rattle.lt_place.specs.Origins.{count, name_of, origin_of}
 use Rattle.lt_place.specs.Nodes.{node_of}
 use Rattle.lt_place.specs.Placement.{node_names}
 use Rattle.lt_place.specs.Sizes.{IsNoLarger, HasCodeRoom, IsCompilable}

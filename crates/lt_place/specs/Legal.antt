@@ -1,32 +1,13 @@
 -- The placements that are legal.
-use Rattle.std.specs.Prelude.{◌≡◌, ◌≢◌, ℕ, ◌<◌, true, Some, List, [], ◌∷◌}
-use Rattle.lt_base.specs.Expression.{Expression, literal, variable, unary, binary, imported, choose, sampled, merged, delayed, follow, arrow, call}
-use Rattle.lt_base.specs.Meaning.{ClockPairs, clock_of, right_of}
-use Rattle.lt_base.specs.Dependence.{has, reads, clock_vars}
+use Rattle.std.specs.Prelude.{◌≡◌, ◌≢◌, ℕ, ◌<◌, true, Some, []}
+use Rattle.lt_base.specs.Expression.{Expression}
+use Rattle.lt_base.specs.Meaning.{clock_of, right_of}
+use Rattle.lt_base.specs.Dependence.{has, clock_vars}
 use Rattle.lt_norm.specs.Flat.{Originated}
+use Rattle.lt_reads.specs.Origins.{IsMain, count, name_of}
+use Rattle.lt_reads.specs.Reads.{delayed_reads, direct_reads}
 use Rattle.lt_place.specs.declared.placement.Placement.{Placement}
-use Rattle.lt_place.specs.Origins.{IsMain, count, name_of}
 use Rattle.lt_place.specs.Nodes.{listings, puts, node_of, EachKnown}
-
--- what a delay delays: the variable that is all of it
-abbrev pub whole_read : Expression → List ℕ
-whole_read (variable x) = x ∷ []
-whole_read e = []
-
--- the variables that it reads otherwise
-abbrev pub parts_read : Expression → List ℕ
-parts_read (variable x) = []
-parts_read e = reads e
-
--- a flat right side: the variable that is all that a delay delays
-abbrev pub delayed_reads : Expression → List ℕ
-delayed_reads (delayed v a) = whole_read a
-delayed_reads e = []
-
--- the variables that it reads otherwise
-abbrev pub direct_reads : Expression → List ℕ
-direct_reads (delayed v a) = parts_read a
-direct_reads e = reads e
 
 -- each variable is on exactly one node; a variable of another node is read only as all that a delay on the base clock delays;
 -- and the variables of a clock are on the node of the variable that has it

@@ -1,6 +1,5 @@
 pub mod Names
 pub mod Placement
-pub mod Origins
 pub mod Nodes
 pub mod Legal
 pub mod Faults

@@ -1,21 +1,15 @@
 -- What is read on other nodes, as the code keeps it.
 use Rattle.std.specs.Prelude.{◌≡◌, ◌⊎◌, ℕ, ◌<◌, ◌≤◌, Option, Some, None, List, [], ◌∷◌, ◌++◌, length, get_or, nat_eq, slice_index, MatchOption, if◌then◌else◌}
-use Rattle.lt_base.specs.Expression.{Expression, literal, variable, unary, binary, imported, choose, sampled, merged, delayed, follow, arrow, call}
+use Rattle.lt_base.specs.Expression.{Expression}
 use Rattle.lt_norm.specs.Flat.{Originated}
+use Rattle.lt_reads.specs.declared.look.Look.{Look}
+use Rattle.lt_reads.specs.Origins.{count}
+use Rattle.lt_reads.specs.Reads.{looked}
 use Rattle.lt_place.specs.declared.placement.Placement.{Placement}
-use Rattle.lt_place.specs.declared.look.Look.{Look}
-use Rattle.lt_place.specs.declared.look.Look.TheVariants.{Clocks, Direct, Slow}
 use Rattle.lt_place.specs.declared.fault.PlaceFault.{PlaceFault}
 use Rattle.lt_place.specs.declared.fault.PlaceFault.TheVariants.{DirectCross, SlowCross, ClockElsewhere}
-use Rattle.lt_place.specs.Origins.{count}
 use Rattle.lt_place.specs.Nodes.{listings, nodes_of, EachKnown}
-use Rattle.lt_place.specs.Faults.{AllOnce, IsLowest, ReadsElsewhere, clock_reads, plain_reads, slow_reads}
-
--- a way in which an equation reads variables
-abbrev pub looked : Look → Originated → ℕ → Expression → List ℕ
-looked Clocks f = clock_reads f
-looked Direct f = plain_reads f
-looked Slow f = slow_reads f
+use Rattle.lt_place.specs.Faults.{AllOnce, IsLowest, ReadsElsewhere}
 
 -- the variables that have one equation for what reads and one for what is read
 abbrev pub Report : Type 0
@@ -49,16 +43,6 @@ HasLeast marks rs = (m : ℕ) → m < length marks → LeastAt rs m (get_or mark
 abbrev pub Marks : Originated → Placement → Look → List (Option ℕ) → Type 0
 Marks f p look marks =
     (m : ℕ) → m < count f → MatchOption (get_or marks m None) ((n : ℕ) → ReadsElsewhere f p (looked look f) m n → ⊥) (λ n. IsLowest (ReadsElsewhere f p (looked look f) m) n)
-
--- not a variable
-abbrev pub NotVariable : Expression → Type 0
-NotVariable (variable x) = ⊥
-NotVariable e = Unit {0}
-
--- not a delay with a literal
-abbrev pub NotDelay : Expression → Type 0
-NotDelay (delayed v a) = ⊥
-NotDelay e = Unit {0}
 
 -- the names that a placement lists are without fault, and these are the nodes of the variables
 pub record IsAssigned (f : Originated) (p : Placement) (nodes : List ℕ) : Type 0 where

@@ -1,59 +1,23 @@
 -- The crossings and the parts, as the code builds them.
-use Rattle.std.specs.Prelude.{◌≡◌, ◌≢◌, ℕ, zero, suc, ◌+◌, ◌<◌, ◌≤◌, Bool, true, false, ◌&&◌, ◌||◌, not, Option, Some, None, List, [], ◌∷◌, ◌++◌, length, map, filter, take, get_or, nat_eq, nat_lt, slice_get, slice_index, if◌then◌else◌}
+use Rattle.std.specs.Prelude.{◌≡◌, ◌≢◌, ℕ, zero, suc, ◌+◌, ◌<◌, ◌≤◌, Bool, true, false, ◌&&◌, ◌||◌, not, Option, Some, None, List, [], ◌∷◌, ◌++◌, length, map, filter, take, get_or, nat_eq, nat_lt, slice_index, if◌then◌else◌}
 use Rattle.std.specs.List.{count_by}
 use Rattle.std.specs.Option.{is_some}
-use Rattle.lt_base.specs.declared.value.Value.{Value}
 use Rattle.lt_base.specs.declared.value.Ty.TheVariants.{Int as IntTy}
 use Rattle.lt_base.specs.declared.function.Decl.{Decl}
-use Rattle.lt_base.specs.Expression.{Expression, literal, variable, unary, binary, imported, choose, sampled, merged, delayed, follow, arrow, call}
-use Rattle.lt_base.specs.Meaning.{ClockPairs, clock_of, right_of}
+use Rattle.lt_base.specs.Expression.{Expression}
+use Rattle.lt_base.specs.Meaning.{clock_of, right_of}
 use Rattle.lt_base.specs.Dependence.{has, clock_vars}
-use Rattle.lt_base.specs.Equations.{lefts}
 use Rattle.lt_base.specs.Placed.{renamed, below}
 use Rattle.lt_base.specs.Program.{Function}
 use Rattle.lt_norm.specs.Flat.{Originated}
+use Rattle.lt_reads.specs.declared.crossing.Crossing.{Crossing}
+use Rattle.lt_reads.specs.Reads.{direct_reads, delayed_reads}
+use Rattle.lt_reads.specs.Crossings.{HasReaders, HasPlaces}
 use Rattle.lt_place.specs.declared.layout.Feed.{Feed}
 use Rattle.lt_place.specs.declared.layout.Feed.TheVariants.{Input, Cross}
-use Rattle.lt_place.specs.declared.layout.Crossing.{Crossing}
 use Rattle.lt_place.specs.declared.layout.Part.{Part}
 use Rattle.lt_place.specs.declared.spread.Spread.{Spread}
-use Rattle.lt_place.specs.Legal.{direct_reads, delayed_reads}
 use Rattle.lt_place.specs.Layout.{no_part}
-
--- ---- crossings
-
--- a delay of what is a variable of another node is a crossing
-abbrev pub cross_of : List ℕ → ℕ → Value → Expression → Option Crossing
-cross_of nodes x v (variable y) =
-    if nat_eq (slice_index nodes y) (slice_index nodes x) then None else Some (record { from = slice_index nodes y; to = slice_index nodes x; first = v; var = y; reader = x })
-cross_of nodes x v e = None
-
--- the crossing that a right side of x is
-abbrev pub cross_in : List ℕ → ℕ → Expression → Option Crossing
-cross_in nodes x (delayed v a) = cross_of nodes x v a
-cross_in nodes x e = None
-
-abbrev pub cross_by : List ℕ → ℕ → Option Expression → Option Crossing
-cross_by nodes x None = None
-cross_by nodes x (Some e) = cross_in nodes x e
-
--- the crossing whose reader is x
-abbrev pub cross_at : Originated → List ℕ → ℕ → Option Crossing
-cross_at f nodes x = cross_by nodes x (right_of f.func.eqs x)
-
--- a table has it for each variable
-pub record HasReaders (f : Originated) (nodes : List ℕ) (readers : List (Option Crossing)) : Type 0 where
-  pub size : length readers ≡ length f.func.decls
-  pub each : (x : ℕ) → x < length f.func.decls → get_or readers x None ≡ cross_at f nodes x
-
--- the crossings of the first variables in order, and each reader's place among them
-pub record HasPlaces (readers : List (Option Crossing)) (bound : ℕ) (list : List Crossing) (places : List (Option ℕ)) : Type 0 where
-  pub size : length places ≡ bound
-  pub few : length list ≤ bound
-  pub none : (x : ℕ) → x < bound → get_or readers x None ≡ None → get_or places x None ≡ None
-  pub some : (x : ℕ) (c : Crossing) → x < bound → get_or readers x None ≡ Some c → (k : ℕ) × (get_or places x None ≡ Some k) × (slice_get list k ≡ Some c)
-  pub each : (k : ℕ) (c : Crossing) → slice_get list k ≡ Some c → (c.reader < bound) × (get_or readers c.reader None ≡ Some c)
-  pub ordered : (j k : ℕ) (b c : Crossing) → j < k → slice_get list j ≡ Some b → slice_get list k ≡ Some c → b.reader < c.reader
 
 -- ---- the variables of a node
 
@@ -173,12 +137,6 @@ pub record IsBuilt (f : Originated) (s : Spread) (n : ℕ) (q : Part) : Type 0 w
   pub inputs : ℕ
   pub numbers : HasMembers s.nodes.items s.fed.items n members own inputs
   pub is : q ≡ built f s.nodes.items s.fed.items s.places.items s.given.items n members own inputs
-
--- a table has the crossings of these equations, the first ones of a function
-pub record ReadsSoFar (f : Originated) (nodes : List ℕ) (qs : List (ℕ × Expression)) (readers : List (Option Crossing)) : Type 0 where
-  pub size : length readers ≡ length f.func.decls
-  pub told : (x : ℕ) → x < length f.func.decls → 0 < lefts x qs → get_or readers x None ≡ cross_at f nodes x
-  pub untold : (x : ℕ) → x < length f.func.decls → lefts x qs ≡ 0 → get_or readers x None ≡ None
 
 -- its function
 abbrev pub part_function : Originated → Spread → ℕ → List ℕ → List ℕ → ℕ → Function

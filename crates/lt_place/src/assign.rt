@@ -2,21 +2,21 @@
 
 ghost use Rattle.std.specs.Prelude.{◌≡◌, ℕ, ◌<◌, ◌^◌, ◌↔◌, List, length, map, IfOk, IfErr, IsTrue, OnOk, MatchOption, replicate, slice_index};
 ghost use Rattle.lt_base.specs.Or.{ForFault};
+ghost use Rattle.lt_reads.specs.Origins.{HasOrigins, count};
 ghost use Rattle.lt_place.specs.declared.fault.PlaceFault.TheVariants.{UnknownName};
 ghost use Rattle.lt_place.specs.declared.nodes.NamedNodes.{NamedNodes as Listed};
 ghost use Rattle.lt_place.specs.declared.placement.Placement.TheVariants.{All as OnOne, Named as OnListed};
 ghost use Rattle.lt_place.specs.Placement.{node_names};
-ghost use Rattle.lt_place.specs.Origins.{HasOrigins, count};
 ghost use Rattle.lt_place.specs.Nodes.{Listing, listings, listings_from, listings_on, nodes_of, EachKnown};
 ghost use Rattle.lt_place.specs.Faults.{AllOnce, IsFirstFault, IsLowest};
 ghost use Rattle.lt_place.specs.Seats.{HasSeats, seats_of, seat_node, IsVacant, IsAgain, is_again, KnowsMain, EachIn, IsFirstOut};
 
 use crate::seats::{Seat, seats};
-use crate::view::{decls, origins};
 use crate::{NamedNode, NamedNodes, PlaceFault, Placement};
 use indexmap::IndexMap;
 use lt_base::{Memory, Name, Or};
 use lt_norm::Flat;
+use lt_reads::view::{decls, origins};
 use std::alloc::Global;
 
 // The seat of each variable: that of its origin.

@@ -2,18 +2,18 @@
 
 ghost use Rattle.std.specs.Prelude.{◌≡◌, ◌≤◌, ◌<◌, ◌++◌, length, All, IfOk, IfErr, OnOk};
 ghost use Rattle.lt_base.specs.Or.{ForFault};
+ghost use Rattle.lt_reads.specs.Origins.{HasOrigins, count};
 ghost use Rattle.lt_place.specs.declared.placement.Placement.{Placement};
-ghost use Rattle.lt_place.specs.Origins.{HasOrigins, count};
 ghost use Rattle.lt_place.specs.Faults.{IsFirstFault, judged, main_lefts, main_below};
 ghost use Rattle.lt_place.specs.Legal.{Legal};
 ghost use Rattle.lt_place.specs.Reports.{fault_at, IsAssigned};
 
 use crate::PlaceFault;
-use crate::look::Look;
 use crate::marks::marks;
-use crate::view::{equations, inputs, kept, origins};
 use lt_base::{Equation, Memory, Or};
 use lt_norm::Flat;
+use lt_reads::Look;
+use lt_reads::view::{equations, inputs, kept, origins};
 use std::alloc::Global;
 
 // Appends the variables of `main` that have equations, in the order of these.

@@ -2,25 +2,15 @@
 
 ghost use Rattle.std.specs.Prelude.{◌≡◌, IfOk};
 
-use lt_base::{Duplicate, List, Memory, Name, Value};
+use lt_base::{Duplicate, List, Memory, Name};
 use lt_norm::Flat;
+use lt_reads::Crossing;
 
 /// What an input of a part is: an input of `main`, by its number, or a crossing, by its place in the list of all.
 #[derive(Clone, Copy, Debug, PartialEq, Eq)]
 pub enum Feed {
     Input(u32),
     Cross(u32),
-}
-
-/// A variable of one node that is read on another, by a variable whose equation is a delay of it: nodes and variables by their
-/// numbers, and the literal of the delay.
-#[derive(Clone, Copy, Debug, PartialEq, Eq)]
-pub struct Crossing {
-    pub from: u32,
-    pub to: u32,
-    pub first: Value,
-    pub var: u32,
-    pub reader: u32,
 }
 
 /// What one node runs: its equations without its crossings, whose readers are inputs. Its `origin` gives each variable's number in
@@ -44,12 +34,6 @@ pub struct Layout {
 
 impl Duplicate for Feed {
     fn duplicate(&self) -> Result<Feed, Memory> {
-        Ok(*self)
-    }
-}
-
-impl Duplicate for Crossing {
-    fn duplicate(&self) -> Result<Crossing, Memory> {
         Ok(*self)
     }
 }

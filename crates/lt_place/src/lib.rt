@@ -2,12 +2,10 @@
 #![tactic(auto)]
 
 mod assign;
-mod crossings;
 mod fault;
 mod judge;
 pub mod laws;
 mod layout;
-mod look;
 mod marks;
 mod members;
 mod named;
@@ -16,13 +14,12 @@ mod own;
 mod part;
 mod placement;
 mod placing;
-mod reads;
 mod seats;
 mod spread;
-mod view;
 
 pub use fault::PlaceFault;
-pub use layout::{Crossing, Feed, Layout, Part};
+pub use layout::{Feed, Layout, Part};
+pub use lt_reads::Crossing;
 pub use named::NamedNode;
 pub use nodes::NamedNodes;
 pub use placement::Placement;

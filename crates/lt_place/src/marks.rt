@@ -1,16 +1,16 @@
 // The lowest variables that are read on other nodes.
 
 ghost use Rattle.std.specs.Prelude.{◌≡◌, ◌≤◌, ◌<◌, ◌^◌, ◌++◌, ◌∷◌, [], List, length, All, IfOk, OnOk, slice_index};
+ghost use Rattle.lt_reads.specs.Origins.{HasOrigins, count};
+ghost use Rattle.lt_reads.specs.Reads.{looked};
 ghost use Rattle.lt_place.specs.declared.placement.Placement.{Placement};
-ghost use Rattle.lt_place.specs.Origins.{HasOrigins, count};
 ghost use Rattle.lt_place.specs.Nodes.{nodes_of};
-ghost use Rattle.lt_place.specs.Reports.{Report, HasLeast, Marks, elsewhere, looked, reports};
+ghost use Rattle.lt_place.specs.Reports.{Report, HasLeast, Marks, elsewhere, reports};
 
-use crate::look::Look;
-use crate::reads::looked_at;
-use crate::view::{equations, kept, origins};
 use lt_base::Memory;
 use lt_norm::Flat;
+use lt_reads::view::{equations, kept, origins};
+use lt_reads::{Look, looked_at};
 use std::alloc::Global;
 
 // Notes that the number is read at this variable.

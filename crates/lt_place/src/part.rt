@@ -2,16 +2,16 @@
 
 ghost use Rattle.std.specs.Prelude.{◌≡◌, ◌<◌, ◌^◌, All, IfOk, length, map};
 ghost use Rattle.lt_norm.specs.Flat.{FlatFunction};
-ghost use Rattle.lt_place.specs.Origins.{count};
+ghost use Rattle.lt_reads.specs.Origins.{count};
 ghost use Rattle.lt_place.specs.Spread.{HasMembers, IsBuilt, IsLocal, IsSpread, feed_by, feed_of, outs_below, own_of, part_function};
 
 use crate::members::{Members, members_of};
 use crate::own::{own_decls, own_equations};
 use crate::spread::Spread;
-use crate::view::{decls, equations, kept, name};
 use crate::{Feed, Part};
 use lt_base::{Func, List, Memory};
 use lt_norm::Flat;
+use lt_reads::view::{decls, equations, kept, name};
 use std::alloc::Global;
 
 // What feeds the input x: the crossing at its place, where it reads one.

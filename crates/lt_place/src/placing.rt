@@ -5,8 +5,8 @@ ghost use Rattle.lt_base.specs.Or.{ForFault};
 ghost use Rattle.lt_base.specs.Typing.{TypedFunction};
 ghost use Rattle.lt_base.specs.Clocking.{ClockedFunction};
 ghost use Rattle.lt_base.specs.Dependence.{Causal};
+ghost use Rattle.lt_reads.specs.Origins.{HasOrigins, count};
 ghost use Rattle.lt_place.specs.Placement.{node_names};
-ghost use Rattle.lt_place.specs.Origins.{HasOrigins, count};
 ghost use Rattle.lt_place.specs.Nodes.{nodes_of};
 ghost use Rattle.lt_place.specs.Legal.{Legal};
 ghost use Rattle.lt_place.specs.Faults.{IsFirstFault};
@@ -17,10 +17,10 @@ use crate::assign::assign;
 use crate::judge::judge;
 use crate::part::part;
 use crate::spread::{Spread, spread_of};
-use crate::view::{kept, outputs};
 use crate::{Layout, Part, PlaceFault, Placement};
 use lt_base::{List, Memory, Or};
 use lt_norm::Flat;
+use lt_reads::view::{kept, outputs};
 use std::alloc::Global;
 
 // The parts of the first nodes.

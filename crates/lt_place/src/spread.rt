@@ -1,14 +1,13 @@
 // What all parts of a placed function are made from.
 
 ghost use Rattle.std.specs.Prelude.{◌≡◌, ◌<◌, ◌^◌, All, IfOk, length, map, not};
-ghost use Rattle.lt_place.specs.Origins.{count};
+ghost use Rattle.lt_reads.specs.Origins.{count};
 ghost use Rattle.lt_place.specs.Spread.{HasFed, HasGiven, IsSpread};
 
-use crate::Crossing;
-use crate::crossings::{Crossings, in_order, readers};
-use crate::view::{inputs, kept, outputs};
 use lt_base::Memory;
 use lt_norm::Flat;
+use lt_reads::view::{inputs, kept, outputs};
+use lt_reads::{Crossing, Crossings, in_order, readers};
 use std::alloc::Global;
 
 /// For each variable its node, whether it is fed, as inputs of `main` and readers of crossings are, or free, the place of the

@@ -17,7 +17,7 @@ use Rattle.lt_arch.proofs.Ranges.{greatest-above}
 use Rattle.lt_link.specs.Bits.{bit_of}
 use Rattle.lt_link.specs.Inbox.{InboxState, no_inbox}
 use Rattle.lt_norm.specs.Flat.{Originated}
-use Rattle.lt_place.specs.declared.layout.Crossing.{Crossing}
+use Rattle.lt_reads.specs.declared.crossing.Crossing.{Crossing}
 use Rattle.lt_place.specs.declared.layout.Layout.{Layout}
 use Rattle.lt_place.specs.Layout.{IsPlaced, part_of, no_part}
 use Rattle.lt_plant.specs.declared.route.Route.{Route}

@@ -10,7 +10,7 @@ use Rattle.lt_base.specs.Value.{ty_of}
 use Rattle.lt_base.specs.Typing.{ty_at, RowFits}
 use Rattle.lt_arch.specs.declared.shape.Shape.{Shape}
 use Rattle.lt_arch.specs.Readers.{from_of, to_of}
-use Rattle.lt_place.specs.declared.layout.Crossing.{Crossing}
+use Rattle.lt_reads.specs.declared.crossing.Crossing.{Crossing}
 use Rattle.lt_place.specs.declared.layout.Layout.{Layout}
 use Rattle.lt_place.specs.Layout.{crossing_of, no_crossing}
 use Rattle.lt_plant.specs.Layout.{joins, place_in}

@@ -15,12 +15,12 @@ use Rattle.lt_arch.specs.declared.shape.Shape.{Shape}
 use Rattle.lt_arch.specs.Readers.{chan_count, no_chan, chan_of, from_of, to_of, carries_data}
 use Rattle.lt_link.specs.Inbox.{InboxState}
 use Rattle.lt_norm.specs.Flat.{Originated}
-use Rattle.lt_place.specs.declared.layout.Crossing.{Crossing}
+use Rattle.lt_reads.specs.declared.crossing.Crossing.{Crossing}
+use Rattle.lt_reads.specs.Origins.{count}
 use Rattle.lt_place.specs.declared.layout.Part.{Part}
 use Rattle.lt_place.specs.declared.layout.Layout.{Layout}
 use Rattle.lt_place.specs.Layout.{IsPlaced, part_of, crossing_of, no_part, no_crossing}
 use Rattle.lt_place.specs.Nodes.{node_of}
-use Rattle.lt_place.specs.Origins.{count}
 use Rattle.lt_plant.specs.declared.route.Route.{Route}
 use Rattle.lt_plant.specs.declared.route.Exit.{Exit}
 use Rattle.lt_plant.specs.Layout.{IsLaidOut, joins, place_in}

@@ -13,6 +13,7 @@ use Rattle.lt_base.specs.Meaning.{ClockPairs, clock_of}
 use Rattle.lt_base.specs.Placed.{below}
 use Rattle.lt_base.proofs.Lookups.{input_none}
 use Rattle.lt_norm.specs.Flat.{Originated}
+use Rattle.lt_reads.specs.Origins.{count, origin_of}
 use Rattle.lt_place.specs.declared.layout.Feed.{Feed}
 use Rattle.lt_place.specs.declared.layout.Feed.TheVariants.{Input, Cross}
 use Rattle.lt_place.specs.declared.layout.Part.{Part}
@@ -20,7 +21,6 @@ use Rattle.lt_place.specs.declared.layout.Layout.{Layout}
 use Rattle.lt_place.specs.declared.placement.Placement.{Placement}
 use Rattle.lt_place.specs.Layout.{IsPlaced, IsPartOf, HasCrossings, Gives, FeedFits, part_of, crossing_of}
 use Rattle.lt_place.specs.Nodes.{node_of}
-use Rattle.lt_place.specs.Origins.{count, origin_of}
 use Rattle.lt_plant.specs.Layout.{IsLaidOut, Feeds}
 
 -- two types that are shared are the same

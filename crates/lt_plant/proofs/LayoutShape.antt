@@ -19,7 +19,7 @@ use Rattle.lt_arch.specs.Readers.{node_count, chan_count, no_chan, chan_of, from
 use Rattle.lt_arch.specs.Shapes.{IsBackPressureShape, IsTimeBasedShape}
 use Rattle.lt_base.specs.Value.{ty_of}
 use Rattle.lt_norm.specs.Flat.{Originated}
-use Rattle.lt_place.specs.declared.layout.Crossing.{Crossing}
+use Rattle.lt_reads.specs.declared.crossing.Crossing.{Crossing}
 use Rattle.lt_place.specs.declared.layout.Layout.{Layout}
 use Rattle.lt_place.specs.Layout.{IsPlaced, HasCrossings, crossing_of, no_crossing}
 use Rattle.lt_plant.specs.Layout.{joins}

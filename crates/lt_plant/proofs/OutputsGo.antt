@@ -10,7 +10,7 @@ use Rattle.lt_base.specs.declared.value.Cell.TheVariants.{Absent}
 use Rattle.lt_base.specs.Program.{Function}
 use Rattle.lt_arch.specs.declared.shape.Shape.{Shape}
 use Rattle.lt_arch.specs.Readers.{from_of, to_of}
-use Rattle.lt_place.specs.declared.layout.Crossing.{Crossing}
+use Rattle.lt_reads.specs.declared.crossing.Crossing.{Crossing}
 use Rattle.lt_place.specs.declared.layout.Layout.{Layout}
 use Rattle.lt_place.specs.Layout.{Gives, part_of, crossing_of, no_crossing}
 use Rattle.lt_plant.specs.declared.route.Route.{Route}

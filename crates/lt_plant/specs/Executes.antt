@@ -4,7 +4,7 @@ use Rattle.lt_base.specs.declared.value.Value.{Value}
 use Rattle.lt_base.specs.declared.value.Cell.{Cell}
 use Rattle.lt_base.specs.Program.{Function}
 use Rattle.lt_machine.specs.Follows.{Follows}
-use Rattle.lt_place.specs.declared.layout.Crossing.{Crossing}
+use Rattle.lt_reads.specs.declared.crossing.Crossing.{Crossing}
 use Rattle.lt_place.specs.declared.layout.Feed.{Feed}
 use Rattle.lt_place.specs.Layout.{part_of, no_crossing}
 use Rattle.lt_plant.specs.Freshness.{is_to, TakenUpTo}

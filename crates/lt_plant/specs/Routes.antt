@@ -6,9 +6,9 @@ use Rattle.lt_base.specs.declared.value.Cell.{Cell}
 use Rattle.lt_base.specs.declared.value.Cell.TheVariants.{Absent, Here}
 use Rattle.lt_arch.specs.declared.shape.Shape.{Shape}
 use Rattle.lt_link.specs.Inbox.{InboxState, no_inbox}
+use Rattle.lt_reads.specs.declared.crossing.Crossing.{Crossing}
 use Rattle.lt_place.specs.declared.layout.Feed.{Feed}
 use Rattle.lt_place.specs.declared.layout.Feed.TheVariants.{Input, Cross}
-use Rattle.lt_place.specs.declared.layout.Crossing.{Crossing}
 use Rattle.lt_place.specs.declared.layout.Layout.{Layout}
 use Rattle.lt_place.specs.Layout.{part_of, crossing_of, no_crossing}
 use Rattle.lt_plant.specs.declared.route.Route.{Route}

@@ -12,7 +12,7 @@ use Rattle.lt_arch.specs.Greatest.{greatest}
 use Rattle.lt_arch.specs.State.{Phase, first_phase}
 use Rattle.lt_arch.specs.Readers.{node_count, is_data}
 use Rattle.lt_link.specs.Inbox.{InboxState}
-use Rattle.lt_place.specs.declared.layout.Crossing.{Crossing}
+use Rattle.lt_reads.specs.declared.crossing.Crossing.{Crossing}
 use Rattle.lt_place.specs.declared.layout.Part.{Part}
 use Rattle.lt_place.specs.declared.layout.Layout.{Layout}
 use Rattle.lt_place.specs.Layout.{part_of, no_part, no_crossing}

@@ -1,4 +1,4 @@
-use Rattle.std.proofs.Common.{◌∙◌, ap}
+use Rattle.std.proofs.Common.{◌∙◌}
 use Rattle.lt_place.proofs.Assigned.{seat_step, owner_inside}
 use Rattle.lt_place.proofs.assign.seat_each.Goals as goal
 

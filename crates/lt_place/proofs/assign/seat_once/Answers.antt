@@ -1,5 +1,4 @@
-use Rattle.lt_place.proofs.Seated.{each_length, first_unplaced, all_placed, first_twice, all_once}
-use Rattle.std.proofs.Common.{◌∙◌, ap, sym, length}
+use Rattle.lt_place.proofs.Seated.{first_unplaced, all_placed, first_twice, all_once}
 use Rattle.lt_place.proofs.assign.seat_once.Goals as goal
 
 pub returns-in-Some-clause-fault : goal.returns-in-Some-clause-fault

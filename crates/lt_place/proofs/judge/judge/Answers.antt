@@ -1,5 +1,5 @@
 use Rattle.std.proofs.Common.{◌∙◌}
-use Rattle.lt_place.specs.declared.look.Look.TheVariants.{Clocks, Direct, Slow}
+use Rattle.lt_reads.specs.declared.look.Look.TheVariants.{Clocks, Direct, Slow}
 use Rattle.lt_place.proofs.Judging.{index_inside, one_fault, one_silent, all_legal}
 use Rattle.lt_place.proofs.judge.judge.Goals as goal
 

@@ -1,6 +1,7 @@
-use Rattle.std.proofs.Common.{◌<◌, ◌∙◌, ap, length, sym, subst, All}
-use Rattle.lt_place.specs.Origins.{count}
-use Rattle.lt_place.proofs.Inside.{lefts_below, origin_size}
+use Rattle.std.proofs.Common.{◌<◌, sym, subst, All}
+use Rattle.lt_reads.specs.Origins.{count}
+use Rattle.lt_reads.proofs.Lefts.{lefts_below}
+use Rattle.lt_place.proofs.Inside.{origin_size}
 use Rattle.lt_place.proofs.judge.judged.Goals as goal
 
 pub push_lefts-requires : goal.push_lefts-requires

@@ -1,7 +1,9 @@
-use Rattle.std.proofs.Common.{◌≡◌, ◌++◌, ◌+◌, length, ap, sym, subst, ◌∙◌, take}
+use Rattle.std.proofs.Common.{subst, ◌∙◌}
 use Rattle.std.proofs.lemmas.List.{take_all}
-use Rattle.lt_place.specs.Reports.{HasLeast, reports, looked}
-use Rattle.lt_place.proofs.Inside.{left_inside, looked_inside, note_variable, note_reads, note_marks, marks_more}
+use Rattle.lt_reads.specs.Reads.{looked}
+use Rattle.lt_reads.proofs.Lefts.{left_inside}
+use Rattle.lt_place.specs.Reports.{HasLeast, reports}
+use Rattle.lt_place.proofs.Inside.{looked_inside, note_variable, note_reads, note_marks, marks_more}
 use Rattle.lt_place.proofs.marks.marks.Goals as goal
 
 pub looked_at-requires : goal.looked_at-requires

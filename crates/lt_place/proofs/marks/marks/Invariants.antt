@@ -1,6 +1,7 @@
 use Rattle.std.proofs.Common.{◌≡◌, length, take}
-use Rattle.lt_place.specs.Origins.{count}
-use Rattle.lt_place.specs.Reports.{HasLeast, reports, looked}
+use Rattle.lt_reads.specs.Origins.{count}
+use Rattle.lt_reads.specs.Reads.{looked}
+use Rattle.lt_place.specs.Reports.{HasLeast, reports}
 use Rattle.lt_place.proofs.marks.marks.Given as goal
 
 abbrev pub invariant-loop-equation : goal.invariant-loop-equation

@@ -1,4 +1,4 @@
-use Rattle.std.proofs.Common.{◌≡◌, ◌++◌, ◌+◌, length, ap, sym, subst, ◌∙◌, take}
+use Rattle.std.proofs.Common.{◌++◌, ◌+◌, length, ap, sym, subst, ◌∙◌, take}
 use Rattle.std.proofs.lemmas.List.{take_all}
 use Rattle.lt_place.specs.Reports.{HasLeast, elsewhere}
 use Rattle.lt_place.proofs.Marked.{note_same, note_other}

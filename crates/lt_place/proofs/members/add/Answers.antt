@@ -1,4 +1,4 @@
-use Rattle.std.proofs.Common.{◌≡◌, ◌∙◌, ap, get_or, false, set}
+use Rattle.std.proofs.Common.{◌≡◌, ◌∙◌, ap, get_or, set}
 use Rattle.lt_place.proofs.Numbering.{skipped_is, not_picked, pushed_is}
 use Rattle.lt_place.proofs.members.add.Goals as goal
 use Rattle.lt_place.proofs.members.add.Goals.{then-node-n+then-picked-x+in_ok-push, else-node-n, else-node-n-via-then-node-n+else-picked-x, else-node-n-via-else-node-n}

@@ -1,4 +1,4 @@
-use Rattle.std.proofs.Common.{◌≡◌, ◌∙◌, ap, arith, sym, subst, length}
+use Rattle.std.proofs.Common.{◌∙◌, arith, sym, subst, length}
 use Rattle.lt_place.specs.Spread.{Added, HasMembers}
 use Rattle.lt_place.proofs.Numbering.{room_left, both}
 use Rattle.lt_place.proofs.members.members_of.Goals as goal

@@ -3,8 +3,8 @@ use Rattle.std.specs.List.{filter}
 use Rattle.lt_base.specs.Program.{GoodFunction}
 use Rattle.lt_base.specs.Calls.{EachCall}
 use Rattle.lt_norm.specs.Flat.{FlatFunction}
+use Rattle.lt_reads.proofs.Lefts.{lefts_below}
 use Rattle.lt_place.specs.Spread.{own_of, own_decl, own_equation, stays, no_decl}
-use Rattle.lt_place.proofs.Inside.{lefts_below}
 use Rattle.lt_place.proofs.Splitting.{splits}
 use Rattle.lt_place.proofs.Parts.{is_good, is_flat, made, own_size, outs_own, flat_calls}
 use Rattle.lt_place.proofs.part.function.Goals as goal

@@ -1,4 +1,4 @@
-use Rattle.std.proofs.Common.{◌≡◌, ◌∙◌, map, take}
+use Rattle.std.proofs.Common.{◌∙◌, map, take}
 use Rattle.lt_place.specs.Spread.{feed_of}
 use Rattle.lt_place.proofs.part.part_of.Goals as goal
 

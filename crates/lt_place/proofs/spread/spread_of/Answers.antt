@@ -1,5 +1,5 @@
 use Rattle.std.proofs.Common.{◌∙◌, ap, length, sym, subst}
-use Rattle.lt_place.specs.Spread.{HasReaders, HasPlaces}
+use Rattle.lt_reads.specs.Crossings.{HasReaders, HasPlaces}
 use Rattle.lt_place.proofs.Crosses.{vars_below}
 use Rattle.lt_place.proofs.spread.spread_of.Goals as goal
 

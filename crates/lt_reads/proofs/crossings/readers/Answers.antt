@@ -1,7 +1,7 @@
-use Rattle.std.proofs.Common.{◌≡◌, ◌∙◌, ap, arith, sym, length}
-use Rattle.lt_place.proofs.Inside.{left_inside}
-use Rattle.lt_place.proofs.Crossed.{reads_more, all_read}
-use Rattle.lt_place.proofs.crossings.readers.Goals as goal
+use Rattle.std.proofs.Common.{arith}
+use Rattle.lt_reads.proofs.Lefts.{left_inside}
+use Rattle.lt_reads.proofs.Crossed.{reads_more, all_read}
+use Rattle.lt_reads.proofs.crossings.readers.Goals as goal
 
 pub cross_in-requires-clause-left : goal.cross_in-requires-clause-left
 cross_in-requires-clause-left c = let l = left_inside c.args.f.now c.kept.ensures.good c.equation-item.result c.equations-equation-items.result.now c.loop-equation.equation-index c.equations-equation-items.ensures c.loop-equation-test.true c.equation-item.is in let s = c.requires in omega (arith, l, s)

@@ -1,5 +1,5 @@
 -- What is looked at in an equation.
-use Rattle.std.proofs.Common.{◌≡◌, ℕ, ◌<◌, Bool, true, false, List, [], ◌∷◌, ◌++◌, length, reverse, get_or, refl, sym, ap, ◌∙◌, subst, arith}
+use Rattle.std.proofs.Common.{◌≡◌, ℕ, ◌<◌, Bool, true, false, List, [], ◌∷◌, ◌++◌, length, reverse, get_or, refl, sym, ap, ◌∙◌, arith}
 use Rattle.std.specs.Prelude.{IsTrue, ◌↔◌}
 use Rattle.std.proofs.lemmas.List.{length-reverse}
 use Rattle.lt_base.specs.declared.function.Decl.{Decl}
@@ -7,13 +7,11 @@ use Rattle.lt_base.specs.Expression.{Expression}
 use Rattle.lt_base.specs.Meaning.{ClockPairs, clock_of}
 use Rattle.lt_base.specs.Dependence.{clock_vars}
 use Rattle.lt_norm.specs.Flat.{Originated}
-use Rattle.lt_place.specs.declared.look.Look.{Look}
-use Rattle.lt_place.specs.declared.look.Look.TheVariants.{Clocks, Direct, Slow}
-use Rattle.lt_place.specs.Origins.{count}
-use Rattle.lt_place.specs.Legal.{direct_reads, delayed_reads}
-use Rattle.lt_place.specs.Faults.{unless_base}
-use Rattle.lt_place.specs.Reports.{looked}
-use Rattle.lt_place.proofs.Lists.{clock_get}
+use Rattle.lt_reads.specs.declared.look.Look.{Look}
+use Rattle.lt_reads.specs.declared.look.Look.TheVariants.{Clocks, Direct, Slow}
+use Rattle.lt_reads.specs.Origins.{count}
+use Rattle.lt_reads.specs.Reads.{direct_reads, delayed_reads, unless_base, looked}
+use Rattle.lt_reads.proofs.Decls.{clock_get}
 
 no_steps : (steps : List (ℕ × Bool)) → reverse steps ≡ [] → steps ≡ []
 no_steps [] h = refl

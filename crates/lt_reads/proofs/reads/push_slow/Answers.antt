@@ -1,9 +1,9 @@
 use Rattle.std.proofs.Common.{◌≡◌, ◌++◌, sym, subst}
 use Rattle.std.specs.Prelude.{OnOk}
 use Rattle.lt_base.specs.Expression.{shape}
-use Rattle.lt_place.specs.Legal.{delayed_reads}
-use Rattle.lt_place.proofs.Looked.{unless_at}
-use Rattle.lt_place.proofs.reads.push_slow.Goals as goal
+use Rattle.lt_reads.specs.Reads.{delayed_reads}
+use Rattle.lt_reads.proofs.Looked.{unless_at}
+use Rattle.lt_reads.proofs.reads.push_slow.Goals as goal
 
 pub returns : goal.returns
 returns c =

@@ -1,8 +1,8 @@
 use Rattle.std.proofs.Common.{◌∙◌}
 use Rattle.lt_base.specs.Expression.{shape}
-use Rattle.lt_place.proofs.Looked.{looked_clocks, looked_direct, looked_slow}
-use Rattle.lt_place.proofs.reads.looked_at.Goals as goal
-use Rattle.lt_place.proofs.reads.looked_at.Goals.{in-Clocks+in_ok-push_clock-in-Clocks, in-Direct+in_ok-push_direct-in-Direct, in-Slow+in_ok-push_slow-in-Slow}
+use Rattle.lt_reads.proofs.Looked.{looked_clocks, looked_direct, looked_slow}
+use Rattle.lt_reads.proofs.reads.looked_at.Goals as goal
+use Rattle.lt_reads.proofs.reads.looked_at.Goals.{in-Clocks+in_ok-push_clock-in-Clocks, in-Direct+in_ok-push_direct-in-Direct, in-Slow+in_ok-push_slow-in-Slow}
 
 pub returns : goal.returns
 returns c = elim c.match-look.branch [

@@ -1,6 +1,6 @@
 -- The crossings of a function, in order of their readers.
-use Rattle.std.proofs.Common.{◌≡◌, ◌≢◌, ◌⊎◌, inl, inr, ℕ, zero, suc, ◌+◌, ◌<◌, ◌≤◌, Bool, true, false, cond, List, [], ◌∷◌, ◌++◌, length, take, get_or, set, Option, Some, None, refl, sym, ap, ◌∙◌, subst, arith, ⊎_elim, length-append, get_or-set_same, get_or-set_other, eqb-true}
-use Rattle.std.specs.Prelude.{nat_eq, slice_get, if◌then◌else◌}
+use Rattle.std.proofs.Common.{◌≡◌, ◌⊎◌, inl, inr, ℕ, zero, suc, ◌+◌, ◌<◌, ◌≤◌, false, cond, List, [], ◌∷◌, ◌++◌, length, take, get_or, set, Option, Some, None, refl, sym, ap, ◌∙◌, subst, arith, ⊎_elim, length-append, get_or-set_same, get_or-set_other}
+use Rattle.std.specs.Prelude.{nat_eq, slice_get}
 use Rattle.std.proofs.lemmas.List.{get_or_append_left, get_or_push, length-set, take_more, take_all}
 use Rattle.std.proofs.lemmas.Bool.{cases_eq, cases_lt}
 use Rattle.std.proofs.lemmas.Bool.Decides.{nat_tests}
@@ -10,9 +10,9 @@ use Rattle.lt_base.specs.Meaning.{right_of}
 use Rattle.lt_base.specs.Equations.{lefts, EquationsIn}
 use Rattle.lt_base.proofs.Lookups.{all_found, lefts_append, lefts_cons, no_right, same_self}
 use Rattle.lt_norm.specs.Flat.{Originated}
-use Rattle.lt_place.specs.declared.layout.Crossing.{Crossing}
-use Rattle.lt_place.specs.Origins.{count}
-use Rattle.lt_place.specs.Spread.{cross_in, cross_by, cross_at, ReadsSoFar, HasReaders, HasPlaces}
+use Rattle.lt_reads.specs.declared.crossing.Crossing.{Crossing}
+use Rattle.lt_reads.specs.Origins.{count}
+use Rattle.lt_reads.specs.Crossings.{cross_in, cross_by, cross_at, ReadsSoFar, HasReaders, HasPlaces}
 
 eq_at : (f : Function) (qs : List (ℕ × Expression)) → EquationsIn f qs → (i : ℕ) (d : ℕ × Expression) → i < length qs → right_of f.eqs (get_or qs i d).0 ≡ Some (get_or qs i d).1
 eq_at f [] t i d l = absurd (omega arith)

@@ -1,8 +1,8 @@
-use Rattle.std.proofs.Common.{◌≡◌, ◌+◌, ◌∷◌, [], ◌++◌, ◌∙◌, ap, arith, sym, subst, length, Some}
-use Rattle.lt_place.specs.Spread.{HasPlaces}
-use Rattle.lt_place.proofs.Crossed.{none_placed, some_placed}
-use Rattle.lt_place.proofs.crossings.in_order.Goals as goal
-use Rattle.lt_place.proofs.crossings.in_order.Goals.{in-Some+in_ok-push-in-Some+in_ok-push-in-Some-2, in-None+in_ok-push-in-None}
+use Rattle.std.proofs.Common.{◌≡◌, ◌∷◌, [], ◌++◌, ◌∙◌, ap, arith, subst, length, Some}
+use Rattle.lt_reads.specs.Crossings.{HasPlaces}
+use Rattle.lt_reads.proofs.Crossed.{none_placed, some_placed}
+use Rattle.lt_reads.proofs.crossings.in_order.Goals as goal
+use Rattle.lt_reads.proofs.crossings.in_order.Goals.{in-Some+in_ok-push-in-Some+in_ok-push-in-Some-2, in-None+in_ok-push-in-None}
 
 pub loop-reader-preserved : goal.loop-reader-preserved
 loop-reader-preserved c = elim c.match-reader.branch [

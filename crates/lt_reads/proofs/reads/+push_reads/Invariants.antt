@@ -2,7 +2,7 @@ use Rattle.std.proofs.Common.{◌≡◌, ◌+◌, ◌*◌, ◌++◌, max, map, t
 use Rattle.lt_base.proofs.expression.Expr.TheLaws.{the_size}
 use Rattle.lt_base.specs.Expression.{shape, arguments_of}
 use Rattle.lt_base.specs.Dependence.{arguments_reads}
-use Rattle.lt_place.proofs.reads.+push_reads.Given as goal
+use Rattle.lt_reads.proofs.reads.+push_reads.Given as goal
 
 abbrev pub decreases-push_reads : goal.decreases-push_reads
 decreases-push_reads l = 2 * the_size l.e.now

@@ -1,11 +1,11 @@
 // What crosses from one node to another.
 
-ghost use Rattle.std.specs.Prelude.{◌≡◌, ◌<◌, ◌^◌, List, ℕ, All, Some, None, IfOk, OnOk, MatchOption, length, get_or};
+ghost use Rattle.std.specs.Prelude.{◌≡◌, ◌<◌, ◌^◌, ℕ, Some, None, IfOk, length, get_or};
 ghost use Rattle.lt_base.specs.Expression.{shape};
 ghost use Rattle.lt_base.specs.Program.{VarsBelow};
-ghost use Rattle.lt_place.specs.declared.layout.Crossing.{Crossing};
-ghost use Rattle.lt_place.specs.Origins.{count};
-ghost use Rattle.lt_place.specs.Spread.{HasReaders, HasPlaces, cross_of, cross_in};
+ghost use Rattle.lt_reads.specs.declared.crossing.Crossing.{Crossing};
+ghost use Rattle.lt_reads.specs.Origins.{count};
+ghost use Rattle.lt_reads.specs.Crossings.{HasReaders, HasPlaces, cross_of, cross_in};
 
 use crate::Crossing;
 use crate::reads::{delay_of, variable_of};
@@ -48,11 +48,7 @@ fn cross_in(nodes: &[u32], equation: &Equation) -> Option<Crossing>
 }
 
 /// The crossing that each variable's equation is, where it is one.
-pub(crate) fn readers(
-    alloc: Global,
-    f: &Flat,
-    nodes: &[u32],
-) -> Result<Vec<Option<Crossing>>, Memory>
+pub fn readers(alloc: Global, f: &Flat, nodes: &[u32]) -> Result<Vec<Option<Crossing>>, Memory>
     requires { length nodes.now ≡ count f.now }
     ensures { IfOk result (λ readers. HasReaders f.now nodes.now readers.items) }
 {
@@ -67,13 +63,13 @@ pub(crate) fn readers(
 
 /// The crossings, and for each variable that reads one the place of it.
 #[derive(Drop)]
-pub(crate) struct Crossings {
+pub struct Crossings {
     pub list: Vec<Crossing>,
     pub places: Vec<Option<u32>>,
 }
 
 /// The crossings in order of their readers.
-pub(crate) fn in_order(alloc: Global, readers: &[Option<Crossing>]) -> Result<Crossings, Memory>
+pub fn in_order(alloc: Global, readers: &[Option<Crossing>]) -> Result<Crossings, Memory>
     requires own { (x : ℕ) (c : Crossing) → get_or readers.now x None ≡ Some c → c.reader ≡ x }
     requires room { length readers.now < 2 ^ 32 }
     ensures { IfOk result (λ c. HasPlaces readers.now (length readers.now) c.list.items c.places.items) }

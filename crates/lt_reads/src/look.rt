@@ -2,7 +2,7 @@
 
 /// What is looked at in an equation.
 #[derive(Clone, Copy)]
-pub(crate) enum Look {
+pub enum Look {
     /// The variables of the clock.
     Clocks,
     /// The variables that are read otherwise than as the whole of what a delay delays.

@@ -8,49 +8,49 @@ use lt_base::{Decl, Equation, Name};
 use lt_norm::Flat;
 
 /// The name.
-pub(crate) fn name(f: &Flat) -> &Name
+pub fn name(f: &Flat) -> &Name
     ensures { result.now ≡ f.now.func.name }
 {
     &f.func.name
 }
 
 /// The declarations.
-pub(crate) fn decls(f: &Flat) -> &[Decl]
+pub fn decls(f: &Flat) -> &[Decl]
     ensures { result.now ≡ f.now.func.decls }
 {
     f.func.decls.as_slice()
 }
 
 /// The equations.
-pub(crate) fn equations(f: &Flat) -> &[Equation]
+pub fn equations(f: &Flat) -> &[Equation]
     ensures { result.now ≡ f.now.func.eqs }
 {
     f.func.eqs.as_slice()
 }
 
 /// The outputs.
-pub(crate) fn outputs(f: &Flat) -> &[u32]
+pub fn outputs(f: &Flat) -> &[u32]
     ensures { result.now ≡ f.now.func.outs }
 {
     f.func.outs.as_slice()
 }
 
 /// The number of inputs.
-pub(crate) fn inputs(f: &Flat) -> u32
+pub fn inputs(f: &Flat) -> u32
     ensures { result ≡ f.now.func.n_in }
 {
     f.func.n_in
 }
 
 /// The variable of `main` from whose equation each variable arose.
-pub(crate) fn origins(f: &Flat) -> &[u32]
+pub fn origins(f: &Flat) -> &[u32]
     ensures { result.now ≡ f.now.origin }
 {
     f.origin.as_slice()
 }
 
 /// What the types keep.
-pub(crate) fn kept(f: &Flat)
+pub fn kept(f: &Flat)
     ensures good { GoodFunction f.now.func }
     ensures flat { FlatFunction f.now.func }
 {

@@ -1,14 +1,10 @@
 // What an equation reads.
 
-ghost use Rattle.std.specs.Prelude.{◌≡◌, ◌<◌, ◌++◌, MatchOption, IfOk, OnOk, length, map};
-ghost use Rattle.lt_base.specs.declared.value.Value.{Value as Literal};
+ghost use Rattle.std.specs.Prelude.{◌≡◌, ◌<◌, ◌++◌, MatchOption, IfOk, OnOk, map};
 ghost use Rattle.lt_base.specs.Expression.{shape, arguments_of, variable, delayed};
-ghost use Rattle.lt_base.specs.Meaning.{ClockPairs};
 ghost use Rattle.lt_base.specs.Dependence.{reads, arguments_reads, clock_vars};
-ghost use Rattle.lt_place.specs.Origins.{count};
-ghost use Rattle.lt_place.specs.Legal.{delayed_reads, direct_reads, parts_read, whole_read};
-ghost use Rattle.lt_place.specs.Faults.{unless_base};
-ghost use Rattle.lt_place.specs.Reports.{looked, NotVariable, NotDelay};
+ghost use Rattle.lt_reads.specs.Origins.{count};
+ghost use Rattle.lt_reads.specs.Reads.{delayed_reads, direct_reads, parts_read, whole_read, unless_base, looked, NotVariable, NotDelay};
 
 use crate::look::Look;
 use crate::view::decls;
@@ -148,7 +144,7 @@ fn push_slow(clock: &Clock, right: &Expr, to: &mut List<u32>) -> Result<(), Memo
 }
 
 /// What an equation of the function reads in this way.
-pub(crate) fn looked_at(
+pub fn looked_at(
     alloc: Global,
     f: &Flat,
     equation: &Equation,

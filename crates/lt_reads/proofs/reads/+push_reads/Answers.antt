@@ -4,8 +4,8 @@ use Rattle.lt_base.specs.declared.expression.Expr.{Expr}
 use Rattle.lt_base.specs.Expression.{shape, arguments_of}
 use Rattle.lt_base.specs.Dependence.{reads, arguments_reads}
 use Rattle.lt_base.proofs.Shape.{shape-Call}
-use Rattle.lt_place.proofs.Pushed.{reads_more}
-use Rattle.lt_place.proofs.reads.+push_reads.Goals as goal
+use Rattle.lt_reads.proofs.Pushed.{reads_more}
+use Rattle.lt_reads.proofs.reads.+push_reads.Goals as goal
 
 pub push_each-loop-a-preserved : goal.push_each-loop-a-preserved
 push_each-loop-a-preserved t c =

@@ -1,0 +1,5 @@
+pub mod Decls
+pub mod Lefts
+mod Pushed
+mod Looked
+pub mod Crossed
