@@ -15,8 +15,8 @@ use Rattle.lt_place.specs.Layout.{IsLayoutOf, Gives, part_of}
 use Rattle.lt_timing.specs.Bounds.{bound_of}
 use Rattle.lt_lead.specs.Paced.{IsShapeBy}
 use Rattle.lt_lead.proofs.ByPace.{nodes_are}
-use Rattle.lt_plant.specs.Local.{local_stream, fed_row}
-use Rattle.lt_plant.specs.Payloads.{between, row_at}
+use Rattle.lt_node.specs.Local.{local_stream, fed_row}
+use Rattle.lt_node.specs.Payloads.{between, row_at}
 use Rattle.lt_plant.proofs.Firsts.{length-firsts}
 use Rattle.lt_stream.specs.Main.{output_streams}
 use Rattle.lt_load.specs.Plan.{Plan, load_verdict}

@@ -12,8 +12,8 @@ use Rattle.lt_place.specs.Layout.{IsLayoutOf, Gives, part_of}
 use Rattle.lt_config.specs.declared.pace.Pace.TheVariants.{Plain}
 use Rattle.lt_timing.specs.Bounds.{bound_of}
 use Rattle.lt_lead.specs.Paced.{IsShapeBy, bound_by}
-use Rattle.lt_plant.specs.Local.{local_stream}
-use Rattle.lt_plant.specs.Payloads.{between, row_at}
+use Rattle.lt_node.specs.Local.{local_stream}
+use Rattle.lt_node.specs.Payloads.{between, row_at}
 use Rattle.lt_front.specs.Flattened.{flat_of}
 use Rattle.lt_stream.specs.Main.{output_streams}
 use Rattle.lt_load.specs.Plan.{Plan, load_verdict}

@@ -19,7 +19,7 @@ use Rattle.lt_arch.proofs.Fresh.{all_in-at}
 use Rattle.lt_timing.specs.Accepts.{Accepts}
 use Rattle.lt_bp.specs.Laws as pressure
 use Rattle.lt_tb.specs.Laws as time
-use Rattle.lt_plant.specs.Channels.{ShapesFit}
+use Rattle.lt_node.specs.Channels.{ShapesFit}
 use Rattle.lt_net.proofs.Uncounted.{IsUncounted, uncounted}
 use Rattle.lt_audit.specs.Misses.{Misses, HasNoMiss}
 use Rattle.lt_commands.specs.Clean.{AcceptedIsClean}

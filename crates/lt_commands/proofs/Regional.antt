@@ -10,7 +10,7 @@ use Rattle.lt_norm.specs.Flat.{Originated}
 use Rattle.lt_place.specs.declared.layout.Layout.{Layout}
 use Rattle.lt_place.specs.Layout.{IsLayoutOf, IsPlaced}
 use Rattle.lt_place.specs.Placement.{node_names}
-use Rattle.lt_plant.specs.Channels.{IsShapeOf, ShapesFit}
+use Rattle.lt_node.specs.Channels.{IsShapeOf, ShapesFit}
 use Rattle.lt_front.specs.Examined.{ExaminedText}
 use Rattle.lt_front.specs.Flattened.{flat_of}
 use Rattle.lt_config.specs.declared.config.Config.{Config}

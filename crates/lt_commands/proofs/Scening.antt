@@ -11,7 +11,7 @@ use Rattle.lt_answer.specs.Answered.{Answered, Verdict, AndThen, Settles}
 use Rattle.lt_answer.proofs.Stages.{errands_all, widened, settles}
 use Rattle.lt_verdict.specs.Rules.{Exactly}
 use Rattle.lt_arch.specs.declared.shape.Shape.{Shape}
-use Rattle.lt_plant.specs.Channels.{IsShapeOf}
+use Rattle.lt_node.specs.Channels.{IsShapeOf}
 use Rattle.lt_front.specs.Examined.{ExaminedText}
 use Rattle.lt_config.specs.declared.config.Config.{Config}
 use Rattle.lt_load.specs.declared.fault.CommandFault.{CommandFault}

@@ -9,7 +9,7 @@ use Rattle.lt_timing.specs.Accepts.{Accepts}
 use Rattle.lt_norm.specs.Flat.{Originated}
 use Rattle.lt_place.specs.declared.layout.Layout.{Layout}
 use Rattle.lt_place.specs.Layout.{IsPlaced}
-use Rattle.lt_plant.specs.Channels.{IsShapeOf}
+use Rattle.lt_node.specs.Channels.{IsShapeOf}
 use Rattle.lt_audit.specs.Misses.{HasNoMiss}
 
 -- with the shape of a placed layout, and an accepted timing of its nodes

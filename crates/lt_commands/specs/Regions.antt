@@ -3,7 +3,7 @@ use Rattle.std.specs.Prelude.{◌≡◌, ℕ, List, Option, Some, None, Ok, Err,
 use Rattle.lt_place.specs.declared.fault.PlaceFault.TheVariants.{UnknownName}
 use Rattle.lt_place.specs.declared.layout.Layout.{Layout}
 use Rattle.lt_place.specs.Layout.{IsLayoutOf}
-use Rattle.lt_plant.specs.Channels.{IsShapeOf}
+use Rattle.lt_node.specs.Channels.{IsShapeOf}
 use Rattle.lt_front.specs.Examined.{ExaminedText}
 use Rattle.lt_front.specs.Flattened.{flat_of}
 use Rattle.lt_config.specs.declared.config.Config.{Config}

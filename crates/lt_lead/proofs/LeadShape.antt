@@ -13,11 +13,11 @@ use Rattle.lt_place.specs.declared.layout.Layout.{Layout}
 use Rattle.lt_place.specs.declared.nodes.NamedNodes.{NamedNodes}
 use Rattle.lt_place.specs.Names.{names_of}
 use Rattle.lt_place.specs.Layout.{IsPlaced}
-use Rattle.lt_plant.specs.Layout.{joins}
-use Rattle.lt_plant.specs.Channels.{chans_from, chans_below, all_chans}
-use Rattle.lt_plant.proofs.ChannelOrder.{IsWanted}
-use Rattle.lt_plant.proofs.DrawnShape.{Makes, drawn_makes}
-use Rattle.lt_plant.proofs.DrawnShape as drawn
+use Rattle.lt_node.specs.Layout.{joins}
+use Rattle.lt_node.specs.Channels.{chans_from, chans_below, all_chans}
+use Rattle.lt_node.proofs.ChannelOrder.{IsWanted}
+use Rattle.lt_node.proofs.DrawnShape.{Makes, drawn_makes}
+use Rattle.lt_node.proofs.DrawnShape as drawn
 use Rattle.lt_lead.specs.Shapes.{IsLeaderShape}
 use Rattle.lt_lead.specs.Channels.{leads_to, IsLeadShapeOf, LeadShapesFit}
 

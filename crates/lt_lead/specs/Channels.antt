@@ -10,8 +10,8 @@ use Rattle.lt_norm.specs.Flat.{Originated}
 use Rattle.lt_reads.specs.declared.crossing.Crossing.{Crossing}
 use Rattle.lt_place.specs.declared.layout.Layout.{Layout}
 use Rattle.lt_place.specs.Layout.{IsPlaced}
-use Rattle.lt_plant.specs.Layout.{joins}
-use Rattle.lt_plant.specs.Channels.{all_chans, FitsLayout}
+use Rattle.lt_node.specs.Layout.{joins}
+use Rattle.lt_node.specs.Channels.{all_chans, FitsLayout}
 use Rattle.lt_lead.specs.Shapes.{IsLeaderShape}
 
 -- from which node to which there is a channel of a kind: one for data from the leader to each other node and wherever something crosses, and

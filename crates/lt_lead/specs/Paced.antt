@@ -6,7 +6,7 @@ use Rattle.lt_arch.specs.declared.shape.Shape.{Shape}
 use Rattle.lt_timing.specs.Bounds.{bound_of}
 use Rattle.lt_lossy.specs.Laws.{lossy_bound}
 use Rattle.lt_place.specs.declared.layout.Layout.{Layout}
-use Rattle.lt_plant.specs.Channels.{IsShapeOf}
+use Rattle.lt_node.specs.Channels.{IsShapeOf}
 use Rattle.lt_config.specs.declared.pace.Pace.{Pace}
 use Rattle.lt_config.specs.declared.pace.Pace.TheVariants.{Plain, Lossy, Leader}
 use Rattle.lt_config.specs.Paced.{FitsPace}

@@ -3,7 +3,7 @@ ghost use Rattle.std.specs.Prelude.{◌≡◌, ◌<◌, ◌^◌, length, IfOk};
 ghost use Rattle.lt_arch.specs.declared.timing.Protocol.TheVariants.{BackPressure};
 ghost use Rattle.lt_norm.specs.Flat.{Originated};
 ghost use Rattle.lt_place.specs.Layout.{IsPlaced};
-ghost use Rattle.lt_plant.specs.Channels.{IsShapeOf};
+ghost use Rattle.lt_node.specs.Channels.{IsShapeOf};
 ghost use Rattle.lt_config.specs.Paced.{FitsPace};
 ghost use Rattle.lt_lead.specs.Paced.{IsShapeBy};
 

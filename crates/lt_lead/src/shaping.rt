@@ -3,7 +3,7 @@ ghost use Rattle.std.specs.Prelude.{◌≡◌, ◌<◌, ◌^◌, length, IfOk, O
 ghost use Rattle.lt_arch.specs.declared.chan.ChanKind.TheVariants.{Data};
 ghost use Rattle.lt_norm.specs.Flat.{Originated};
 ghost use Rattle.lt_place.specs.Layout.{IsPlaced};
-ghost use Rattle.lt_plant.specs.Channels.{channel, push_if, chans_from, chans_below, all_chans};
+ghost use Rattle.lt_node.specs.Channels.{channel, push_if, chans_from, chans_below, all_chans};
 ghost use Rattle.lt_lead.specs.Channels.{leads_to, IsLeadShapeOf};
 
 use lt_arch::{Chan, ChanKind, Shape};

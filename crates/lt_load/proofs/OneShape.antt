@@ -21,8 +21,8 @@ use Rattle.lt_place.specs.declared.layout.Layout.{Layout}
 use Rattle.lt_place.specs.declared.placement.Placement.{Placement}
 use Rattle.lt_place.specs.Layout.{IsLayoutOf, HasCrossings, crossing_of, no_crossing}
 use Rattle.lt_place.specs.Nodes.{node_of}
-use Rattle.lt_plant.specs.Layout.{joins}
-use Rattle.lt_plant.specs.Channels.{has_channel, all_chans, channels_of}
+use Rattle.lt_node.specs.Layout.{joins}
+use Rattle.lt_node.specs.Channels.{has_channel, all_chans, channels_of}
 use Rattle.lt_config.specs.declared.pace.Pace.{Pace}
 use Rattle.lt_config.specs.declared.pace.Pace.TheVariants.{Plain, Lossy, Leader}
 use Rattle.lt_lead.specs.Channels.{leads_to, lead_channels}

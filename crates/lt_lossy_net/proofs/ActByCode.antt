@@ -35,7 +35,7 @@ use Rattle.lt_lossy_net.proofs.NextLossy.{next_lossy, row_there}
 use Rattle.lt_lossy_net.proofs.SentAgain.{sent_next}
 use Rattle.lt_lossy_net.proofs.SentTwice.{notes_again, sends_again, room_for}
 use Rattle.lt_lossy_net.proofs.TakenByCode.{PassesBy}
-use Rattle.lt_plant.specs.Payloads.{types_for}
+use Rattle.lt_node.specs.Payloads.{types_for}
 
 is_executed : (d : Deed) → is_execute d ≡ true → d ≡ Execute
 is_executed Nothing h = absurd (cc)

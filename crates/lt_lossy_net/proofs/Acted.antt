@@ -16,7 +16,7 @@ use Rattle.lt_lossy.specs.State.{LossyState, plain_of, sent_by}
 use Rattle.lt_lossy.specs.Step.{lossy_after}
 use Rattle.lt_lossy.specs.Times.{LossyTimes, HasLossyTimes, with_last}
 use Rattle.lt_lossy.proofs.Noted.{law-times}
-use Rattle.lt_plant.specs.Acts.{takes_on, MarkedOn}
+use Rattle.lt_node.specs.Acts.{takes_on, MarkedOn}
 use Rattle.lt_plant.specs.Changes.{ActsOn, Same, Takes}
 use Rattle.lt_plant.specs.Executes.{Executes}
 use Rattle.lt_plant.specs.Given.{FitsPart}

@@ -15,7 +15,7 @@ use Rattle.lt_lossy.specs.Times.{LossyTimes, without_oldest, with_losses}
 use Rattle.lt_lossy.proofs.Changes.{node-del, link-del}
 use Rattle.lt_lossy.proofs.Noted.{law-times}
 use Rattle.lt_place.specs.Layout.{crossing_of}
-use Rattle.lt_plant.specs.Payloads.{between, message_of}
+use Rattle.lt_node.specs.Payloads.{between, message_of}
 use Rattle.lt_plant.specs.Standing.{HasOwnValues, StandsAt}
 use Rattle.lt_plant.proofs.Bits.{differ_same, data_fresh, leb-le}
 use Rattle.lt_plant.proofs.Entries.{and_parts, either_way}

@@ -18,18 +18,18 @@ use Rattle.lt_lossy.specs.State.{plain_of}
 use Rattle.lt_lossy.specs.Times.{LossyTimes}
 use Rattle.lt_lossy.specs.declared.event.LossyEvent.TheVariants.{Plain}
 use Rattle.lt_lossy.proofs.Balance.{woke-n}
-use Rattle.lt_plant.specs.Acts.{takes_on}
+use Rattle.lt_node.specs.Acts.{takes_on}
 use Rattle.lt_plant.specs.Executes.{CanExecute, Executes}
-use Rattle.lt_plant.specs.Freshness.{fresh_or_other, fresh_one, is_to, TakenUpTo}
+use Rattle.lt_node.specs.Freshness.{fresh_or_other, fresh_one, is_to, TakenUpTo}
 use Rattle.lt_plant.specs.Given.{FitsPart}
-use Rattle.lt_plant.specs.Payloads.{types_for}
+use Rattle.lt_node.specs.Payloads.{types_for}
 use Rattle.lt_plant.specs.Plant.{PlantState}
 use Rattle.lt_plant.specs.Room.{HasSpace}
-use Rattle.lt_plant.specs.Sends.{is_from}
-use Rattle.lt_plant.specs.Wakes.{Wakes}
+use Rattle.lt_node.specs.Sends.{is_from}
+use Rattle.lt_node.specs.Wakes.{Wakes}
 use Rattle.lt_plant.proofs.Able.{can_execute}
 use Rattle.lt_plant.proofs.DeedOfBits.{deed_is}
-use Rattle.lt_plant.proofs.InboxesRead.{taken_marks, no_marks}
+use Rattle.lt_node.proofs.InboxesRead.{taken_marks, no_marks}
 use Rattle.lt_plant.proofs.SizesStay.{sizes_read, sizes_ran, space_ran}
 use Rattle.lt_net.proofs.Uncounted.{IsUncounted, uncounted_same}
 use Rattle.lt_lossy_net.specs.Net.{LossyNetState, LossyLists, net_of, lossy_state_of}
@@ -42,7 +42,7 @@ use Rattle.lt_lossy_net.proofs.NextLossy.{rows_left, next_lossy, row_there}
 use Rattle.lt_lossy_net.proofs.PostLoop.{posted_all}
 use Rattle.lt_lossy_net.proofs.Reached.{balanced, ahead, unsent_most}
 use Rattle.lt_lossy_net.proofs.InstantOf.{instant_typed}
-use Rattle.lt_plant.specs.Ports.{HasPorts}
+use Rattle.lt_node.specs.Ports.{HasPorts}
 use Rattle.lt_arch.specs.Step.{is_execute}
 
 unsent_few : (ph : Phase) (e : ℕ) → IsPhase ph e → unsent ph ≤ e

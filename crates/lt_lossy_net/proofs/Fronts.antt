@@ -92,4 +92,4 @@ module _ {C M : Type 0} (phase : C → Phase) (stands : M → Function → List 
   pub law-local : LossyCellsAreLocal phase stands made left
   law-local net ls fixed s y n x yb nb gives =
       let there : n < node_count net.shape = omega (arith, nb, fixed.channels.nodes) in
-      s.plant.ran.cells y n x yb nb gives ∙ ap (λ k. Rattle.lt_plant.specs.Local.local_stream net.layout (Rattle.lt_plant.specs.Payloads.between net.shape ls.got) n (Rattle.lt_plant.specs.Payloads.row_at (ls.inputs n)) k x) (s.plant.rows n there)
+      s.plant.ran.cells y n x yb nb gives ∙ ap (λ k. Rattle.lt_node.specs.Local.local_stream net.layout (Rattle.lt_node.specs.Payloads.between net.shape ls.got) n (Rattle.lt_node.specs.Payloads.row_at (ls.inputs n)) k x) (s.plant.rows n there)

@@ -14,7 +14,7 @@ use Rattle.lt_lossy.specs.State.{plain_of}
 use Rattle.lt_plant.specs.Changes.{ActsOn, Takes}
 use Rattle.lt_plant.specs.Executes.{Executes}
 use Rattle.lt_plant.specs.Given.{FitsPart}
-use Rattle.lt_plant.specs.Payloads.{types_for}
+use Rattle.lt_node.specs.Payloads.{types_for}
 use Rattle.lt_plant.specs.Plant.{PlantState}
 use Rattle.lt_plant.specs.Room.{HasSpace}
 use Rattle.lt_plant.specs.Standing.{HasRun}

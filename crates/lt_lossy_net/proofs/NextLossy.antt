@@ -16,7 +16,7 @@ use Rattle.lt_lossy.specs.declared.event.LossyEvent.{LossyEvent}
 use Rattle.lt_lossy.specs.declared.event.LossyEvent.TheVariants.{Plain, Lose}
 use Rattle.lt_lossy.specs.Events.{IsLossyPlacedIn}
 use Rattle.lt_lossy.specs.State.{plain_of}
-use Rattle.lt_plant.specs.Payloads.{types_for}
+use Rattle.lt_node.specs.Payloads.{types_for}
 use Rattle.lt_plant.proofs.Bits.{leb-le}
 use Rattle.lt_net.proofs.ReplayStep.{deed_more}
 use Rattle.lt_lossy_net.specs.Net.{LossyNetState, LossyLists, lossy_state_of}

@@ -4,7 +4,7 @@ use Rattle.std.specs.Prelude.{◌&&◌, nat_lt, slice_index_or}
 use Rattle.std.proofs.lemmas.Bool.Decides.{eqb_tells}
 use Rattle.std.proofs.lemmas.List.{get_or-set_same, get_or-set_other}
 use Rattle.lt_base.specs.declared.value.Value.{Value}
-use Rattle.lt_plant.proofs.Below.{lt_none, lt_here, lt_self, lt_other, lt_yes}
+use Rattle.lt_node.proofs.Below.{lt_none, lt_here, lt_self, lt_other, lt_yes}
 use Rattle.lt_wiring.specs.Ports.{numbers}
 use Rattle.lt_wiring.proofs.Listed.{from_start, onward, here, at_end, within_zero, passes_zero}
 use Rattle.lt_lossy_net.specs.Changes.{Posts, PostedUpTo}

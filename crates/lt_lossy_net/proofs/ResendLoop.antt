@@ -6,7 +6,7 @@ use Rattle.std.proofs.lemmas.List.{get_or-set_same, get_or-set_other}
 use Rattle.lt_io.specs.declared.message.Message.{Message}
 use Rattle.lt_io.specs.FabricState.{FabricState, Sends, KeepsFabric}
 use Rattle.lt_lossy.specs.Times.{LossyTimes, queue_at, with_sent_on}
-use Rattle.lt_plant.proofs.Below.{lt_none, lt_here, lt_self, lt_other}
+use Rattle.lt_node.proofs.Below.{lt_none, lt_here, lt_self, lt_other}
 use Rattle.lt_wiring.specs.Ports.{numbers}
 use Rattle.lt_wiring.proofs.Listed.{from_start, onward, here, at_end}
 use Rattle.lt_net.proofs.SendLoop.{keeps_refl, keeps_trans, sends_none, sends_more, sends_skip}

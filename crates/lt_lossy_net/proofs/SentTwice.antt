@@ -23,9 +23,9 @@ use Rattle.lt_lossy.specs.Window.{room}
 use Rattle.lt_lossy.proofs.Spacing.{law-room}
 use Rattle.lt_net.specs.Sends.{with_message}
 use Rattle.lt_plant.specs.Plant.{PlantState}
-use Rattle.lt_plant.specs.Ports.{HasPorts}
-use Rattle.lt_plant.specs.Sends.{is_from}
-use Rattle.lt_plant.proofs.Below.{lt_yes}
+use Rattle.lt_node.specs.Ports.{HasPorts}
+use Rattle.lt_node.specs.Sends.{is_from}
+use Rattle.lt_node.proofs.Below.{lt_yes}
 use Rattle.lt_plant.proofs.Entries.{and_parts}
 use Rattle.lt_lossy_net.specs.Changes.{NotesAct}
 use Rattle.lt_lossy_net.specs.Event.{PassesLossy}

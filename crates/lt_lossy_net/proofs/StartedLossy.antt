@@ -18,7 +18,7 @@ use Rattle.lt_lossy.specs.Window.{HasWindow}
 use Rattle.lt_norm.specs.Flat.{Originated}
 use Rattle.lt_place.specs.declared.layout.Layout.{Layout}
 use Rattle.lt_place.specs.Layout.{IsPlaced}
-use Rattle.lt_plant.specs.Channels.{FitsLayout}
+use Rattle.lt_node.specs.Channels.{FitsLayout}
 use Rattle.lt_plant.specs.Plant.{PlantState}
 use Rattle.lt_plant.specs.Room.{HasSizes, HasSpace}
 use Rattle.lt_plant.specs.Standing.{StandsAt}

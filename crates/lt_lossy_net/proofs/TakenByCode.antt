@@ -22,7 +22,7 @@ use Rattle.lt_lossy.specs.Step.{lossy_offence}
 use Rattle.lt_lossy.specs.Times.{LossyTimes, HasLossyTimes, losses_at, without_oldest, with_losses, with_end, lossy_time_of}
 use Rattle.lt_lossy.proofs.Changes.{loss_clear}
 use Rattle.lt_plant.specs.Plant.{PlantState}
-use Rattle.lt_plant.specs.Payloads.{types_for}
+use Rattle.lt_node.specs.Payloads.{types_for}
 use Rattle.lt_plant.specs.Room.{HasSizes, HasSpace}
 use Rattle.lt_plant.proofs.SizesStay.{sizes_delivered}
 use Rattle.lt_lossy_net.specs.Net.{LossyNetState, LossyLists, net_of, lossy_state_of}

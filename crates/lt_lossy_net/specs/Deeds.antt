@@ -11,7 +11,7 @@ use Rattle.lt_arch.specs.State.{Phase}
 use Rattle.lt_link.specs.Inbox.{InboxState}
 use Rattle.lt_lossy.specs.declared.event.LossyEvent.TheVariants.{Plain}
 use Rattle.lt_lossy.specs.State.{plain_of}
-use Rattle.lt_plant.specs.Acts.{takes_on, MarkedOn}
+use Rattle.lt_node.specs.Acts.{takes_on, MarkedOn}
 use Rattle.lt_plant.specs.Executes.{Executes}
 use Rattle.lt_plant.specs.Given.{FitsPart}
 use Rattle.lt_plant.specs.Plant.{PlantState}

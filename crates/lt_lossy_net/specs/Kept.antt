@@ -9,9 +9,9 @@ use Rattle.lt_arch.specs.Readers.{node_count, chan_count}
 use Rattle.lt_arch.specs.Shapes.{IsBackPressureShape, HaveSameNodes}
 use Rattle.lt_lossy.specs.Window.{HasWindow}
 use Rattle.lt_place.specs.declared.layout.Layout.{Layout}
-use Rattle.lt_plant.specs.Channels.{HasChannels}
-use Rattle.lt_plant.specs.Layout.{IsLaidOut}
-use Rattle.lt_plant.specs.Payloads.{types_for}
+use Rattle.lt_node.specs.Channels.{HasChannels}
+use Rattle.lt_node.specs.Layout.{IsLaidOut}
+use Rattle.lt_node.specs.Payloads.{types_for}
 use Rattle.lt_plant.specs.Room.{HasSizes}
 use Rattle.lt_lossy_net.specs.Net.{LossyNetState, plant_of}
 

@@ -18,12 +18,12 @@ use Rattle.lt_lossy.specs.State.{plain_of}
 use Rattle.lt_lossy.specs.Events.{IsLossyPlacedIn}
 use Rattle.lt_lossy.specs.Times.{LossyTimes, losses_at, without_oldest, with_losses, with_end}
 use Rattle.lt_place.specs.Layout.{Gives, part_of}
-use Rattle.lt_plant.specs.Acts.{takes_on, MarkedOn}
+use Rattle.lt_node.specs.Acts.{takes_on, MarkedOn}
 use Rattle.lt_plant.specs.Executes.{Executes}
 use Rattle.lt_plant.specs.Given.{FitsPart}
-use Rattle.lt_plant.specs.Local.{local_stream}
+use Rattle.lt_node.specs.Local.{local_stream}
 use Rattle.lt_plant.specs.Own.{AreOwn, AreFronts}
-use Rattle.lt_plant.specs.Payloads.{between, row_at}
+use Rattle.lt_node.specs.Payloads.{between, row_at}
 use Rattle.lt_plant.specs.Plant.{PlantState}
 use Rattle.lt_plant.specs.Room.{HasSpace}
 use Rattle.lt_plant.specs.Track.{track_at}

@@ -9,7 +9,7 @@ use Rattle.lt_io.specs.FabricState.{FabricState, KeepsFabric}
 use Rattle.lt_link.specs.Bits.{bit_of}
 use Rattle.lt_lossy.specs.Times.{LossyTimes, AreQueued, queue_at, with_last}
 use Rattle.lt_lossy.specs.Window.{room}
-use Rattle.lt_plant.specs.Sends.{is_from}
+use Rattle.lt_node.specs.Sends.{is_from}
 use Rattle.lt_net.specs.Sends.{SendsOn}
 use Rattle.lt_lossy_net.specs.Holds.{with_one}
 

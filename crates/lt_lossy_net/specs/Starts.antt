@@ -8,9 +8,9 @@ use Rattle.lt_arch.specs.State.{Phase}
 use Rattle.lt_arch.specs.Readers.{node_count}
 use Rattle.lt_lossy.specs.Times.{LossyTimes}
 use Rattle.lt_place.specs.declared.layout.Layout.{Layout}
-use Rattle.lt_plant.specs.Local.{firsts}
+use Rattle.lt_node.specs.Local.{firsts}
 use Rattle.lt_plant.specs.Plant.{PlantState}
-use Rattle.lt_plant.specs.Ports.{ports_of}
+use Rattle.lt_node.specs.Ports.{ports_of}
 use Rattle.lt_plant.specs.Starts.{first_inbox, literals_on, route_to, exit_for, most_fed, most_given, IsBlank}
 use Rattle.lt_plant.specs.Track.{track_at}
 use Rattle.lt_lossy_net.specs.Net.{LossyNetState, LossyLists, net_of}

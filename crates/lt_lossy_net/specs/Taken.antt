@@ -10,7 +10,7 @@ use Rattle.lt_io.specs.FabricState.{FabricState, Delivers, SameLists, kind_of}
 use Rattle.lt_lossy.specs.declared.event.LossyEvent.{LossyEvent}
 use Rattle.lt_lossy.specs.declared.event.LossyEvent.TheVariants.{Plain, Lose}
 use Rattle.lt_plant.specs.Own.{AreOwn}
-use Rattle.lt_plant.specs.Payloads.{types_for}
+use Rattle.lt_node.specs.Payloads.{types_for}
 use Rattle.lt_plant.specs.Room.{HasSpace}
 use Rattle.lt_lossy_net.specs.Net.{LossyNetState, LossyLists, plant_of}
 use Rattle.lt_lossy_net.specs.Event.{LossyGoesOn}

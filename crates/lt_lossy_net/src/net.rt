@@ -10,7 +10,7 @@ ghost use Rattle.lt_lossy.specs.Step.{lossy_offence};
 ghost use Rattle.lt_lossy.specs.Window.{HasWindow};
 ghost use Rattle.lt_norm.specs.Flat.{Originated};
 ghost use Rattle.lt_place.specs.Layout.{IsPlaced};
-ghost use Rattle.lt_plant.specs.Channels.{FitsLayout};
+ghost use Rattle.lt_node.specs.Channels.{FitsLayout};
 ghost use Rattle.lt_plant.specs.Starts.{kinds_for, AreReady};
 ghost use Rattle.lt_plant.specs.Track.{track_at};
 ghost use Rattle.lt_net.specs.Event.{given};

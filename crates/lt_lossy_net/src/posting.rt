@@ -1,14 +1,14 @@
 // What is sent again from now on.
 ghost use Rattle.std.specs.Prelude.{◌≡◌, ◌<◌, ℕ, true, [], length, slice_index_or, IfOk};
-ghost use Rattle.lt_plant.specs.Ports.{HasPorts};
-ghost use Rattle.lt_plant.specs.Sends.{is_from};
+ghost use Rattle.lt_node.specs.Ports.{HasPorts};
+ghost use Rattle.lt_node.specs.Sends.{is_from};
 ghost use Rattle.lt_lossy_net.specs.Changes.{PostedUpTo};
 
 use crate::posted::Posted;
 use lt_arch::Chan;
 use lt_base::{List, Memory};
-use lt_plant::listing::outgoing;
-use lt_plant::{Payload, Ports};
+use lt_node::{Ports, outgoing};
+use lt_plant::Payload;
 use std::alloc::Global;
 
 /// Puts the newest payload of each data channel from a node in the place of the one that was sent.

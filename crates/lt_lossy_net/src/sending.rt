@@ -8,8 +8,8 @@ ghost use Rattle.lt_io.specs.FabricState.{KeepsFabric, kind_of};
 ghost use Rattle.lt_link.specs.Bits.{bit_of};
 ghost use Rattle.lt_lossy.specs.Times.{queue_at};
 ghost use Rattle.lt_lossy.specs.Window.{room};
-ghost use Rattle.lt_plant.specs.Ports.{HasPorts};
-ghost use Rattle.lt_plant.specs.Sends.{is_from};
+ghost use Rattle.lt_node.specs.Ports.{HasPorts};
+ghost use Rattle.lt_node.specs.Sends.{is_from};
 ghost use Rattle.lt_lossy_net.specs.Sends.{SentUpTo, numbered_from, posted_message, IsBehind};
 
 use crate::posted::Posted;
@@ -17,8 +17,7 @@ use lt_arch::Chan;
 use lt_base::{List, Steps};
 use lt_io::{Fabric, LinkErr};
 use lt_lossy::LossyWatch;
-use lt_plant::Ports;
-use lt_plant::listing::outgoing;
+use lt_node::{Ports, outgoing};
 use std::sync::ledger::Ledger;
 
 // The bit of a message, by its number.

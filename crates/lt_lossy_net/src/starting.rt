@@ -9,7 +9,7 @@ ghost use Rattle.lt_lossy.specs.Times.{HasLossyTimes};
 ghost use Rattle.lt_lossy.specs.Window.{HasWindow};
 ghost use Rattle.lt_norm.specs.Flat.{Originated};
 ghost use Rattle.lt_place.specs.Layout.{IsPlaced};
-ghost use Rattle.lt_plant.specs.Channels.{FitsLayout};
+ghost use Rattle.lt_node.specs.Channels.{FitsLayout};
 ghost use Rattle.lt_plant.specs.Initial.{IsInitial};
 ghost use Rattle.lt_plant.specs.Starts.{AreReady, AreAtStart};
 ghost use Rattle.lt_lossy_net.specs.Starts.{IsFirstBench, HasFirstBench, IsMadeOfLossy, IsFreshLossy};

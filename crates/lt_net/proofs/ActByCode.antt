@@ -20,13 +20,13 @@ use Rattle.lt_io.specs.declared.fault.LinkErr.TheVariants.{Memory as NoMemory}
 use Rattle.lt_io.specs.FabricState.{FabricState}
 use Rattle.lt_link.specs.Inbox.{InboxState, no_inbox}
 use Rattle.lt_plant.specs.Executes.{CanExecute, Executes}
-use Rattle.lt_plant.specs.Freshness.{fresh_or_other, fresh_one, is_to, TakenUpTo}
+use Rattle.lt_node.specs.Freshness.{fresh_or_other, fresh_one, is_to, TakenUpTo}
 use Rattle.lt_plant.specs.Plant.{PlantState}
-use Rattle.lt_plant.specs.Ports.{HasPorts}
-use Rattle.lt_plant.specs.Sends.{is_from}
-use Rattle.lt_plant.specs.Wakes.{Wakes}
+use Rattle.lt_node.specs.Ports.{HasPorts}
+use Rattle.lt_node.specs.Sends.{is_from}
+use Rattle.lt_node.specs.Wakes.{Wakes}
 use Rattle.lt_plant.proofs.Activated.{marked_bit}
-use Rattle.lt_plant.proofs.InboxesRead.{taken_marks}
+use Rattle.lt_node.proofs.InboxesRead.{taken_marks}
 use Rattle.lt_plant.proofs.SizesStay.{sizes_read}
 use Rattle.lt_net.specs.Net.{NetState, net_of}
 use Rattle.lt_net.specs.Event.{HasKinds}

@@ -15,7 +15,7 @@ use Rattle.lt_arch.specs.declared.limits.TheConstants.{GREATEST_TIME}
 use Rattle.lt_arch.proofs.Changes.{executed-act, delivered-act, one_if, updated-here, updated-other}
 use Rattle.lt_arch.proofs.Noted.{noted-act}
 use Rattle.lt_link.specs.Inbox.{InboxState}
-use Rattle.lt_plant.specs.Acts.{takes_on, MarkedOn}
+use Rattle.lt_node.specs.Acts.{takes_on, MarkedOn}
 use Rattle.lt_plant.specs.Changes.{IsAhead, ActsOn}
 use Rattle.lt_plant.specs.Standing.{StandsAt}
 use Rattle.lt_plant.proofs.Activated.{idle_at}

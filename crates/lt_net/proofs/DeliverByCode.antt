@@ -100,7 +100,7 @@ module _ {C M : Type 0} (phase : C → Phase) (protocol : C → Protocol) (send 
           halted = tt;
           sized = taken.kept.sized;
           room = room_stays (net_of p t w) now is can.room v p.controllers boxes values values_is;
-          configured = subst (λ (z : NetState C M). Rattle.lt_plant.specs.Wakes.AreConfigured protocol send execute z.timing z.controllers) (sym is) can.configured;
+          configured = subst (λ (z : NetState C M). Rattle.lt_node.specs.Wakes.AreConfigured protocol send execute z.timing z.controllers) (sym is) can.configured;
           sizes = ap (λ (z : NetState C M). map size z.machines) is;
           fixed = record { layout = ap (λ (z : NetState C M). z.layout) is; shape = ap (λ (z : NetState C M). z.shape) is; timing = ap (λ (z : NetState C M). z.timing) is; rows = ap (λ (z : NetState C M). z.rows) is };
           keeps = keeps;

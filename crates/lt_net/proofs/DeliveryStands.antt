@@ -14,11 +14,11 @@ use Rattle.lt_arch.specs.Times.{HasTimes}
 use Rattle.lt_arch.proofs.Noted.{noted-del}
 use Rattle.lt_arch.proofs.Facts.{clear}
 use Rattle.lt_arch.proofs.Changes.{updated-here, updated-other}
-use Rattle.lt_plant.specs.Layout.{IsLaidOut}
+use Rattle.lt_node.specs.Layout.{IsLaidOut}
 use Rattle.lt_net.specs.Net.{NetState, Lists, plant_of, state_of}
 use Rattle.lt_link.specs.Inbox.{InboxState}
 use Rattle.lt_net.specs.Stands.{Stands}
-use Rattle.lt_plant.specs.Channels.{HasChannels}
+use Rattle.lt_node.specs.Channels.{HasChannels}
 use Rattle.lt_net.specs.Event.{GoesOn}
 use Rattle.lt_plant.specs.Changes.{DeliversOn}
 use Rattle.lt_plant.specs.Standing.{StandsAt}

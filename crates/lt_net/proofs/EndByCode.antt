@@ -10,7 +10,7 @@ use Rattle.lt_arch.specs.State.{Phase}
 use Rattle.lt_arch.specs.Times.{Times}
 use Rattle.lt_io.specs.declared.fault.LinkErr.TheVariants.{Memory as NoMemory}
 use Rattle.lt_io.specs.FabricState.{FabricState}
-use Rattle.lt_plant.specs.Wakes.{AreConfigured}
+use Rattle.lt_node.specs.Wakes.{AreConfigured}
 use Rattle.lt_net.specs.Net.{NetState}
 use Rattle.lt_net.specs.Answered.{CanTake, AnswersEvent}
 use Rattle.lt_net.proofs.EndTaken.{ended_taken}

@@ -17,7 +17,7 @@ use Rattle.std.specs.Prelude.{slice_index_or}
 use Rattle.lt_link.specs.Inbox.{no_inbox}
 use Rattle.lt_io.specs.FabricState.{FabricState}
 use Rattle.lt_net.specs.Event.{IsTaken, Holds, HeldBy, HasKinds, SameStatic}
-use Rattle.lt_plant.specs.Payloads.{types_for}
+use Rattle.lt_node.specs.Payloads.{types_for}
 use Rattle.lt_arch.specs.Readers.{chan_count}
 use Rattle.lt_net.proofs.EndStands.{end_happens_by, Passes, ended}
 use Rattle.lt_arch.specs.declared.limits.TheConstants.{GREATEST_TIME}

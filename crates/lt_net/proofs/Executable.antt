@@ -16,8 +16,8 @@ use Rattle.lt_arch.specs.Times.{HasTimes}
 use Rattle.lt_net.specs.Net.{NetState, Lists, state_of, plant_of}
 use Rattle.lt_net.specs.Stands.{Stands}
 use Rattle.lt_net.specs.Kept.{Kept}
-use Rattle.lt_plant.specs.Freshness.{fresh_or_other, fresh_one}
-use Rattle.lt_plant.specs.Wakes.{Wakes, AreConfigured}
+use Rattle.lt_node.specs.Freshness.{fresh_or_other, fresh_one}
+use Rattle.lt_node.specs.Wakes.{Wakes, AreConfigured}
 use Rattle.lt_arch.specs.declared.timing.Protocol.{Protocol}
 use Rattle.lt_arch.specs.declared.limits.TheConstants.{GREATEST_TIME}
 use Rattle.lt_net.specs.Kept.{HasRoom}

@@ -21,9 +21,9 @@ use Rattle.lt_net.specs.Event.{IsTaken, Holds}
 use Rattle.lt_net.specs.Kept.{Kept, IsSized, HasRoom}
 use Rattle.lt_plant.specs.Given.{FitsPart}
 use Rattle.lt_net.specs.Given.{HasRow}
-use Rattle.lt_plant.specs.Freshness.{fresh_or_other, fresh_one}
-use Rattle.lt_plant.specs.Sends.{is_from}
-use Rattle.lt_plant.specs.Wakes.{Wakes, AreConfigured}
+use Rattle.lt_node.specs.Freshness.{fresh_or_other, fresh_one}
+use Rattle.lt_node.specs.Sends.{is_from}
+use Rattle.lt_node.specs.Wakes.{Wakes, AreConfigured}
 use Rattle.lt_plant.specs.Executes.{CanExecute, Executes}
 use Rattle.lt_net.specs.Ran.{SameRest}
 use Rattle.lt_net.specs.Sends.{SendsUpTo, message_on}

@@ -23,18 +23,18 @@ use Rattle.lt_net.specs.Stands.{Stands}
 use Rattle.lt_net.specs.Halts.{HasHalted}
 use Rattle.lt_net.specs.Event.{GoesOn, Happens, Holds, InputsGo}
 use Rattle.lt_net.specs.Kept.{Kept}
-use Rattle.lt_plant.specs.Acts.{marked}
-use Rattle.lt_plant.specs.Freshness.{fresh_or_other, fresh_one, is_to}
-use Rattle.lt_plant.specs.Sends.{is_from}
+use Rattle.lt_node.specs.Acts.{marked}
+use Rattle.lt_node.specs.Freshness.{fresh_or_other, fresh_one, is_to}
+use Rattle.lt_node.specs.Sends.{is_from}
 use Rattle.lt_net.specs.Sends.{SendsUpTo, message_on, with_message}
-use Rattle.lt_plant.specs.Wakes.{Wakes, AreConfigured}
+use Rattle.lt_node.specs.Wakes.{Wakes, AreConfigured}
 use Rattle.lt_arch.specs.declared.timing.Protocol.{Protocol}
-use Rattle.lt_plant.proofs.Below.{lt_yes}
+use Rattle.lt_node.proofs.Below.{lt_yes}
 use Rattle.lt_arch.specs.declared.limits.TheConstants.{GREATEST_TIME}
 use Rattle.lt_arch.specs.Readers.{is_data, no_chan, is_back_pressure}
 use Rattle.lt_arch.proofs.Changes.{execute_sends}
 use Rattle.lt_net.specs.Kept.{HasRoom, IsSized}
-use Rattle.lt_plant.specs.Payloads.{types_for}
+use Rattle.lt_node.specs.Payloads.{types_for}
 use Rattle.lt_plant.specs.Changes.{Takes}
 use Rattle.lt_plant.specs.Given.{FitsPart}
 use Rattle.lt_plant.specs.Executes.{Executes}

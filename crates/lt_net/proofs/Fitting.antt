@@ -9,10 +9,10 @@ use Rattle.lt_arch.specs.Schedule.{OnePlace}
 use Rattle.lt_norm.specs.Flat.{Originated}
 use Rattle.lt_place.specs.declared.layout.Layout.{Layout}
 use Rattle.lt_place.specs.Layout.{IsPlaced}
-use Rattle.lt_plant.specs.Layout.{IsLaidOut}
-use Rattle.lt_plant.specs.Payloads.{row_at}
+use Rattle.lt_node.specs.Layout.{IsLaidOut}
+use Rattle.lt_node.specs.Payloads.{row_at}
 use Rattle.lt_net.specs.Net.{NetState}
-use Rattle.lt_plant.specs.Channels.{HasChannels, FitsLayout}
+use Rattle.lt_node.specs.Channels.{HasChannels, FitsLayout}
 use Rattle.lt_plant.specs.Given.{FitsPart}
 use Rattle.lt_net.specs.Loop.{Given}
 use Rattle.lt_net.specs.Starts.{IsMadeOf}

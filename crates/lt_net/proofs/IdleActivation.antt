@@ -25,19 +25,19 @@ use Rattle.lt_net.specs.Owns.{OwnPayload}
 use Rattle.lt_plant.specs.Changes.{Same}
 use Rattle.lt_net.specs.Event.{IsTaken, GoesOn, Happens, Holds, HeldBy, InputsGo, SendsOwn}
 use Rattle.lt_net.specs.Kept.{Kept}
-use Rattle.lt_plant.specs.Acts.{takes_on, marked, MarkedOn}
-use Rattle.lt_plant.specs.Freshness.{fresh_or_other, fresh_one, is_to, TakenUpTo}
-use Rattle.lt_plant.specs.Sends.{is_from}
+use Rattle.lt_node.specs.Acts.{takes_on, marked, MarkedOn}
+use Rattle.lt_node.specs.Freshness.{fresh_or_other, fresh_one, is_to, TakenUpTo}
+use Rattle.lt_node.specs.Sends.{is_from}
 use Rattle.lt_net.specs.Sends.{SendsUpTo, message_on, with_message}
-use Rattle.lt_plant.specs.Wakes.{Wakes, AreConfigured}
+use Rattle.lt_node.specs.Wakes.{Wakes, AreConfigured}
 use Rattle.lt_net.proofs.Uncounted.{uncounted, uncounted_same, either_protocol}
 use Rattle.lt_plant.proofs.Activated.{marked_bit}
 use Rattle.lt_plant.proofs.SizesStay.{sizes_read}
 use Rattle.lt_net.proofs.Plants.{sizes_of, sized_by}
 use Rattle.lt_plant.proofs.Entries.{got_entry, or_false, true_false}
 use Rattle.lt_arch.specs.declared.timing.Protocol.{Protocol}
-use Rattle.lt_plant.proofs.Below.{lt_yes}
-use Rattle.lt_plant.proofs.InboxesRead.{taken_marks, no_marks}
+use Rattle.lt_node.proofs.Below.{lt_yes}
+use Rattle.lt_node.proofs.InboxesRead.{taken_marks, no_marks}
 use Rattle.lt_plant.proofs.DeedOfBits.{deed_is}
 use Rattle.lt_net.proofs.Counts.{counted}
 use Rattle.lt_net.proofs.Activations.{idle_stands, one_next, ahead_of}

@@ -13,11 +13,11 @@ use Rattle.lt_arch.specs.Step.{sends_on}
 use Rattle.lt_arch.specs.Schedule.{OnePlace}
 use Rattle.lt_arch.specs.Times.{Times, SentOn}
 use Rattle.lt_plant.specs.Changes.{ActsOn, Takes}
-use Rattle.lt_plant.specs.Channels.{HasChannels}
+use Rattle.lt_node.specs.Channels.{HasChannels}
 use Rattle.lt_plant.specs.Executes.{Executes}
 use Rattle.lt_plant.specs.Given.{FitsPart}
-use Rattle.lt_plant.specs.Layout.{IsLaidOut}
-use Rattle.lt_plant.specs.Payloads.{types_for}
+use Rattle.lt_node.specs.Layout.{IsLaidOut}
+use Rattle.lt_node.specs.Payloads.{types_for}
 use Rattle.lt_plant.specs.Routes.{AreRoutes, AreExits}
 use Rattle.lt_plant.specs.Standing.{HasRun, StandsAt}
 use Rattle.lt_plant.proofs.InstantRun.{buffers_typed as payloads_typed, instant_ran as machines_ran, instant_at}

@@ -16,7 +16,7 @@ use Rattle.lt_arch.specs.Deeds.{deed_at, more, all_in, any_in, all_ack}
 use Rattle.lt_arch.specs.Schedule.{IsPlacedIn}
 use Rattle.lt_plant.proofs.Bits.{leb-le}
 use Rattle.lt_io.specs.FabricState.{FabricState, KeepsFabric}
-use Rattle.lt_plant.specs.Payloads.{row_at}
+use Rattle.lt_node.specs.Payloads.{row_at}
 use Rattle.lt_net.specs.Net.{NetState, Lists, state_of}
 use Rattle.lt_net.specs.Stands.{Stands}
 use Rattle.lt_net.specs.Event.{GoesOn, Happens, Holds, HasKinds, SameStatic, InputsGo}

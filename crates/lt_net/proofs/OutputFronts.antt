@@ -2,7 +2,7 @@
 use Rattle.std.proofs.Common.{◌≡◌, ℕ, ◌<◌, List, length}
 use Rattle.lt_base.specs.declared.value.Value.{Value}
 use Rattle.lt_arch.specs.Readers.{node_count}
-use Rattle.lt_plant.specs.Payloads.{row_at}
+use Rattle.lt_node.specs.Payloads.{row_at}
 use Rattle.lt_plant.proofs.OutputFronts.{output_front, same_rows_of as same_rows_at}
 use Rattle.lt_net.specs.Net.{NetState, Lists, plant_of, state_of}
 use Rattle.lt_net.specs.Chain.{SameInputs, CellsAreFronts}

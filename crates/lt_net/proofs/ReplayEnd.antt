@@ -3,9 +3,9 @@ use Rattle.std.proofs.Common.{◌<◌, ◌≤◌, length, min, sym, ap, ◌∙�
 use Rattle.lt_arch.specs.State.{executed_of}
 use Rattle.lt_arch.specs.Readers.{node_count}
 use Rattle.lt_arch.specs.Schedule.{IsAdmissible}
-use Rattle.lt_plant.specs.Payloads.{between, row_at}
+use Rattle.lt_node.specs.Payloads.{between, row_at}
 use Rattle.lt_net.specs.Net.{state_of}
-use Rattle.lt_plant.specs.Local.{local_stream}
+use Rattle.lt_node.specs.Local.{local_stream}
 use Rattle.lt_net.specs.Replay.{Closes}
 use Rattle.lt_plant.proofs.LocalFronts.{local_stream_same}
 use Rattle.lt_net.proofs.OutputFronts.{cells_are_fronts, same_rows_of}

@@ -17,13 +17,13 @@ use Rattle.lt_plant.proofs.Bits.{leb-le}
 use Rattle.lt_io.specs.declared.message.Message.{Message}
 use Rattle.lt_place.specs.Layout.{crossing_of}
 use Rattle.lt_io.specs.FabricState.{FabricState, KeepsFabric, Delivers, SameLists}
-use Rattle.lt_plant.specs.Payloads.{row_at, channel_between}
+use Rattle.lt_node.specs.Payloads.{row_at, channel_between}
 use Rattle.lt_net.specs.Net.{NetState, Lists, state_of}
 use Rattle.lt_net.specs.Stands.{Stands}
 use Rattle.lt_net.specs.Owns.{OwnPayload, Owns, OwnsTransit, Enough}
 use Rattle.lt_net.specs.Event.{Holds, HeldBy, HasKinds, SameStatic, GoesOn, InputsGo, SendsOwn, sends_by}
-use Rattle.lt_plant.specs.Layout.{IsLaidOut}
-use Rattle.lt_plant.specs.Channels.{HasChannels}
+use Rattle.lt_node.specs.Layout.{IsLaidOut}
+use Rattle.lt_node.specs.Channels.{HasChannels}
 use Rattle.lt_net.specs.Chain.{SameInputs}
 use Rattle.lt_net.specs.Replay.{Tells, Keeps, KeepsOn}
 use Rattle.lt_net.proofs.OwnAfterDelivery.{owns_delivery, transit_delivery, own_payload_same}

@@ -6,7 +6,7 @@ use Rattle.lt_arch.specs.Times.{Times}
 use Rattle.lt_link.specs.Inbox.{InboxState}
 use Rattle.lt_net.specs.Net.{NetState}
 use Rattle.lt_net.specs.Kept.{HasRoom}
-use Rattle.lt_plant.specs.Ports.{HasPorts}
+use Rattle.lt_node.specs.Ports.{HasPorts}
 
 -- neither the watch nor a controller nor an inbox takes room
 pub room_stays : {C M : Type 0} (net now : NetState C M) → net ≡ now → HasRoom now → (w : Times) (cs : List C) (boxes : List InboxState) (values : ℕ) → values ≡ net.values → HasRoom (record net { watch = w; controllers = cs; inboxes = boxes; values = values })

@@ -12,8 +12,8 @@ use Rattle.lt_io.specs.Counts.{LinkCounted}
 use Rattle.lt_io.specs.FabricState.{FabricState, KeepsFabric, kind_of}
 use Rattle.lt_link.specs.Inbox.{InboxState}
 use Rattle.lt_plant.specs.Plant.{PlantState}
-use Rattle.lt_plant.specs.Ports.{HasPorts}
-use Rattle.lt_plant.specs.Sends.{is_from}
+use Rattle.lt_node.specs.Ports.{HasPorts}
+use Rattle.lt_node.specs.Sends.{is_from}
 use Rattle.lt_net.specs.Net.{NetState, net_of}
 use Rattle.lt_net.specs.Ran.{CanSend, Tells, HasSent}
 use Rattle.lt_net.proofs.ExecuteByCode.{err_is}

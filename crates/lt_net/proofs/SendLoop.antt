@@ -7,7 +7,7 @@ use Rattle.lt_arch.specs.Times.{Times}
 use Rattle.lt_io.specs.declared.message.Message.{Message}
 use Rattle.lt_io.specs.FabricState.{FabricState, Grows, Sends, KeepsFabric}
 use Rattle.lt_net.specs.Sends.{SendsOn, with_message, SendsUpTo}
-use Rattle.lt_plant.proofs.Below.{lt_none, lt_here, lt_self, lt_other}
+use Rattle.lt_node.proofs.Below.{lt_none, lt_here, lt_self, lt_other}
 
 pub keeps_refl : (s : FabricState) → KeepsFabric s s
 keeps_refl s = record { faithful = refl; sound = refl; told = refl; prompt = λ t. t; opens = refl; kinds = refl }

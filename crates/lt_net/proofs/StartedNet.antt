@@ -12,14 +12,14 @@ use Rattle.lt_link.specs.Inbox.{InboxState}
 use Rattle.lt_norm.specs.Flat.{Originated}
 use Rattle.lt_place.specs.declared.layout.Layout.{Layout}
 use Rattle.lt_place.specs.Layout.{IsPlaced}
-use Rattle.lt_plant.specs.declared.route.Route.{Route}
-use Rattle.lt_plant.specs.declared.route.Exit.{Exit}
-use Rattle.lt_plant.specs.declared.ports.Ports.{Ports}
-use Rattle.lt_plant.specs.Ports.{ports_of}
-use Rattle.lt_plant.specs.Local.{firsts}
+use Rattle.lt_node.specs.declared.route.Route.{Route}
+use Rattle.lt_plant.specs.declared.exit.Exit.{Exit}
+use Rattle.lt_node.specs.declared.ports.Ports.{Ports}
+use Rattle.lt_node.specs.Ports.{ports_of}
+use Rattle.lt_node.specs.Local.{firsts}
 use Rattle.lt_net.specs.Net.{NetState}
 use Rattle.lt_plant.specs.Track.{TrackState}
-use Rattle.lt_plant.specs.Channels.{FitsLayout}
+use Rattle.lt_node.specs.Channels.{FitsLayout}
 use Rattle.lt_net.specs.Stands.{Stands}
 use Rattle.lt_net.specs.Kept.{Kept, IsSized, HasRoom}
 use Rattle.lt_plant.specs.Starts.{literals_on, first_inbox, route_to, exit_for, most_fed, most_given, IsBlank, AreReady, AreAtStart}

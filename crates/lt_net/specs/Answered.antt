@@ -15,7 +15,7 @@ use Rattle.lt_io.specs.declared.fault.LinkErr.{LinkErr}
 use Rattle.lt_io.specs.declared.fault.LinkErr.TheVariants.{Memory as NoMemory}
 use Rattle.lt_io.specs.Counts.{LinkCounted}
 use Rattle.lt_io.specs.FabricState.{FabricState, KeepsFabric}
-use Rattle.lt_plant.specs.Wakes.{AreConfigured}
+use Rattle.lt_node.specs.Wakes.{AreConfigured}
 use Rattle.lt_net.specs.Net.{NetState, Lists}
 use Rattle.lt_net.specs.Stands.{Stands}
 use Rattle.lt_net.specs.Kept.{Kept, IsSized, HasRoom}

@@ -7,10 +7,10 @@ ghost use Rattle.lt_arch.specs.State.{start};
 ghost use Rattle.lt_arch.specs.Times.{HasTimes};
 ghost use Rattle.lt_norm.specs.Flat.{Originated};
 ghost use Rattle.lt_place.specs.Layout.{IsPlaced};
-ghost use Rattle.lt_plant.specs.Channels.{FitsLayout};
+ghost use Rattle.lt_node.specs.Channels.{FitsLayout};
 ghost use Rattle.lt_plant.specs.Initial.{IsInitial};
 ghost use Rattle.lt_net.specs.Kept.{Kept, HasRoom};
-ghost use Rattle.lt_plant.specs.Wakes.{AreConfigured};
+ghost use Rattle.lt_node.specs.Wakes.{AreConfigured};
 ghost use Rattle.lt_plant.specs.Starts.{AreReady, AreAtStart};
 ghost use Rattle.lt_net.specs.Starts.{IsMadeOf, IsFresh};
 

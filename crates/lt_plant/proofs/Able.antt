@@ -1,5 +1,5 @@
 -- A node that is to execute can.
-use Rattle.std.proofs.Common.{◌≡◌, inl, inr, ℕ, ◌+◌, ◌<◌, ◌≤◌, true, false, List, [], length, Some, sym, ap, ◌∙◌, subst, arith}
+use Rattle.std.proofs.Common.{◌≡◌, inl, inr, ℕ, ◌<◌, true, List, [], length, Some, sym, ap, ◌∙◌, subst, arith}
 use Rattle.std.specs.Prelude.{slice_index_or, ◌==◌}
 use Rattle.std.specs.List.{slice_get}
 use Rattle.std.proofs.lemmas.Bool.Decides.{eqb_tells}
@@ -12,14 +12,15 @@ use Rattle.lt_base.proofs.Streams.{stream_length}
 use Rattle.lt_arch.specs.State.{State, Phase}
 use Rattle.lt_arch.specs.Readers.{node_count}
 use Rattle.lt_place.specs.Layout.{Gives, part_of, crossing_of, no_crossing}
-use Rattle.lt_plant.specs.Channels.{HasChannels}
+use Rattle.lt_node.specs.Channels.{HasChannels}
 use Rattle.lt_plant.specs.Executes.{CanExecute}
 use Rattle.lt_plant.specs.Given.{FitsPart}
-use Rattle.lt_plant.specs.Layout.{IsLaidOut, place_in}
-use Rattle.lt_plant.specs.Payloads.{types_for, channel_between}
+use Rattle.lt_node.specs.Layout.{IsLaidOut, place_in}
+use Rattle.lt_node.specs.Payloads.{types_for, channel_between}
 use Rattle.lt_plant.specs.Plant.{PlantState}
 use Rattle.lt_plant.specs.Room.{HasSizes, HasSpace}
-use Rattle.lt_plant.specs.Routes.{route_of, exit_of}
+use Rattle.lt_node.specs.Fed.{route_of}
+use Rattle.lt_plant.specs.Routes.{exit_of}
 use Rattle.lt_plant.specs.Standing.{StandsAt}
 use Rattle.lt_plant.specs.Track.{track_at}
 use Rattle.lt_plant.proofs.FedRows.{type_entry}

@@ -1,5 +1,5 @@
 -- Nodes and channels after an activation.
-use Rattle.std.proofs.Common.{◌≡◌, ◌≢◌, ◌⊎◌, inl, inr, ℕ, suc, ◌+◌, ◌<◌, ◌≤◌, Bool, true, false, not, List, length, set, Some, refl, sym, ap, ◌∙◌, subst, arith, cond}
+use Rattle.std.proofs.Common.{◌≡◌, ◌⊎◌, inl, inr, ℕ, suc, ◌+◌, ◌<◌, ◌≤◌, Bool, true, false, not, List, length, set, Some, refl, sym, ap, ◌∙◌, subst, arith, cond}
 use Rattle.std.specs.Prelude.{◌==◌, ◌&&◌, ◌||◌}
 use Rattle.std.specs.List.{slice_get}
 use Rattle.std.proofs.lemmas.Bool.Decides.{Decides-eqb}
@@ -13,12 +13,12 @@ use Rattle.lt_arch.specs.Readers.{chan_count, to_of, carries_data}
 use Rattle.lt_arch.specs.Step.{is_execute, is_send}
 use Rattle.lt_link.specs.Bits.{bit_of}
 use Rattle.lt_link.specs.Inbox.{InboxState}
-use Rattle.lt_plant.specs.Acts.{takes_on, marked, MarkedOn}
+use Rattle.lt_node.specs.Acts.{takes_on, marked, MarkedOn}
 use Rattle.lt_plant.specs.Changes.{IsAhead, ActsOn}
-use Rattle.lt_plant.specs.Payloads.{message_of}
+use Rattle.lt_node.specs.Payloads.{message_of}
 use Rattle.lt_plant.specs.Plant.{PlantState}
 use Rattle.lt_plant.specs.Standing.{StandsAt}
-use Rattle.lt_plant.proofs.Entries.{got_entry, same_number, either_way, and_parts, true_false}
+use Rattle.lt_plant.proofs.Entries.{got_entry, same_number, either_way, and_parts}
 
 takes_data : (d : Deed) (b : Bool) → ((is_execute d && (b && true)) || (is_send d && (b && not true))) ≡ (b && is_execute d)
 takes_data Nothing true = refl

@@ -1,5 +1,5 @@
 -- Nodes and channels before the first event.
-use Rattle.std.proofs.Common.{◌≡◌, ℕ, zero, suc, ◌+◌, ◌-◌, ◌*◌, ◌^◌, ◌<◌, ◌≤◌, List, [], length, map, Some, refl, sym, ap, ◌∙◌, arith, All, replicate, max}
+use Rattle.std.proofs.Common.{◌≡◌, ℕ, zero, suc, ◌-◌, ◌<◌, ◌≤◌, List, [], length, map, Some, refl, sym, ap, ◌∙◌, arith, All, replicate, max}
 use Rattle.std.specs.Prelude.{slice_index_or, filter, if◌then◌else◌}
 use Rattle.std.specs.List.{slice_get}
 use Rattle.std.proofs.Math.Nat.{le-max_left, le-max_right}
@@ -12,7 +12,7 @@ use Rattle.lt_arch.specs.declared.timing.Timing.{Timing}
 use Rattle.lt_arch.specs.declared.timing.Protocol.{Protocol}
 use Rattle.lt_arch.specs.declared.timing.Protocol.TheVariants.{BackPressure, TimeBased}
 use Rattle.lt_arch.specs.State.{Phase, start, unsent, first_phase}
-use Rattle.lt_arch.specs.Readers.{node_count, chan_count, chan_of, from_of, to_of}
+use Rattle.lt_arch.specs.Readers.{node_count, chan_of, from_of, to_of}
 use Rattle.lt_arch.proofs.Ranges.{greatest-above}
 use Rattle.lt_link.specs.Bits.{bit_of}
 use Rattle.lt_link.specs.Inbox.{InboxState, no_inbox}
@@ -20,14 +20,14 @@ use Rattle.lt_norm.specs.Flat.{Originated}
 use Rattle.lt_reads.specs.declared.crossing.Crossing.{Crossing}
 use Rattle.lt_place.specs.declared.layout.Layout.{Layout}
 use Rattle.lt_place.specs.Layout.{IsPlaced, part_of, no_part}
-use Rattle.lt_plant.specs.declared.route.Route.{Route}
-use Rattle.lt_plant.specs.declared.route.Exit.{Exit}
-use Rattle.lt_plant.specs.declared.ports.Ports.{Ports}
-use Rattle.lt_plant.specs.Ports.{ports_of, no_ports}
-use Rattle.lt_plant.specs.Layout.{joins}
-use Rattle.lt_plant.specs.Local.{firsts}
+use Rattle.lt_node.specs.declared.route.Route.{Route}
+use Rattle.lt_plant.specs.declared.exit.Exit.{Exit}
+use Rattle.lt_node.specs.declared.ports.Ports.{Ports}
+use Rattle.lt_node.specs.Ports.{ports_of, no_ports}
+use Rattle.lt_node.specs.Layout.{joins}
+use Rattle.lt_node.specs.Local.{firsts}
 use Rattle.lt_plant.specs.Track.{TrackState, track_at}
-use Rattle.lt_plant.specs.Channels.{FitsLayout}
+use Rattle.lt_node.specs.Channels.{FitsLayout}
 use Rattle.lt_plant.specs.Starts.{literals_on, first_inbox, route_to, exit_for, most_fed, most_given, IsBlank, AreReady, AreAtStart}
 use Rattle.lt_plant.proofs.FirstTables.{are_routes, are_exits, types_are, few_types, first_box, on_channel}
 use Rattle.lt_plant.proofs.Firsts.{length-firsts, get-firsts}

@@ -18,7 +18,7 @@ use Rattle.lt_base.specs.Defined.{AllDefined}
 use Rattle.lt_base.specs.Meaning.{ClockPairs, Environment, clock_of, calls, present, cell, here, stream_of}
 use Rattle.lt_base.proofs.Defined.{callless_defined}
 use Rattle.lt_base.proofs.Solution.{environments_solve}
-use Rattle.lt_plant.specs.Local.{upto, firsts, runs, newest}
+use Rattle.lt_node.specs.Local.{upto, firsts, runs, newest}
 use Rattle.lt_plant.proofs.LocalFronts.{stream_firsts}
 
 -- a clocked expression calls nothing where no function is known

@@ -13,7 +13,7 @@ use Rattle.lt_arch.specs.Deeds.{all_below, some_below, all_in, any_in, all_ack, 
 use Rattle.lt_link.specs.Bits.{bit_of, differ}
 use Rattle.lt_link.specs.Inbox.{InboxState, no_inbox}
 use Rattle.lt_plant.specs.Changes.{IsAhead}
-use Rattle.lt_plant.specs.Freshness.{fresh_or_other, fresh_one, fresh_at}
+use Rattle.lt_node.specs.Freshness.{fresh_or_other, fresh_one, fresh_at}
 use Rattle.lt_plant.specs.Plant.{PlantState}
 use Rattle.lt_plant.specs.Standing.{StandsAt}
 use Rattle.lt_plant.proofs.Bits.{data_fresh, ack_bit_tells, acks_unread}

@@ -1,5 +1,5 @@
 -- Nodes and channels after a delivery, and where nothing that they count has changed.
-use Rattle.std.proofs.Common.{◌≡◌, ◌≢◌, inl, inr, ℕ, suc, ◌-◌, ◌+◌, ◌<◌, ◌≤◌, Bool, true, false, not, List, [], ◌∷◌, length, map, set, Some, sym, ap, ◌∙◌, subst, arith, length-append, add-one}
+use Rattle.std.proofs.Common.{◌≡◌, inl, inr, ℕ, suc, ◌-◌, ◌+◌, ◌<◌, Bool, true, false, not, List, [], ◌∷◌, length, map, set, Some, sym, ap, ◌∙◌, subst, arith, length-append, add-one}
 use Rattle.std.specs.Prelude.{slice_index_or}
 use Rattle.std.specs.List.{slice_get}
 use Rattle.std.proofs.Math.Seq.{get_or-append_seam}
@@ -15,10 +15,10 @@ use Rattle.lt_link.specs.Bits.{bit_of}
 use Rattle.lt_link.specs.Inbox.{InboxState}
 use Rattle.lt_place.specs.Layout.{part_of, crossing_of}
 use Rattle.lt_plant.specs.Changes.{IsAhead, DeliversOn, StaysOn, Gets, HasEnough}
-use Rattle.lt_plant.specs.Channels.{HasChannels}
-use Rattle.lt_plant.specs.Layout.{IsLaidOut}
-use Rattle.lt_plant.specs.Local.{upto, fed_row, firsts}
-use Rattle.lt_plant.specs.Payloads.{between, row_at, message_of, channel_between}
+use Rattle.lt_node.specs.Channels.{HasChannels}
+use Rattle.lt_node.specs.Layout.{IsLaidOut}
+use Rattle.lt_node.specs.Local.{upto, fed_row, firsts}
+use Rattle.lt_node.specs.Payloads.{between, row_at, message_of, channel_between}
 use Rattle.lt_plant.specs.Plant.{PlantState}
 use Rattle.lt_plant.specs.Standing.{HasRun, StandsAt}
 use Rattle.lt_plant.proofs.Entries.{got_entry, message_same}

@@ -8,7 +8,7 @@ use Rattle.std.proofs.lemmas.Option.{slice_get_within, get_or_from_slice_get, sl
 use Rattle.lt_base.specs.declared.value.Value.{Value}
 use Rattle.lt_arch.specs.declared.shape.Shape.{Shape}
 use Rattle.lt_place.specs.declared.layout.Layout.{Layout}
-use Rattle.lt_plant.specs.Payloads.{message_of}
+use Rattle.lt_node.specs.Payloads.{message_of}
 
 pub got_entry : {C : Type 0} (cs : List C) (n i : ℕ) (v c : C) → n < length cs → slice_get (set cs n v) i ≡ Some c → ((i ≡ n) × (c ≡ v)) ⊎ (i ≢ n) × (slice_get cs i ≡ Some c)
 got_entry cs n i v c lt e =

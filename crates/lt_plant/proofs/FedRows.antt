@@ -13,9 +13,9 @@ use Rattle.lt_arch.specs.Readers.{from_of, to_of}
 use Rattle.lt_reads.specs.declared.crossing.Crossing.{Crossing}
 use Rattle.lt_place.specs.declared.layout.Layout.{Layout}
 use Rattle.lt_place.specs.Layout.{crossing_of, no_crossing}
-use Rattle.lt_plant.specs.Layout.{joins, place_in}
-use Rattle.lt_plant.specs.Payloads.{channel_between, types_for}
-use Rattle.lt_plant.specs.Channels.{HasChannels}
+use Rattle.lt_node.specs.Layout.{joins, place_in}
+use Rattle.lt_node.specs.Payloads.{channel_between, types_for}
+use Rattle.lt_node.specs.Channels.{HasChannels}
 use Rattle.lt_plant.proofs.CrossingPlaces.{place_entry}
 
 pub map_same : {A B : Type 0} (f g : A → B) (xs : List A) → ((x : ℕ) (d : A) → slice_get xs x ≡ Some d → f d ≡ g d) → map f xs ≡ map g xs

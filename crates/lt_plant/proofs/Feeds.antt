@@ -15,11 +15,12 @@ use Rattle.lt_link.specs.Inbox.{InboxState, no_inbox}
 use Rattle.lt_place.specs.declared.layout.Feed.{Feed}
 use Rattle.lt_place.specs.declared.layout.Feed.TheVariants.{Input, Cross}
 use Rattle.lt_place.specs.Layout.{part_of, crossing_of}
-use Rattle.lt_plant.specs.Layout.{IsLaidOut, place_in}
-use Rattle.lt_plant.specs.Local.{arrived, fed, fed_row}
-use Rattle.lt_plant.specs.Payloads.{between, channel_between, message_of, types_for}
-use Rattle.lt_plant.specs.Routes.{AreRoutes, route_of, fed_by, CanFeed}
-use Rattle.lt_plant.specs.Channels.{HasChannels}
+use Rattle.lt_node.specs.Layout.{IsLaidOut, place_in}
+use Rattle.lt_node.specs.Local.{arrived, fed, fed_row}
+use Rattle.lt_node.specs.Payloads.{between, channel_between, message_of, types_for}
+use Rattle.lt_node.specs.Fed.{route_of, fed_by, CanFeed}
+use Rattle.lt_plant.specs.Routes.{AreRoutes}
+use Rattle.lt_node.specs.Channels.{HasChannels}
 use Rattle.lt_plant.specs.Given.{FitsPart}
 use Rattle.lt_plant.proofs.FedRows.{map_same, map_entry, types_at, row_fits, type_entry}
 use Rattle.lt_plant.specs.Plant.{PlantState}

@@ -8,9 +8,10 @@ use Rattle.lt_base.specs.declared.value.Cell.{Cell}
 use Rattle.lt_base.specs.declared.value.Cell.TheVariants.{Absent, Here}
 use Rattle.lt_reads.specs.declared.crossing.Crossing.{Crossing}
 use Rattle.lt_place.specs.Layout.{no_crossing}
-use Rattle.lt_plant.specs.declared.route.Route.{Route}
-use Rattle.lt_plant.specs.declared.route.Exit.{Exit}
-use Rattle.lt_plant.specs.Routes.{route_of, exit_of, put_cell, put_if, filled, push_if, tracked}
+use Rattle.lt_node.specs.declared.route.Route.{Route}
+use Rattle.lt_plant.specs.declared.exit.Exit.{Exit}
+use Rattle.lt_node.specs.Fed.{route_of}
+use Rattle.lt_plant.specs.Routes.{exit_of, put_cell, put_if, filled, push_if, tracked}
 use Rattle.lt_plant.specs.Track.{TrackState, track_at}
 
 -- a payload keeps its length, and there are as many of them

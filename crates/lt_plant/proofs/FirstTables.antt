@@ -21,18 +21,19 @@ use Rattle.lt_place.specs.declared.layout.Part.{Part}
 use Rattle.lt_place.specs.declared.layout.Layout.{Layout}
 use Rattle.lt_place.specs.Layout.{IsPlaced, part_of, crossing_of, no_part, no_crossing}
 use Rattle.lt_place.specs.Nodes.{node_of}
-use Rattle.lt_plant.specs.declared.route.Route.{Route}
-use Rattle.lt_plant.specs.declared.route.Exit.{Exit}
-use Rattle.lt_plant.specs.Layout.{IsLaidOut, joins, place_in}
-use Rattle.lt_plant.specs.Local.{firsts}
-use Rattle.lt_plant.specs.Payloads.{channel_between, types_for}
-use Rattle.lt_plant.specs.Routes.{AreRoutes, AreExits, route_of, no_route, exit_of, no_exit}
+use Rattle.lt_node.specs.declared.route.Route.{Route}
+use Rattle.lt_plant.specs.declared.exit.Exit.{Exit}
+use Rattle.lt_node.specs.Layout.{IsLaidOut, joins, place_in}
+use Rattle.lt_node.specs.Local.{firsts}
+use Rattle.lt_node.specs.Payloads.{channel_between, types_for}
+use Rattle.lt_node.specs.Fed.{route_of, no_route}
+use Rattle.lt_plant.specs.Routes.{AreRoutes, AreExits, exit_of, no_exit}
 use Rattle.lt_plant.specs.Starts.{types_on, first_inbox, place_among, route_to, gives_out, giver, exit_for}
 use Rattle.lt_plant.proofs.Firsts.{length-firsts, get-firsts}
 use Rattle.lt_plant.proofs.FedRows.{map_entry}
 use Rattle.lt_plant.proofs.LaidOut.{laid_out}
-use Rattle.lt_plant.proofs.Named.{node_below}
-use Rattle.lt_plant.proofs.DrawnShape.{found}
+use Rattle.lt_node.proofs.Named.{node_below}
+use Rattle.lt_node.proofs.DrawnShape.{found}
 
 -- The first place that passes a test.
 

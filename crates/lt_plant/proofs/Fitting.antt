@@ -15,7 +15,7 @@ use Rattle.lt_norm.specs.Flat.{Originated}
 use Rattle.lt_place.specs.declared.layout.Feed.TheVariants.{Input}
 use Rattle.lt_place.specs.declared.layout.Layout.{Layout}
 use Rattle.lt_place.specs.Layout.{IsPlaced, part_of}
-use Rattle.lt_plant.specs.Payloads.{row_at}
+use Rattle.lt_node.specs.Payloads.{row_at}
 use Rattle.lt_plant.specs.Given.{FitsPart}
 use Rattle.lt_plant.specs.Whole.{RowsFit as HasInputs}
 use Rattle.lt_plant.proofs.LaidOut.{part, at_feed}

@@ -9,10 +9,10 @@ use Rattle.lt_arch.specs.declared.shape.Shape.{Shape}
 use Rattle.lt_arch.specs.Readers.{from_of, to_of}
 use Rattle.lt_reads.specs.declared.crossing.Crossing.{Crossing}
 use Rattle.lt_place.specs.declared.layout.Layout.{Layout}
-use Rattle.lt_plant.specs.Layout.{joins, place_in}
+use Rattle.lt_node.specs.Layout.{joins, place_in}
 use Rattle.lt_place.specs.Layout.{crossing_of, no_crossing}
-use Rattle.lt_plant.specs.Local.{arrived}
-use Rattle.lt_plant.specs.Payloads.{between, message_of, channel_between}
+use Rattle.lt_node.specs.Local.{arrived}
+use Rattle.lt_node.specs.Payloads.{between, message_of, channel_between}
 use Rattle.lt_plant.proofs.CrossingPlaces.{place_entry}
 
 same_number : (i : ℕ) → (i == i) ≡ true

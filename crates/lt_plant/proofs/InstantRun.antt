@@ -1,6 +1,6 @@
 -- Nodes and channels after a node ran an instant, by what code has of it.
-use Rattle.std.proofs.Common.{◌≡◌, ◌≢◌, inl, inr, ℕ, suc, ◌+◌, ◌<◌, ◌≤◌, true, List, [], ◌∷◌, ◌++◌, length, map, set, Some, refl, sym, ap, ◌∙◌, subst, arith, cond, add-one}
-use Rattle.std.specs.Prelude.{slice_index_or, ◌==◌, ◌&&◌}
+use Rattle.std.proofs.Common.{◌≡◌, ◌≢◌, inl, inr, ℕ, suc, ◌+◌, ◌<◌, ◌≤◌, true, List, [], length, map, set, Some, refl, sym, ap, ◌∙◌, subst, arith, cond, add-one}
+use Rattle.std.specs.Prelude.{slice_index_or, ◌&&◌}
 use Rattle.std.proofs.lemmas.Bool.Decides.{eqb_tells}
 use Rattle.std.proofs.lemmas.Option.{slice_get_within}
 use Rattle.lt_base.specs.declared.value.Value.{Value}
@@ -10,18 +10,17 @@ use Rattle.lt_base.specs.Typing.{input_types, AllFit, RowFits}
 use Rattle.lt_arch.specs.declared.event.Deed.TheVariants.{Execute}
 use Rattle.lt_arch.specs.State.{State, Phase, executed_of}
 use Rattle.lt_arch.specs.Readers.{node_count, chan_count, chan_of, to_of, from_of, carries_data}
-use Rattle.lt_arch.specs.Step.{is_execute}
 use Rattle.lt_machine.specs.Follows.{Follows}
 use Rattle.lt_place.specs.Layout.{part_of}
-use Rattle.lt_plant.specs.Acts.{takes_on, MarkedOn}
+use Rattle.lt_node.specs.Acts.{takes_on, MarkedOn}
 use Rattle.lt_plant.specs.Changes.{IsAhead, ActsOn, Takes}
-use Rattle.lt_plant.specs.Channels.{HasChannels}
+use Rattle.lt_node.specs.Channels.{HasChannels}
 use Rattle.lt_plant.specs.Executes.{Executes, ins_of}
-use Rattle.lt_plant.specs.Freshness.{is_to, TakenUpTo}
+use Rattle.lt_node.specs.Freshness.{is_to, TakenUpTo}
 use Rattle.lt_plant.specs.Given.{FitsPart}
-use Rattle.lt_plant.specs.Layout.{IsLaidOut}
-use Rattle.lt_plant.specs.Local.{fed_row, upto, firsts}
-use Rattle.lt_plant.specs.Payloads.{types_for, between, row_at}
+use Rattle.lt_node.specs.Layout.{IsLaidOut}
+use Rattle.lt_node.specs.Local.{fed_row, upto, firsts}
+use Rattle.lt_node.specs.Payloads.{types_for, between, row_at}
 use Rattle.lt_plant.specs.Plant.{PlantState}
 use Rattle.lt_plant.specs.Room.{HasSizes}
 use Rattle.lt_plant.specs.Routes.{AreRoutes, AreExits}
@@ -30,7 +29,7 @@ use Rattle.lt_plant.proofs.Activated.{phases_are, messages_are, fresh_to_execute
 use Rattle.lt_plant.proofs.Entries.{got_entry, same_number, other_number, or_false}
 use Rattle.lt_plant.proofs.Feeds.{ins_are, ins_fit}
 use Rattle.lt_plant.proofs.Firsts.{firsts-same, upto-same}
-use Rattle.lt_plant.proofs.InboxesRead.{taken_marks}
+use Rattle.lt_node.proofs.InboxesRead.{taken_marks}
 use Rattle.lt_plant.proofs.NextRun.{longer, earlier_row, last_row, run_next}
 use Rattle.lt_plant.proofs.OutputsGo.{appends, unfilled}
 use Rattle.lt_plant.proofs.OwnPayloads.{filled_own, filled_typed}

@@ -21,7 +21,7 @@ use Rattle.lt_place.specs.declared.layout.Layout.{Layout}
 use Rattle.lt_place.specs.declared.placement.Placement.{Placement}
 use Rattle.lt_place.specs.Layout.{IsPlaced, IsPartOf, HasCrossings, Gives, FeedFits, part_of, crossing_of}
 use Rattle.lt_place.specs.Nodes.{node_of}
-use Rattle.lt_plant.specs.Layout.{IsLaidOut, Feeds}
+use Rattle.lt_node.specs.Layout.{IsLaidOut, Feeds}
 
 -- two types that are shared are the same
 shared_both : (a : Ty) (o : Option Ty) (t : Ty) → both_types shared_type (Some a) o ≡ Some t → (o ≡ Some a) × (t ≡ a)

@@ -1,7 +1,4 @@
 pub mod Bits
-pub mod Below
-pub mod InboxesRead
-pub mod PortLoops
 pub mod Firsts
 pub mod Filling
 pub mod WholeSolves
@@ -15,10 +12,6 @@ pub mod Fitting
 pub mod OutputsGo
 pub mod FedRows
 pub mod TypedPayloads
-pub mod ChannelOrder
-pub mod Named
-pub mod DrawnShape
-pub mod LayoutShape
 pub mod TableRows
 pub mod FirstTables
 pub mod Entries

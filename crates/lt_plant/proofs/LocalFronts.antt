@@ -9,9 +9,9 @@ use Rattle.lt_base.specs.Placed.{below, seen, thinned}
 use Rattle.lt_base.proofs.Placed.{present_below}
 use Rattle.lt_base.proofs.Streams.{cells_same}
 use Rattle.lt_place.specs.declared.layout.Layout.{Layout}
-use Rattle.lt_plant.specs.Layout.{IsLaidOut, origin_in}
+use Rattle.lt_node.specs.Layout.{IsLaidOut, origin_in}
 use Rattle.lt_place.specs.Layout.{part_of}
-use Rattle.lt_plant.specs.Local.{Messages, fed_row, upto, firsts, runs, local_runs, local_stream, newest}
+use Rattle.lt_node.specs.Local.{Messages, fed_row, upto, firsts, runs, local_runs, local_stream, newest}
 use Rattle.lt_plant.specs.Whole.{CarriesOwn, Fronts}
 use Rattle.lt_plant.proofs.Firsts.{map-firsts, reverse-firsts, reverse-upto, take-firsts, firsts-list, take_all, firsts-same, upto-same}
 use Rattle.lt_plant.proofs.WholeSolves.{agrees}

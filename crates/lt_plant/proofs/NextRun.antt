@@ -17,8 +17,8 @@ use Rattle.lt_machine.specs.Follows.{Follows}
 use Rattle.lt_place.specs.declared.layout.Layout.{Layout}
 use Rattle.lt_place.specs.Layout.{Gives, part_of}
 use Rattle.lt_plant.specs.Changes.{Takes}
-use Rattle.lt_plant.specs.Local.{fed_row, firsts, local_stream}
-use Rattle.lt_plant.specs.Payloads.{between, row_at}
+use Rattle.lt_node.specs.Local.{fed_row, firsts, local_stream}
+use Rattle.lt_node.specs.Payloads.{between, row_at}
 use Rattle.lt_plant.specs.Standing.{HasRun}
 use Rattle.lt_plant.specs.Track.{TrackState, track_at}
 use Rattle.lt_plant.proofs.Entries.{got_entry}

@@ -1,5 +1,5 @@
 -- Over payloads with their senders' own values the cells of an output are a front of its stream in the whole.
-use Rattle.std.proofs.Common.{◌≡◌, ℕ, suc, ◌+◌, ◌<◌, List, [], length, take, refl, sym, ap, ◌∙◌, subst, arith}
+use Rattle.std.proofs.Common.{◌≡◌, ℕ, suc, ◌<◌, List, [], length, take, refl, sym, ap, ◌∙◌, subst, arith}
 use Rattle.std.specs.Prelude.{slice_index_or}
 use Rattle.std.proofs.lemmas.List.{get_or-take}
 use Rattle.lt_base.specs.declared.value.Value.{Value}
@@ -10,11 +10,11 @@ use Rattle.lt_arch.specs.declared.shape.Shape.{Shape}
 use Rattle.lt_arch.specs.Readers.{node_count, to_of}
 use Rattle.lt_place.specs.Layout.{Gives, part_of, crossing_of}
 use Rattle.lt_plant.specs.Changes.{IsAhead}
-use Rattle.lt_plant.specs.Channels.{HasChannels}
-use Rattle.lt_plant.specs.Layout.{IsLaidOut}
-use Rattle.lt_plant.specs.Local.{newest}
+use Rattle.lt_node.specs.Channels.{HasChannels}
+use Rattle.lt_node.specs.Layout.{IsLaidOut}
+use Rattle.lt_node.specs.Local.{newest}
 use Rattle.lt_plant.specs.Own.{AreOwn, AreFronts}
-use Rattle.lt_plant.specs.Payloads.{between, row_at, channel_between}
+use Rattle.lt_node.specs.Payloads.{between, row_at, channel_between}
 use Rattle.lt_plant.specs.Plant.{PlantState}
 use Rattle.lt_plant.specs.Standing.{HasOwnValues, StandsAt}
 use Rattle.lt_plant.specs.Track.{track_at}

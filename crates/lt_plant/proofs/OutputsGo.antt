@@ -13,13 +13,14 @@ use Rattle.lt_arch.specs.Readers.{from_of, to_of}
 use Rattle.lt_reads.specs.declared.crossing.Crossing.{Crossing}
 use Rattle.lt_place.specs.declared.layout.Layout.{Layout}
 use Rattle.lt_place.specs.Layout.{Gives, part_of, crossing_of, no_crossing}
-use Rattle.lt_plant.specs.declared.route.Route.{Route}
-use Rattle.lt_plant.specs.declared.route.Exit.{Exit}
-use Rattle.lt_plant.specs.Layout.{IsLaidOut, joins, place_in}
-use Rattle.lt_plant.specs.Payloads.{channel_between}
+use Rattle.lt_node.specs.declared.route.Route.{Route}
+use Rattle.lt_plant.specs.declared.exit.Exit.{Exit}
+use Rattle.lt_node.specs.Layout.{IsLaidOut, joins, place_in}
+use Rattle.lt_node.specs.Payloads.{channel_between}
 use Rattle.lt_plant.specs.Track.{TrackState, track_at}
-use Rattle.lt_plant.specs.Routes.{AreRoutes, AreExits, route_of, exit_of, filled, tracked}
-use Rattle.lt_plant.specs.Channels.{HasChannels}
+use Rattle.lt_node.specs.Fed.{route_of}
+use Rattle.lt_plant.specs.Routes.{AreRoutes, AreExits, exit_of, filled, tracked}
+use Rattle.lt_node.specs.Channels.{HasChannels}
 use Rattle.lt_plant.proofs.CrossingPlaces.{place_entry}
 use Rattle.lt_plant.proofs.InstantTables.{tracked-here, tracked-other, filled-other}
 

@@ -17,13 +17,14 @@ use Rattle.lt_arch.specs.Readers.{chan_count, from_of, to_of, carries_data}
 use Rattle.lt_machine.specs.Follows.{Follows}
 use Rattle.lt_place.specs.declared.layout.Layout.{Layout}
 use Rattle.lt_place.specs.Layout.{Gives, part_of, crossing_of, no_crossing}
-use Rattle.lt_plant.specs.declared.route.Route.{Route}
-use Rattle.lt_plant.specs.Layout.{IsLaidOut, place_in}
-use Rattle.lt_plant.specs.Local.{fed_row, upto, firsts, newest, local_runs, local_value}
-use Rattle.lt_plant.specs.Payloads.{between, row_at, channel_between, types_for}
+use Rattle.lt_node.specs.declared.route.Route.{Route}
+use Rattle.lt_node.specs.Layout.{IsLaidOut, place_in}
+use Rattle.lt_node.specs.Local.{fed_row, upto, firsts, newest, local_runs, local_value}
+use Rattle.lt_node.specs.Payloads.{between, row_at, channel_between, types_for}
 use Rattle.lt_plant.specs.Standing.{HasOwnValues}
-use Rattle.lt_plant.specs.Routes.{AreRoutes, route_of, filled}
-use Rattle.lt_plant.specs.Channels.{HasChannels}
+use Rattle.lt_node.specs.Fed.{route_of}
+use Rattle.lt_plant.specs.Routes.{AreRoutes, filled}
+use Rattle.lt_node.specs.Channels.{HasChannels}
 use Rattle.lt_plant.proofs.CrossedValues.{IsGiven, goes_on_with}
 use Rattle.lt_plant.proofs.OutputsGo.{places_apart}
 use Rattle.lt_plant.proofs.InstantTables.{filled-here}

@@ -1,5 +1,5 @@
 -- Payloads stay their senders' own when nodes go on, and when more is delivered.
-use Rattle.std.proofs.Common.{◌≡◌, ◌≢◌, ◌⊎◌, inl, inr, ℕ, zero, suc, ◌+◌, ◌<◌, ◌≤◌, List, [], ◌∷◌, ◌++◌, length, map, Some, true, refl, sym, ap, ◌∙◌, subst, arith, cond, length-append}
+use Rattle.std.proofs.Common.{◌≡◌, ◌⊎◌, inl, inr, ℕ, zero, suc, ◌+◌, ◌<◌, ◌≤◌, List, [], ◌∷◌, ◌++◌, length, map, Some, true, refl, sym, ap, ◌∙◌, subst, arith, cond, length-append}
 use Rattle.std.specs.Prelude.{slice_index_or, ◌==◌}
 use Rattle.std.specs.List.{slice_get}
 use Rattle.std.proofs.Math.ListN.{get_or-append}
@@ -16,9 +16,9 @@ use Rattle.lt_place.specs.declared.layout.Feed.TheVariants.{Input, Cross}
 use Rattle.lt_place.specs.declared.layout.Layout.{Layout}
 use Rattle.lt_place.specs.Layout.{part_of, crossing_of}
 use Rattle.lt_plant.specs.Changes.{Takes, Gets, HasEnough}
-use Rattle.lt_plant.specs.Layout.{IsLaidOut, place_in}
-use Rattle.lt_plant.specs.Local.{Messages, arrived, fed, fed_row, local_runs, local_value, newest}
-use Rattle.lt_plant.specs.Payloads.{between, row_at, channel_between}
+use Rattle.lt_node.specs.Layout.{IsLaidOut, place_in}
+use Rattle.lt_node.specs.Local.{Messages, arrived, fed, fed_row, local_runs, newest}
+use Rattle.lt_node.specs.Payloads.{between, row_at, channel_between}
 use Rattle.lt_plant.specs.Own.{AreOwn}
 use Rattle.lt_plant.specs.Standing.{HasOwnValues}
 use Rattle.lt_plant.proofs.Firsts.{upto-same}

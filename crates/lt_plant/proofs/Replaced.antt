@@ -1,5 +1,5 @@
 -- Nodes and channels after a payload that no node has run on gave way to a copy.
-use Rattle.std.proofs.Common.{◌≡◌, ◌≢◌, inl, inr, ℕ, suc, ◌-◌, ◌<◌, ◌≤◌, true, false, List, [], length, set, Some, refl, sym, ap, ◌∙◌, subst, arith, length-set}
+use Rattle.std.proofs.Common.{◌≡◌, ◌≢◌, inl, inr, ℕ, suc, ◌-◌, ◌<◌, ◌≤◌, true, false, List, [], length, set, Some, sym, ap, ◌∙◌, subst, arith, length-set}
 use Rattle.std.specs.Prelude.{slice_index_or}
 use Rattle.std.specs.List.{slice_get}
 use Rattle.std.proofs.lemmas.Bool.Decides.{eqb_tells}
@@ -15,10 +15,10 @@ use Rattle.lt_link.specs.Inbox.{InboxState}
 use Rattle.lt_place.specs.declared.layout.Layout.{Layout}
 use Rattle.lt_place.specs.Layout.{crossing_of}
 use Rattle.lt_plant.specs.Changes.{Replaces}
-use Rattle.lt_plant.specs.Channels.{HasChannels}
-use Rattle.lt_plant.specs.Layout.{IsLaidOut}
+use Rattle.lt_node.specs.Channels.{HasChannels}
+use Rattle.lt_node.specs.Layout.{IsLaidOut}
 use Rattle.lt_plant.specs.Own.{AreOwn}
-use Rattle.lt_plant.specs.Payloads.{between, message_of, channel_between}
+use Rattle.lt_node.specs.Payloads.{between, message_of, channel_between}
 use Rattle.lt_plant.specs.Plant.{PlantState}
 use Rattle.lt_plant.specs.Standing.{HasOwnValues, StandsAt}
 use Rattle.lt_plant.proofs.Delivered.{fit_seen, ran_seen}

@@ -1,5 +1,5 @@
 -- What there is one of for each node and each channel there is still, and room too, after an activation and a delivery.
-use Rattle.std.proofs.Common.{◌≡◌, inl, inr, ℕ, ◌+◌, ◌<◌, ◌≤◌, Bool, List, [], length, map, set, Some, sym, ap, ◌∙◌, subst, arith, length-set}
+use Rattle.std.proofs.Common.{◌≡◌, inl, inr, ℕ, ◌<◌, ◌≤◌, Bool, List, [], length, map, set, sym, ap, ◌∙◌, subst, arith, length-set}
 use Rattle.std.specs.Prelude.{slice_index_or}
 use Rattle.std.proofs.lemmas.Bool.Decides.{eqb_tells}
 use Rattle.std.proofs.lemmas.List.{get_or-set_same, get_or-set_other}
@@ -9,12 +9,12 @@ use Rattle.lt_base.specs.Value.{ty_of}
 use Rattle.lt_base.specs.Program.{Function}
 use Rattle.lt_arch.specs.Readers.{chan_count}
 use Rattle.lt_link.specs.Inbox.{InboxState, no_inbox}
-use Rattle.lt_plant.specs.Acts.{marked, MarkedOn}
+use Rattle.lt_node.specs.Acts.{marked, MarkedOn}
 use Rattle.lt_plant.specs.Executes.{Executes}
-use Rattle.lt_plant.specs.Payloads.{types_for}
+use Rattle.lt_node.specs.Payloads.{types_for}
 use Rattle.lt_plant.specs.Plant.{PlantState}
 use Rattle.lt_plant.specs.Room.{HasSizes, HasSpace}
-use Rattle.lt_plant.specs.Track.{TrackState, track_at}
+use Rattle.lt_plant.specs.Track.{track_at}
 use Rattle.lt_plant.proofs.Activated.{marked_payload}
 use Rattle.lt_plant.proofs.Filling.{filled-size, tracked-size, tracked-room}
 

@@ -8,8 +8,8 @@ use Rattle.lt_reads.specs.declared.crossing.Crossing.{Crossing}
 use Rattle.lt_place.specs.declared.layout.Part.{Part}
 use Rattle.lt_place.specs.declared.layout.Layout.{Layout}
 use Rattle.lt_place.specs.Layout.{no_crossing, no_part}
-use Rattle.lt_plant.specs.declared.route.Route.{Route}
-use Rattle.lt_plant.specs.Layout.{joins}
+use Rattle.lt_node.specs.declared.route.Route.{Route}
+use Rattle.lt_node.specs.Layout.{joins}
 use Rattle.lt_plant.specs.Starts.{place_among, between_in, route_to}
 
 -- the row that code makes of a crossing and of its sender

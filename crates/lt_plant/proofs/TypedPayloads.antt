@@ -10,8 +10,9 @@ use Rattle.lt_base.specs.declared.value.Cell.TheVariants.{Absent, Here}
 use Rattle.lt_base.specs.Value.{ty_of}
 use Rattle.lt_reads.specs.declared.crossing.Crossing.{Crossing}
 use Rattle.lt_place.specs.Layout.{no_crossing}
-use Rattle.lt_plant.specs.declared.route.Route.{Route}
-use Rattle.lt_plant.specs.Routes.{route_of, put_cell, put_if, filled}
+use Rattle.lt_node.specs.declared.route.Route.{Route}
+use Rattle.lt_node.specs.Fed.{route_of}
+use Rattle.lt_plant.specs.Routes.{put_cell, put_if, filled}
 use Rattle.lt_plant.proofs.Filling.{filled-size}
 
 set_type : (xs : List Value) (place : ℕ) (v : Value) → slice_get (map ty_of xs) place ≡ Some (ty_of v) → map ty_of (set xs place v) ≡ map ty_of xs

@@ -17,8 +17,8 @@ use Rattle.lt_place.specs.declared.layout.Feed.{Feed}
 use Rattle.lt_place.specs.declared.layout.Feed.TheVariants.{Input, Cross}
 use Rattle.lt_place.specs.declared.layout.Layout.{Layout}
 use Rattle.lt_place.specs.Layout.{part_of, crossing_of}
-use Rattle.lt_plant.specs.Layout.{Feeds, IsLaidOut, origin_in}
-use Rattle.lt_plant.specs.Local.{Messages, arrived, fed, fed_row, upto, runs, local_runs, newest}
+use Rattle.lt_node.specs.Layout.{Feeds, IsLaidOut, origin_in}
+use Rattle.lt_node.specs.Local.{Messages, arrived, fed, fed_row, upto, runs, local_runs, newest}
 use Rattle.lt_plant.specs.Whole.{CarriesOwn}
 
 -- an entry of a row that is a map over a list

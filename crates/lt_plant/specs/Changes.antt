@@ -8,7 +8,7 @@ use Rattle.lt_arch.specs.Readers.{chan_count, to_of, carries_data}
 use Rattle.lt_arch.specs.Step.{is_execute, is_send}
 use Rattle.lt_place.specs.declared.layout.Layout.{Layout}
 use Rattle.lt_place.specs.Layout.{crossing_of}
-use Rattle.lt_plant.specs.Payloads.{between}
+use Rattle.lt_node.specs.Payloads.{between}
 
 -- no channel is more than one message ahead of its receiver, or behind it: all that a bit needs to tell what counts tell
 pub record IsAhead (s : Shape) (st : State) : Type 0 where

@@ -1,26 +1,20 @@
--- A machine that makes a step, and where its outputs go; a node that runs its next instant.
-use Rattle.std.specs.Prelude.{◌≡◌, ℕ, ◌+◌, ◌<◌, ◌≤◌, ◌==◌, true, List, [], ◌∷◌, ◌++◌, length, map, Some, slice_get, slice_index_or, slice_set}
+-- Where the outputs of a step go; a node that runs its next instant.
+use Rattle.std.specs.Prelude.{◌≡◌, ℕ, ◌+◌, ◌<◌, ◌≤◌, ◌==◌, true, List, [], length, map, Some, slice_get, slice_index_or, slice_set}
 use Rattle.lt_base.specs.declared.value.Value.{Value}
 use Rattle.lt_base.specs.declared.value.Cell.{Cell}
 use Rattle.lt_base.specs.Program.{Function}
-use Rattle.lt_machine.specs.Follows.{Follows}
+use Rattle.lt_node.specs.Steps.{Steps}
 use Rattle.lt_reads.specs.declared.crossing.Crossing.{Crossing}
 use Rattle.lt_place.specs.declared.layout.Feed.{Feed}
 use Rattle.lt_place.specs.Layout.{part_of, no_crossing}
-use Rattle.lt_plant.specs.Freshness.{is_to, TakenUpTo}
+use Rattle.lt_node.specs.Freshness.{is_to, TakenUpTo}
 use Rattle.lt_plant.specs.Plant.{PlantState}
-use Rattle.lt_plant.specs.Ports.{HasPorts}
-use Rattle.lt_plant.specs.Routes.{route_of, exit_of, fed_by, CanFeed, filled, tracked}
+use Rattle.lt_node.specs.Ports.{HasPorts}
+use Rattle.lt_node.specs.Fed.{route_of, fed_by, CanFeed}
+use Rattle.lt_plant.specs.Routes.{exit_of, filled, tracked}
 use Rattle.lt_plant.specs.Track.{TrackState, track_at}
-use Rattle.lt_plant.specs.declared.route.Route.{Route}
-use Rattle.lt_plant.specs.declared.route.Exit.{Exit}
-
--- a machine made a step on these inputs, and answered these cells
-pub record Steps {M : Type 0} (stands : M → Function → List (List Value) → Type 0) (made left : M → ℕ) (before after : M) (ins : List Value) (outs : List Cell) : Type 0 where
-  pub stands_more : (f : Function) (rows : List (List Value)) → stands before f rows → stands after f (rows ++ ins ∷ [])
-  pub follows : (f : Function) (rows : List (List Value)) → stands before f rows → Follows f rows ins outs
-  pub made_more : made after ≡ made before + 1
-  pub left_less : left before ≡ left after + 1
+use Rattle.lt_node.specs.declared.route.Route.{Route}
+use Rattle.lt_plant.specs.declared.exit.Exit.{Exit}
 
 -- a machine made a step, and what it gave out was put into payloads and tracks
 pub record Runs {M : Type 0} (stands : M → Function → List (List Value) → Type 0) (made left : M → ℕ) (before after : M) (ins : List Value) (many : ℕ) (cross : List Crossing) (routes : List Route) (exits : List Exit) (i : ℕ)

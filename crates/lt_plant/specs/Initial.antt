@@ -4,8 +4,8 @@ use Rattle.lt_arch.specs.declared.shape.Shape.{Shape}
 use Rattle.lt_arch.specs.Readers.{node_count}
 use Rattle.lt_place.specs.declared.layout.Layout.{Layout}
 use Rattle.lt_plant.specs.declared.initial.Initial.{Initial}
-use Rattle.lt_plant.specs.Local.{firsts}
-use Rattle.lt_plant.specs.Ports.{ports_of}
+use Rattle.lt_node.specs.Local.{firsts}
+use Rattle.lt_node.specs.Ports.{ports_of}
 use Rattle.lt_plant.specs.Starts.{literals_on, first_inbox, route_to, exit_for, most_fed, most_given, IsBlank}
 
 -- no node has executed, the inboxes and the payloads have the literals of what crosses, and there is room for so many rows

@@ -4,9 +4,9 @@ use Rattle.lt_base.specs.declared.value.Value.{Value}
 use Rattle.lt_arch.specs.declared.shape.Shape.{Shape}
 use Rattle.lt_link.specs.Inbox.{InboxState}
 use Rattle.lt_place.specs.declared.layout.Layout.{Layout}
-use Rattle.lt_plant.specs.declared.route.Route.{Route}
-use Rattle.lt_plant.specs.declared.route.Exit.{Exit}
-use Rattle.lt_plant.specs.declared.ports.Ports.{Ports}
+use Rattle.lt_node.specs.declared.route.Route.{Route}
+use Rattle.lt_plant.specs.declared.exit.Exit.{Exit}
+use Rattle.lt_node.specs.declared.ports.Ports.{Ports}
 use Rattle.lt_plant.specs.Track.{TrackState}
 
 -- all that nodes and channels hold

@@ -1,13 +1,12 @@
 -- How many of what nodes and channels have, and for how much they have room.
-use Rattle.std.specs.Prelude.{◌≡◌, ℕ, ◌<◌, ◌≤◌, List, [], length, map, slice_index_or}
-use Rattle.lt_base.specs.declared.value.Value.{Value}
+use Rattle.std.specs.Prelude.{◌≡◌, ℕ, ◌<◌, ◌≤◌, [], length, map, slice_index_or}
 use Rattle.lt_base.specs.Value.{ty_of}
 use Rattle.lt_arch.specs.Readers.{node_count, chan_count}
 use Rattle.lt_link.specs.Inbox.{no_inbox}
 use Rattle.lt_place.specs.Layout.{part_of}
-use Rattle.lt_plant.specs.Payloads.{types_for}
+use Rattle.lt_node.specs.Payloads.{types_for}
 use Rattle.lt_plant.specs.Plant.{PlantState}
-use Rattle.lt_plant.specs.Ports.{HasPorts}
+use Rattle.lt_node.specs.Ports.{HasPorts}
 use Rattle.lt_plant.specs.Routes.{AreRoutes, AreExits}
 use Rattle.lt_plant.specs.Track.{track_at}
 

@@ -1,33 +1,22 @@
--- Where values go.
+-- Where values go, and what is put there.
 use Rattle.std.specs.Prelude.{◌≡◌, ℕ, zero, suc, ◌<◌, ◌==◌, Bool, true, false, List, [], ◌∷◌, ◌++◌, length, Some, slice_get, slice_index_or, slice_set}
 use Rattle.lt_base.specs.declared.value.Value.{Value}
-use Rattle.lt_base.specs.declared.value.Value.TheVariants.{Bool as Truth}
 use Rattle.lt_base.specs.declared.value.Cell.{Cell}
 use Rattle.lt_base.specs.declared.value.Cell.TheVariants.{Absent, Here}
 use Rattle.lt_arch.specs.declared.shape.Shape.{Shape}
-use Rattle.lt_link.specs.Inbox.{InboxState, no_inbox}
 use Rattle.lt_reads.specs.declared.crossing.Crossing.{Crossing}
-use Rattle.lt_place.specs.declared.layout.Feed.{Feed}
-use Rattle.lt_place.specs.declared.layout.Feed.TheVariants.{Input, Cross}
 use Rattle.lt_place.specs.declared.layout.Layout.{Layout}
 use Rattle.lt_place.specs.Layout.{part_of, crossing_of, no_crossing}
-use Rattle.lt_plant.specs.declared.route.Route.{Route}
-use Rattle.lt_plant.specs.declared.route.Exit.{Exit}
-use Rattle.lt_plant.specs.Layout.{place_in}
-use Rattle.lt_plant.specs.Payloads.{channel_between}
+use Rattle.lt_node.specs.declared.route.Route.{Route}
+use Rattle.lt_plant.specs.declared.exit.Exit.{Exit}
+use Rattle.lt_node.specs.Layout.{place_in}
+use Rattle.lt_node.specs.Payloads.{channel_between}
+use Rattle.lt_node.specs.Fed.{route_of}
 use Rattle.lt_plant.specs.Track.{TrackState, track_at}
-
--- past the last route
-abbrev pub no_route : Route
-no_route = record { out = 0; channel = 0; place = 0 }
 
 -- past the last exit
 abbrev pub no_exit : Exit
 no_exit = record { node = 0; out = 0 }
-
--- the route of crossing c
-abbrev pub route_of : List Route → (c : ℕ) → Route
-route_of routes c = slice_index_or routes c no_route
 
 -- the exit of output y
 abbrev pub exit_of : List Exit → (y : ℕ) → Exit
@@ -45,16 +34,6 @@ pub record AreExits (l : Layout) (exits : List Exit) : Type 0 where
   pub size : length exits ≡ length l.outs
   pub nodes : (y : ℕ) → y < length l.outs → (exit_of exits y).node < length l.nodes
   pub outs : (y : ℕ) → y < length l.outs → slice_get (part_of l (exit_of exits y).node).outs (exit_of exits y).out ≡ Some (slice_index_or l.outs y 0)
-
--- the value of an input of a part, by the inboxes and the input row
-abbrev pub fed_by : List Route → List InboxState → (row : List Value) → Feed → Value
-fed_by routes bs row (Input i) = slice_index_or row i (Truth false)
-fed_by routes bs row (Cross c) = slice_index_or (slice_index_or bs (route_of routes c).channel no_inbox).payload (route_of routes c).place (Truth false)
-
--- it is there
-abbrev pub CanFeed : List Route → List InboxState → (row : List Value) → Feed → Type 0
-CanFeed routes bs row (Input i) = i < length row
-CanFeed routes bs row (Cross c) = (c < length routes) × ((route_of routes c).channel < length bs) × ((route_of routes c).place < length (slice_index_or bs (route_of routes c).channel no_inbox).payload)
 
 -- a cell's value is put into the payload of a channel, if the cell has one
 abbrev pub put_cell : Cell → (channel place : ℕ) → List (List Value) → List (List Value)

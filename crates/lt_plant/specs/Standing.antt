@@ -11,9 +11,9 @@ use Rattle.lt_link.specs.Bits.{bit_of}
 use Rattle.lt_link.specs.Inbox.{InboxState}
 use Rattle.lt_place.specs.declared.layout.Layout.{Layout}
 use Rattle.lt_place.specs.Layout.{Gives, part_of, crossing_of}
-use Rattle.lt_plant.specs.Layout.{place_in}
-use Rattle.lt_plant.specs.Local.{fed_row, upto, firsts, local_stream, local_value}
-use Rattle.lt_plant.specs.Payloads.{between, row_at, message_of}
+use Rattle.lt_node.specs.Layout.{place_in}
+use Rattle.lt_node.specs.Local.{fed_row, upto, firsts, local_stream, local_value}
+use Rattle.lt_node.specs.Payloads.{between, row_at, message_of}
 use Rattle.lt_plant.specs.Plant.{PlantState}
 use Rattle.lt_plant.specs.Track.{track_at, TrackState}
 

@@ -16,10 +16,10 @@ use Rattle.lt_reads.specs.declared.crossing.Crossing.{Crossing}
 use Rattle.lt_place.specs.declared.layout.Part.{Part}
 use Rattle.lt_place.specs.declared.layout.Layout.{Layout}
 use Rattle.lt_place.specs.Layout.{part_of, no_part, no_crossing}
-use Rattle.lt_plant.specs.declared.route.Route.{Route}
-use Rattle.lt_plant.specs.declared.route.Exit.{Exit}
-use Rattle.lt_plant.specs.Layout.{joins}
-use Rattle.lt_plant.specs.Payloads.{is_between}
+use Rattle.lt_node.specs.declared.route.Route.{Route}
+use Rattle.lt_plant.specs.declared.exit.Exit.{Exit}
+use Rattle.lt_node.specs.Layout.{joins}
+use Rattle.lt_node.specs.Payloads.{is_between}
 use Rattle.lt_plant.specs.Track.{TrackState}
 
 -- The messages before the first ones.

@@ -4,9 +4,9 @@ use Rattle.lt_base.specs.declared.value.Value.{Value}
 use Rattle.lt_base.specs.Program.{Function}
 use Rattle.lt_base.specs.Meaning.{Callee, calls, right_of, stream_of}
 use Rattle.lt_place.specs.declared.layout.Layout.{Layout}
-use Rattle.lt_plant.specs.Layout.{IsLaidOut, origin_in}
+use Rattle.lt_node.specs.Layout.{IsLaidOut, origin_in}
 use Rattle.lt_place.specs.Layout.{Gives, part_of, crossing_of}
-use Rattle.lt_plant.specs.Local.{Messages, arrived, local_value, local_stream}
+use Rattle.lt_node.specs.Local.{Messages, arrived, local_value, local_stream}
 
 -- node n has executed that many instants; what an executed instant saw of a crossing is the sender's own value of the instant before
 pub record CarriesOwn (callee : Callee) (l : Layout) (got : Messages) (rows : ℕ → List Value) (executed : ℕ → ℕ) : Type 0 where

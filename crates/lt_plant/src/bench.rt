@@ -2,21 +2,20 @@
 ghost use Rattle.std.specs.Prelude.{◌≡◌, ◌<◌, ◌≤◌, ◌+◌, Some, true, false, nat_lt, length, map, slice_get, slice_index_or};
 ghost use Rattle.lt_arch.specs.Deeds.{all_below, some_below};
 ghost use Rattle.lt_plant.specs.Executes.{CanExecute, Executes};
-ghost use Rattle.lt_plant.specs.Freshness.{fresh_or_other, fresh_one, is_to, TakenUpTo};
-ghost use Rattle.lt_plant.specs.Ports.{HasPorts};
-ghost use Rattle.lt_plant.specs.Wakes.{Wakes};
+ghost use Rattle.lt_node.specs.Freshness.{fresh_or_other, fresh_one, is_to, TakenUpTo};
+ghost use Rattle.lt_node.specs.Ports.{HasPorts};
+ghost use Rattle.lt_node.specs.Wakes.{Wakes};
 
-use crate::freshness::take_all;
+use crate::exit::Exit;
 use crate::payload::Payload;
-use crate::ports::Ports;
-use crate::route::{Exit, Route};
 use crate::stepping::instant;
 use crate::track::Track;
-use crate::waking::wake;
 use lt_arch::{Controller, Deed, Shape};
 use lt_base::{Cell, List, Steps, Value};
 use lt_link::Inbox;
 use lt_machine::Machine;
+use lt_node::freshness::take_all;
+use lt_node::{Ports, Route, wake};
 use lt_place::Layout;
 use std::marker::Model;
 use std::sync::ledger::Ledger;

@@ -4,21 +4,21 @@ ghost use Rattle.lt_arch.specs.Readers.{node_count, chan_count};
 ghost use Rattle.lt_norm.specs.Flat.{Originated};
 ghost use Rattle.lt_place.specs.Layout.{IsPlaced};
 ghost use Rattle.lt_plant.specs.Initial.{IsInitial};
-ghost use Rattle.lt_plant.specs.Local.{firsts};
-ghost use Rattle.lt_plant.specs.Ports.{ports_of};
+ghost use Rattle.lt_node.specs.Local.{firsts};
+ghost use Rattle.lt_node.specs.Ports.{ports_of};
 ghost use Rattle.lt_plant.specs.Starts.{literals_on, first_inbox, route_to, exit_for, most_fed, most_given, IsBlank};
 
+use crate::exit::Exit;
 use crate::listing::ports;
 use crate::literals::{buffers, inboxes};
 use crate::payload::Payload;
-use crate::ports::Ports;
 use crate::room::{counts, outs, tracks, values};
-use crate::route::{Exit, Route};
 use crate::tables::{exits, routes};
 use crate::track::Track;
 use lt_arch::Shape;
 use lt_base::{Cell, List, Memory, Value};
 use lt_link::Inbox;
+use lt_node::{Ports, Route};
 use lt_place::Layout;
 use std::alloc::Global;
 

@@ -1,16 +1,16 @@
-// Which channels lead to a node, and from it.
-ghost use Rattle.std.specs.Prelude.{◌≡◌, ◌<◌, ◌+◌, ◌*◌, ◌^◌, ◌==◌, ◌&&◌, ℕ, true, false, length, IfOk, OnOk, Ok, slice_index_or};
+// The table of which channels lead to each node, and from it.
+ghost use Rattle.std.specs.Prelude.{◌≡◌, ◌<◌, ◌+◌, ◌*◌, ◌^◌, ◌==◌, ◌&&◌, false, length, IfOk, OnOk, Ok};
 ghost use Rattle.lt_arch.specs.Readers.{is_data, node_count, chan_count};
-ghost use Rattle.lt_plant.specs.Local.{firsts};
-ghost use Rattle.lt_plant.specs.Sends.{is_from, same_truth};
-ghost use Rattle.lt_plant.specs.Freshness.{is_to};
+ghost use Rattle.lt_node.specs.Local.{firsts};
+ghost use Rattle.lt_node.specs.Sends.{is_from, same_truth};
+ghost use Rattle.lt_node.specs.Freshness.{is_to};
 ghost use Rattle.lt_wiring.specs.Ports.{push_number, numbers};
-ghost use Rattle.lt_plant.specs.Ports.{ports_of, HasPorts};
+ghost use Rattle.lt_node.specs.Ports.{ports_of};
 
 use crate::literals::carries_data;
-use crate::ports::Ports;
 use lt_arch::{Chan, Shape};
 use lt_base::{List, Memory};
+use lt_node::Ports;
 use std::alloc::Global;
 
 fn is_incoming(channel: &Chan, node: u32, kind: bool) -> bool
@@ -92,38 +92,4 @@ pub fn ports(alloc: Global, shape: &Shape) -> Result<List<Ports>, Memory>
         ports.push(ports_of(alloc, channels, node as u32)?)?;
     }
     Ok(ports)
-}
-
-/// The channels to a node that carry data, or those that carry acknowledgements.
-#[tactic(auto, using(lt_wiring::proofs::Listed::within_zero, lt_wiring::proofs::Listed::passes_zero))]
-pub fn incoming<'a>(channels: &[Chan], ports: &'a List<Ports>, node: u32, kind: bool) -> &'a [u32]
-    requires { HasPorts channels.now node ports.now }
-    ensures are { result.now ≡ numbers (is_to channels.now node kind) (length channels.now) }
-    ensures within { (i : ℕ) → i < length result.now → slice_index_or result.now i 0 < length channels.now }
-    ensures on { (i : ℕ) → i < length result.now → is_to channels.now node kind (slice_index_or result.now i 0) ≡ true }
-{
-    let _ = channels;
-    let here = &ports.as_slice()[node as usize];
-    if kind {
-        here.data_in.as_slice()
-    } else {
-        here.acks_in.as_slice()
-    }
-}
-
-/// The channels from a node that carry data, or those that carry acknowledgements.
-#[tactic(auto, using(lt_wiring::proofs::Listed::within_zero, lt_wiring::proofs::Listed::passes_zero))]
-pub fn outgoing<'a>(channels: &[Chan], ports: &'a List<Ports>, node: u32, kind: bool) -> &'a [u32]
-    requires { HasPorts channels.now node ports.now }
-    ensures are { result.now ≡ numbers (is_from channels.now node kind) (length channels.now) }
-    ensures within { (i : ℕ) → i < length result.now → slice_index_or result.now i 0 < length channels.now }
-    ensures on { (i : ℕ) → i < length result.now → is_from channels.now node kind (slice_index_or result.now i 0) ≡ true }
-{
-    let _ = channels;
-    let here = &ports.as_slice()[node as usize];
-    if kind {
-        here.data_out.as_slice()
-    } else {
-        here.acks_out.as_slice()
-    }
 }

@@ -2,7 +2,7 @@
 ghost use Rattle.std.specs.Prelude.{◌≡◌, map, filter, IfOk};
 ghost use Rattle.lt_base.specs.Value.{ty_of};
 ghost use Rattle.lt_arch.specs.Readers.{is_data};
-ghost use Rattle.lt_plant.specs.Layout.{joins};
+ghost use Rattle.lt_node.specs.Layout.{joins};
 ghost use Rattle.lt_plant.specs.Starts.{literals_on, types_on, kinds_for, first_inbox};
 
 use crate::payload::Payload;

@@ -1,51 +1,23 @@
-// The values of an instant: what a part is fed with, and where its outputs go.
-ghost use Rattle.std.specs.Prelude.{◌≡◌, ◌<◌, ◌≤◌, ◌+◌, ◌==◌, ℕ, [], true, Some, length, map, take, slice_get, slice_index_or};
+// An instant of a node: the step of its machine, and where its outputs go.
+ghost use Rattle.std.specs.Prelude.{◌≡◌, ◌<◌, ◌≤◌, ◌+◌, ◌==◌, ℕ, [], true, Some, length, map, slice_get, slice_index_or};
 ghost use Rattle.lt_place.specs.declared.layout.Feed.{Feed as OfFeed};
 ghost use Rattle.lt_place.specs.Layout.{no_crossing};
 ghost use Rattle.lt_base.specs.declared.value.Cell.TheVariants.{Absent};
 ghost use Rattle.lt_plant.specs.Track.{track_at};
-ghost use Rattle.lt_plant.specs.Executes.{Steps as MadeStep, Runs};
-ghost use Rattle.lt_plant.specs.Routes.{fed_by, CanFeed, put_if, push_if, filled, tracked, route_of, exit_of};
+ghost use Rattle.lt_plant.specs.Executes.{Runs};
+ghost use Rattle.lt_node.specs.Fed.{fed_by, CanFeed, route_of};
+ghost use Rattle.lt_plant.specs.Routes.{put_if, push_if, filled, tracked, exit_of};
 
+use crate::exit::Exit;
 use crate::payload::Payload;
-use crate::route::{Exit, Route};
 use crate::track::Track;
 use lt_base::{Cell, Steps, Value};
 use lt_link::Inbox;
 use lt_machine::Machine;
-use lt_place::{Crossing, Feed, Part};
+use lt_node::Route;
+use lt_node::stepping::run;
+use lt_place::{Crossing, Part};
 use std::sync::ledger::Ledger;
-
-fn fed_by(feed: Feed, routes: &[Route], inboxes: &[Inbox], row: &[Value]) -> Value
-    requires { CanFeed routes.now inboxes.now row.now feed }
-    ensures { result ≡ fed_by routes.now inboxes.now row.now feed }
-{
-    match feed {
-        Feed::Input(input) => row[input as usize],
-        Feed::Cross(crossing) => {
-            let route = routes[crossing as usize];
-            inboxes[route.channel].payload()[route.place]
-        }
-    }
-}
-
-/// Puts the values of a part's inputs in front.
-pub fn feed(
-    feeds: &[Feed],
-    routes: &[Route],
-    inboxes: &[Inbox],
-    row: &[Value],
-    values: &mut Vec<Value>,
-)
-    requires room { length feeds.now ≤ length values.old.items }
-    requires there { (x : ℕ) (d : OfFeed) → slice_get feeds.now x ≡ Some d → CanFeed routes.now inboxes.now row.now d }
-    ensures fed { take (length feeds.now) values.new.items ≡ map (fed_by routes.now inboxes.now row.now) feeds.now }
-    ensures room { length values.new.items ≡ length values.old.items }
-{
-    for x in 0..feeds.len() {
-        values[x] = fed_by(feeds[x], routes, inboxes, row);
-    }
-}
 
 fn put_if(sends: bool, outs: &[Cell], route: Route, buffers: &mut Vec<Payload>)
     requires out { sends ≡ true → route.out < length outs.now }
@@ -101,48 +73,6 @@ pub fn append(exits: &[Exit], node: u32, outs: &[Cell], cells: &mut Vec<Track>)
         let exit = exits[y];
         push_if(exit.node == node as usize, outs, exit.out, cells, y);
     }
-}
-
-// One step of a machine on these values.
-fn step_on<M: Machine, L: Ledger>(
-    machine: &mut M,
-    values: &[Value],
-    outs: &mut [Cell],
-    steps: &mut Steps<L>,
-)
-    requires left { 0 < M.left machine.old }
-    requires wide { M.inputs machine.old ≡ length values.now }
-    requires long { M.outputs machine.old ≡ length outs.old }
-    ensures steps { MadeStep M.stands M.made M.left machine.old machine.new values.now outs.new }
-    ensures size { M.size machine.new ≡ M.size machine.old }
-    ensures cost { steps.new ≤ steps.old + M.size machine.old }
-{
-    machine.step(values, outs, steps);
-}
-
-// One step of a machine on what its part is fed with.
-fn run<M: Machine, L: Ledger>(
-    part: &Part,
-    routes: &[Route],
-    inboxes: &[Inbox],
-    row: &[Value],
-    machine: &mut M,
-    values: &mut Vec<Value>,
-    outs: &mut [Cell],
-    steps: &mut Steps<L>,
-)
-    requires room { length part.now.feeds ≤ length values.old.items }
-    requires there { (x : ℕ) (d : OfFeed) → slice_get part.now.feeds x ≡ Some d → CanFeed routes.now inboxes.now row.now d }
-    requires left { 0 < M.left machine.old }
-    requires wide { M.inputs machine.old ≡ length part.now.feeds }
-    requires long { M.outputs machine.old ≡ length outs.old }
-    ensures steps { MadeStep M.stands M.made M.left machine.old machine.new (map (fed_by routes.now inboxes.now row.now) part.now.feeds) outs.new }
-    ensures room { length values.new.items ≡ length values.old.items }
-    ensures size { M.size machine.new ≡ M.size machine.old }
-    ensures cost { steps.new ≤ steps.old + M.size machine.old }
-{
-    feed(part.feeds.as_slice(), routes, inboxes, row, values);
-    step_on(machine, &values[..part.feeds.len()], outs, steps);
 }
 
 /// Runs an instant of a node's part on its input row, and puts its outputs where they go.

@@ -2,15 +2,16 @@
 ghost use Rattle.std.specs.Prelude.{◌≡◌, ◌<◌, ◌==◌, ℕ, map, length, position, IfOk, slice_index_or};
 ghost use Rattle.std.specs.List.{count_by};
 ghost use Rattle.lt_place.specs.Layout.{no_crossing};
-ghost use Rattle.lt_plant.specs.Layout.{joins};
-ghost use Rattle.lt_plant.specs.Local.{firsts};
-ghost use Rattle.lt_plant.specs.Payloads.{is_between};
+ghost use Rattle.lt_node.specs.Layout.{joins};
+ghost use Rattle.lt_node.specs.Local.{firsts};
+ghost use Rattle.lt_node.specs.Payloads.{is_between};
 ghost use Rattle.lt_plant.specs.Starts.{place_among, between_in, route_to, gives_out, giver, exit_for};
 
+use crate::exit::Exit;
 use crate::literals::carries_data;
-use crate::route::{Exit, Route};
 use lt_arch::{Chan, Shape};
 use lt_base::Memory;
+use lt_node::Route;
 use lt_place::{Crossing, Layout, Part};
 use std::alloc::Global;
 

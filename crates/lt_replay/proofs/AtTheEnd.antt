@@ -23,8 +23,8 @@ use Rattle.lt_norm.specs.Flat.{Originated}
 use Rattle.lt_place.specs.declared.layout.Layout.{Layout}
 use Rattle.lt_place.specs.Layout.{IsPlaced, part_of}
 use Rattle.lt_plant.specs.Track.{TrackState, track_at}
-use Rattle.lt_plant.specs.Local.{fed_row, firsts, local_stream}
-use Rattle.lt_plant.specs.Payloads.{between, row_at}
+use Rattle.lt_node.specs.Local.{fed_row, firsts, local_stream}
+use Rattle.lt_node.specs.Payloads.{between, row_at}
 use Rattle.lt_net.specs.Net.{NetState, Lists, state_of}
 use Rattle.lt_net.specs.Kept.{IsSized}
 use Rattle.lt_net.specs.Event.{HeldBy}
@@ -33,7 +33,7 @@ use Rattle.lt_plant.proofs.Firsts.{firsts-same}
 use Rattle.lt_net.proofs.OutputFronts.{same_rows_of}
 use Rattle.lt_plant.proofs.LaidOut.{laid_out}
 use Rattle.lt_plant.proofs.Fitting.{has_inputs}
-use Rattle.lt_plant.specs.Layout.{IsLaidOut}
+use Rattle.lt_node.specs.Layout.{IsLaidOut}
 use Rattle.lt_plant.specs.Whole.{RowsFit as HasInputs}
 use Rattle.lt_replay.specs.Played.{IsLeast}
 use Rattle.lt_replay.specs.declared.replayed.Replayed.{Replayed}

@@ -6,7 +6,7 @@ use Rattle.lt_arch.specs.declared.shape.Shape.{Shape}
 use Rattle.lt_arch.specs.Shapes.{HaveSameNodes}
 use Rattle.lt_arch.specs.State.{Phase}
 use Rattle.lt_plant.specs.Starts.{AreAtStart}
-use Rattle.lt_plant.specs.Wakes.{AreConfigured}
+use Rattle.lt_node.specs.Wakes.{AreConfigured}
 use Rattle.lt_replay.specs.Controllers.{AreControllers}
 
 module _ {C : Type 0} (phase : C → Phase) (protocol : C → Protocol) (send execute : C → ℕ) (t : Timing) where

@@ -23,9 +23,9 @@ use Rattle.lt_lossy.specs.Step.{lossy_after}
 use Rattle.lt_lossy.specs.Schedule.{lossy_reached, lossy_after_all, HasNoLossyOffence, IsLossyAdmissible, first_lossy_offence_from, numbered_lossy_or, missing_lossy_end}
 use Rattle.lt_lossy.proofs.Pace.{law as least_length}
 use Rattle.lt_plant.specs.Track.{TrackState, track_at}
-use Rattle.lt_plant.specs.Local.{fed_row, firsts, local_stream, local_value}
+use Rattle.lt_node.specs.Local.{fed_row, firsts, local_stream, local_value}
 use Rattle.lt_plant.specs.Own.{AreOwn}
-use Rattle.lt_plant.specs.Payloads.{between, row_at}
+use Rattle.lt_node.specs.Payloads.{between, row_at}
 use Rattle.lt_plant.specs.Standing.{HasOwnValues}
 use Rattle.lt_plant.proofs.Firsts.{firsts-same}
 use Rattle.lt_plant.proofs.Fitting.{has_inputs}

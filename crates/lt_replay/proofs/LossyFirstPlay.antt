@@ -16,7 +16,7 @@ use Rattle.lt_norm.specs.Flat.{Originated}
 use Rattle.lt_place.specs.declared.layout.Layout.{Layout}
 use Rattle.lt_place.specs.Layout.{IsPlaced}
 use Rattle.lt_plant.specs.Given.{FitsPart}
-use Rattle.lt_plant.specs.Payloads.{row_at}
+use Rattle.lt_node.specs.Payloads.{row_at}
 use Rattle.lt_plant.specs.Starts.{kinds_for}
 use Rattle.lt_plant.proofs.Fitting.{rows_fit_parts}
 use Rattle.lt_lossy.specs.declared.event.LossyEvent.{LossyEvent}

@@ -13,7 +13,7 @@ use Rattle.lt_lossy.specs.State.{LossyState}
 use Rattle.lt_lossy.specs.Step.{lossy_offence}
 use Rattle.lt_lossy.specs.Schedule.{lossy_reached}
 use Rattle.lt_plant.specs.Given.{FitsPart}
-use Rattle.lt_plant.specs.Payloads.{row_at}
+use Rattle.lt_node.specs.Payloads.{row_at}
 use Rattle.lt_lossy_net.specs.declared.fault.LossyFault.{LossyFault}
 use Rattle.lt_lossy_net.specs.declared.fault.LossyFault.TheVariants.{Offence as Refused}
 use Rattle.lt_lossy_net.specs.Net.{LossyLists, lossy_state_of}

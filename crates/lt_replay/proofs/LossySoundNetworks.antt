@@ -9,7 +9,7 @@ use Rattle.lt_lossy.specs.Window.{HasWindow}
 use Rattle.lt_norm.specs.Flat.{Originated}
 use Rattle.lt_place.specs.declared.layout.Layout.{Layout}
 use Rattle.lt_place.specs.Layout.{IsPlaced}
-use Rattle.lt_plant.specs.Channels.{IsShapeOf, FitsLayout, ShapesFit}
+use Rattle.lt_node.specs.Channels.{IsShapeOf, FitsLayout, ShapesFit}
 use Rattle.lt_replay.specs.LossySound.{IsLossySound}
 
 few_channels : (n c names : ℕ) → n ≡ names → c ≤ 2 * (names * names) → names ≤ 32 → 2 * (n + c) < 2 ^ 32

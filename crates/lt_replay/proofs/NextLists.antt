@@ -21,7 +21,7 @@ use Rattle.lt_lossy.specs.State.{plain_of}
 use Rattle.lt_lossy.specs.Schedule.{lossy_reached}
 use Rattle.lt_plant.proofs.Bits.{leb-le}
 use Rattle.lt_plant.specs.Own.{AreOwn, AreFronts}
-use Rattle.lt_plant.specs.Payloads.{row_at}
+use Rattle.lt_node.specs.Payloads.{row_at}
 use Rattle.lt_net.proofs.ReplayStep.{deed_more}
 use Rattle.lt_lossy_net.specs.Net.{LossyNetState, LossyLists, lossy_state_of}
 use Rattle.lt_lossy_net.specs.Event.{RowsGo, LossyGoesOn, lossy_deed_by}

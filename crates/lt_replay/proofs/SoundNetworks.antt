@@ -18,7 +18,7 @@ use Rattle.lt_tb.specs.Laws as counting
 use Rattle.lt_lossy.specs.Laws.{lossy_bound}
 use Rattle.lt_place.specs.declared.layout.Layout.{Layout}
 use Rattle.lt_place.specs.Layout.{IsPlaced}
-use Rattle.lt_plant.specs.Channels.{FitsLayout, IsShapeOf, ShapesFit}
+use Rattle.lt_node.specs.Channels.{FitsLayout, IsShapeOf, ShapesFit}
 use Rattle.lt_norm.specs.Flat.{Originated}
 use Rattle.lt_config.specs.declared.pace.Pace.{Pace}
 use Rattle.lt_config.specs.declared.pace.Pace.TheVariants.{Plain, Lossy, Leader}

@@ -22,7 +22,7 @@ use Rattle.lt_lossy.specs.declared.event.LossyEvent.{LossyEvent}
 use Rattle.lt_lossy.specs.declared.event.LossyEvent.TheVariants.{Plain, Lose}
 use Rattle.lt_plant.specs.Given.{FitsPart}
 use Rattle.lt_plant.specs.Own.{AreOwn, AreFronts}
-use Rattle.lt_plant.specs.Payloads.{row_at}
+use Rattle.lt_node.specs.Payloads.{row_at}
 use Rattle.lt_lossy.specs.Schedule.{lossy_reached}
 use Rattle.lt_lossy_net.specs.Event.{is_unread}
 use Rattle.lt_lossy_net.specs.Net.{LossyNetState, LossyLists}

@@ -16,9 +16,9 @@ use Rattle.lt_lossy.specs.declared.event.LossyEvent.{LossyEvent}
 use Rattle.lt_lossy.specs.State.{LossyState}
 use Rattle.lt_lossy.specs.Schedule.{IsLossyAdmissible, LossyEndsAt, lossy_reached}
 use Rattle.lt_lossy.specs.Laws.{lossy_bound}
-use Rattle.lt_plant.specs.Local.{fed_row, firsts, local_stream}
+use Rattle.lt_node.specs.Local.{fed_row, firsts, local_stream}
 use Rattle.lt_plant.specs.Own.{AreOwn}
-use Rattle.lt_plant.specs.Payloads.{between, row_at}
+use Rattle.lt_node.specs.Payloads.{between, row_at}
 use Rattle.lt_plant.specs.Standing.{HasOwnValues}
 use Rattle.lt_lossy_net.specs.Holds.{AreSent}
 use Rattle.lt_replay.specs.Told.{IsToldLossy}

@@ -7,7 +7,7 @@ use Rattle.lt_arch.specs.Readers.{node_count, chan_count}
 use Rattle.lt_arch.specs.Shapes.{HaveSameNodes}
 use Rattle.lt_lossy.specs.Window.{HasWindow}
 use Rattle.lt_place.specs.declared.layout.Layout.{Layout}
-use Rattle.lt_plant.specs.Channels.{FitsLayout}
+use Rattle.lt_node.specs.Channels.{FitsLayout}
 
 -- the protocol is back-pressure, the shape fits the layout and the timing, the timing has the window, and there are few nodes and channels
 pub record IsLossySound (l : Layout) (s : Shape) (t : Timing) : Type 0 where

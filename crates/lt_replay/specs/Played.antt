@@ -25,7 +25,7 @@ use Rattle.lt_net.specs.NetModel.{StoppableNet}
 use Rattle.lt_net.specs.Event.{SameStatic}
 use Rattle.lt_net.specs.Loop.{Closed}
 use Rattle.lt_net.specs.Net.{Lists}
-use Rattle.lt_plant.specs.Layout.{IsLaidOut}
+use Rattle.lt_node.specs.Layout.{IsLaidOut}
 use Rattle.lt_plant.specs.Whole.{RowsFit}
 use Rattle.lt_net.specs.Replay.{Keeps, Ends}
 use Rattle.lt_replay.specs.declared.fault.PlayFault.{PlayFault}

@@ -17,8 +17,8 @@ use Rattle.lt_link.specs.Bits.{bit_of}
 use Rattle.lt_norm.specs.Flat.{Originated}
 use Rattle.lt_place.specs.declared.layout.Layout.{Layout}
 use Rattle.lt_place.specs.Layout.{IsPlaced, Gives, part_of}
-use Rattle.lt_plant.specs.Local.{fed_row, firsts, local_stream}
-use Rattle.lt_plant.specs.Payloads.{between, row_at}
+use Rattle.lt_node.specs.Local.{fed_row, firsts, local_stream}
+use Rattle.lt_node.specs.Payloads.{between, row_at}
 use Rattle.lt_net.specs.Net.{Lists}
 use Rattle.lt_net.specs.Owns.{OwnPayload}
 use Rattle.lt_config.specs.declared.pace.Pace.{Pace}

@@ -9,7 +9,7 @@ use Rattle.lt_timing.specs.Accepts.{Accepts}
 use Rattle.lt_norm.specs.Flat.{Originated}
 use Rattle.lt_place.specs.declared.layout.Layout.{Layout}
 use Rattle.lt_place.specs.Layout.{IsPlaced}
-use Rattle.lt_plant.specs.Channels.{FitsLayout}
+use Rattle.lt_node.specs.Channels.{FitsLayout}
 use Rattle.lt_replay.specs.Played.{IsLeast}
 use Rattle.lt_config.specs.declared.pace.Pace.{Pace}
 use Rattle.lt_lead.specs.Paced.{KeepsPace, bound_by}

@@ -21,9 +21,9 @@ use Rattle.lt_norm.specs.Flat.{Originated}
 use Rattle.lt_place.specs.declared.layout.Layout.{Layout}
 use Rattle.lt_place.specs.Layout.{IsPlaced, Gives, part_of}
 use Rattle.lt_place.specs.Nodes.{node_of}
-use Rattle.lt_plant.proofs.Named.{node_below}
-use Rattle.lt_plant.specs.Local.{local_stream}
-use Rattle.lt_plant.specs.Payloads.{between, row_at}
+use Rattle.lt_node.proofs.Named.{node_below}
+use Rattle.lt_node.specs.Local.{local_stream}
+use Rattle.lt_node.specs.Payloads.{between, row_at}
 use Rattle.lt_config.specs.declared.pace.Pace.{Pace}
 use Rattle.lt_config.specs.declared.pace.Pace.TheVariants.{Plain, Lossy, Leader}
 use Rattle.lt_lead.specs.Paced.{KeepsPace, bound_by}

@@ -13,8 +13,8 @@ use Rattle.lt_place.specs.declared.layout.Layout.{Layout}
 use Rattle.lt_place.specs.Layout.{Gives, part_of}
 use Rattle.lt_config.specs.declared.pace.Pace.{Pace}
 use Rattle.lt_lead.specs.Paced.{bound_by}
-use Rattle.lt_plant.specs.Local.{local_stream}
-use Rattle.lt_plant.specs.Payloads.{between, row_at}
+use Rattle.lt_node.specs.Local.{local_stream}
+use Rattle.lt_node.specs.Payloads.{between, row_at}
 use Rattle.lt_answer.specs.Answered.{Answered, Verdict}
 use Rattle.lt_judge.specs.Errand.{schedule_errand}
 use Rattle.lt_replay.specs.Played.{world}

@@ -7,7 +7,7 @@ ghost use Rattle.lt_norm.specs.Flat.{Originated};
 ghost use Rattle.lt_rows.specs.Lines.{fresh};
 ghost use Rattle.lt_step.specs.Run.{HasRowValues};
 ghost use Rattle.lt_place.specs.Layout.{IsPlaced};
-ghost use Rattle.lt_plant.specs.Channels.{IsShapeOf};
+ghost use Rattle.lt_node.specs.Channels.{IsShapeOf};
 ghost use Rattle.lt_plant.specs.Starts.{AreReady};
 ghost use Rattle.lt_replay.specs.LossySound.{IsLossySound};
 ghost use Rattle.lt_replay.specs.LossyReplays.{HasLossyReplayed};

@@ -1,6 +1,6 @@
 use Rattle.std.proofs.Common.{◌≡◌}
 use Rattle.lt_arch.specs.declared.chan.ChanKind.TheVariants.{Data}
-use Rattle.lt_plant.specs.Channels.{chans_from}
+use Rattle.lt_node.specs.Channels.{chans_from}
 use Rattle.lt_lead.specs.Channels.{leads_to}
 use Rattle.lt_lead.proofs.shaping.add_from.Given as goal
 

@@ -1,6 +1,6 @@
 use Rattle.std.proofs.Common.{◌≡◌, sym, ap, ◌∙◌, arith, []}
 use Rattle.lt_arch.specs.declared.chan.ChanKind.TheVariants.{Data}
-use Rattle.lt_plant.specs.Channels.{chans_below}
+use Rattle.lt_node.specs.Channels.{chans_below}
 use Rattle.lt_lead.specs.Channels.{leads_to}
 use Rattle.lt_lead.proofs.LeadShape.{no_acks}
 use Rattle.lt_lead.proofs.shaping.channels_of.Goals as goal

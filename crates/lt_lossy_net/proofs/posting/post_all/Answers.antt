@@ -1,7 +1,7 @@
 use Rattle.std.proofs.Common.{◌≡◌, ◌<◌, [], length, ap, ◌∙◌, sym, true, arith, get_or, set}
 use Rattle.std.specs.Prelude.{slice_index_or}
 use Rattle.std.proofs.lemmas.List.{get_or_default}
-use Rattle.lt_plant.specs.Sends.{is_from}
+use Rattle.lt_node.specs.Sends.{is_from}
 use Rattle.lt_lossy_net.proofs.PostLoop.{posts_begin, posts_more}
 use Rattle.lt_lossy_net.proofs.posting.post_all.Goals as goal
 

@@ -1,6 +1,6 @@
 use Rattle.std.proofs.Common.{length, true}
 use Rattle.std.specs.Prelude.{slice_index_or}
-use Rattle.lt_plant.specs.Sends.{is_from}
+use Rattle.lt_node.specs.Sends.{is_from}
 use Rattle.lt_lossy_net.specs.Changes.{PostedUpTo}
 use Rattle.lt_lossy_net.proofs.posting.post_all.Given as goal
 

@@ -1,7 +1,7 @@
 use Rattle.std.proofs.Common.{◌≡◌, ◌<◌, ℕ, [], length, ◌∙◌, subst, arith, get_or}
 use Rattle.std.proofs.lemmas.List.{get_or_default}
 use Rattle.lt_io.specs.FabricState.{Sends}
-use Rattle.lt_plant.specs.Sends.{is_from}
+use Rattle.lt_node.specs.Sends.{is_from}
 use Rattle.lt_lossy_net.specs.Sends.{posted_message}
 use Rattle.lt_lossy_net.proofs.ResendLoop.{up_to_more, sends_begin, sends_here, sends_onward}
 use Rattle.lt_lossy_net.proofs.sending.send_all.Goals as goal

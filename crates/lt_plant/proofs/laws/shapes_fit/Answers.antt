@@ -1,4 +1,4 @@
-use Rattle.lt_plant.proofs.LayoutShape.{shapes_fit}
+use Rattle.lt_node.proofs.LayoutShape.{shapes_fit}
 use Rattle.lt_plant.proofs.laws.shapes_fit.Goals as goal
 
 pub returns : goal.returns

@@ -1,5 +1,5 @@
 use Rattle.std.proofs.Common.{◌≡◌}
-use Rattle.lt_plant.specs.Sends.{is_from}
+use Rattle.lt_node.specs.Sends.{is_from}
 use Rattle.lt_wiring.specs.Ports.{numbers}
 use Rattle.lt_plant.proofs.listing.numbers_from.Given as goal
 

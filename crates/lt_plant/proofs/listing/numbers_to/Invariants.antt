@@ -1,5 +1,5 @@
 use Rattle.std.proofs.Common.{◌≡◌}
-use Rattle.lt_plant.specs.Freshness.{is_to}
+use Rattle.lt_node.specs.Freshness.{is_to}
 use Rattle.lt_wiring.specs.Ports.{numbers}
 use Rattle.lt_plant.proofs.listing.numbers_to.Given as goal
 

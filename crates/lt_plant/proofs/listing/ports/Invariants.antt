@@ -1,6 +1,6 @@
 use Rattle.std.proofs.Common.{◌≡◌}
-use Rattle.lt_plant.specs.Local.{firsts}
-use Rattle.lt_plant.specs.Ports.{ports_of}
+use Rattle.lt_node.specs.Local.{firsts}
+use Rattle.lt_node.specs.Ports.{ports_of}
 use Rattle.lt_plant.proofs.listing.ports.Given as goal
 
 abbrev pub invariant-loop-node : goal.invariant-loop-node

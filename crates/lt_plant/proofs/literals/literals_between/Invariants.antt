@@ -1,6 +1,6 @@
 use Rattle.std.proofs.Common.{◌≡◌, map, take}
 use Rattle.std.specs.List.{filter}
-use Rattle.lt_plant.specs.Layout.{joins}
+use Rattle.lt_node.specs.Layout.{joins}
 use Rattle.lt_plant.proofs.literals.literals_between.Given as goal
 
 abbrev pub invariant-loop-crossing : goal.invariant-loop-crossing

@@ -1,5 +1,5 @@
 use Rattle.std.proofs.Common.{◌≡◌}
-use Rattle.lt_plant.specs.Local.{firsts}
+use Rattle.lt_node.specs.Local.{firsts}
 use Rattle.lt_plant.specs.Starts.{route_to}
 use Rattle.lt_plant.proofs.tables.routes.Given as goal
 

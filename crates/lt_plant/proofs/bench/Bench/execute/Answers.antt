@@ -3,7 +3,8 @@ use Rattle.std.specs.Prelude.{slice_index_or, ◌==◌, slice_get}
 use Rattle.std.proofs.lemmas.List.{get_or_default}
 use Rattle.lt_place.specs.declared.layout.Part.{Part}
 use Rattle.lt_place.specs.Layout.{part_of, no_crossing}
-use Rattle.lt_plant.specs.Routes.{CanFeed, route_of, exit_of}
+use Rattle.lt_node.specs.Fed.{CanFeed, route_of}
+use Rattle.lt_plant.specs.Routes.{exit_of}
 use Rattle.lt_plant.proofs.RunByCode.{part_read, can_by, executes_by, machine_at, same_machine, runs_by, taken_of, same_sizes}
 use Rattle.lt_plant.proofs.bench.Bench.execute.Goals as goal
 

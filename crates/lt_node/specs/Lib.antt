@@ -1,0 +1,11 @@
+pub mod Layout
+pub mod Local
+pub mod Payloads
+pub mod Acts
+pub mod Sends
+pub mod Freshness
+pub mod Ports
+pub mod Fed
+pub mod Steps
+pub mod Wakes
+pub mod Channels
