@@ -25,11 +25,7 @@ pub fn fitting(alloc: Global, checked: &Checked, setup: Config) -> Result<Config
 
 /// The setup, if the program's placement by it is legal.
 #[tactic(auto, unfolding(crate::specs::Fits::placed_verdict))]
-pub fn placed(
-    alloc: Global,
-    checked: &Checked,
-    setup: Config,
-) -> Result<Config, Or<CommandFault>>
+pub fn placed(alloc: Global, checked: &Checked, setup: Config) -> Result<Config, Or<CommandFault>>
     ensures { Settles (placed_verdict (examined_part checked.now) setup) result }
 {
     checked.kept();
