@@ -7,8 +7,8 @@ use Rattle.lt_answer.specs.Answered.{Verdict}
 use Rattle.lt_verdict.proofs.Decided.{HasOneKind}
 use Rattle.lt_answer.specs.World.{IsCalm, Blame, Content, Reading, Linking, Blames}
 use Rattle.lt_answer.specs.Answered.{RefusesReading}
-use Rattle.lt_load.specs.declared.fault.CommandFault.{CommandFault}
-use Rattle.lt_load.specs.declared.fault.CommandFault.TheVariants.{Read}
+use Rattle.lt_fit.specs.declared.fault.CommandFault.{CommandFault}
+use Rattle.lt_fit.specs.declared.fault.CommandFault.TheVariants.{Read}
 use Rattle.lt_reply.specs.declared.refusal.Refusal.{Refusal}
 use Rattle.lt_reply.specs.declared.refusal.Refusal.TheVariants.{Command}
 use Rattle.lt_reply.specs.declared.status.Status.{Status}

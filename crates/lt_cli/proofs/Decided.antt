@@ -20,7 +20,7 @@ use Rattle.lt_run.specs.Run.{IsLaidOutBy}
 use Rattle.lt_commands.specs.Big.{events_of, loaded_verdict, along_verdict, big_verdict}
 use Rattle.lt_commands.specs.Scenes.{scene_verdict}
 use Rattle.lt_commands.specs.Inspected.{audit_verdict, trace_verdict}
-use Rattle.lt_load.specs.declared.fault.CommandFault.{CommandFault}
+use Rattle.lt_fit.specs.declared.fault.CommandFault.{CommandFault}
 use Rattle.lt_load.specs.Plan.{Plan}
 use Rattle.lt_load.specs.Pacing.{plain_load_verdict}
 use Rattle.lt_load.proofs.OneLoad.{config_decided}

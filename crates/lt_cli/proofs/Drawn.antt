@@ -15,8 +15,8 @@ use Rattle.lt_answer.proofs.Stages.{beside}
 use Rattle.lt_config.specs.declared.pace.Pace.{Pace}
 use Rattle.lt_lead.specs.Paced.{IsShapeBy}
 use Rattle.lt_replay.specs.Played.{world}
+use Rattle.lt_fit.specs.declared.fault.CommandFault.{CommandFault}
 use Rattle.lt_load.specs.Blamed.{command_blame}
-use Rattle.lt_load.specs.declared.fault.CommandFault.{CommandFault}
 use Rattle.lt_load.specs.Errands.{load_errands}
 use Rattle.lt_load.specs.Plan.{LoadedPlan, IsLoadedFrom, Plan, Loads}
 use Rattle.lt_load.specs.Pacing.{plain_load_verdict}

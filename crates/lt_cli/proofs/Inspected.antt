@@ -10,9 +10,9 @@ use Rattle.lt_judge.specs.declared.fault.ScheduleFault.{ScheduleFault}
 use Rattle.lt_judge.specs.declared.fault.ScheduleFault.TheVariants.{Read}
 use Rattle.lt_judge.specs.Verdict.{verdict}
 use Rattle.lt_verdict.proofs.Decided.{HasOneKind, HasOneOutcome, exactly, and_then, and_then_one}
-use Rattle.lt_load.specs.declared.fault.CommandFault.{CommandFault}
+use Rattle.lt_fit.specs.declared.fault.CommandFault.{CommandFault}
+use Rattle.lt_fit.specs.Fits.{placed_verdict}
 use Rattle.lt_load.specs.Loaded.{program_verdict, inputs_verdict}
-use Rattle.lt_load.specs.Setups.{placed_verdict}
 use Rattle.lt_load.specs.Plan.{Plan, inputs_plan_verdict}
 use Rattle.lt_load.proofs.OneLoad.{TellsLimits, program_decided}
 use Rattle.lt_load.proofs.OneCheck.{MergesPlaces, placed_decided}

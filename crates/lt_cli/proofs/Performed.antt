@@ -15,7 +15,7 @@ use Rattle.lt_commands.specs.Big.{big_verdict}
 use Rattle.lt_commands.specs.Inspected.{audit_verdict, trace_verdict}
 use Rattle.lt_commands.specs.declared.fault.WatchFault.TheVariants as watched
 use Rattle.lt_commands.specs.Watch.{watch_verdict}
-use Rattle.lt_load.specs.declared.fault.CommandFault.TheVariants as fault
+use Rattle.lt_fit.specs.declared.fault.CommandFault.TheVariants as fault
 use Rattle.lt_reply.specs.declared.refusal.Refusal.TheVariants.{Command}
 use Rattle.lt_reply.specs.Draws.{sim_verdict}
 use Rattle.lt_reply.specs.Texts.{drawing_text, watched_text, audited_text}

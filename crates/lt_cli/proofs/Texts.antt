@@ -11,8 +11,8 @@ use Rattle.lt_answer.specs.World.{World, Blame, Blames}
 use Rattle.lt_answer.specs.Answered.{Answered, RefusesReading}
 use Rattle.lt_answer.proofs.Stages.{widened}
 use Rattle.lt_verdict.specs.Rules.{Shown}
+use Rattle.lt_fit.specs.declared.fault.CommandFault.{CommandFault}
 use Rattle.lt_load.specs.Blamed.{command_blame}
-use Rattle.lt_load.specs.declared.fault.CommandFault.{CommandFault}
 use Rattle.lt_reply.specs.declared.refusal.Refusal.{Refusal}
 use Rattle.lt_reply.specs.declared.refusal.Refusal.TheVariants.{Command}
 use Rattle.lt_reply.specs.Blamed.{blame_of}

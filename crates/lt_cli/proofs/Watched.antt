@@ -5,9 +5,9 @@ use Rattle.lt_base.specs.declared.value.Cell.{Cell}
 use Rattle.lt_lead.specs.Paced.{bound_by}
 use Rattle.lt_past.specs.Faults.{IsObserverOf}
 use Rattle.lt_past.specs.Observer.{Observing}
-use Rattle.lt_load.specs.declared.fault.What.{What}
+use Rattle.lt_fit.specs.declared.fault.What.{What}
+use Rattle.lt_fit.specs.Main.{main_in}
 use Rattle.lt_load.specs.Loaded.{whole_verdict}
-use Rattle.lt_load.specs.Main.{main_in}
 use Rattle.lt_load.specs.Plan.{Plan, load_verdict}
 use Rattle.lt_stream.specs.declared.outputs.Outputs.{Outputs}
 use Rattle.lt_run.specs.Kinds.{executed_by}

@@ -6,7 +6,7 @@ use Rattle.lt_place.specs.Layout.{Gives, part_of}
 use Rattle.lt_lead.specs.Paced.{bound_by}
 use Rattle.lt_past.specs.Faults.{IsObserverOf}
 use Rattle.lt_past.specs.Observer.{Observing}
-use Rattle.lt_load.specs.Main.{main_in}
+use Rattle.lt_fit.specs.Main.{main_in}
 use Rattle.lt_stream.specs.Main.{output_streams}
 use Rattle.lt_stream.specs.declared.outputs.Outputs.{Outputs}
 use Rattle.lt_run.specs.Kinds.{executed_by}

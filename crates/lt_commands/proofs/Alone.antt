@@ -9,7 +9,7 @@ use Rattle.lt_io.proofs.Visiting.{visited_none}
 use Rattle.lt_answer.specs.World.{IsCalm, Blame, Content, Reading, Linking, Blames, alone}
 use Rattle.lt_answer.specs.Answered.{Answered, Verdict, Settles, OrBlames, RefusesReading}
 use Rattle.lt_replay.specs.Played.{world}
-use Rattle.lt_load.specs.declared.fault.CommandFault.{CommandFault}
+use Rattle.lt_fit.specs.declared.fault.CommandFault.{CommandFault}
 use Rattle.lt_load.specs.Blamed.{command_blame}
 use Rattle.lt_load.proofs.Steps.{IsContent}
 use Rattle.lt_commands.specs.Stage.{AnsweredAlone}

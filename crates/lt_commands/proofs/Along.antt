@@ -16,7 +16,7 @@ use Rattle.lt_lead.specs.Paced.{IsShapeBy}
 use Rattle.lt_front.specs.Examined.{ExaminedText}
 use Rattle.lt_judge.specs.declared.fault.ScheduleFault.{ScheduleFault}
 use Rattle.lt_replay.specs.Played.{world}
-use Rattle.lt_load.specs.declared.fault.CommandFault.{CommandFault}
+use Rattle.lt_fit.specs.declared.fault.CommandFault.{CommandFault}
 use Rattle.lt_load.specs.Blamed.{command_blame}
 use Rattle.lt_load.specs.Plan.{Plan, LoadedPlan, IsLoadedFrom, Loads}
 use Rattle.lt_load.proofs.Onward.{not_loaded, then_loaded}

@@ -14,7 +14,7 @@ use Rattle.lt_verdict.specs.Rules.{Raised}
 use Rattle.lt_judge.specs.declared.fault.ScheduleFault.{ScheduleFault}
 use Rattle.lt_judge.specs.declared.fault.ScheduleFault.TheVariants as schedule
 use Rattle.lt_judge.specs.Verdict.{verdict}
-use Rattle.lt_load.specs.declared.fault.CommandFault.{CommandFault}
+use Rattle.lt_fit.specs.declared.fault.CommandFault.{CommandFault}
 use Rattle.lt_load.specs.Blamed.{command_blame}
 use Rattle.lt_commands.specs.Inspected.{EndsWith, file_verdict, command_fault}
 

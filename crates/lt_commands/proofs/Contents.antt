@@ -20,13 +20,13 @@ use Rattle.lt_judge.specs.declared.halt.Refusal.TheVariants as refusal
 use Rattle.lt_judge.specs.Verdict.{or_fault}
 use Rattle.lt_lossy.specs.declared.event.LossyEvent.{LossyEvent}
 use Rattle.lt_lossy.specs.declared.event.LossyOffence.{LossyOffence}
-use Rattle.lt_load.specs.declared.fault.What.{What}
-use Rattle.lt_load.specs.declared.fault.What.TheVariants.{ProgramBytes, ConfigBytes, InputsBytes}
-use Rattle.lt_load.specs.declared.fault.CommandFault.TheVariants as fault
+use Rattle.lt_fit.specs.declared.fault.What.{What}
+use Rattle.lt_fit.specs.declared.fault.What.TheVariants.{ProgramBytes, ConfigBytes, InputsBytes}
+use Rattle.lt_fit.specs.declared.fault.CommandFault.TheVariants as fault
+use Rattle.lt_fit.specs.Main.{main_in}
+use Rattle.lt_fit.specs.Fits.{fitting_verdict}
 use Rattle.lt_load.specs.Blamed.{command_blame}
-use Rattle.lt_load.specs.Main.{main_in}
 use Rattle.lt_load.specs.Loaded.{setup_verdict, whole_verdict, program_verdict, config_verdict, inputs_verdict}
-use Rattle.lt_load.specs.Setups.{fitting_verdict}
 use Rattle.lt_load.specs.Plan.{LoadedPlan, Loads, fitting_plan_verdict, inputs_plan_verdict}
 use Rattle.lt_load.specs.Pacing.{unpaced_verdict, plain_config_verdict, plain_setup_plan_verdict, plain_load_verdict}
 use Rattle.lt_load.proofs.Contents.{fitting_content}

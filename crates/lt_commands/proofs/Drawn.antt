@@ -10,7 +10,7 @@ use Rattle.lt_rows.specs.Limits.{most_events}
 use Rattle.lt_judge.specs.Verdict.{verdict}
 use Rattle.lt_answer.specs.Answered.{Refuses}
 use Rattle.lt_replay.specs.Sound.{IsSound, AreSound}
-use Rattle.lt_load.specs.declared.fault.CommandFault.{CommandFault}
+use Rattle.lt_fit.specs.declared.fault.CommandFault.{CommandFault}
 use Rattle.lt_load.specs.Plan.{LoadedPlan, IsLoaded}
 use Rattle.lt_sim.specs.declared.fault.SimFault.{SimFault}
 use Rattle.lt_sim.specs.declared.fault.SimFault.TheVariants.{Write, TooMany}

@@ -12,7 +12,7 @@ use Rattle.lt_io.specs.Visits.{Errand}
 use Rattle.lt_answer.specs.Answered.{Answered, Verdict}
 use Rattle.lt_answer.proofs.Stages.{runs_short}
 use Rattle.lt_verdict.specs.Rules.{Raised}
-use Rattle.lt_load.specs.declared.fault.CommandFault.{CommandFault}
+use Rattle.lt_fit.specs.declared.fault.CommandFault.{CommandFault}
 use Rattle.lt_load.specs.Blamed.{command_blame}
 use Rattle.lt_audit.specs.declared.selection.Selection.{Selection}
 use Rattle.lt_audit.specs.Audit.{AuditState}

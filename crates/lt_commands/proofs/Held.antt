@@ -11,7 +11,7 @@ use Rattle.lt_answer.specs.World.{alone}
 use Rattle.lt_answer.specs.Answered.{Answered, Settles}
 use Rattle.lt_answer.proofs.Stages.{renamed}
 use Rattle.lt_replay.specs.Played.{world}
-use Rattle.lt_load.specs.declared.fault.CommandFault.{CommandFault}
+use Rattle.lt_fit.specs.declared.fault.CommandFault.{CommandFault}
 use Rattle.lt_load.specs.Blamed.{command_blame}
 use Rattle.lt_load.specs.Plan.{LoadedPlan, Loads}
 use Rattle.lt_load.specs.Pacing.{plain_load_verdict}

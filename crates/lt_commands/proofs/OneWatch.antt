@@ -7,9 +7,9 @@ use Rattle.lt_verdict.proofs.Decided.{HasOneKind, HasOneOutcome, and_then, and_t
 use Rattle.lt_past.specs.declared.fault.ObserverFault.{ObserverFault}
 use Rattle.lt_past.specs.Observer.{Observing}
 use Rattle.lt_past.proofs.Observed.{not_both, one_observer}
-use Rattle.lt_load.specs.declared.fault.What.TheVariants.{ObserverBytes}
+use Rattle.lt_fit.specs.declared.fault.What.TheVariants.{ObserverBytes}
+use Rattle.lt_fit.specs.Main.{main_in}
 use Rattle.lt_load.specs.Loaded.{whole_verdict}
-use Rattle.lt_load.specs.Main.{main_in}
 use Rattle.lt_load.specs.Plan.{Plan, load_verdict}
 use Rattle.lt_load.proofs.OneLoad.{TellsLimits, whole_decided}
 use Rattle.lt_load.proofs.OneCheck.{MergesPlaces, MergesTimings}

@@ -23,8 +23,8 @@ use Rattle.lt_judge.specs.declared.fault.ScheduleFault.TheVariants as schedule
 use Rattle.lt_judge.specs.Halted.{UnlessFailed, ReadCounted, LinkCounted}
 use Rattle.lt_judge.specs.Replayed.{TakesFile, RefusesFile}
 use Rattle.lt_judge.specs.Verdict.{rules_of, fault_of, or_fault, verdict}
-use Rattle.lt_load.specs.declared.fault.CommandFault.{CommandFault}
-use Rattle.lt_load.specs.declared.fault.CommandFault.TheVariants as fault
+use Rattle.lt_fit.specs.declared.fault.CommandFault.{CommandFault}
+use Rattle.lt_fit.specs.declared.fault.CommandFault.TheVariants as fault
 use Rattle.lt_load.specs.Blamed.{command_blame}
 use Rattle.lt_commands.specs.Inspected.{EndsWith, file_verdict, command_fault}
 use Rattle.lt_commands.specs.Inspecting.{AsFault}

@@ -4,7 +4,7 @@ use Rattle.lt_front.specs.Examined.{ExaminedText}
 use Rattle.lt_config.specs.declared.config.Config.{Config}
 use Rattle.lt_config.specs.declared.pace.Pace.TheVariants.{Plain}
 use Rattle.lt_answer.specs.Answered.{AndThen}
-use Rattle.lt_load.specs.Setups.{accepted_verdict, fitting_verdict, placed_verdict, timed_verdict, windowed_verdict}
+use Rattle.lt_fit.specs.Fits.{accepted_verdict, fitting_verdict, placed_verdict, timed_verdict, windowed_verdict}
 use Rattle.lt_load.specs.Plan.{Plan, LoadedPlan, Loads, fitting_plan_verdict, inputs_plan_verdict}
 use Rattle.lt_load.specs.Pacing.{plain_config_verdict, plain_load_verdict, plain_setup_plan_verdict, unpaced_verdict}
 use Rattle.lt_commands.specs.Big.{loaded_verdict}

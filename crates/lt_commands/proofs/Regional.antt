@@ -14,10 +14,10 @@ use Rattle.lt_node.specs.Channels.{IsShapeOf, ShapesFit}
 use Rattle.lt_front.specs.Examined.{ExaminedText}
 use Rattle.lt_front.specs.Flattened.{flat_of}
 use Rattle.lt_config.specs.declared.config.Config.{Config}
-use Rattle.lt_load.specs.declared.fault.CommandFault.{CommandFault}
-use Rattle.lt_load.specs.Setups.{placed_verdict}
+use Rattle.lt_fit.specs.declared.fault.CommandFault.{CommandFault}
+use Rattle.lt_fit.specs.Fits.{placed_verdict}
+use Rattle.lt_fit.proofs.Settled.{err_settled}
 use Rattle.lt_load.specs.Sites.{layout_verdict}
-use Rattle.lt_load.proofs.Steps.{err_settled}
 use Rattle.lt_commands.specs.declared.region.Region.{Region}
 use Rattle.lt_commands.specs.Clean.{AcceptedIsClean}
 use Rattle.lt_commands.specs.Grounded.{IsGrounded}

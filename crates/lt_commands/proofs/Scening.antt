@@ -14,11 +14,11 @@ use Rattle.lt_arch.specs.declared.shape.Shape.{Shape}
 use Rattle.lt_node.specs.Channels.{IsShapeOf}
 use Rattle.lt_front.specs.Examined.{ExaminedText}
 use Rattle.lt_config.specs.declared.config.Config.{Config}
-use Rattle.lt_load.specs.declared.fault.CommandFault.{CommandFault}
+use Rattle.lt_fit.specs.declared.fault.CommandFault.{CommandFault}
+use Rattle.lt_fit.specs.Fits.{placed_verdict}
 use Rattle.lt_load.specs.Blamed.{command_blame}
 use Rattle.lt_load.specs.Loaded.{inputs_verdict}
 use Rattle.lt_load.specs.Plan.{Plan, inputs_plan_verdict}
-use Rattle.lt_load.specs.Setups.{placed_verdict}
 use Rattle.lt_load.proofs.OneCheck.{place_fault}
 use Rattle.lt_load.proofs.Steps.{Names, IsContent, content_then, refused_step, next_step, untouched}
 use Rattle.lt_commands.specs.declared.region.Region.{Region}

@@ -26,10 +26,10 @@ use Rattle.lt_past.specs.Formula.{SignalsBelow}
 use Rattle.lt_past.specs.Satisfaction.{Sat}
 use Rattle.lt_past.specs.Observer.{Observing}
 use Rattle.lt_past.proofs.Agreeing.{uses_below, sat_alike}
-use Rattle.lt_load.specs.declared.fault.CommandFault.{CommandFault}
+use Rattle.lt_fit.specs.declared.fault.CommandFault.{CommandFault}
 use Rattle.lt_judge.specs.Errand.{schedule_errand}
+use Rattle.lt_fit.specs.Main.{main_in}
 use Rattle.lt_load.specs.Errands.{load_errands}
-use Rattle.lt_load.specs.Main.{main_in}
 use Rattle.lt_load.specs.Plan.{Plan, LoadedPlan, IsLoadedFrom, Loads, load_verdict}
 use Rattle.lt_stream.specs.declared.outputs.Outputs.{Outputs}
 use Rattle.lt_stream.specs.Main.{output_streams}

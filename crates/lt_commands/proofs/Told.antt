@@ -9,7 +9,7 @@ use Rattle.lt_io.specs.Visits.{Errand}
 use Rattle.lt_judge.specs.Errand.{schedule_errand}
 use Rattle.lt_answer.specs.Answered.{Answered, Verdict, AndThen}
 use Rattle.lt_answer.proofs.Stages.{goes_on, stops, widened, renamed}
-use Rattle.lt_load.specs.declared.fault.CommandFault.{CommandFault}
+use Rattle.lt_fit.specs.declared.fault.CommandFault.{CommandFault}
 use Rattle.lt_load.specs.Blamed.{command_blame}
 use Rattle.lt_load.specs.Plan.{Plan}
 use Rattle.lt_commands.specs.declared.scene.Scene.{Scene}

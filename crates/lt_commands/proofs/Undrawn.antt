@@ -9,7 +9,7 @@ use Rattle.lt_io.specs.FabricState.{FabricState}
 use Rattle.lt_lead.specs.Paced.{IsShapeBy}
 use Rattle.lt_rows.specs.Limits.{most_events}
 use Rattle.lt_verdict.proofs.Decided.{HasOneOutcome}
-use Rattle.lt_load.specs.declared.fault.CommandFault.{CommandFault}
+use Rattle.lt_fit.specs.declared.fault.CommandFault.{CommandFault}
 use Rattle.lt_load.specs.Plan.{Plan, LoadedPlan, Loads}
 use Rattle.lt_load.proofs.OnePlain.{plain_load_decided}
 use Rattle.lt_load.proofs.OneShape.{one_shape}

@@ -7,8 +7,8 @@ use Rattle.lt_answer.specs.World.{alone}
 use Rattle.lt_answer.specs.Answered.{Answered}
 use Rattle.lt_front.specs.Examined.{ExaminedText}
 use Rattle.lt_past.specs.Observer.{Observing}
+use Rattle.lt_fit.specs.Main.{main_in}
 use Rattle.lt_load.specs.Errands.{load_errands}
-use Rattle.lt_load.specs.Main.{main_in}
 use Rattle.lt_load.specs.Plan.{Plan, LoadedPlan, Loads, load_verdict}
 use Rattle.lt_run.proofs.Unloaded.{one_plan}
 use Rattle.lt_commands.specs.declared.fault.WatchFault.{WatchFault}

@@ -13,8 +13,8 @@ use Rattle.lt_config.specs.declared.pace.Pace.TheVariants.{Plain}
 use Rattle.lt_rows.specs.declared.fault.RowFault.TheVariants as row
 use Rattle.lt_rows.specs.Limits.{most_events}
 use Rattle.lt_answer.specs.Answered.{Verdict, AndThen}
-use Rattle.lt_load.specs.declared.fault.CommandFault.{CommandFault}
-use Rattle.lt_load.specs.declared.fault.CommandFault.TheVariants as fault
+use Rattle.lt_fit.specs.declared.fault.CommandFault.{CommandFault}
+use Rattle.lt_fit.specs.declared.fault.CommandFault.TheVariants as fault
 use Rattle.lt_load.specs.Plan.{Plan}
 use Rattle.lt_load.specs.Pacing.{plain_load_verdict}
 use Rattle.lt_stream.specs.declared.outputs.Outputs.{Outputs}

@@ -2,7 +2,7 @@
 use Rattle.std.specs.Prelude.{ℕ, List, ◌++◌, Option, Some}
 use Rattle.lt_io.specs.Visits.{Errand}
 use Rattle.lt_judge.specs.Errand.{schedule_errand}
-use Rattle.lt_load.specs.declared.fault.What.TheVariants.{ObserverBytes}
+use Rattle.lt_fit.specs.declared.fault.What.TheVariants.{ObserverBytes}
 use Rattle.lt_load.specs.Errands.{load_errands, whole_errand}
 
 abbrev pub observer_errand : (name : List ℕ) → List Errand

@@ -12,9 +12,9 @@ use Rattle.lt_audit.specs.declared.selection.Selection.{Selection}
 use Rattle.lt_audit.specs.Misses.{FirstMiss}
 use Rattle.lt_answer.specs.Answered.{Verdict, AndThen, OfFile}
 use Rattle.lt_verdict.specs.Rules.{Raised}
-use Rattle.lt_load.specs.declared.fault.What.TheVariants.{ScheduleBytes}
-use Rattle.lt_load.specs.declared.fault.CommandFault.{CommandFault}
-use Rattle.lt_load.specs.declared.fault.CommandFault.TheVariants as fault
+use Rattle.lt_fit.specs.declared.fault.What.TheVariants.{ScheduleBytes}
+use Rattle.lt_fit.specs.declared.fault.CommandFault.{CommandFault}
+use Rattle.lt_fit.specs.declared.fault.CommandFault.TheVariants as fault
 use Rattle.lt_load.specs.Plan.{Plan}
 use Rattle.lt_commands.specs.declared.scene.Scene.{Scene}
 use Rattle.lt_commands.specs.declared.audited.Audited.{Audited}

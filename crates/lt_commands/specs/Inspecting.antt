@@ -13,8 +13,8 @@ use Rattle.lt_judge.specs.declared.halt.Stop.TheVariants as stop
 use Rattle.lt_judge.specs.Verdict.{fault_of}
 use Rattle.lt_base.specs.declared.memory.Or.{Or}
 use Rattle.lt_base.specs.declared.memory.Or.TheVariants.{Fault, Memory}
-use Rattle.lt_load.specs.declared.fault.CommandFault.{CommandFault}
-use Rattle.lt_load.specs.declared.fault.CommandFault.TheVariants as fault
+use Rattle.lt_fit.specs.declared.fault.CommandFault.{CommandFault}
+use Rattle.lt_fit.specs.declared.fault.CommandFault.TheVariants as fault
 use Rattle.lt_audit.specs.declared.fault.AuditFault.{AuditFault}
 use Rattle.lt_audit.specs.declared.fault.AuditFault.TheVariants as audit
 use Rattle.lt_audit.specs.declared.selection.Selection.{Selection}

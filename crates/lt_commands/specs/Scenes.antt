@@ -10,12 +10,12 @@ use Rattle.lt_front.specs.Flattened.{flat_of}
 use Rattle.lt_config.specs.declared.config.Config.{Config}
 use Rattle.lt_answer.specs.Answered.{Verdict, AndThen}
 use Rattle.lt_verdict.specs.Rules.{Exactly}
-use Rattle.lt_load.specs.declared.fault.CommandFault.{CommandFault}
-use Rattle.lt_load.specs.declared.fault.CommandFault.TheVariants as fault
-use Rattle.lt_load.specs.Main.{main_in}
+use Rattle.lt_fit.specs.declared.fault.CommandFault.{CommandFault}
+use Rattle.lt_fit.specs.declared.fault.CommandFault.TheVariants as fault
+use Rattle.lt_fit.specs.Main.{main_in}
+use Rattle.lt_fit.specs.Fits.{placed_verdict}
 use Rattle.lt_load.specs.Loaded.{program_verdict}
 use Rattle.lt_load.specs.Pacing.{plain_config_verdict}
-use Rattle.lt_load.specs.Setups.{placed_verdict}
 use Rattle.lt_load.specs.Plan.{Plan, inputs_plan_verdict}
 use Rattle.lt_commands.specs.declared.scene.Scene.{Scene}
 

@@ -10,8 +10,8 @@ use Rattle.lt_rows.specs.Limits.{most_events}
 use Rattle.lt_answer.specs.Answered.{Answered, Verdict}
 use Rattle.lt_replay.specs.Played.{world}
 use Rattle.lt_judge.specs.Verdict.{verdict}
+use Rattle.lt_fit.specs.declared.fault.CommandFault.{CommandFault}
 use Rattle.lt_load.specs.Blamed.{command_blame}
-use Rattle.lt_load.specs.declared.fault.CommandFault.{CommandFault}
 use Rattle.lt_load.specs.Plan.{LoadedPlan}
 use Rattle.lt_stream.specs.declared.outputs.Outputs.{Outputs}
 use Rattle.lt_run.specs.Run.{along_loaded}

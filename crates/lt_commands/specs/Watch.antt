@@ -10,10 +10,10 @@ use Rattle.lt_verdict.specs.Rules.{Raised}
 use Rattle.lt_past.specs.declared.fault.ObserverFault.{ObserverFault}
 use Rattle.lt_past.specs.Observer.{Observing}
 use Rattle.lt_past.specs.Faults.{IsObserverOf, IsFault}
-use Rattle.lt_load.specs.declared.fault.CommandFault.{CommandFault}
-use Rattle.lt_load.specs.declared.fault.What.TheVariants.{ObserverBytes}
+use Rattle.lt_fit.specs.declared.fault.CommandFault.{CommandFault}
+use Rattle.lt_fit.specs.declared.fault.What.TheVariants.{ObserverBytes}
+use Rattle.lt_fit.specs.Main.{main_in}
 use Rattle.lt_load.specs.Loaded.{whole_verdict}
-use Rattle.lt_load.specs.Main.{main_in}
 use Rattle.lt_load.specs.Plan.{Plan, LoadedPlan, load_verdict}
 use Rattle.lt_stream.specs.declared.outputs.Outputs.{Outputs}
 use Rattle.lt_run.specs.Near.{ReadNear}

@@ -4,7 +4,7 @@ ghost use Rattle.lt_io.specs.FabricState.{OpensOnce};
 ghost use Rattle.lt_answer.specs.Answered.{Answered};
 ghost use Rattle.lt_replay.specs.Played.{world};
 ghost use Rattle.lt_judge.specs.Errand.{schedule_errand};
-ghost use Rattle.lt_load.specs.Main.{main_in};
+ghost use Rattle.lt_fit.specs.Main.{main_in};
 ghost use Rattle.lt_commands.specs.Blamed.{watch_blame};
 ghost use Rattle.lt_commands.specs.Errands.{observer_errand, watch_errands};
 ghost use Rattle.lt_commands.specs.Watch.{InCommand, LeavesUnobserved, LeavesUnwatched, followed_along, loaded_watch_verdict, run_along, watch_verdict};

@@ -9,7 +9,7 @@ use Rattle.lt_answer.specs.World.{World}
 use Rattle.lt_answer.specs.Answered.{Answered, Verdict}
 use Rattle.lt_front.specs.Checked.{CheckedText, examined_part}
 use Rattle.lt_front.specs.Examined.{ExaminedText}
-use Rattle.lt_load.specs.declared.fault.CommandFault.{CommandFault}
+use Rattle.lt_fit.specs.declared.fault.CommandFault.{CommandFault}
 use Rattle.lt_load.specs.Blamed.{command_blame}
 use Rattle.lt_load.specs.Loaded.{Flattened}
 

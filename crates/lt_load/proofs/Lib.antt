@@ -7,7 +7,6 @@ pub mod Flattens
 pub mod Kept
 pub mod Raising
 pub mod OneLoad
-pub mod Windows
 pub mod OneCheck
 pub mod OnePlan
 pub mod OneShape

@@ -11,7 +11,7 @@ use Rattle.lt_resolve.specs.Resolves.{IsSmall}
 use Rattle.lt_front.specs.Examined.{ExaminedText, IsExamined}
 use Rattle.lt_front.proofs.Rooms.{equations_fit}
 use Rattle.lt_meaning.specs.Streams.{main_of, InputsFit, InputsFitMain, NumbersFit, HasRoom}
-use Rattle.lt_load.specs.Main.{main_in}
+use Rattle.lt_fit.specs.Main.{main_in}
 
 at_number : (P : Function → Type 0) (d : Function) (fs : List Function) (n : ℕ) → MatchOption (function_of fs n) ⊥ P → P (get_or fs n d)
 at_number P d [] n holds = absurd holds

@@ -1,10 +1,9 @@
--- The fault of a placement as a command's.
-use Rattle.std.proofs.Common.{◌≡◌, sym, subst}
+-- The fault of a placement as that of a layout.
+use Rattle.std.proofs.Common.{◌≡◌}
 use Rattle.lt_base.specs.Or.{ForFault}
 use Rattle.lt_base.specs.declared.memory.Or.{Or}
 use Rattle.lt_base.specs.declared.memory.Or.TheVariants.{Fault, Memory}
 use Rattle.lt_base.specs.Program.{Function}
-use Rattle.lt_norm.specs.Flat.{Originated}
 use Rattle.lt_place.specs.declared.fault.PlaceFault.{PlaceFault}
 use Rattle.lt_place.specs.Faults.{IsFirstFault}
 use Rattle.lt_place.specs.Legal.{Legal}
@@ -12,40 +11,17 @@ use Rattle.lt_answer.specs.Answered.{Refuses}
 use Rattle.lt_front.specs.Checked.{CheckedText, examined_part}
 use Rattle.lt_front.specs.Flattened.{flat_of}
 use Rattle.lt_config.specs.declared.config.Config.{Config}
-use Rattle.lt_load.specs.declared.fault.CommandFault.{CommandFault}
-use Rattle.lt_load.specs.Main.{main_in}
-use Rattle.lt_load.specs.Setups.{AsPlace, IsPlaceFault, placed_verdict}
+use Rattle.lt_fit.specs.declared.fault.CommandFault.{CommandFault}
+use Rattle.lt_fit.specs.Main.{main_in}
+use Rattle.lt_fit.specs.Fits.{AsPlace}
+use Rattle.lt_fit.proofs.Misplaced.{IsRefused, refused}
 use Rattle.lt_load.specs.Sites.{layout_verdict}
 
+laid_so : (k : CheckedText) (setup : Config) (g : Or CommandFault) → IsRefused k setup g → Refuses (layout_verdict (examined_part k) setup) g
+unfolding layout_verdict
+laid_so k setup (Fault g) is = is
+laid_so k setup Memory is = tt
+
 module _ (k : CheckedText) (setup : Config) (flat : k.flat ≡ flat_of k.program) (main : Function) (run : main ≡ main_in k.program) where
-  -- what is right of a refusal
-  abbrev IsRefused : Or CommandFault → Type 0
-  IsRefused g = ForFault g (λ fault. (Legal (flat_of k.program) setup.placement → ⊥) × IsPlaceFault (examined_part k) setup fault)
-
-  refused_by : (e : Or PlaceFault) (g : Or CommandFault) → AsPlace main e g → ForFault e (IsFirstFault (flat_of k.program) setup.placement) → ForFault e (λ fault. Legal (flat_of k.program) setup.placement → ⊥) → IsRefused g
-  refused_by (Fault f) (Fault g) is first illegal = subst (λ (h : CommandFault). IsRefused (Fault h)) (sym is) (illegal, (first, run))
-  refused_by (Fault f) Memory is first illegal = tt
-  refused_by Memory (Fault g) is first illegal = absurd is
-  refused_by Memory Memory is first illegal = tt
-
-  refused : (e : Or PlaceFault) (g : Or CommandFault) → AsPlace main e g → ForFault e (IsFirstFault k.flat setup.placement) → ForFault e (λ fault. Legal k.flat setup.placement → ⊥) → IsRefused g
-  refused e g is first illegal =
-      refused_by e g is (subst (λ (f : Originated). ForFault e (IsFirstFault f setup.placement)) flat first)
-      (subst (λ (f : Originated). ForFault e (λ fault. Legal f setup.placement → ⊥)) flat illegal)
-
-  placed_so : (g : Or CommandFault) → IsRefused g → Refuses (placed_verdict (examined_part k) setup) g
-  unfolding placed_verdict
-  placed_so (Fault g) is = is
-  placed_so Memory is = tt
-
-  laid_so : (g : Or CommandFault) → IsRefused g → Refuses (layout_verdict (examined_part k) setup) g
-  unfolding layout_verdict
-  laid_so (Fault g) is = is
-  laid_so Memory is = tt
-
-  module _ (e : Or PlaceFault) (g : Or CommandFault) (is : AsPlace main e g) (first : ForFault e (IsFirstFault k.flat setup.placement)) (illegal : ForFault e (λ fault. Legal k.flat setup.placement → ⊥)) where
-    pub not_placed : Refuses (placed_verdict (examined_part k) setup) g
-    not_placed = placed_so g (refused e g is first illegal)
-
-    pub not_laid : Refuses (layout_verdict (examined_part k) setup) g
-    not_laid = laid_so g (refused e g is first illegal)
+  pub not_laid : (e : Or PlaceFault) (g : Or CommandFault) → AsPlace main e g → ForFault e (IsFirstFault k.flat setup.placement) → ForFault e (λ fault. Legal k.flat setup.placement → ⊥) → Refuses (layout_verdict (examined_part k) setup) g
+  not_laid e g is first illegal = laid_so k setup g (refused k setup flat main run e g is first illegal)

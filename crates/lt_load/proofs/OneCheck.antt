@@ -15,12 +15,13 @@ use Rattle.lt_lossy.specs.declared.room.WindowFault.{WindowFault}
 use Rattle.lt_lossy.specs.Window.{IsWindowFault}
 use Rattle.lt_verdict.specs.Rules.{Exactly}
 use Rattle.lt_verdict.proofs.Decided.{HasOneKind, HasOneOutcome, exactly, and_then, and_then_one, raised_one}
-use Rattle.lt_load.specs.declared.fault.What.TheVariants.{ConfigBytes}
-use Rattle.lt_load.specs.declared.fault.CommandFault.{CommandFault}
-use Rattle.lt_load.specs.declared.fault.CommandFault.TheVariants as fault
+use Rattle.lt_fit.specs.declared.fault.What.TheVariants.{ConfigBytes}
+use Rattle.lt_fit.specs.declared.fault.CommandFault.{CommandFault}
+use Rattle.lt_fit.specs.declared.fault.CommandFault.TheVariants as fault
+use Rattle.lt_fit.specs.Fits.{Passes, HasWindowBy, IsPlaceFault, IsTimingFault, IsOutsideWindow, placed_verdict, timed_verdict, windowed_verdict, accepted_verdict, fitting_verdict}
+use Rattle.lt_fit.proofs.Windows.{one_window_fault}
 use Rattle.lt_load.specs.Loaded.{whole_verdict, setup_verdict, program_verdict, config_verdict}
-use Rattle.lt_load.specs.Setups.{Passes, HasWindowBy, IsPlaceFault, IsTimingFault, IsOutsideWindow, placed_verdict, timed_verdict, windowed_verdict, accepted_verdict, fitting_verdict, fitted_verdict, with_setup_verdict, check_verdict}
-use Rattle.lt_load.proofs.Windows.{one_window_fault}
+use Rattle.lt_load.specs.Setups.{fitted_verdict, with_setup_verdict, check_verdict}
 use Rattle.lt_load.proofs.OneLoad.{TellsLimits, whole_decided, program_decided, setup_decided}
 
 one_config : (bytes : List ℕ) (x y : Config) → setup_verdict bytes (Ok x) → setup_verdict bytes (Ok y) → x ≡ y

@@ -7,10 +7,10 @@ use Rattle.lt_front.specs.Limits.{is_limit}
 use Rattle.lt_front.specs.Front.{examine_verdict}
 use Rattle.lt_front.proofs.OneFault.{front_decided}
 use Rattle.lt_verdict.proofs.Decided.{HasOneKind, HasOneOutcome, of_form, of_file, and_then, raised, and_then_one, raised_one, coarser}
-use Rattle.lt_load.specs.declared.fault.What.{What}
-use Rattle.lt_load.specs.declared.fault.What.TheVariants.{ProgramBytes, ConfigBytes}
-use Rattle.lt_load.specs.declared.fault.CommandFault.{CommandFault}
-use Rattle.lt_load.specs.declared.fault.CommandFault.TheVariants as fault
+use Rattle.lt_fit.specs.declared.fault.What.{What}
+use Rattle.lt_fit.specs.declared.fault.What.TheVariants.{ProgramBytes, ConfigBytes}
+use Rattle.lt_fit.specs.declared.fault.CommandFault.{CommandFault}
+use Rattle.lt_fit.specs.declared.fault.CommandFault.TheVariants as fault
 use Rattle.lt_load.specs.Loaded.{IsWithin, limit_of, whole_verdict, setup_verdict, program_verdict, config_verdict}
 
 pub whole_decided : {K : Type 0} (kind : CommandFault → K) (what : What) (file : Option (List ℕ)) → HasOneOutcome kind (whole_verdict what file)

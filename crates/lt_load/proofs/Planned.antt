@@ -15,11 +15,11 @@ use Rattle.lt_place.specs.Layout.{IsLayoutOf}
 use Rattle.lt_front.specs.Checked.{CheckedText, examined_part}
 use Rattle.lt_front.specs.Flattened.{flat_of}
 use Rattle.lt_config.specs.declared.config.Config.{Config}
-use Rattle.lt_load.specs.declared.fault.CommandFault.{CommandFault}
+use Rattle.lt_fit.specs.declared.fault.CommandFault.{CommandFault}
+use Rattle.lt_fit.specs.Fits.{fitting_verdict}
 use Rattle.lt_load.specs.declared.sites.Site.{Site}
 use Rattle.lt_load.specs.Blamed.{command_blame}
 use Rattle.lt_load.specs.Loaded.{inputs_verdict}
-use Rattle.lt_load.specs.Setups.{fitting_verdict}
 use Rattle.lt_load.specs.Plan.{Plan, LoadedPlan, IsLoadedFrom, Loads, inputs_plan_verdict, fitting_plan_verdict}
 use Rattle.lt_load.specs.Sites.{IsSiteOf, loaded_of, site_verdict, sited_verdict}
 use Rattle.lt_load.proofs.Contents.{fitting_content}

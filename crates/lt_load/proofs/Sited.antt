@@ -15,11 +15,11 @@ use Rattle.lt_front.specs.Flattened.{flat_of}
 use Rattle.lt_config.specs.declared.config.Config.{Config}
 use Rattle.lt_config.specs.declared.pace.Pace.{Pace}
 use Rattle.lt_config.specs.Paced.{FitsPace}
-use Rattle.lt_load.specs.declared.fault.CommandFault.{CommandFault}
+use Rattle.lt_fit.specs.declared.fault.CommandFault.{CommandFault}
+use Rattle.lt_fit.specs.Fits.{HasWindowBy, placed_verdict, timed_verdict, windowed_verdict, accepted_verdict, fitting_verdict}
+use Rattle.lt_fit.proofs.Settled.{err_settled}
 use Rattle.lt_load.specs.declared.sites.Site.{Site}
-use Rattle.lt_load.specs.Setups.{HasWindowBy, placed_verdict, timed_verdict, windowed_verdict, accepted_verdict, fitting_verdict}
 use Rattle.lt_load.specs.Sites.{IsSiteOf, IsSited, layout_verdict, site_verdict}
-use Rattle.lt_load.proofs.Steps.{err_settled}
 
 -- a setup that is accepted passes both steps
 passed_both : (setup accepted : Config) → accepted_verdict setup (Ok accepted) → Accepts setup.timing × HasWindowBy setup.pace setup.timing × (accepted ≡ setup)

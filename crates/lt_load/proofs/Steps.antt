@@ -8,37 +8,12 @@ use Rattle.lt_io.specs.Visits.{Errand}
 use Rattle.lt_io.specs.FilesState.{FilesState}
 use Rattle.lt_answer.specs.World.{World, Blame, Content, Blames, alone}
 use Rattle.lt_answer.specs.Answered.{Answered, Verdict, AndThen, Refuses, Settles}
-use Rattle.lt_answer.proofs.Stages.{settles, refuses, runs_short, calm_itself, goes_on, stops, settles_too, renamed, errands_all}
+use Rattle.lt_answer.proofs.Stages.{settles, refuses, runs_short, calm_itself, goes_on, stops, renamed, errands_all}
 use Rattle.lt_verdict.specs.Rules.{Raised}
 
 -- a count that stayed
 pub counts_on : (a b : ℕ) → b ≡ a → a < 2 ^ 64 - 1 → b < 2 ^ 64 - 1
 counts_on a b same low = subst (λ (n : ℕ). n < 2 ^ 64 - 1) (sym same) low
-
--- a step that touches nothing, by its error
-
-module _ {U E : Type 0} (W : Verdict U E) where
-  pub err_settled : (e : Or E) (r : Result U (Or E)) → IsErrAnd r (λ f. f ≡ e) → Refuses W e → Settles W r
-  err_settled e (Ok x) is refused = absurd is
-  err_settled e (Err f) is refused = subst (Refuses W) (sym is) refused
-
-  pub memory_settled : (r : Result U (Or E)) → IsErrAnd r (λ f. f ≡ Memory) → Settles W r
-  memory_settled r is = err_settled Memory r is tt
-
--- two steps that touch nothing
-
-module _ {T U E : Type 0} (V : Verdict T E) (next : T → Verdict U E) where
-  refused_first : (e : Or E) → Refuses V e → Refuses (AndThen V next) e
-  refused_first (Fault e) right = inl right
-  refused_first Memory right = tt
-
-  -- the first is refused
-  pub stop_settled : (e : Or E) (r : Result U (Or E)) → IsErrAnd r (λ f. f ≡ e) → Refuses V e → Settles (AndThen V next) r
-  stop_settled e r is refused = err_settled (AndThen V next) e r is (refused_first e refused)
-
-  -- the second is left
-  pub then_settled : (x : T) (r : Result U (Or E)) → V (Ok x) → Settles (next x) r → Settles (AndThen V next) r
-  then_settled x r first second = settles_too (next x) (AndThen V next) (λ o right. inr (x, first, right)) r second
 
 -- faults of what was read alone
 abbrev pub IsContent : {T E : Type 0} → (E → Blame) → Verdict T E → Type 0

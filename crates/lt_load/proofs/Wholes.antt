@@ -12,8 +12,8 @@ use Rattle.lt_io.specs.Visits.{Visited}
 use Rattle.lt_io.proofs.Visiting.{visited_any}
 use Rattle.lt_io.specs.Counts.{OrCounted}
 use Rattle.lt_io.specs.Transfer.{whole_of}
-use Rattle.lt_load.specs.declared.fault.What.{What}
-use Rattle.lt_load.specs.declared.fault.CommandFault.TheVariants.{Limit, Read}
+use Rattle.lt_fit.specs.declared.fault.What.{What}
+use Rattle.lt_fit.specs.declared.fault.CommandFault.TheVariants.{Limit, Read}
 use Rattle.lt_answer.specs.World.{KeepsWorld, alone}
 use Rattle.lt_answer.specs.Answered.{Answered, RefusesReading}
 use Rattle.lt_load.specs.Blamed.{command_blame}

@@ -6,9 +6,9 @@ use Rattle.lt_io.specs.declared.fault.Failed.{Failed}
 use Rattle.lt_io.specs.declared.transfer.Whole.{Whole}
 use Rattle.lt_config.specs.declared.config.Config.{Config}
 use Rattle.lt_front.specs.Examined.{ExaminedText}
-use Rattle.lt_load.specs.declared.fault.What.{What}
-use Rattle.lt_load.specs.declared.fault.CommandFault.{CommandFault}
-use Rattle.lt_load.specs.declared.fault.CommandFault.TheVariants as fault
+use Rattle.lt_fit.specs.declared.fault.What.{What}
+use Rattle.lt_fit.specs.declared.fault.CommandFault.{CommandFault}
+use Rattle.lt_fit.specs.declared.fault.CommandFault.TheVariants as fault
 use Rattle.lt_load.specs.Loaded.{within}
 
 -- of a file its bytes, that they are too many, or that a call on the files failed

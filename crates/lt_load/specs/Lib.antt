@@ -1,4 +1,3 @@
-pub mod Main
 pub mod Blamed
 pub mod Loaded
 pub mod Found

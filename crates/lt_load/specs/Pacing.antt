@@ -6,10 +6,10 @@ use Rattle.lt_config.specs.declared.fault.ConfigKind.TheVariants.{OutOfRange}
 use Rattle.lt_config.specs.declared.pace.Pace.TheVariants.{Plain}
 use Rattle.lt_answer.specs.Answered.{Verdict, AndThen}
 use Rattle.lt_front.specs.Examined.{ExaminedText}
-use Rattle.lt_load.specs.declared.fault.CommandFault.{CommandFault}
-use Rattle.lt_load.specs.declared.fault.CommandFault.TheVariants as fault
+use Rattle.lt_fit.specs.declared.fault.CommandFault.{CommandFault}
+use Rattle.lt_fit.specs.declared.fault.CommandFault.TheVariants as fault
+use Rattle.lt_fit.specs.Fits.{Passes}
 use Rattle.lt_load.specs.Loaded.{program_verdict, config_verdict}
-use Rattle.lt_load.specs.Setups.{Passes}
 use Rattle.lt_load.specs.Plan.{Plan, fitting_plan_verdict}
 
 -- the protocol of a setup is outside the range of those that are no more than their timing

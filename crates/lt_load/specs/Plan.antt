@@ -27,9 +27,9 @@ use Rattle.lt_config.specs.contracts.pace.Pace.{the_row as pace_row}
 use Rattle.lt_config.specs.Reading.{plain_setup, setup_in}
 use Rattle.lt_answer.specs.Answered.{Verdict, AndThen}
 use Rattle.lt_verdict.specs.Rules.{Exactly}
-use Rattle.lt_load.specs.declared.fault.CommandFault.{CommandFault}
+use Rattle.lt_fit.specs.declared.fault.CommandFault.{CommandFault}
+use Rattle.lt_fit.specs.Fits.{HasWindowBy, fitting_verdict}
 use Rattle.lt_load.specs.Loaded.{program_verdict, config_verdict, inputs_verdict}
-use Rattle.lt_load.specs.Setups.{HasWindowBy, fitting_verdict}
 
 -- the program, the setup and the rows of inputs
 pub record Plan : Type 0 where

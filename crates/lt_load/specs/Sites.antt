@@ -13,10 +13,10 @@ use Rattle.lt_front.specs.Flattened.{flat_of}
 use Rattle.lt_config.specs.declared.config.Config.{Config}
 use Rattle.lt_answer.specs.Answered.{Verdict, AndThen}
 use Rattle.lt_verdict.specs.Rules.{Exactly}
-use Rattle.lt_load.specs.declared.fault.CommandFault.{CommandFault}
+use Rattle.lt_fit.specs.declared.fault.CommandFault.{CommandFault}
+use Rattle.lt_fit.specs.Fits.{HasWindowBy, IsPlaceFault, fitting_verdict}
 use Rattle.lt_load.specs.declared.sites.Site.{Site}
 use Rattle.lt_load.specs.Loaded.{inputs_verdict}
-use Rattle.lt_load.specs.Setups.{HasWindowBy, IsPlaceFault, fitting_verdict}
 use Rattle.lt_load.specs.Plan.{LoadedPlan}
 
 -- the layout of a legal placement, or a fault of it

@@ -2,20 +2,16 @@
 //! the program on its nodes with the channels between them.
 #![tactic(auto)]
 
-mod fault;
 mod loaded;
 mod loading;
 mod pacing;
-mod placing;
 mod planning;
 mod setups;
 mod sites;
 
-pub use fault::{CommandFault, What};
 pub use loaded::Loaded;
-pub use loading::{
-    fetch_within, load_config, load_flat, load_inputs, load_program, load_text, main_of,
-};
+pub use loading::{fetch_within, load_config, load_flat, load_inputs, load_program, load_text};
+pub use lt_fit::{CommandFault, What, main_of};
 pub use pacing::{load_plain, load_plain_config};
 pub use planning::load;
 pub use setups::check_with;

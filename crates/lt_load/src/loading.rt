@@ -9,28 +9,26 @@ ghost use Rattle.lt_load.specs.Blamed.{command_blame};
 ghost use Rattle.lt_load.specs.Errands.{whole_errand, program_errand, config_errand, inputs_errand};
 ghost use Rattle.lt_load.specs.Loaded.{Flattened, limit_of, whole_verdict, within, program_verdict, config_verdict, inputs_verdict};
 ghost use Rattle.lt_load.specs.Found.{fetched};
-ghost use Rattle.lt_load.specs.Main.{main_in};
 
 use crate::{CommandFault, What};
-use lt_base::{Func, Inputs, List, Or, Program};
+use lt_base::{Inputs, List, Or, Program};
 use lt_config::{Config, read_config};
+use lt_fit::main_of;
 use lt_front::{Checked, Examined, examine, print_examined};
 use lt_inputs::read_inputs;
 use lt_io::{Failed, Files, Whole, read_file};
 use std::alloc::Global;
 
-impl What {
-    /// The most bytes.
-    fn limit(self) -> usize
-        ensures { result ≡ limit_of self }
-    {
-        match self {
-            What::ProgramBytes => 1_048_576,
-            What::ConfigBytes => 262_144,
-            What::InputsBytes => 67_108_864,
-            What::ObserverBytes => 65_536,
-            What::ScheduleBytes => 1_073_741_824,
-        }
+// The most bytes of a file.
+fn limit(what: What) -> usize
+    ensures { result ≡ limit_of what }
+{
+    match what {
+        What::ProgramBytes => 1_048_576,
+        What::ConfigBytes => 262_144,
+        What::InputsBytes => 67_108_864,
+        What::ObserverBytes => 65_536,
+        What::ScheduleBytes => 1_073_741_824,
     }
 }
 
@@ -45,7 +43,7 @@ pub fn fetch_within<F: Files>(
     ensures answered { Answered command_blame (whole_errand what name.now) (whole_verdict what ((F.state files.old).named name.now)) (alone (F.state files.old)) (alone (F.state files.new)) result }
     ensures short { IfOk result (λ bytes. length bytes ≤ limit_of what) }
 {
-    let read = read_file(alloc, files, name, what.limit());
+    let read = read_file(alloc, files, name, limit(what));
     fetched(what, read)
 }
 
@@ -66,7 +64,7 @@ fn within(what: What, whole: Whole) -> Result<List<u8>, Or<CommandFault>>
 {
     match whole {
         Whole::Bytes(bytes) => {
-            if bytes.len() > what.limit() {
+            if bytes.len() > limit(what) {
                 return Err(Or::Fault(CommandFault::Limit(what)));
             }
             Ok(bytes)
@@ -154,12 +152,4 @@ pub fn load_inputs<F: Files>(
         Ok(table) => Ok(table),
         Err(e) => Err(e.map(CommandFault::Inputs)),
     }
-}
-
-/// The function of a program that is run.
-pub fn main_of(program: &Program) -> &Func
-    ensures { result.now ≡ main_in program.now }
-{
-    program.kept();
-    &program.funcs.as_slice()[program.main as usize]
 }

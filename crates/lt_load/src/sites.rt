@@ -8,12 +8,10 @@ ghost use Rattle.lt_answer.specs.Answered.{Settles};
 ghost use Rattle.lt_load.specs.Sites.{IsSiteOf, IsSited, layout_verdict, site_verdict};
 
 use crate::CommandFault;
-use crate::loading::main_of;
-use crate::placing::as_place;
-use crate::setups::accepted;
 use lt_arch::{Shape, Timing};
 use lt_base::{Memory, Or};
 use lt_config::{Config, Pace};
+use lt_fit::{accepted, as_place, main_of};
 use lt_front::Checked;
 use lt_lead::shape_by;
 use lt_place::{Layout, place};

@@ -7,9 +7,9 @@ use Rattle.lt_inputs.specs.declared.fault.InputKind.{InputKind}
 use Rattle.lt_inputs.specs.declared.fault.InputKind.TheVariants as inputs
 use Rattle.lt_rows.specs.declared.fault.RowFault.{RowFault}
 use Rattle.lt_rows.specs.declared.fault.RowFault.TheVariants as row
+use Rattle.lt_fit.specs.declared.fault.CommandFault.{CommandFault}
+use Rattle.lt_fit.specs.declared.fault.CommandFault.TheVariants as fault
 use Rattle.lt_load.specs.Blamed.{command_blame}
-use Rattle.lt_load.specs.declared.fault.CommandFault.{CommandFault}
-use Rattle.lt_load.specs.declared.fault.CommandFault.TheVariants as fault
 use Rattle.lt_reply.specs.declared.refusal.Refusal.{Refusal}
 use Rattle.lt_reply.specs.declared.refusal.Refusal.TheVariants.{Words, Command, Observer}
 use Rattle.lt_reply.specs.declared.status.Status.{Status}

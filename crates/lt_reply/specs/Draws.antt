@@ -8,8 +8,8 @@ use Rattle.lt_arch.specs.declared.timing.Timing.{Timing}
 use Rattle.lt_place.specs.declared.layout.Layout.{Layout}
 use Rattle.lt_rows.specs.declared.fault.RowFault.TheVariants as row
 use Rattle.lt_answer.specs.Answered.{Verdict, AndThen}
-use Rattle.lt_load.specs.declared.fault.CommandFault.{CommandFault}
-use Rattle.lt_load.specs.declared.fault.CommandFault.TheVariants as fault
+use Rattle.lt_fit.specs.declared.fault.CommandFault.{CommandFault}
+use Rattle.lt_fit.specs.declared.fault.CommandFault.TheVariants as fault
 use Rattle.lt_load.specs.Plan.{Plan}
 use Rattle.lt_load.specs.Pacing.{plain_load_verdict}
 use Rattle.lt_run.specs.Run.{IsLaidOutBy}

@@ -6,7 +6,7 @@ use Rattle.lt_io.specs.Counts.{IsMemory}
 use Rattle.lt_print.specs.Canonical.{canonical}
 use Rattle.lt_front.specs.Examined.{ExaminedText}
 use Rattle.lt_outputs.specs.OutputLines.{outputs_text, summary_text}
-use Rattle.lt_load.specs.declared.fault.CommandFault.{CommandFault}
+use Rattle.lt_fit.specs.declared.fault.CommandFault.{CommandFault}
 use Rattle.lt_stream.specs.declared.outputs.Outputs.{Outputs}
 use Rattle.lt_commands.specs.declared.fault.WatchFault.{WatchFault}
 use Rattle.lt_commands.specs.declared.fault.WatchFault.TheVariants as watched

@@ -14,14 +14,14 @@ use Rattle.lt_front.specs.Front.{examine_verdict}
 use Rattle.lt_inputs.specs.Inputs.{inputs_of}
 use Rattle.lt_config.specs.declared.config.Config.{Config}
 use Rattle.lt_verdict.specs.Rules.{Exactly, Raised}
-use Rattle.lt_load.specs.declared.fault.What.{What}
-use Rattle.lt_load.specs.declared.fault.What.TheVariants.{ProgramBytes, ConfigBytes, InputsBytes, ObserverBytes, ScheduleBytes}
-use Rattle.lt_load.specs.declared.fault.CommandFault.{CommandFault}
-use Rattle.lt_load.specs.declared.fault.CommandFault.TheVariants as fault
+use Rattle.lt_fit.specs.declared.fault.What.{What}
+use Rattle.lt_fit.specs.declared.fault.What.TheVariants.{ProgramBytes, ConfigBytes, InputsBytes, ObserverBytes, ScheduleBytes}
+use Rattle.lt_fit.specs.declared.fault.CommandFault.{CommandFault}
+use Rattle.lt_fit.specs.declared.fault.CommandFault.TheVariants as fault
+use Rattle.lt_fit.specs.Main.{main_in}
+use Rattle.lt_fit.specs.Fits.{fitting_verdict}
 use Rattle.lt_load.specs.Blamed.{command_blame}
-use Rattle.lt_load.specs.Main.{main_in}
 use Rattle.lt_load.specs.Loaded.{setup_verdict, whole_verdict, program_verdict, config_verdict, inputs_verdict}
-use Rattle.lt_load.specs.Setups.{fitting_verdict}
 use Rattle.lt_load.specs.Plan.{Loads, chosen_setup_verdict, fitting_plan_verdict, inputs_plan_verdict, load_verdict, setup_plan_verdict}
 use Rattle.lt_load.proofs.Contents.{fitting_blames}
 use Rattle.lt_load.proofs.Steps.{IsContent, content_then, content_raised}

@@ -8,7 +8,7 @@ use Rattle.lt_config.specs.declared.pace.Pace.{Pace}
 use Rattle.lt_answer.specs.World.{World}
 use Rattle.lt_front.specs.Flattened.{flat_of}
 use Rattle.lt_verdict.proofs.Decided.{HasOneKind, and_then}
-use Rattle.lt_load.specs.declared.fault.CommandFault.{CommandFault}
+use Rattle.lt_fit.specs.declared.fault.CommandFault.{CommandFault}
 use Rattle.lt_load.specs.Plan.{Plan, load_verdict}
 use Rattle.lt_load.proofs.OneLoad.{TellsLimits}
 use Rattle.lt_load.proofs.OneCheck.{MergesPlaces, MergesTimings}

@@ -21,7 +21,7 @@ use Rattle.lt_answer.proofs.Stages.{beside, goes_on, opens_none, renamed, runs_s
 use Rattle.lt_front.specs.Examined.{ExaminedText}
 use Rattle.lt_judge.specs.Errand.{schedule_errand}
 use Rattle.lt_replay.specs.Played.{world}
-use Rattle.lt_load.specs.declared.fault.CommandFault.{CommandFault}
+use Rattle.lt_fit.specs.declared.fault.CommandFault.{CommandFault}
 use Rattle.lt_load.specs.Errands.{load_errands}
 use Rattle.lt_load.specs.Blamed.{command_blame}
 use Rattle.lt_load.specs.Plan.{Plan, LoadedPlan, IsLoadedFrom, Loads, load_verdict}

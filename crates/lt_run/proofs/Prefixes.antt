@@ -33,7 +33,7 @@ use Rattle.lt_lossy.specs.declared.event.LossyEvent.{LossyEvent}
 use Rattle.lt_lossy.specs.Schedule.{lossy_reached}
 use Rattle.lt_lossy.specs.Laws.{lossy_bound}
 use Rattle.lt_replay.specs.LossyRun.{IsLossyRun, executed_in}
-use Rattle.lt_load.specs.Main.{main_in}
+use Rattle.lt_fit.specs.Main.{main_in}
 use Rattle.lt_load.proofs.Flattens.{main_good, flat_stream, outputs_same}
 use Rattle.lt_stream.specs.Main.{output_names, output_streams}
 use Rattle.lt_run.specs.Kinds.{EventsBy, executed_by, IsRunBy, got_by}

@@ -20,7 +20,7 @@ use Rattle.lt_replay.specs.Played.{world}
 use Rattle.lt_replay.specs.declared.replayed.Replayed.{Replayed}
 use Rattle.lt_replay.specs.declared.setup.Setup.{Setup}
 use Rattle.lt_front.specs.Checked.{IsChecked}
-use Rattle.lt_load.specs.Main.{main_in}
+use Rattle.lt_fit.specs.Main.{main_in}
 use Rattle.lt_load.specs.Plan.{LoadedPlan, IsLoaded}
 use Rattle.lt_stream.specs.Main.{output_names}
 use Rattle.lt_run.specs.declared.fault.RunFault.{RunFault}

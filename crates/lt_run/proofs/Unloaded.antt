@@ -5,9 +5,9 @@ use Rattle.lt_io.specs.FilesState.{FilesState}
 use Rattle.lt_answer.specs.World.{alone}
 use Rattle.lt_answer.specs.Answered.{Answered}
 use Rattle.lt_verdict.proofs.Decided.{HasOneOutcome}
+use Rattle.lt_fit.specs.declared.fault.CommandFault.{CommandFault}
 use Rattle.lt_load.specs.Blamed.{command_blame}
 use Rattle.lt_load.specs.Errands.{load_errands}
-use Rattle.lt_load.specs.declared.fault.CommandFault.{CommandFault}
 use Rattle.lt_load.specs.Plan.{LoadedPlan, Loads, load_verdict}
 use Rattle.lt_load.proofs.OnePlan.{load_decided}
 

@@ -8,10 +8,10 @@ use Rattle.lt_rows.specs.Rows.{rows_of}
 use Rattle.lt_lossy.specs.declared.event.LossyOffence.{LossyOffence}
 use Rattle.lt_judge.specs.declared.halt.Refusal.TheVariants as refusal
 use Rattle.lt_judge.specs.Near.{IsNearFile, IsNearIn}
-use Rattle.lt_load.specs.declared.fault.What.{What}
-use Rattle.lt_load.specs.declared.fault.What.TheVariants.{ProgramBytes, ConfigBytes, InputsBytes, ObserverBytes, ScheduleBytes}
-use Rattle.lt_load.specs.declared.fault.CommandFault.{CommandFault}
-use Rattle.lt_load.specs.declared.fault.CommandFault.TheVariants as fault
+use Rattle.lt_fit.specs.declared.fault.What.{What}
+use Rattle.lt_fit.specs.declared.fault.What.TheVariants.{ProgramBytes, ConfigBytes, InputsBytes, ObserverBytes, ScheduleBytes}
+use Rattle.lt_fit.specs.declared.fault.CommandFault.{CommandFault}
+use Rattle.lt_fit.specs.declared.fault.CommandFault.TheVariants as fault
 
 -- where the schedule's bytes are too many
 abbrev pub IsNearLimit : Option (List ℕ) → (place : ℕ) → What → Type 0

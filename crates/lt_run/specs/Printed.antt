@@ -19,7 +19,7 @@ use Rattle.lt_answer.specs.Answered.{Answered, Verdict}
 use Rattle.lt_judge.specs.Errand.{schedule_errand}
 use Rattle.lt_replay.specs.Played.{world}
 use Rattle.lt_replay.specs.declared.replayed.Replayed.{Replayed}
-use Rattle.lt_load.specs.Main.{main_in}
+use Rattle.lt_fit.specs.Main.{main_in}
 use Rattle.lt_load.specs.Plan.{LoadedPlan}
 use Rattle.lt_stream.specs.Main.{output_names, output_streams}
 use Rattle.lt_run.specs.declared.fault.RunFault.{RunFault}

@@ -10,8 +10,8 @@ ghost use Rattle.lt_plant.specs.Starts.{AreReady};
 ghost use Rattle.lt_config.specs.declared.pace.Pace.TheVariants.{Lossy};
 ghost use Rattle.lt_config.specs.Paced.{allowed_of};
 ghost use Rattle.lt_lead.specs.Paced.{KeepsPace};
+ghost use Rattle.lt_fit.specs.Fits.{HasWindowBy};
 ghost use Rattle.lt_load.specs.Plan.{IsLoaded};
-ghost use Rattle.lt_load.specs.Setups.{HasWindowBy};
 ghost use Rattle.lt_run.specs.Printed.{HasPrinted, HasTaken};
 ghost use Rattle.lt_run.specs.Run.{HasOutputs};
 

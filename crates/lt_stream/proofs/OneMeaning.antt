@@ -7,8 +7,8 @@ use Rattle.lt_base.specs.Inputs.{InputTable}
 use Rattle.lt_front.specs.Examined.{ExaminedText}
 use Rattle.lt_meaning.specs.Streams.{cell_count, most_cells}
 use Rattle.lt_verdict.proofs.Decided.{HasOneKind, HasOneOutcome, of_rule, and_then}
-use Rattle.lt_load.specs.declared.fault.CommandFault.{CommandFault}
-use Rattle.lt_load.specs.declared.fault.CommandFault.TheVariants as fault
+use Rattle.lt_fit.specs.declared.fault.CommandFault.{CommandFault}
+use Rattle.lt_fit.specs.declared.fault.CommandFault.TheVariants as fault
 use Rattle.lt_load.specs.Loaded.{program_verdict, inputs_verdict}
 use Rattle.lt_load.proofs.OneLoad.{TellsLimits, program_decided}
 use Rattle.lt_load.proofs.OnePlan.{inputs_decided}

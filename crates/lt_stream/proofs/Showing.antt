@@ -6,8 +6,8 @@ use Rattle.lt_base.specs.Inputs.{InputTable}
 use Rattle.lt_answer.specs.Answered.{Refuses, Settles}
 use Rattle.lt_front.specs.Examined.{ExaminedText}
 use Rattle.lt_meaning.specs.Streams.{cell_count, most_cells}
-use Rattle.lt_load.specs.declared.fault.CommandFault.{CommandFault}
-use Rattle.lt_load.proofs.Steps.{stop_settled, then_settled}
+use Rattle.lt_fit.specs.declared.fault.CommandFault.{CommandFault}
+use Rattle.lt_fit.proofs.Settled.{stop_settled, then_settled}
 use Rattle.lt_stream.specs.declared.outputs.Outputs.{Outputs}
 use Rattle.lt_stream.specs.Main.{cells_verdict, output_streams}
 use Rattle.lt_stream.specs.Meaning.{printed_verdict, streams_verdict}

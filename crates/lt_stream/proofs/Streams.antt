@@ -9,7 +9,7 @@ use Rattle.lt_base.specs.Meaning.{stream_of}
 use Rattle.lt_norm.specs.Flat.{Originated}
 use Rattle.lt_front.specs.Flattened.{KeepsMain}
 use Rattle.lt_meaning.specs.Streams.{streams_at, HasOutputStreams}
-use Rattle.lt_load.specs.Main.{main_in}
+use Rattle.lt_fit.specs.Main.{main_in}
 use Rattle.lt_load.proofs.Flattens.{flat_stream, main_good, outputs_same}
 use Rattle.lt_load.proofs.Mains.{has_main, of_main}
 use Rattle.lt_stream.specs.declared.outputs.Outputs.{Outputs}

@@ -7,9 +7,9 @@ use Rattle.lt_base.specs.Meaning.{stream_of}
 use Rattle.lt_answer.specs.Answered.{Verdict}
 use Rattle.lt_verdict.specs.Rules.{OfRule}
 use Rattle.lt_meaning.specs.Streams.{cell_count, most_cells}
-use Rattle.lt_load.specs.Main.{main_in}
-use Rattle.lt_load.specs.declared.fault.CommandFault.{CommandFault}
-use Rattle.lt_load.specs.declared.fault.CommandFault.TheVariants as fault
+use Rattle.lt_fit.specs.Main.{main_in}
+use Rattle.lt_fit.specs.declared.fault.CommandFault.{CommandFault}
+use Rattle.lt_fit.specs.declared.fault.CommandFault.TheVariants as fault
 
 -- the name of a function's variable, as written
 abbrev pub name_in : Function → ℕ → List ℕ

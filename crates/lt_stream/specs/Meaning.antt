@@ -5,7 +5,7 @@ use Rattle.lt_base.specs.Inputs.{InputTable}
 use Rattle.lt_base.specs.Program.{WholeProgram}
 use Rattle.lt_front.specs.Examined.{ExaminedText}
 use Rattle.lt_answer.specs.Answered.{Verdict, AndThen}
-use Rattle.lt_load.specs.declared.fault.CommandFault.{CommandFault}
+use Rattle.lt_fit.specs.declared.fault.CommandFault.{CommandFault}
 use Rattle.lt_load.specs.Loaded.{program_verdict, inputs_verdict}
 use Rattle.lt_stream.specs.declared.outputs.Outputs.{Outputs}
 use Rattle.lt_stream.specs.Main.{output_names, output_streams, cells_verdict}

@@ -1,7 +1,7 @@
 use Rattle.std.proofs.Common.{refl}
 use Rattle.std.specs.Prelude.{option_map}
 use Rattle.lt_front.specs.Checked.{examined_part}
-use Rattle.lt_load.proofs.Steps.{memory_settled}
+use Rattle.lt_fit.proofs.Settled.{memory_settled}
 use Rattle.lt_commands.specs.Regions.{region_verdict}
 use Rattle.lt_commands.proofs.Regional.{no_layout, names_fit, nodes_fit, no_node, found, grounded}
 use Rattle.lt_commands.proofs.regions.find_region.Goals as goal

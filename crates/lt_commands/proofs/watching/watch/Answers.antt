@@ -1,7 +1,7 @@
 use Rattle.std.proofs.Common.{◌∙◌, ℕ, List, Option, Err, sym, subst}
 use Rattle.std.specs.Prelude.{option_map}
+use Rattle.lt_fit.specs.Main.{main_in}
 use Rattle.lt_load.proofs.Steps.{counts_on}
-use Rattle.lt_load.specs.Main.{main_in}
 use Rattle.lt_commands.specs.Watch.{observer_verdict}
 use Rattle.lt_commands.proofs.Stages.{not_loaded, loaded_watched}
 use Rattle.lt_commands.proofs.Unwatched.{observer_refused}

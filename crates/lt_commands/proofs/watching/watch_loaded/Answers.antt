@@ -6,7 +6,7 @@ use Rattle.lt_answer.specs.World.{alone}
 use Rattle.lt_answer.specs.Answered.{Answered}
 use Rattle.lt_resolve.specs.Resolves.{IsSmall}
 use Rattle.lt_front.specs.Checked.{CheckedText}
-use Rattle.lt_load.specs.Main.{main_in}
+use Rattle.lt_fit.specs.Main.{main_in}
 use Rattle.lt_load.specs.Plan.{LoadedPlan}
 use Rattle.lt_load.proofs.Steps.{counts_on}
 use Rattle.lt_commands.specs.Blamed.{watch_blame}

@@ -6,9 +6,9 @@ use Rattle.lt_verdict.specs.Rules.{Raised}
 use Rattle.lt_config.specs.declared.config.Config.{Config}
 use Rattle.lt_config.specs.declared.fault.ConfigFault.{ConfigFault}
 use Rattle.lt_config.specs.Reading.{Reads, config_of}
-use Rattle.lt_load.specs.declared.fault.What.TheVariants.{ConfigBytes}
-use Rattle.lt_load.specs.declared.fault.CommandFault.{CommandFault}
-use Rattle.lt_load.specs.declared.fault.CommandFault.TheVariants as fault
+use Rattle.lt_fit.specs.declared.fault.What.TheVariants.{ConfigBytes}
+use Rattle.lt_fit.specs.declared.fault.CommandFault.{CommandFault}
+use Rattle.lt_fit.specs.declared.fault.CommandFault.TheVariants as fault
 use Rattle.lt_load.specs.Blamed.{command_blame}
 use Rattle.lt_load.specs.Loaded.{whole_verdict, setup_verdict, config_verdict}
 use Rattle.lt_load.proofs.Steps.{IsContent, content_raised, raised_refusal, refused_step, last_step}

@@ -9,12 +9,12 @@ use Rattle.lt_verdict.specs.Rules.{Raised, Exactly}
 use Rattle.lt_inputs.specs.declared.fault.InputFault.{InputFault}
 use Rattle.lt_inputs.specs.Inputs.{inputs_of}
 use Rattle.lt_inputs.specs.Told.{Told}
-use Rattle.lt_load.specs.declared.fault.What.TheVariants.{InputsBytes}
-use Rattle.lt_load.specs.declared.fault.CommandFault.{CommandFault}
-use Rattle.lt_load.specs.declared.fault.CommandFault.TheVariants as fault
+use Rattle.lt_fit.specs.declared.fault.What.TheVariants.{InputsBytes}
+use Rattle.lt_fit.specs.declared.fault.CommandFault.{CommandFault}
+use Rattle.lt_fit.specs.declared.fault.CommandFault.TheVariants as fault
+use Rattle.lt_fit.specs.Main.{main_in}
 use Rattle.lt_load.specs.Blamed.{command_blame}
 use Rattle.lt_load.specs.Loaded.{whole_verdict, inputs_verdict}
-use Rattle.lt_load.specs.Main.{main_in}
 use Rattle.lt_load.proofs.Mains.{inputs_fit}
 use Rattle.lt_load.proofs.Steps.{IsContent, content_raised, raised_refusal, refused_step, last_step}
 use Rattle.lt_load.proofs.loading.load_inputs.Goals as goal

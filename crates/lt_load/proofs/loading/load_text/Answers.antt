@@ -7,9 +7,9 @@ use Rattle.lt_answer.proofs.Stages.{widened}
 use Rattle.lt_verdict.specs.Rules.{Raised, Shown}
 use Rattle.lt_front.specs.Front.{examine_verdict}
 use Rattle.lt_front.specs.Printed.{canonical_text, printed_verdict}
-use Rattle.lt_load.specs.declared.fault.What.TheVariants.{ProgramBytes}
-use Rattle.lt_load.specs.declared.fault.CommandFault.{CommandFault}
-use Rattle.lt_load.specs.declared.fault.CommandFault.TheVariants as fault
+use Rattle.lt_fit.specs.declared.fault.What.TheVariants.{ProgramBytes}
+use Rattle.lt_fit.specs.declared.fault.CommandFault.{CommandFault}
+use Rattle.lt_fit.specs.declared.fault.CommandFault.TheVariants as fault
 use Rattle.lt_load.specs.Blamed.{command_blame}
 use Rattle.lt_load.specs.Loaded.{whole_verdict, program_verdict}
 use Rattle.lt_load.proofs.Steps.{IsContent, content_raised, raised_refusal, refused_step, last_step}

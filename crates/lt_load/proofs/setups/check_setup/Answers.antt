@@ -1,8 +1,9 @@
 use Rattle.std.proofs.Common.{[]}
 use Rattle.lt_front.specs.Checked.{examined_part}
+use Rattle.lt_fit.specs.Fits.{fitting_verdict}
 use Rattle.lt_load.specs.Blamed.{command_blame}
 use Rattle.lt_load.specs.Loaded.{config_verdict}
-use Rattle.lt_load.specs.Setups.{fitting_verdict, fitted_verdict}
+use Rattle.lt_load.specs.Setups.{fitted_verdict}
 use Rattle.lt_load.proofs.Contents.{fitting_content}
 use Rattle.lt_load.proofs.Steps.{refused_step, last_step}
 use Rattle.lt_load.proofs.setups.check_setup.Goals as goal

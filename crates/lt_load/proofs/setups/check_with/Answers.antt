@@ -7,7 +7,7 @@ use Rattle.lt_answer.specs.Answered.{Answered, Verdict, AndThen}
 use Rattle.lt_verdict.specs.Rules.{Exactly}
 use Rattle.lt_front.specs.Checked.{examined_part}
 use Rattle.lt_front.specs.Examined.{ExaminedText}
-use Rattle.lt_load.specs.declared.fault.CommandFault.{CommandFault}
+use Rattle.lt_fit.specs.declared.fault.CommandFault.{CommandFault}
 use Rattle.lt_load.specs.Blamed.{command_blame}
 use Rattle.lt_load.specs.Errands.{config_errand}
 use Rattle.lt_load.specs.Loaded.{program_verdict}

@@ -1,7 +1,7 @@
 use Rattle.lt_front.specs.Checked.{examined_part}
+use Rattle.lt_fit.proofs.Settled.{memory_settled}
 use Rattle.lt_load.specs.Sites.{site_verdict}
 use Rattle.lt_load.proofs.Sited.{not_placed, not_timed, names_are, found, sited}
-use Rattle.lt_load.proofs.Steps.{memory_settled}
 use Rattle.lt_load.proofs.sites.find_site.Goals as goal
 
 pub returns-in_err-layout-clause-answered : goal.returns-in_err-layout-clause-answered

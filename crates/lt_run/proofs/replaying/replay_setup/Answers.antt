@@ -1,7 +1,7 @@
 use Rattle.std.proofs.Common.{◌≡◌, ◌∙◌, map, length, sym, ap, subst}
 use Rattle.lt_base.specs.Program.{Function, GoodProgram}
 use Rattle.lt_front.specs.Checked.{CheckedText, IsChecked}
-use Rattle.lt_load.specs.Main.{main_in}
+use Rattle.lt_fit.specs.Main.{main_in}
 use Rattle.lt_load.specs.Plan.{LoadedPlan}
 use Rattle.lt_stream.specs.Main.{name_in}
 use Rattle.lt_run.proofs.Replays.{has_columns, named, not_named, not_replayed, shows_too}

@@ -1,6 +1,6 @@
 use Rattle.std.proofs.Common.{◌∙◌, ap}
 use Rattle.lt_front.specs.Checked.{CheckedText}
-use Rattle.lt_load.specs.Main.{main_in}
+use Rattle.lt_fit.specs.Main.{main_in}
 use Rattle.lt_stream.specs.Main.{output_streams}
 use Rattle.lt_stream.proofs.Streams.{prints_if, streams_are, whole_width}
 use Rattle.lt_stream.proofs.commands.show.Goals as goal

@@ -1,6 +1,6 @@
-use Rattle.lt_load.specs.Setups.{timed_verdict, windowed_verdict, accepted_verdict}
-use Rattle.lt_load.proofs.Steps.{stop_settled, then_settled}
-use Rattle.lt_load.proofs.setups.accepted.Goals as goal
+use Rattle.lt_fit.specs.Fits.{timed_verdict, windowed_verdict, accepted_verdict}
+use Rattle.lt_fit.proofs.Settled.{stop_settled, then_settled}
+use Rattle.lt_fit.proofs.fits.accepted.Goals as goal
 
 pub returns-in_err-timed : goal.returns-in_err-timed
 unfolding accepted_verdict

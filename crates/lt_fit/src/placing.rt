@@ -1,12 +1,12 @@
 // The fault of a placement as a command's.
-ghost use Rattle.lt_load.specs.Setups.{AsPlace};
+ghost use Rattle.lt_fit.specs.Fits.{AsPlace};
 
 use crate::CommandFault;
 use lt_base::{Func, Or};
 use lt_place::PlaceFault;
 
 /// A placement's fault as the command's, with a copy of the function whose variables it names.
-pub(crate) fn as_place(main: &Func, fault: Or<PlaceFault>) -> Or<CommandFault>
+pub fn as_place(main: &Func, fault: Or<PlaceFault>) -> Or<CommandFault>
     ensures { AsPlace main.now fault result }
 {
     match fault {

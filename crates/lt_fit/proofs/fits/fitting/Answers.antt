@@ -1,8 +1,8 @@
 use Rattle.std.proofs.Common.{Ok}
 use Rattle.lt_front.specs.Checked.{examined_part}
-use Rattle.lt_load.specs.Setups.{placed_verdict, accepted_verdict, fitting_verdict}
-use Rattle.lt_load.proofs.Steps.{err_settled, stop_settled, then_settled}
-use Rattle.lt_load.proofs.setups.fitting.Goals as goal
+use Rattle.lt_fit.specs.Fits.{placed_verdict, accepted_verdict, fitting_verdict}
+use Rattle.lt_fit.proofs.Settled.{err_settled, stop_settled, then_settled}
+use Rattle.lt_fit.proofs.fits.fitting.Goals as goal
 
 pub returns-in_err-legal : goal.returns-in_err-legal
 unfolding fitting_verdict

@@ -1,9 +1,9 @@
 use Rattle.std.proofs.Common.{sym, subst}
 use Rattle.lt_answer.specs.Answered.{Refuses}
 use Rattle.lt_front.specs.Checked.{CheckedText, IsChecked, examined_part}
-use Rattle.lt_load.specs.Setups.{placed_verdict}
-use Rattle.lt_load.proofs.Misplaced.{not_placed}
-use Rattle.lt_load.proofs.setups.placed.Goals as goal
+use Rattle.lt_fit.specs.Fits.{placed_verdict}
+use Rattle.lt_fit.proofs.Misplaced.{not_placed}
+use Rattle.lt_fit.proofs.fits.placed.Goals as goal
 
 pub returns-in-Err : goal.returns-in-Err
 returns-in-Err c =

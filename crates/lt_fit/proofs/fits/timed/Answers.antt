@@ -1,6 +1,6 @@
 use Rattle.std.proofs.Common.{refl}
-use Rattle.lt_load.specs.Setups.{timed_verdict}
-use Rattle.lt_load.proofs.setups.timed.Goals as goal
+use Rattle.lt_fit.specs.Fits.{timed_verdict}
+use Rattle.lt_fit.proofs.fits.timed.Goals as goal
 
 pub returns-in-Ok : goal.returns-in-Ok
 unfolding timed_verdict
