@@ -1,4 +1,4 @@
--- The crossings and the parts, as the code builds them.
+-- The parts and the tables for them, as the code builds them.
 use Rattle.std.specs.Prelude.{◌≡◌, ◌≢◌, ℕ, zero, suc, ◌+◌, ◌<◌, ◌≤◌, Bool, true, false, ◌&&◌, ◌||◌, not, Option, Some, None, List, [], ◌∷◌, ◌++◌, length, map, filter, take, get_or, nat_eq, nat_lt, slice_index, if◌then◌else◌}
 use Rattle.std.specs.List.{count_by}
 use Rattle.std.specs.Option.{is_some}
