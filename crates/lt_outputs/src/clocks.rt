@@ -44,11 +44,7 @@ fn polarity_text(polarity: bool) -> &'static str
 }
 
 /// Appends where a clock is at fault: a declaration, or an equation by its number from 1 on.
-pub fn append_place(
-    alloc: Global,
-    line: &mut List<u8>,
-    at: Option<u32>,
-) -> Result<(), Memory>
+pub fn append_place(alloc: Global, line: &mut List<u8>, at: Option<u32>) -> Result<(), Memory>
     ensures { OnOk result (line.new ≡ line.old ++ place_text at) }
 {
     match at {

@@ -9,8 +9,8 @@ use lt_arch::Shape;
 use lt_base::Value;
 use lt_io::{Fabric, LinkErr};
 use lt_place::Layout;
-use lt_ready::room_for;
 use lt_plant::literals::kinds_of;
+use lt_ready::room_for;
 use lt_rows::PlaceTable;
 use std::alloc::Global;
 
