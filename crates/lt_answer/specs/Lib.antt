@@ -1,2 +1,3 @@
 pub mod World
 pub mod Answered
+pub mod Rules

@@ -7,7 +7,7 @@ use Rattle.lt_arch.specs.Readers.{node_count, chan_count, to_of, carries_data, c
 use Rattle.lt_arch.specs.Deeds.{deed_of, deed_at, all_below, some_below, all_in, any_in, all_ack, data_to, ack_to, is_fresh}
 use Rattle.lt_audit.specs.declared.hearing.Heard.{Heard}
 use Rattle.lt_audit.specs.Audit.{AuditState, member_at}
-use Rattle.lt_audit.specs.Acts.{chan_in, is_data_to, is_ack_to, has_delivered, heard_below}
+use Rattle.lt_audit.specs.Acts.{audited_chan, is_data_to, is_ack_to, has_delivered, heard_below}
 use Rattle.lt_audit.specs.Standing.{HasState}
 
 all_same : (p q : ℕ → Bool) (n : ℕ) → ((c : ℕ) → c < n → p c ≡ q c) → all_below p n ≡ all_below q n
@@ -41,30 +41,30 @@ module _ (a : AuditState) (t : Timing) (st : State) (h : HasState a a.shape t st
       let counts : (member_at a.members n).executed ≡ executed_of st (to_of a.shape c) = h.executed n ln ∙ ap (executed_of st) (sym to) in
       λ i. nat_le (counts i) (h.chan c lc i).delivered
 
-  data_same : (c : ℕ) → is_data_to (chan_in a.shape.channels c) n ≡ data_to a.shape n c
+  data_same : (c : ℕ) → is_data_to (audited_chan a.shape.channels c) n ≡ data_to a.shape n c
   unfolding chan_of
   data_same c = refl
 
-  ack_same : (c : ℕ) → is_ack_to (chan_in a.shape.channels c) n ≡ ack_to a.shape n c
+  ack_same : (c : ℕ) → is_ack_to (audited_chan a.shape.channels c) n ≡ ack_to a.shape n c
   unfolding chan_of
   ack_same c = refl
 
   heard_now : Heard
   heard_now = heard_below a.shape.channels a.chans n (member_at a.members n).executed (length a.shape.channels)
 
-  all_in_is : all_below (λ c. not (is_data_to (chan_in a.shape.channels c) n) || has_delivered a.chans (member_at a.members n).executed c) (chan_count a.shape) ≡ all_in a.shape st n
+  all_in_is : all_below (λ c. not (is_data_to (audited_chan a.shape.channels c) n) || has_delivered a.chans (member_at a.members n).executed c) (chan_count a.shape) ≡ all_in a.shape st n
   unfolding all_in
   all_in_is = all_same _ _ (chan_count a.shape) (λ c lc.
       ap (λ (x : Bool). not x || has_delivered a.chans (member_at a.members n).executed c) (data_same c) ∙
       where_asked (data_to a.shape n c) _ _ (λ asked. fresh_same c lc (is_to (carries_data a.shape c) (to_of a.shape c) n asked)))
 
-  any_in_is : some_below (λ c. is_data_to (chan_in a.shape.channels c) n && has_delivered a.chans (member_at a.members n).executed c) (chan_count a.shape) ≡ any_in a.shape st n
+  any_in_is : some_below (λ c. is_data_to (audited_chan a.shape.channels c) n && has_delivered a.chans (member_at a.members n).executed c) (chan_count a.shape) ≡ any_in a.shape st n
   unfolding any_in
   any_in_is = some_same _ _ (chan_count a.shape) (λ c lc.
       ap (λ (x : Bool). x && has_delivered a.chans (member_at a.members n).executed c) (data_same c) ∙
       if_asked (data_to a.shape n c) _ _ (λ asked. fresh_same c lc (is_to (carries_data a.shape c) (to_of a.shape c) n asked)))
 
-  all_ack_is : all_below (λ c. not (is_ack_to (chan_in a.shape.channels c) n) || has_delivered a.chans (member_at a.members n).executed c) (chan_count a.shape) ≡ all_ack a.shape st n
+  all_ack_is : all_below (λ c. not (is_ack_to (audited_chan a.shape.channels c) n) || has_delivered a.chans (member_at a.members n).executed c) (chan_count a.shape) ≡ all_ack a.shape st n
   unfolding all_ack
   all_ack_is = all_same _ _ (chan_count a.shape) (λ c lc.
       ap (λ (x : Bool). not x || has_delivered a.chans (member_at a.members n).executed c) (ack_same c) ∙

@@ -6,8 +6,8 @@ use Rattle.lt_arch.specs.State.{ChanState}
 use Rattle.lt_arch.specs.Readers.{chan_count, from_of, carries_data}
 use Rattle.lt_arch.specs.Step.{with_delivered}
 use Rattle.lt_arch.proofs.Facts.{ends-of}
-use Rattle.lt_audit.specs.Audit.{AuditState, MemberState, LineState, IsKept, kept_of, chan_at, member_at, no_chan_state, oldest, messages_of}
-use Rattle.lt_audit.specs.Acts.{Delivers}
+use Rattle.lt_audit.specs.Audit.{AuditState, MemberState, LineState, IsKeptAudit, kept_of, chan_at, member_at, no_chan_state, oldest, messages_of}
+use Rattle.lt_audit.specs.Acts.{AuditDelivers}
 use Rattle.lt_audit.proofs.Lines.{read_at}
 
 messages_within : (m : MemberState) (k : Bool) → messages_of m k ≤ m.executed
@@ -15,7 +15,7 @@ messages_within m true = omega arith
 messages_within m false = omega arith
 
 -- no channel has had as many messages as there are numbers
-pub counts_fit : (a : AuditState) → IsKept a → (c : ℕ) → c < chan_count a.shape → (chan_at a.chans c).delivered + length (chan_at a.chans c).transit < 2 ^ 32
+pub counts_fit : (a : AuditState) → IsKeptAudit a → (c : ℕ) → c < chan_count a.shape → (chan_at a.chans c).delivered + length (chan_at a.chans c).transit < 2 ^ 32
 counts_fit a kept c lc =
     let ends = ends-of a.shape c lc in
     let m = from_of a.shape c in
@@ -25,7 +25,7 @@ counts_fit a kept c lc =
     let fit = kept.rows_fit in
     omega (arith, few, sent, within, fit)
 
-module _ (a : AuditState) (ls : List LineState) (is : a.chans ≡ map kept_of ls) (kept : IsKept a) (c : ℕ) (lc : c < chan_count a.shape) (x : LineState) (here : x ≡ slice_index_or ls c x) where
+module _ (a : AuditState) (ls : List LineState) (is : a.chans ≡ map kept_of ls) (kept : IsKeptAudit a) (c : ℕ) (lc : c < chan_count a.shape) (x : LineState) (here : x ≡ slice_index_or ls c x) where
   inside : c < length ls
   inside = let e = kept.chans in let m : length a.chans ≡ length ls = ap (λ (ks : List ChanState). length ks) is ∙ length-map ls kept_of in omega (arith, e, m, lc)
 
@@ -39,7 +39,7 @@ module _ (a : AuditState) (ls : List LineState) (is : a.chans ≡ map kept_of ls
   line_timely = subst (λ (k : ChanState). All (λ sent. sent ≤ GREATEST_TIME) k.transit) chan_is (kept.timely c lc)
 
   pub delivers : (b : AuditState) (y : LineState) (at : ℕ) → kept_of y ≡ with_delivered (kept_of x) x.transit → b.shape ≡ a.shape → b.protocol ≡ a.protocol → b.rows ≡ a.rows → b.members ≡ a.members → b.first ≡ a.first →
-      b.chans ≡ map kept_of (set ls c y) → b.watch ≡ record a.watch { sends = set a.watch.sends c (oldest y.transit); latest = Some at } → Delivers a b c at
+      b.chans ≡ map kept_of (set ls c y) → b.watch ≡ record a.watch { sends = set a.watch.sends c (oldest y.transit); latest = Some at } → AuditDelivers a b c at
   delivers b y at kept_y shape protocol rows members first chans watch =
       let taken : kept_of y ≡ with_delivered (chan_at a.chans c) (chan_at a.chans c).transit = kept_y ∙ ap (λ (k : ChanState). with_delivered k k.transit) (sym chan_is) in
       let chans_are : b.chans ≡ set a.chans c (with_delivered (chan_at a.chans c) (chan_at a.chans c).transit) = chans ∙ map-set kept_of ls c y ∙ (λ i. set (sym is i) c (taken i)) in

@@ -15,7 +15,7 @@ use Rattle.lt_arch.specs.Schedule.{reached}
 use Rattle.lt_audit.specs.declared.miss.Miss.{Miss}
 use Rattle.lt_audit.specs.Misses.{IsOff, Misses, HasNoMiss, IsFirstMiss, FirstMiss}
 use Rattle.lt_audit.specs.Audit.{AuditState, member_at, chan_at}
-use Rattle.lt_audit.specs.Acts.{chan_in, is_data_to, is_off, IsMissOf, NotesFirst}
+use Rattle.lt_audit.specs.Acts.{audited_chan, is_data_to, is_off, IsMissOf, NotesFirst}
 use Rattle.lt_audit.specs.Standing.{HasState}
 use Rattle.lt_audit.proofs.Longer.{where_last}
 
@@ -56,13 +56,13 @@ module _ (a : AuditState) (t : Timing) (es : List Event) (h : HasState a a.shape
   abbrev pub ex : ℕ
   ex = (member_at a.members n).executed
 
-  data_same : (c : ℕ) → is_data_to (chan_in a.shape.channels c) n ≡ data_to a.shape n c
+  data_same : (c : ℕ) → is_data_to (audited_chan a.shape.channels c) n ≡ data_to a.shape n c
   unfolding chan_of
   data_same c = refl
 
   off_of : (c : ℕ) → c < chan_count a.shape → is_off a.shape.channels a.chans n ex c ≡ true → IsOff a.shape st n c
   off_of c lc is =
-      let both = both_true (is_data_to (chan_in a.shape.channels c) n) (not ((chan_at a.chans c).delivered == ex)) is in
+      let both = both_true (is_data_to (audited_chan a.shape.channels c) n) (not ((chan_at a.chans c).delivered == ex)) is in
       record {
         channel = lc;
         incoming = sym (data_same c) ∙ both.0;

@@ -12,8 +12,8 @@ use Rattle.lt_arch.specs.Readers.{node_count, chan_count, chan_of, from_of, carr
 use Rattle.lt_arch.specs.Schedule.{IsEventOf}
 use Rattle.lt_arch.specs.Step.{with_sent, with_delivered, is_execute, is_send}
 use Rattle.lt_arch.specs.Times.{Times, sent_in}
-use Rattle.lt_audit.specs.Audit.{AuditState, MemberState, IsKept, member_at, chan_at, no_member, no_chan_state, oldest, messages_of}
-use Rattle.lt_audit.specs.Acts.{Acts, Delivers, Takes, chan_in, is_sent_on}
+use Rattle.lt_audit.specs.Audit.{AuditState, MemberState, IsKeptAudit, member_at, chan_at, no_member, no_chan_state, oldest, messages_of}
+use Rattle.lt_audit.specs.Acts.{AuditActs, AuditDelivers, AuditTakes, audited_chan, is_sent_on}
 use Rattle.lt_audit.proofs.Waking.{one_if, wake_counts}
 use Rattle.lt_audit.proofs.SentOn.{sent_off}
 
@@ -60,8 +60,8 @@ grown : (x : Bool) (e : ℕ) → (if x then e + 1 else e) ≡ e + one_if x
 grown true e = refl
 grown false e = omega arith
 
-module _ (a b : AuditState) (kept : IsKept a) (fits : b.taken < 2 ^ 32) where
-  module _ (n at : ℕ) (ln : n < node_count a.shape) (timely : IsTime at) (acts : Acts a b n at) where
+module _ (a b : AuditState) (kept : IsKeptAudit a) (fits : b.taken < 2 ^ 32) where
+  module _ (n at : ℕ) (ln : n < node_count a.shape) (timely : IsTime at) (acts : AuditActs a b n at) where
     here : n < length a.members
     here = let e = kept.members in omega (arith, e, ln)
 
@@ -71,7 +71,7 @@ module _ (a b : AuditState) (kept : IsKept a) (fits : b.taken < 2 ^ 32) where
     member_there : (i : ℕ) → i ≢ n → member_at b.members i ≡ member_at a.members i
     member_there i ne = ap (λ (ms : List MemberState). member_at ms i) acts.members ∙ get_or-set_other a.members n i acts.woken no_member ne
 
-    chan_after : (c : ℕ) → c < chan_count a.shape → chan_at b.chans c ≡ with_sent (is_sent_on a.protocol n acts.deed (chan_in a.shape.channels c)) at (chan_at a.chans c)
+    chan_after : (c : ℕ) → c < chan_count a.shape → chan_at b.chans c ≡ with_sent (is_sent_on a.protocol n acts.deed (audited_chan a.shape.channels c)) at (chan_at a.chans c)
     chan_after c lc = acts.chan c (let e = kept.chans in omega (arith, e, lc))
 
     counts : (unsent acts.woken.phase ≤ acts.woken.executed) × (acts.woken.executed - unsent acts.woken.phase ≡ ((member_at a.members n).executed - unsent (member_at a.members n).phase) + one_if (is_send acts.deed))
@@ -101,13 +101,13 @@ module _ (a b : AuditState) (kept : IsKept a) (fits : b.taken < 2 ^ 32) where
     counted_after : (c : ℕ) → c < chan_count a.shape → total (chan_at b.chans c) ≤ messages_of (member_at b.members (from_of a.shape c)) (carries_data a.shape c)
     unfolding chan_of
     counted_after c lc =
-        let x = is_sent_on a.protocol n acts.deed (chan_in a.shape.channels c) in
+        let x = is_sent_on a.protocol n acts.deed (audited_chan a.shape.channels c) in
         let after : total (chan_at b.chans c) ≡ total (chan_at a.chans c) + one_if x = ap (λ (k : ChanState). total k) (chan_after c lc) ∙ sent_total x at (chan_at a.chans c) in
         let before = kept.counted c lc in
-        let most = sent_bound (chan_in a.shape.channels c) (from_of a.shape c) refl in
+        let most = sent_bound (audited_chan a.shape.channels c) (from_of a.shape c) refl in
         omega (arith, after, before, most)
 
-    kept_here : IsKept (record b { shape = a.shape; rows = a.rows })
+    kept_here : IsKeptAudit (record b { shape = a.shape; rows = a.rows })
     kept_here = record {
       numbered = kept.numbered;
       members = ap (λ (ms : List MemberState). length ms) acts.members ∙ length-set a.members n acts.woken ∙ kept.members;
@@ -129,10 +129,10 @@ module _ (a b : AuditState) (kept : IsKept a) (fits : b.taken < 2 ^ 32) where
       taken_fits = fits;
     }
 
-    kept_act : IsKept b
-    kept_act = let is : b ≡ record b { shape = a.shape; rows = a.rows } = λ i. record b { shape = acts.shape i; rows = acts.rows i } in subst IsKept (sym is) kept_here
+    kept_act : IsKeptAudit b
+    kept_act = let is : b ≡ record b { shape = a.shape; rows = a.rows } = λ i. record b { shape = acts.shape i; rows = acts.rows i } in subst IsKeptAudit (sym is) kept_here
 
-  module _ (c at : ℕ) (lc : c < chan_count a.shape) (delivers : Delivers a b c at) where
+  module _ (c at : ℕ) (lc : c < chan_count a.shape) (delivers : AuditDelivers a b c at) where
     inside : c < length a.chans
     inside = let e = kept.chans in omega (arith, e, lc)
 
@@ -155,7 +155,7 @@ module _ (a b : AuditState) (kept : IsKept a) (fits : b.taken < 2 ^ 32) where
     counted_now : total taken ≤ messages_of (member_at a.members (from_of a.shape c)) (carries_data a.shape c)
     counted_now = let same = delivered_total (chan_at a.chans c) (chan_at a.chans c).transit refl in let before = kept.counted c lc in omega (arith, same, before)
 
-    kept_delivered : IsKept (record b { shape = a.shape; rows = a.rows; members = a.members })
+    kept_delivered : IsKeptAudit (record b { shape = a.shape; rows = a.rows; members = a.members })
     kept_delivered = record {
       numbered = kept.numbered;
       members = kept.members;
@@ -178,13 +178,13 @@ module _ (a b : AuditState) (kept : IsKept a) (fits : b.taken < 2 ^ 32) where
         | inr e ↦ get_or-set_other a.watch.sends c i (oldest (chan_at b.chans c).transit) None e.1 ∙ kept.oldest_are i li ∙ ap (λ (k : ChanState). oldest k.transit) (sym (chan_there i e.1))
       ]
 
-    kept_delivery : IsKept b
+    kept_delivery : IsKeptAudit b
     kept_delivery =
         let is : b ≡ record b { shape = a.shape; rows = a.rows; members = a.members } = λ i. record b { shape = delivers.shape i; rows = delivers.rows i; members = delivers.members i } in
-        subst IsKept (sym is) kept_delivered
+        subst IsKeptAudit (sym is) kept_delivered
 
-  kept_end : (at : ℕ) → b ≡ record a { watch = record a.watch { latest = Some at; horizon = Some at }; taken = b.taken } → IsKept b
-  kept_end at is = subst IsKept (sym is) (record {
+  kept_end : (at : ℕ) → b ≡ record a { watch = record a.watch { latest = Some at; horizon = Some at }; taken = b.taken } → IsKeptAudit b
+  kept_end at is = subst IsKeptAudit (sym is) (record {
     numbered = kept.numbered;
     members = kept.members;
     chans = kept.chans;
@@ -199,7 +199,7 @@ module _ (a b : AuditState) (kept : IsKept a) (fits : b.taken < 2 ^ 32) where
     taken_fits = fits;
   })
 
-  pub kept_on : (e : Event) → IsEventOf a.shape e → Takes a b e → IsKept b
+  pub kept_on : (e : Event) → IsEventOf a.shape e → AuditTakes a b e → IsKeptAudit b
   kept_on (Act n at) of_shape acts = kept_act n at of_shape.placed of_shape.timely acts
   kept_on (Del c at) of_shape delivers = kept_delivery c at of_shape.placed delivers
   kept_on (End at) of_shape is = kept_end at is

@@ -1,5 +1,4 @@
 pub mod Lines
-pub mod NextChannel
 pub mod SentOn
 pub mod NodeLoops
 pub mod Waking

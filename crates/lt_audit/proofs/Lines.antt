@@ -1,11 +1,14 @@
 -- Channels in a table, and what counts of them.
-use Rattle.std.proofs.Common.{◌≡◌, ◌∙◌, ℕ, ◌+◌, ◌<◌, ◌≤◌, List, length, map, set, refl, sym, ap, subst, arith, inl, inr, length-set, slice_index_or}
+use Rattle.std.proofs.Common.{◌≡◌, ◌∙◌, ℕ, ◌+◌, ◌<◌, ◌≤◌, ◌&&◌, Bool, true, false, not, List, length, map, set, refl, sym, ap, subst, arith, inl, inr, eq-eqb, length-set, slice_index_or}
+use Rattle.std.proofs.lemmas.Bool.{false≢true}
 use Rattle.std.proofs.lemmas.Bool.Decides.{eqb_tells}
 use Rattle.std.proofs.lemmas.List.{get_or-map, get_or_default, get_or-set_same, get_or-set_other}
 use Rattle.std.proofs.Math.Seq.{map-set_same}
 use Rattle.lt_arch.specs.declared.chan.Chan.{Chan}
 use Rattle.lt_audit.specs.Audit.{LineState, kept_of, line_at, chan_at, no_line, no_chan_state}
-use Rattle.lt_audit.specs.Acts.{SameLines, HasRoom, chan_in}
+use Rattle.lt_arch.specs.Readers.{is_data}
+use Rattle.lt_link.specs.Ports.{is_from}
+use Rattle.lt_audit.specs.Acts.{SameLines, LinesHaveRoom, HasRoomOn, audited_chan}
 
 -- what counts of the channel at a place
 pub kept_at : (ls : List LineState) (c : ℕ) → c < length ls → chan_at (map kept_of ls) c ≡ kept_of (line_at ls c)
@@ -41,15 +44,35 @@ module _ (old mid : List LineState) (same : SameLines old mid) (c : ℕ) (x y : 
   }
 
   -- so there is room on one channel more
-  pub one_more : (cs : List Chan) (n : ℕ) → HasRoom cs mid n c → 0 < y.room → HasRoom cs (set mid c y) n (c + 1)
-  one_more cs n has some d ld from = elim (eqb_tells d c) [
+  pub one_more : (on : ℕ → Bool) → HasRoomOn on mid c → 0 < y.room → HasRoomOn on (set mid c y) (c + 1)
+  one_more on has some d ld passes = elim (eqb_tells d c) [
     | inl e ↦ subst (λ (l : LineState). 0 < l.room) (sym (ap (λ i. slice_index_or (set mid c y) i no_line) e.1 ∙ get_or-set_same mid c y no_line within)) some
-    | inr e ↦ let ne = e.1 in subst (λ (l : LineState). 0 < l.room) (sym (get_or-set_other mid c d y no_line e.1)) (has d (omega (arith, ld, ne)) from)
+    | inr e ↦ let ne = e.1 in subst (λ (l : LineState). 0 < l.room) (sym (get_or-set_other mid c d y no_line e.1)) (has d (omega (arith, ld, ne)) passes)
   ]
 
--- a channel that is none of the node's needs none
-pub room_passed : (cs : List Chan) (ls : List LineState) (n c : ℕ) → HasRoom cs ls n c → ((chan_in cs c).from ≡ n → ⊥) → HasRoom cs ls n (c + 1)
-room_passed cs ls n c has other d ld from = elim (eqb_tells d c) [
-  | inl e ↦ absurd (other (ap (λ i. (chan_in cs i).from) (sym e.1) ∙ from))
-  | inr e ↦ let ne = e.1 in has d (omega (arith, ld, ne)) from
+-- a channel that is none of them needs none
+pub room_passed : (on : ℕ → Bool) (ls : List LineState) (c : ℕ) → HasRoomOn on ls c → on c ≡ false → HasRoomOn on ls (c + 1)
+room_passed on ls c has off d ld passes = elim (eqb_tells d c) [
+  | inl e ↦ absurd (false≢true (sym off ∙ ap on (sym e.1) ∙ passes))
+  | inr e ↦ let ne = e.1 in has d (omega (arith, ld, ne)) passes
 ]
+
+-- room is made twice
+pub same_twice : (old mid new : List LineState) → SameLines old mid → SameLines mid new → SameLines old new
+same_twice old mid new a b = record {
+  same_length = b.same_length ∙ a.same_length;
+  kept = b.kept ∙ a.kept;
+  grows = λ c. let first = a.grows c in let second = b.grows c in omega (arith, first, second);
+}
+
+either : (cs : List Chan) (n c : ℕ) (kind : Bool) → is_data (audited_chan cs c).kind ≡ kind → (audited_chan cs c).from ≡ n → is_from cs n kind c ≡ true
+either cs n c true is from = (λ i. eq-eqb (audited_chan cs c).from n from i && is i)
+either cs n c false is from = (λ i. eq-eqb (audited_chan cs c).from n from i && not (is i))
+
+-- on data channels, and then on the others
+pub room_on_both : (cs : List Chan) (mid new : List LineState) (n i : ℕ) → HasRoomOn (is_from cs n true) mid i → SameLines mid new → HasRoomOn (is_from cs n false) new i → LinesHaveRoom cs new n i
+room_on_both cs mid new n i first same second c lt from = by_kind (is_data (audited_chan cs c).kind) refl
+  where
+    by_kind : (kind : Bool) → is_data (audited_chan cs c).kind ≡ kind → 0 < (line_at new c).room
+    by_kind true is = let some = first c lt (either cs n c true is from) in let more = same.grows c in omega (arith, some, more)
+    by_kind false is = second c lt (either cs n c false is from)

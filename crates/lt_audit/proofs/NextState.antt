@@ -10,15 +10,15 @@ use Rattle.lt_arch.specs.Deeds.{deed_at, phase_after, data_from, ack_from}
 use Rattle.lt_arch.specs.Step.{after, with_sent, with_delivered, sends_on, is_execute, is_send}
 use Rattle.lt_arch.specs.Times.{Times, HasTimes, in_transit}
 use Rattle.lt_arch.proofs.Changes.{at_updated}
-use Rattle.lt_audit.specs.Audit.{AuditState, MemberState, IsKept, member_at, chan_at, no_member, no_chan_state, oldest}
-use Rattle.lt_audit.specs.Acts.{Acts, Delivers, chan_in, is_sent_on}
+use Rattle.lt_audit.specs.Audit.{AuditState, MemberState, IsKeptAudit, member_at, chan_at, no_member, no_chan_state, oldest}
+use Rattle.lt_audit.specs.Acts.{AuditActs, AuditDelivers, audited_chan, is_sent_on}
 use Rattle.lt_audit.specs.Standing.{HasState, IsConfigured, oldest_only}
 use Rattle.lt_audit.proofs.DeedSeen.{deed_seen}
 use Rattle.lt_audit.proofs.Oldest.{first_is}
 use Rattle.lt_audit.proofs.Waking.{next_phase, configured_still}
 
-module _ (a b : AuditState) (t : Timing) (st : State) (kept : IsKept a) (h : HasState a a.shape t st) where
-  module _ (n at : ℕ) (ln : n < node_count a.shape) (acts : Acts a b n at) where
+module _ (a b : AuditState) (t : Timing) (st : State) (kept : IsKeptAudit a) (h : HasState a a.shape t st) where
+  module _ (n at : ℕ) (ln : n < node_count a.shape) (acts : AuditActs a b n at) where
     pub deed_is : acts.deed ≡ deed_at a.shape a.rows st n
     deed_is = acts.wakes.deed_is ∙ deed_seen a t st h n ln a.rows
 
@@ -31,7 +31,7 @@ module _ (a b : AuditState) (t : Timing) (st : State) (kept : IsKept a) (h : Has
     member_there : (i : ℕ) → i ≢ n → member_at b.members i ≡ member_at a.members i
     member_there i ne = ap (λ (ms : List MemberState). member_at ms i) acts.members ∙ get_or-set_other a.members n i acts.woken no_member ne
 
-    sent_same : (c : ℕ) → is_sent_on a.protocol n acts.deed (chan_in a.shape.channels c) ≡ sends_on a.shape t n (deed_at a.shape a.rows st n) c
+    sent_same : (c : ℕ) → is_sent_on a.protocol n acts.deed (audited_chan a.shape.channels c) ≡ sends_on a.shape t n (deed_at a.shape a.rows st n) c
     unfolding chan_of
     sent_same c = λ i. (is_send (deed_is i) && data_from a.shape n c) || (is_execute (deed_is i) && (is_back_pressure (h.protocol i) && ack_from a.shape n c))
 
@@ -75,7 +75,7 @@ module _ (a b : AuditState) (t : Timing) (st : State) (kept : IsKept a) (h : Has
       chan = chan_after;
     }
 
-  module _ (c at : ℕ) (lc : c < chan_count a.shape) (delivers : Delivers a b c at) where
+  module _ (c at : ℕ) (lc : c < chan_count a.shape) (delivers : AuditDelivers a b c at) where
     inside : c < length a.chans
     inside = let e = kept.chans in omega (arith, e, lc)
 

@@ -9,7 +9,7 @@ use Rattle.lt_arch.specs.State.{State}
 use Rattle.lt_arch.specs.Readers.{node_count, chan_count, from_of, to_of, dmin_of, dmax_of}
 use Rattle.lt_arch.specs.Times.{in_transit}
 use Rattle.lt_arch.specs.Deadline.{after_oldest, node_deadline, deadline_of, least_below, first_due}
-use Rattle.lt_arch.specs.Step.{too_early, own_offence, offence_of, or_else, where_true, is_backwards, overdue_by, time_of}
+use Rattle.lt_arch.specs.Step.{too_early, own_offence, offence_of, offence_or_else, where_true, is_backwards, overdue_by, time_of}
 use Rattle.lt_audit.specs.Audit.{oldest}
 use Rattle.lt_audit.specs.Standing.{oldest_only}
 
@@ -42,6 +42,6 @@ module _ (s : Shape) (t : Timing) (st : State) where
   pub offence_same : (e : Event) → offence_of s t (oldest_only st) e ≡ offence_of s t st e
   unfolding offence_of
   offence_same e = λ i.
-      or_else (where_true (is_some st.horizon) AfterEnd)
-      (or_else (where_true (is_backwards (time_of e) st.latest) Backwards)
-      (or_else (overdue_by s e (first_same i)) (own_same e i)))
+      offence_or_else (where_true (is_some st.horizon) AfterEnd)
+      (offence_or_else (where_true (is_backwards (time_of e) st.latest) Backwards)
+      (offence_or_else (overdue_by s e (first_same i)) (own_same e i)))

@@ -4,13 +4,15 @@ use Rattle.std.proofs.lemmas.Bool.Decides.{eqb_tells, leb_tells}
 use Rattle.std.proofs.lemmas.List.{get_or-set_same, get_or-set_other}
 use Rattle.lt_arch.specs.declared.chan.Chan.{Chan}
 use Rattle.lt_arch.specs.declared.event.Deed.{Deed}
+use Rattle.lt_arch.specs.declared.event.Deed.TheVariants.{Nothing, Execute, Send}
 use Rattle.lt_arch.specs.declared.timing.Protocol.{Protocol}
 use Rattle.lt_arch.specs.State.{ChanState}
 use Rattle.lt_arch.specs.Readers.{is_data, is_back_pressure}
 use Rattle.lt_arch.specs.Step.{is_execute, is_send, with_sent}
 use Rattle.lt_arch.specs.Times.{Times, sent_in}
+use Rattle.lt_link.specs.Ports.{is_from}
 use Rattle.lt_audit.specs.Audit.{LineState, kept_of, line_at, no_line, oldest}
-use Rattle.lt_audit.specs.Acts.{SentBelow, is_sent_on}
+use Rattle.lt_audit.specs.Acts.{SentBelow, is_sent_on, audited_chan, is_ack_from}
 
 none_from : (send exec bp k : Bool) → ((send && (false && k)) || (exec && (bp && (false && not k)))) ≡ false
 none_from true true true k = refl
@@ -25,6 +27,16 @@ pub sent_off : (p : Protocol) (n : ℕ) (deed : Deed) (ch : Chan) → (ch.from =
 sent_off p n deed ch other =
     ap (λ (x : Bool). (is_send deed && (x && is_data ch.kind)) || (is_execute deed && (is_back_pressure p && (x && not (is_data ch.kind))))) other ∙
     none_from (is_send deed) (is_execute deed) (is_back_pressure p) (is_data ch.kind)
+
+off_acks : (p a : Bool) → a ≡ false → (p && a) ≡ false
+off_acks true a off = off
+off_acks false a off = refl
+
+-- it sends data where it sends, and else acknowledgements, if it sends on any
+pub not_sent : (p : Protocol) (n : ℕ) (deed : Deed) (cs : List Chan) (c : ℕ) → is_from cs n (is_send deed) c ≡ false → is_sent_on p n deed (audited_chan cs c) ≡ false
+not_sent p n Nothing cs c off = refl
+not_sent p n Execute cs c off = off_acks (is_back_pressure p) (is_ack_from (audited_chan cs c) n) off
+not_sent p n Send cs c off = ap (λ (x : Bool). x || false) off
 
 lt_here : (i : ℕ) → nat_lt i (i + 1) ≡ true
 lt_here i = elim (leb_tells (suc i) (i + 1)) [ inl h ↦ h.0 | inr h ↦ absurd (omega (arith, h.1)) ]

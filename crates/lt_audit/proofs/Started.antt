@@ -13,13 +13,13 @@ use Rattle.lt_arch.specs.Readers.{node_count, chan_count, from_of, carries_data}
 use Rattle.lt_arch.specs.Shapes.{HaveSameNodes}
 use Rattle.lt_arch.specs.Times.{Times, HasTimes, in_transit, sent_in}
 use Rattle.lt_audit.specs.Misses.{HasNoMiss}
-use Rattle.lt_audit.specs.Audit.{AuditState, MemberState, IsKept, member_at, chan_at, no_member, no_chan_state, oldest, messages_of}
-use Rattle.lt_audit.specs.Standing.{Stands}
-use Rattle.lt_audit.specs.Starts.{IsAtStart, AreAtStart}
+use Rattle.lt_audit.specs.Audit.{AuditState, MemberState, IsKeptAudit, member_at, chan_at, no_member, no_chan_state, oldest, messages_of}
+use Rattle.lt_audit.specs.Standing.{AuditStands}
+use Rattle.lt_audit.specs.Starts.{IsAtStart, MembersAreAtStart}
 use Rattle.lt_audit.proofs.Longer.{not_nil}
 
 -- one more node
-pub started_more : (ms : List MemberState) (t : Timing) (count : ℕ) (m : MemberState) → AreAtStart ms t count → IsAtStart m t count → AreAtStart (ms ++ m ∷ []) t (count + 1)
+pub started_more : (ms : List MemberState) (t : Timing) (count : ℕ) (m : MemberState) → MembersAreAtStart ms t count → IsAtStart m t count → MembersAreAtStart (ms ++ m ∷ []) t (count + 1)
 started_more ms t count m so_far next = record {
   size = length-append ms (m ∷ []) ∙ ap (λ (k : ℕ). k + 1) so_far.size;
   each = λ n lt. elim (eqb_tells n count) [
@@ -39,7 +39,7 @@ all_sent : (p : Protocol) → unsent (first_phase p) ≡ 0
 all_sent BackPressure = refl
 all_sent TimeBased = refl
 
-module _ (s : Shape) (t : Timing) (rows : ℕ) (w : Times) (ms : List MemberState) (same : HaveSameNodes s t) (times : HasTimes w s t (start t.protocol)) (started : AreAtStart ms t (length t.nodes)) where
+module _ (s : Shape) (t : Timing) (rows : ℕ) (w : Times) (ms : List MemberState) (same : HaveSameNodes s t) (times : HasTimes w s t (start t.protocol)) (started : MembersAreAtStart ms t (length t.nodes)) where
   abbrev pub first_audit : AuditState
   first_audit = record { shape = s; protocol = t.protocol; rows = rows; watch = w; members = ms; chans = replicate (chan_count s) no_chan_state; taken = 0; first = None }
 
@@ -52,7 +52,7 @@ module _ (s : Shape) (t : Timing) (rows : ℕ) (w : Times) (ms : List MemberStat
   no_miss : HasNoMiss s t rows []
   no_miss front e later is miss = not_nil front e later (sym is)
 
-  pub first_stands : Stands first_audit s t rows []
+  pub first_stands : AuditStands first_audit s t rows []
   first_stands = record {
     rows_are = refl;
     free = tt;
@@ -69,7 +69,7 @@ module _ (s : Shape) (t : Timing) (rows : ℕ) (w : Times) (ms : List MemberStat
     first_is = λ _. no_miss;
   }
 
-  pub first_kept : rows < 2 ^ 32 → 2 * (node_count s + chan_count s) < 2 ^ 32 → IsKept first_audit
+  pub first_kept : rows < 2 ^ 32 → 2 * (node_count s + chan_count s) < 2 ^ 32 → IsKeptAudit first_audit
   first_kept fits numbered = record {
     numbered = numbered;
     members = started.size ∙ same;

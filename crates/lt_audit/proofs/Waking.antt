@@ -11,7 +11,7 @@ use Rattle.lt_arch.specs.Deeds.{deed_of, phase_after}
 use Rattle.lt_arch.specs.Step.{is_execute, is_send}
 use Rattle.lt_audit.specs.declared.hearing.Heard.{Heard}
 use Rattle.lt_audit.specs.Audit.{MemberState}
-use Rattle.lt_audit.specs.Acts.{Wakes}
+use Rattle.lt_audit.specs.Acts.{MemberWakes}
 use Rattle.lt_audit.specs.Standing.{IsConfigured}
 
 either_way : (test more : Bool) → (if test && more then Execute else Nothing) ≡ Execute → more ≡ true
@@ -104,7 +104,7 @@ counts_had e a b (Executing left) Nothing le had =
 counts_had e a b (Executing left) Execute le had = record { unsent_after = omega arith; sent_after = omega arith }
 counts_had e a b (Executing left) Send le had = absurd had
 
-pub wake_counts : (old new : MemberState) (heard : Heard) (rows : ℕ) (deed : Deed) → Wakes old new heard rows deed → unsent old.phase ≤ old.executed →
+pub wake_counts : (old new : MemberState) (heard : Heard) (rows : ℕ) (deed : Deed) → MemberWakes old new heard rows deed → unsent old.phase ≤ old.executed →
     (unsent new.phase ≤ new.executed) × (new.executed - unsent new.phase ≡ (old.executed - unsent old.phase) + one_if (is_send deed))
 wake_counts old new heard rows deed wakes le =
     let had : Has old.phase deed = subst (λ (d : Deed). Has old.phase d) (sym wakes.deed_is) (deed_had old.phase heard.all_in heard.any_in heard.all_ack _) in
@@ -147,7 +147,7 @@ next_by : (p : Protocol) (t : Timing) (m : MemberState) (n : ℕ) (d : Deed) →
 next_by BackPressure t m n d is has = pressed_same m.send m.execute (send_of t n) (execute_of t n) m.phase d (has.pressure (sym is))
 next_by TimeBased t m n d is has = λ i. phase_after (has.send (sym is) i) (has.execute (sym is) i) m.phase d
 
-module _ (old new : MemberState) (heard : Heard) (rows : ℕ) (deed : Deed) (wakes : Wakes old new heard rows deed) (t : Timing) (n : ℕ) (has : IsConfigured old t n) where
+module _ (old new : MemberState) (heard : Heard) (rows : ℕ) (deed : Deed) (wakes : MemberWakes old new heard rows deed) (t : Timing) (n : ℕ) (has : IsConfigured old t n) where
   pub next_phase : new.phase ≡ phase_after (send_of t n) (execute_of t n) old.phase deed
   next_phase = wakes.phase ∙ next_by t.protocol t old n deed refl has
 

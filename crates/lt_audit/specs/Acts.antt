@@ -11,12 +11,13 @@ use Rattle.lt_arch.specs.Readers.{is_data, is_back_pressure, no_chan}
 use Rattle.lt_arch.specs.Deeds.{deed_of, phase_after, all_below, some_below}
 use Rattle.lt_arch.specs.Step.{is_execute, is_send, with_sent, with_delivered}
 use Rattle.lt_arch.specs.Times.{Times, sent_in}
+use Rattle.lt_link.specs.Ports.{is_to}
 use Rattle.lt_audit.specs.declared.hearing.Heard.{Heard}
 use Rattle.lt_audit.specs.declared.miss.Miss.{Miss}
 use Rattle.lt_audit.specs.Audit.{MemberState, LineState, AuditState, member_at, line_at, chan_at, kept_of, oldest}
 
-abbrev pub chan_in : List Chan → (c : ℕ) → Chan
-chan_in cs c = slice_index_or cs c no_chan
+abbrev pub audited_chan : List Chan → (c : ℕ) → Chan
+audited_chan cs c = slice_index_or cs c no_chan
 
 -- a channel leads to node n, or from it, and carries data, or acknowledgements
 abbrev pub is_data_to : Chan → (n : ℕ) → Bool
@@ -39,16 +40,24 @@ is_sent_on p n deed ch = (is_send deed && is_data_from ch n) || (is_execute deed
 abbrev pub has_delivered : List ChanState → (executed c : ℕ) → Bool
 has_delivered ls executed c = nat_le executed (chan_at ls c).delivered
 
+-- c is no such channel to node n, or it has delivered so many messages
+abbrev pub delivered_or_other : List Chan → List ChanState → (n : ℕ) → Bool → (executed c : ℕ) → Bool
+delivered_or_other cs ls n kind executed c = not (is_to cs n kind c) || has_delivered ls executed c
+
+-- c is such a channel to node n, and it has delivered so many messages
+abbrev pub delivered_one : List Chan → List ChanState → (n : ℕ) → Bool → (executed c : ℕ) → Bool
+delivered_one cs ls n kind executed c = is_to cs n kind c && has_delivered ls executed c
+
 -- what a node hears that has executed so many instants, of the channels below i
 abbrev pub heard_below : List Chan → List ChanState → (n executed i : ℕ) → Heard
 heard_below cs ls n executed i = record {
-  all_in = all_below (λ c. not (is_data_to (chan_in cs c) n) || has_delivered ls executed c) i;
-  any_in = some_below (λ c. is_data_to (chan_in cs c) n && has_delivered ls executed c) i;
-  all_ack = all_below (λ c. not (is_ack_to (chan_in cs c) n) || has_delivered ls executed c) i;
+  all_in = all_below (λ c. not (is_data_to (audited_chan cs c) n) || has_delivered ls executed c) i;
+  any_in = some_below (λ c. is_data_to (audited_chan cs c) n && has_delivered ls executed c) i;
+  all_ack = all_below (λ c. not (is_ack_to (audited_chan cs c) n) || has_delivered ls executed c) i;
 }
 
 -- a node was activated
-pub record Wakes (old new : MemberState) (heard : Heard) (rows : ℕ) (deed : Deed) : Type 0 where
+pub record MemberWakes (old new : MemberState) (heard : Heard) (rows : ℕ) (deed : Deed) : Type 0 where
   pub deed_is : deed ≡ deed_of old.phase heard.all_in heard.any_in heard.all_ack (nat_lt old.executed rows)
   pub protocol : new.protocol ≡ old.protocol
   pub send : new.send ≡ old.send
@@ -64,8 +73,12 @@ pub record SameLines (old new : List LineState) : Type 0 where
   pub grows : (c : ℕ) → (line_at old c).room ≤ (line_at new c).room
 
 -- there is room on each channel from node n, below i
-abbrev pub HasRoom : List Chan → List LineState → (n i : ℕ) → Type 0
-HasRoom cs ls n i = (c : ℕ) → c < i → (chan_in cs c).from ≡ n → 0 < (line_at ls c).room
+abbrev pub LinesHaveRoom : List Chan → List LineState → (n i : ℕ) → Type 0
+LinesHaveRoom cs ls n i = (c : ℕ) → c < i → (audited_chan cs c).from ≡ n → 0 < (line_at ls c).room
+
+-- there is room on each of these channels below i
+abbrev pub HasRoomOn : (on : ℕ → Bool) → List LineState → (i : ℕ) → Type 0
+HasRoomOn on ls i = (c : ℕ) → c < i → on c ≡ true → 0 < (line_at ls c).room
 
 -- a message was sent at a time on each of these channels below i, and the watch has the oldest of each channel
 pub record SentBelow (on : ℕ → Bool) (at i : ℕ) (old new : List LineState) (w v : Times) : Type 0 where
@@ -78,7 +91,7 @@ pub record SentBelow (on : ℕ → Bool) (at i : ℕ) (old new : List LineState)
 
 -- channel c brings data to a node that has executed so many instants, and has delivered another number of messages
 abbrev pub is_off : List Chan → List ChanState → (n executed c : ℕ) → Bool
-is_off cs ls n executed c = is_data_to (chan_in cs c) n && not ((chan_at ls c).delivered == executed)
+is_off cs ls n executed c = is_data_to (audited_chan cs c) n && not ((chan_at ls c).delivered == executed)
 
 -- the lowest such channel, if there is one
 abbrev pub IsLowestOff : List Chan → List ChanState → (n executed : ℕ) → Option ℕ → Type 0
@@ -110,16 +123,16 @@ abbrev pub next_number : (taken : ℕ) → ℕ
 next_number taken = min (taken + 1) (2 ^ 32 - 1)
 
 -- node n is activated at a time
-pub record Acts (a b : AuditState) (n at : ℕ) : Type 0 where
+pub record AuditActs (a b : AuditState) (n at : ℕ) : Type 0 where
   pub shape : b.shape ≡ a.shape
   pub protocol : b.protocol ≡ a.protocol
   pub rows : b.rows ≡ a.rows
   pub deed : Deed
   pub woken : MemberState
-  pub wakes : Wakes (member_at a.members n) woken (heard_below a.shape.channels a.chans n (member_at a.members n).executed (length a.shape.channels)) a.rows deed
+  pub wakes : MemberWakes (member_at a.members n) woken (heard_below a.shape.channels a.chans n (member_at a.members n).executed (length a.shape.channels)) a.rows deed
   pub members : b.members ≡ slice_set a.members n woken
   pub chan_length : length b.chans ≡ length a.chans
-  pub chan : (c : ℕ) → c < length a.chans → chan_at b.chans c ≡ with_sent (is_sent_on a.protocol n deed (chan_in a.shape.channels c)) at (chan_at a.chans c)
+  pub chan : (c : ℕ) → c < length a.chans → chan_at b.chans c ≡ with_sent (is_sent_on a.protocol n deed (audited_chan a.shape.channels c)) at (chan_at a.chans c)
   pub sends : List (Option ℕ)
   pub watch : b.watch ≡ record a.watch { lasts = slice_set a.watch.lasts n (Some at); sends = sends; latest = Some at }
   pub send_length : length sends ≡ length a.watch.sends
@@ -127,7 +140,7 @@ pub record Acts (a b : AuditState) (n at : ℕ) : Type 0 where
   pub first : NotesFirst a.shape.channels a.chans n (member_at a.members n).executed (next_number a.taken) deed a.first b.first
 
 -- channel c delivers its oldest message at a time
-pub record Delivers (a b : AuditState) (c at : ℕ) : Type 0 where
+pub record AuditDelivers (a b : AuditState) (c at : ℕ) : Type 0 where
   pub shape : b.shape ≡ a.shape
   pub protocol : b.protocol ≡ a.protocol
   pub rows : b.rows ≡ a.rows
@@ -137,7 +150,7 @@ pub record Delivers (a b : AuditState) (c at : ℕ) : Type 0 where
   pub first : b.first ≡ a.first
 
 -- an event without an offence is taken
-abbrev pub Takes : AuditState → AuditState → Event → Type 0
-Takes a b (Act n at) = Acts a b n at
-Takes a b (Del c at) = Delivers a b c at
-Takes a b (End at) = b ≡ record a { watch = record a.watch { latest = Some at; horizon = Some at }; taken = b.taken }
+abbrev pub AuditTakes : AuditState → AuditState → Event → Type 0
+AuditTakes a b (Act n at) = AuditActs a b n at
+AuditTakes a b (Del c at) = AuditDelivers a b c at
+AuditTakes a b (End at) = b ≡ record a { watch = record a.watch { latest = Some at; horizon = Some at }; taken = b.taken }

@@ -68,7 +68,7 @@ abbrev pub messages_of : MemberState → (is_data : Bool) → ℕ
 messages_of m is_data = if is_data then m.executed - unsent m.phase else m.executed
 
 -- what it keeps
-pub record IsKept (a : AuditState) : Type 0 where
+pub record IsKeptAudit (a : AuditState) : Type 0 where
   pub numbered : 2 * (node_count a.shape + chan_count a.shape) < 2 ^ 32
   pub members : length a.members ≡ node_count a.shape
   pub chans : length a.chans ≡ chan_count a.shape

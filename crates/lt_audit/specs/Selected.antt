@@ -8,13 +8,13 @@ use Rattle.lt_arch.specs.Step.{time_of}
 use Rattle.lt_audit.specs.declared.selection.Selection.{Selection}
 
 -- it is a channel of the shape, to the node
-abbrev pub leads_to : Shape → (c node : ℕ) → Bool
-leads_to s c node = nat_lt c (chan_count s) && (to_of s c == node)
+abbrev pub leads_to_node : Shape → (c node : ℕ) → Bool
+leads_to_node s c node = nat_lt c (chan_count s) && (to_of s c == node)
 
 -- the event is the node's activation, or a delivery on a channel of the shape to it
 abbrev pub concerns : Shape → (node : ℕ) → Event → Bool
 concerns s node (Act n at) = n == node
-concerns s node (Del c at) = leads_to s c node
+concerns s node (Del c at) = leads_to_node s c node
 concerns s node (End at) = false
 
 -- it concerns the node, where one is named

@@ -37,7 +37,7 @@ pub record HasState (a : AuditState) (s : Shape) (t : Timing) (st : State) : Typ
 
 -- it stands for these events, with so many input rows: none of them has an offence, it is where they lead, and it knows the
 -- first at which a node executed with a message too few or too many, as far as events can be numbered
-pub record Stands (a : AuditState) (s : Shape) (t : Timing) (rows : ℕ) (es : List Event) : Type 0 where
+pub record AuditStands (a : AuditState) (s : Shape) (t : Timing) (rows : ℕ) (es : List Event) : Type 0 where
   pub rows_are : a.rows ≡ rows
   pub free : IsOffenceFree s t rows es
   pub state : HasState a s t (reached s t rows es)
@@ -45,7 +45,7 @@ pub record Stands (a : AuditState) (s : Shape) (t : Timing) (rows : ℕ) (es : L
   pub first_is : a.taken < 2 ^ 32 - 1 → FirstMiss s t rows es a.first
 
 -- what is right of an event with this offence, or none: want of memory comes only where it has none
-abbrev pub Judges : Option arch.Offence → Result (Unit {0}) AuditFault → Type 0
-Judges offence (Ok done) = offence ≡ None
-Judges offence (Err (Offence found)) = offence ≡ Some found
-Judges offence (Err Memory) = offence ≡ None
+abbrev pub JudgesEvent : Option arch.Offence → Result (Unit {0}) AuditFault → Type 0
+JudgesEvent offence (Ok done) = offence ≡ None
+JudgesEvent offence (Err (Offence found)) = offence ≡ Some found
+JudgesEvent offence (Err Memory) = offence ≡ None

@@ -12,6 +12,6 @@ pub record IsAtStart (m : MemberState) (t : Timing) (n : ℕ) : Type 0 where
   pub executed : m.executed ≡ 0
 
 -- the first nodes of a setup, none of which was activated
-pub record AreAtStart (ms : List MemberState) (t : Timing) (count : ℕ) : Type 0 where
+pub record MembersAreAtStart (ms : List MemberState) (t : Timing) (count : ℕ) : Type 0 where
   pub size : length ms ≡ count
   pub each : (n : ℕ) → n < count → IsAtStart (member_at ms n) t n

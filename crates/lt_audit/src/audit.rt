@@ -9,10 +9,10 @@ ghost use Rattle.lt_arch.specs.Schedule.{IsEventOf};
 ghost use Rattle.lt_arch.specs.Shapes.{HaveSameNodes};
 ghost use Rattle.lt_arch.specs.Step.{offence_of};
 ghost use Rattle.lt_arch.specs.Times.{HasTimes};
-ghost use Rattle.lt_audit.specs.Audit.{IsKept, kept_of, no_chan_state};
-ghost use Rattle.lt_audit.specs.Acts.{Acts, Delivers, Takes, next_number};
-ghost use Rattle.lt_audit.specs.Standing.{Stands};
-ghost use Rattle.lt_audit.specs.Starts.{AreAtStart};
+ghost use Rattle.lt_audit.specs.Audit.{IsKeptAudit, kept_of, no_chan_state};
+ghost use Rattle.lt_audit.specs.Acts.{AuditActs, AuditDelivers, AuditTakes, next_number};
+ghost use Rattle.lt_audit.specs.Standing.{AuditStands};
+ghost use Rattle.lt_audit.specs.Starts.{MembersAreAtStart};
 
 use crate::Miss;
 use crate::hearing::hear;
@@ -22,7 +22,7 @@ use crate::missing::first_missed;
 use crate::sending::{deliver, make_room, send_all};
 use lt_arch::{Event, Offence, Protocol, Shape, Timing, Watch};
 use lt_base::{Memory, Steps};
-use lt_wiring::Wiring;
+use lt_link::Wiring;
 use std::alloc::Global;
 use std::marker::Model;
 use std::sync::ledger::Ledger;
@@ -54,8 +54,8 @@ impl Audit {
     pub fn start(alloc: Global, shape: Shape, timing: Timing, rows: u32) -> Result<Audit, Memory>
         requires same { HaveSameNodes shape timing }
         requires numbered { 2 * (node_count shape + chan_count shape) < 2 ^ 32 }
-        ensures kept { IfOk result IsKept }
-        ensures stands { IfOk result (λ audit. Stands audit shape timing rows []) }
+        ensures kept { IfOk result IsKeptAudit }
+        ensures stands { IfOk result (λ audit. AuditStands audit shape timing rows []) }
     {
         let wiring = Wiring::of(alloc, shape)?;
         Audit::of_wiring(alloc, wiring, &timing, rows)
@@ -65,8 +65,8 @@ impl Audit {
     fn of_wiring(alloc: Global, wiring: Wiring, timing: &Timing, rows: u32) -> Result<Audit, Memory>
         requires same { HaveSameNodes wiring timing.now }
         requires numbered { 2 * (node_count wiring + chan_count wiring) < 2 ^ 32 }
-        ensures kept { IfOk result IsKept }
-        ensures stands { IfOk result (λ audit. Stands audit wiring timing.now rows []) }
+        ensures kept { IfOk result IsKeptAudit }
+        ensures stands { IfOk result (λ audit. AuditStands audit wiring timing.now rows []) }
     {
         let (members, lines) = at_start(alloc, timing, wiring.channels().len())?;
         let watch = Watch::start(alloc, wiring.shape(), timing)?;
@@ -98,7 +98,7 @@ impl Audit {
 
     /// The offence of an event, if it has one.
     pub fn judge<L: Ledger>(&self, e: &Event, steps: &mut Steps<L>) -> Option<Offence>
-        requires kept { IsKept self.now }
+        requires kept { IsKeptAudit self.now }
         requires event { IsEventOf self.now.shape e.now }
         ensures offence { (s : OfShape) (t : OfTiming) (st : State) → HasTimes self.now.watch s t st → result ≡ offence_of s t st e.now }
         ensures cost { steps.new ≤ steps.old + 4 }
@@ -108,12 +108,12 @@ impl Audit {
 
     /// Takes an event that has no offence. Want of memory changes nothing.
     pub fn take<L: Ledger>(&mut self, e: Event, steps: &mut Steps<L>) -> Result<(), Memory>
-        requires kept { IsKept self.old }
+        requires kept { IsKeptAudit self.old }
         requires event { IsEventOf self.old.shape e }
         requires passes { (s : OfShape) (t : OfTiming) (st : State) → HasTimes self.old.watch s t st → offence_of s t st e ≡ None }
-        ensures kept { IsKept self.new }
+        ensures kept { IsKeptAudit self.new }
         ensures unchanged { OnErr result (self.new ≡ self.old) }
-        ensures takes { OnOk result (Takes self.old self.new e) }
+        ensures takes { OnOk result (AuditTakes self.old self.new e) }
         ensures number { OnOk result (self.new.taken ≡ next_number self.old.taken) }
         ensures shape { self.new.shape ≡ self.old.shape }
     {
@@ -124,10 +124,10 @@ impl Audit {
 
     // What an event changes but the count of events.
     fn change<L: Ledger>(&mut self, e: Event, steps: &mut Steps<L>) -> Result<(), Memory>
-        requires kept { IsKept self.old }
+        requires kept { IsKeptAudit self.old }
         requires event { IsEventOf self.old.shape e }
         ensures unchanged { OnErr result (self.new ≡ self.old) }
-        ensures takes { OnOk result (Takes self.old self.new e) }
+        ensures takes { OnOk result (AuditTakes self.old self.new e) }
         ensures taken { self.new.taken ≡ self.old.taken }
     {
         match e {
@@ -144,11 +144,11 @@ impl Audit {
     }
 
     fn act<L: Ledger>(&mut self, node: u32, at: u64, steps: &mut Steps<L>) -> Result<(), Memory>
-        requires kept { IsKept self.old }
+        requires kept { IsKeptAudit self.old }
         requires node { node < node_count self.old.shape }
         requires time { at ≤ GREATEST_TIME }
         ensures unchanged { OnErr result (self.new ≡ self.old) }
-        ensures acts { OnOk result (Acts self.old self.new node at) }
+        ensures acts { OnOk result (AuditActs self.old self.new node at) }
         ensures taken { self.new.taken ≡ self.old.taken }
     {
         make_room(&self.wiring, &mut self.lines, node)?;
@@ -180,10 +180,10 @@ impl Audit {
     }
 
     fn deliver<L: Ledger>(&mut self, ch: u32, at: u64, steps: &mut Steps<L>)
-        requires kept { IsKept self.old }
+        requires kept { IsKeptAudit self.old }
         requires channel { ch < chan_count self.old.shape }
         requires time { at ≤ GREATEST_TIME }
-        ensures delivers { Delivers self.old self.new ch at }
+        ensures delivers { AuditDelivers self.old self.new ch at }
         ensures taken { self.new.taken ≡ self.old.taken }
     {
         deliver(&mut self.lines[ch as usize], &mut self.watch, ch, at, steps);
@@ -196,7 +196,7 @@ fn at_start(
     timing: &Timing,
     channels: usize,
 ) -> Result<(Vec<Member>, Vec<Line>), Memory>
-    ensures members { IfOk result (λ first. AreAtStart first.0.items timing.now (length timing.now.nodes)) }
+    ensures members { IfOk result (λ first. MembersAreAtStart first.0.items timing.now (length timing.now.nodes)) }
     ensures lines { IfOk result (λ first. map kept_of first.1.items ≡ replicate channels no_chan_state) }
 {
     let members = members_of(alloc, timing)?;
@@ -205,7 +205,7 @@ fn at_start(
 }
 
 fn members_of(alloc: Global, timing: &Timing) -> Result<Vec<Member>, Memory>
-    ensures { IfOk result (λ members. AreAtStart members.items timing.now (length timing.now.nodes)) }
+    ensures { IfOk result (λ members. MembersAreAtStart members.items timing.now (length timing.now.nodes)) }
 {
     let mut members = Vec::new(alloc);
     for node in 0..timing.node_count() {

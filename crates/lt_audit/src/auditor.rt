@@ -7,9 +7,9 @@ ghost use Rattle.lt_arch.specs.Readers.{node_count, chan_count};
 ghost use Rattle.lt_arch.specs.Schedule.{IsEventOf, reached};
 ghost use Rattle.lt_arch.specs.Shapes.{HaveSameNodes};
 ghost use Rattle.lt_arch.specs.Step.{offence_of};
-ghost use Rattle.lt_audit.specs.Audit.{IsKept};
+ghost use Rattle.lt_audit.specs.Audit.{IsKeptAudit};
 ghost use Rattle.lt_audit.specs.Misses.{FirstMiss};
-ghost use Rattle.lt_audit.specs.Standing.{Stands, Judges};
+ghost use Rattle.lt_audit.specs.Standing.{AuditStands, JudgesEvent};
 
 use crate::audit::Audit;
 use crate::{AuditFault, Miss};
@@ -27,13 +27,13 @@ pub struct Auditor {
 }
 
 impl Model for Auditor {
-    ghost use Rattle.lt_audit.specs.Audit.{AuditState, IsKept};
+    ghost use Rattle.lt_audit.specs.Audit.{AuditState, IsKeptAudit};
 
     ghost Value = { AuditState };
 
     ghost view = { λ a. a.audit };
 
-    ghost invariant = { λ a. IsKept a.audit };
+    ghost invariant = { λ a. IsKeptAudit a.audit };
 }
 
 impl Auditor {
@@ -41,7 +41,7 @@ impl Auditor {
     pub fn start(alloc: Global, shape: Shape, timing: Timing, rows: u32) -> Result<Auditor, Memory>
         requires same { HaveSameNodes shape timing }
         requires numbered { 2 * (node_count shape + chan_count shape) < 2 ^ 32 }
-        ensures { IfOk result (λ auditor. Stands auditor shape timing rows []) }
+        ensures { IfOk result (λ auditor. AuditStands auditor shape timing rows []) }
     {
         Ok(Auditor {
             audit: Audit::start(alloc, shape, timing, rows)?,
@@ -49,8 +49,8 @@ impl Auditor {
     }
 
     /// What every auditor keeps, for callers.
-    pub fn kept(&self)
-        ensures { IsKept self.now }
+    pub fn invariant_holds(&self)
+        ensures { IsKeptAudit self.now }
     {
         let _ = &self.audit;
     }
@@ -63,7 +63,7 @@ impl Auditor {
     }
 
     /// How many events it has taken, as far as a number of 32 bits goes.
-    pub fn taken(&self) -> u32
+    pub fn taken_count(&self) -> u32
         ensures { result ≡ self.now.taken }
     {
         self.audit.taken
@@ -79,8 +79,8 @@ impl Auditor {
     /// Judges an event, and takes it where it has no offence. An offence and want of memory change nothing.
     pub fn event<L: Ledger>(&mut self, e: Event, steps: &mut Steps<L>) -> Result<(), AuditFault>
         requires { IsEventOf self.old.shape e }
-        ensures judges { (s : OfShape) (t : OfTiming) (rows : ℕ) (es : List OfEvent) → Stands self.old s t rows es → Judges (offence_of s t (reached s t rows es) e) result }
-        ensures takes { OnOk result ((s : OfShape) (t : OfTiming) (rows : ℕ) (es : List OfEvent) → Stands self.old s t rows es → Stands self.new s t rows (es ++ e ∷ [])) }
+        ensures judges { (s : OfShape) (t : OfTiming) (rows : ℕ) (es : List OfEvent) → AuditStands self.old s t rows es → JudgesEvent (offence_of s t (reached s t rows es) e) result }
+        ensures takes { OnOk result ((s : OfShape) (t : OfTiming) (rows : ℕ) (es : List OfEvent) → AuditStands self.old s t rows es → AuditStands self.new s t rows (es ++ e ∷ [])) }
         ensures unchanged { OnErr result (self.new ≡ self.old) }
         ensures shape { self.new.shape ≡ self.old.shape }
     {
@@ -96,7 +96,7 @@ impl Auditor {
     /// The first event at which a node executed with a message too few or too many. Fewer than 2^32 events were taken.
     pub fn miss(&self) -> Option<Miss>
         requires { self.now.taken < 2 ^ 32 - 1 }
-        ensures { (s : OfShape) (t : OfTiming) (rows : ℕ) (es : List OfEvent) → Stands self.now s t rows es → FirstMiss s t rows es result }
+        ensures { (s : OfShape) (t : OfTiming) (rows : ℕ) (es : List OfEvent) → AuditStands self.now s t rows es → FirstMiss s t rows es result }
     {
         self.audit.first
     }

@@ -1,12 +1,12 @@
 // What a node hears when it is activated.
-ghost use Rattle.std.specs.Prelude.{◌≡◌, ◌<◌, ◌&&◌, ◌||◌, not, length, map, nat_le};
-ghost use Rattle.lt_arch.specs.Readers.{node_count, chan_count, is_data};
+ghost use Rattle.std.specs.Prelude.{◌≡◌, ◌<◌, length, map, nat_le};
+ghost use Rattle.lt_arch.specs.Deeds.{all_below, some_below};
+ghost use Rattle.lt_arch.specs.Readers.{node_count, chan_count};
 ghost use Rattle.lt_audit.specs.Audit.{kept_of};
-ghost use Rattle.lt_audit.specs.Acts.{heard_below, is_data_to, is_ack_to};
+ghost use Rattle.lt_audit.specs.Acts.{heard_below, delivered_or_other, delivered_one};
 
 use crate::line::Line;
-use lt_arch::{Chan, ChanKind};
-use lt_wiring::Wiring;
+use lt_link::Wiring;
 
 /// Whether every, or some, data channel to a node has delivered enough for its next instant, and whether every acknowledgement
 /// channel to it has.
@@ -17,46 +17,42 @@ pub struct Heard {
     pub all_ack: bool,
 }
 
-/// Whether a channel carries data.
-pub fn carries_data(channel: &Chan) -> bool
-    ensures { result ≡ is_data channel.now.kind }
-{
-    match channel.kind {
-        ChanKind::Data => true,
-        ChanKind::Ack => false,
-    }
-}
-
-/// Whether a channel brings data to a node.
-pub fn brings_data(channel: &Chan, node: u32) -> bool
-    ensures { result ≡ is_data_to channel.now node }
-{
-    channel.to == node && carries_data(channel)
-}
-
-// Whether a channel brings acknowledgements to a node.
-fn brings_acks(channel: &Chan, node: u32) -> bool
-    ensures { result ≡ is_ack_to channel.now node }
-{
-    channel.to == node && !carries_data(channel)
-}
-
-fn and_all(asked: bool, enough: bool, so_far: bool) -> bool
-    ensures { result ≡ ((not asked || enough) && so_far) }
-{
-    (!asked || enough) && so_far
-}
-
-fn or_any(asked: bool, enough: bool, so_far: bool) -> bool
-    ensures { result ≡ ((asked && enough) || so_far) }
-{
-    asked && enough || so_far
-}
-
 fn has_delivered(line: &Line, executed: u32) -> bool
     ensures { result ≡ nat_le executed line.now.delivered }
 {
     executed <= line.delivered()
+}
+
+// Whether each channel to a node, of data channels or of the others, has delivered so many messages.
+fn all_delivered(wiring: &Wiring, lines: &[Line], node: u32, kind: bool, executed: u32) -> bool
+    requires lines { length lines.now ≡ chan_count wiring.now }
+    requires node { node < node_count wiring.now }
+    ensures { result ≡ all_below (delivered_or_other wiring.now.channels (map kept_of lines.now) node kind executed) (length wiring.now.channels) }
+{
+    let numbers = wiring.incoming(node, kind);
+    for number in numbers {
+        let c = *number as usize;
+        if !has_delivered(&lines[c], executed) {
+            return false;
+        }
+    }
+    true
+}
+
+// Whether some channel to a node, of data channels or of the others, has delivered so many messages.
+fn any_delivered(wiring: &Wiring, lines: &[Line], node: u32, kind: bool, executed: u32) -> bool
+    requires lines { length lines.now ≡ chan_count wiring.now }
+    requires node { node < node_count wiring.now }
+    ensures { result ≡ some_below (delivered_one wiring.now.channels (map kept_of lines.now) node kind executed) (length wiring.now.channels) }
+{
+    let numbers = wiring.incoming(node, kind);
+    for number in numbers {
+        let c = *number as usize;
+        if has_delivered(&lines[c], executed) {
+            return true;
+        }
+    }
+    false
 }
 
 /// What a node hears that has executed so many instants.
@@ -65,20 +61,9 @@ pub fn hear(wiring: &Wiring, lines: &[Line], node: u32, executed: u32) -> Heard
     requires node { node < node_count wiring.now }
     ensures { result ≡ heard_below wiring.now.channels (map kept_of lines.now) node executed (length wiring.now.channels) }
 {
-    let channels = wiring.channels();
-    let numbers = wiring.incoming(node);
-    let mut all_in = true;
-    let mut any_in = false;
-    let mut all_ack = true;
-    for i in 0..numbers.len() {
-        let c = numbers[i] as usize;
-        let enough = has_delivered(&lines[c], executed);
-        let brings = brings_data(&channels[c], node);
-        let answers = brings_acks(&channels[c], node);
-        all_in = and_all(brings, enough, all_in);
-        any_in = or_any(brings, enough, any_in);
-        all_ack = and_all(answers, enough, all_ack);
-    }
+    let all_in = all_delivered(wiring, lines, node, true, executed);
+    let any_in = any_delivered(wiring, lines, node, true, executed);
+    let all_ack = all_delivered(wiring, lines, node, false, executed);
     Heard {
         all_in,
         any_in,

@@ -1,11 +1,11 @@
 // A node and its controller.
 ghost use Rattle.std.specs.Prelude.{◌≡◌, ◌<◌, ◌≤◌, length};
 ghost use Rattle.lt_audit.specs.Starts.{IsAtStart};
-ghost use Rattle.lt_audit.specs.Acts.{Wakes};
+ghost use Rattle.lt_audit.specs.Acts.{MemberWakes};
 
 use crate::hearing::Heard;
 use lt_arch::{Controller, Deed, Timing};
-use lt_judge::NodeController;
+use lt_lead::NodeController;
 use std::marker::Model;
 
 /// The controller of a node, and how many instants the node has executed.
@@ -52,7 +52,7 @@ impl Member {
     #[tactic(auto, using(crate::proofs::Waking::executes_with_more))]
     pub fn wake(&mut self, heard: Heard, rows: u32) -> Deed
         requires { self.old.executed ≤ rows }
-        ensures { Wakes self.old self.new heard rows result }
+        ensures { MemberWakes self.old self.new heard rows result }
     {
         let more = self.executed < rows;
         let deed = self

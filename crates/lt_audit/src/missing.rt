@@ -1,20 +1,19 @@
 // The miss of an execution.
-ghost use Rattle.std.specs.Prelude.{◌≡◌, ◌&&◌, ◌==◌, ◌<◌, not, length, map};
+ghost use Rattle.std.specs.Prelude.{◌≡◌, ◌==◌, ◌<◌, not, length, map};
 ghost use Rattle.lt_arch.specs.declared.event.Deed.TheVariants.{Execute};
 ghost use Rattle.lt_arch.specs.Readers.{node_count, chan_count};
 ghost use Rattle.lt_audit.specs.Audit.{kept_of};
-ghost use Rattle.lt_audit.specs.Acts.{IsLowestOff, Notes, NotesFirst, is_data_to};
+ghost use Rattle.lt_audit.specs.Acts.{IsLowestOff, Notes, NotesFirst};
 
 use crate::Miss;
-use crate::hearing::brings_data;
 use crate::line::Line;
-use lt_arch::{Chan, Deed};
-use lt_wiring::Wiring;
+use lt_arch::Deed;
+use lt_link::Wiring;
 
-fn is_off(channel: &Chan, line: &Line, node: u32, executed: u32) -> bool
-    ensures { result ≡ (is_data_to channel.now node && not (line.now.delivered == executed)) }
+fn is_off(line: &Line, executed: u32) -> bool
+    ensures { result ≡ not (line.now.delivered == executed) }
 {
-    brings_data(channel, node) && line.delivered() != executed
+    line.delivered() != executed
 }
 
 // The lowest data channel to a node that has delivered another number of messages than this.
@@ -23,13 +22,11 @@ fn lowest_off(wiring: &Wiring, lines: &[Line], node: u32, executed: u32) -> Opti
     requires node { node < node_count wiring.now }
     ensures { IsLowestOff wiring.now.channels (map kept_of lines.now) node executed result }
 {
-    let channels = wiring.channels();
-    let numbers = wiring.incoming(node);
-    for i in 0..numbers.len() {
-        let ch = numbers[i];
-        let c = ch as usize;
-        if is_off(&channels[c], &lines[c], node, executed) {
-            return Some(ch);
+    let numbers = wiring.incoming(node, true);
+    for number in numbers {
+        let c = *number as usize;
+        if is_off(&lines[c], executed) {
+            return Some(*number);
         }
     }
     None
@@ -54,7 +51,7 @@ fn miss_of(wiring: &Wiring, lines: &[Line], node: u32, executed: u32, number: u3
 }
 
 // The miss of a deed, if it makes one.
-fn missed(
+fn miss_of_deed(
     wiring: &Wiring,
     lines: &[Line],
     node: u32,
@@ -89,6 +86,6 @@ pub fn first_missed(
 {
     match first {
         Some(miss) => Some(miss),
-        None => missed(wiring, lines, node, executed, number, deed),
+        None => miss_of_deed(wiring, lines, node, executed, number, deed),
     }
 }

@@ -44,7 +44,7 @@ fn concerns(shape: &Shape, node: u32, e: &Event) -> bool
 
 #[tactic(auto, unfolding(lt_arch::specs::Readers::chan_of))]
 fn leads_to(shape: &Shape, ch: u32, node: u32) -> bool
-    ensures { result ≡ selected.leads_to shape.now ch node }
+    ensures { result ≡ selected.leads_to_node shape.now ch node }
 {
     let channels = shape.channels.as_slice();
     if (ch as usize) < channels.len() {

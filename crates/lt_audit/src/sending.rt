@@ -1,17 +1,17 @@
 // The messages that a deed sends.
 ghost use Rattle.std.specs.Prelude.{◌≡◌, ◌<◌, ◌≤◌, ◌+◌, ◌^◌, ℕ, true, Some, All, length, OnOk, slice_set};
 ghost use Rattle.lt_arch.specs.declared.limits.TheConstants.{GREATEST_TIME};
-ghost use Rattle.lt_arch.specs.Readers.{node_count, chan_count, is_back_pressure};
-ghost use Rattle.lt_arch.specs.Step.{with_delivered, with_sent};
+ghost use Rattle.lt_arch.specs.Readers.{node_count, chan_count, is_data, is_back_pressure};
+ghost use Rattle.lt_arch.specs.Step.{is_send, with_delivered, with_sent};
 ghost use Rattle.lt_arch.specs.Times.{sent_in};
+ghost use Rattle.lt_link.specs.Ports.{is_from};
 ghost use Rattle.lt_audit.specs.Audit.{kept_of, line_at, oldest};
-ghost use Rattle.lt_audit.specs.Acts.{SameLines, HasRoom, SentBelow, chan_in, is_sent_on, is_data_from, is_ack_from};
+ghost use Rattle.lt_audit.specs.Acts.{SameLines, LinesHaveRoom, HasRoomOn, SentBelow, audited_chan, is_sent_on, is_data_from, is_ack_from};
 
-use crate::hearing::carries_data;
 use crate::line::Line;
-use lt_arch::{Chan, Deed, Protocol, Watch};
+use lt_arch::{Chan, ChanKind, Deed, Protocol, Watch};
 use lt_base::{Memory, Steps};
-use lt_wiring::Wiring;
+use lt_link::Wiring;
 use std::sync::ledger::Ledger;
 
 /// Takes room for one more message on each channel from a node.
@@ -19,11 +19,23 @@ pub fn make_room(wiring: &Wiring, lines: &mut Vec<Line>, node: u32) -> Result<()
     requires lines { length lines.old.items ≡ chan_count wiring.now }
     requires node { node < node_count wiring.now }
     ensures same { SameLines lines.old.items lines.new.items }
-    ensures room { OnOk result (HasRoom wiring.now.channels lines.new.items node (length wiring.now.channels)) }
+    ensures room { OnOk result (LinesHaveRoom wiring.now.channels lines.new.items node (length wiring.now.channels)) }
 {
-    let numbers = wiring.outgoing(node);
-    for i in 0..numbers.len() {
-        let c = numbers[i] as usize;
+    make_room_on(wiring, lines, node, true)?;
+    make_room_on(wiring, lines, node, false)?;
+    Ok(())
+}
+
+// The same on data channels, or on the others.
+fn make_room_on(wiring: &Wiring, lines: &mut Vec<Line>, node: u32, kind: bool) -> Result<(), Memory>
+    requires lines { length lines.old.items ≡ chan_count wiring.now }
+    requires node { node < node_count wiring.now }
+    ensures same { SameLines lines.old.items lines.new.items }
+    ensures room { OnOk result (HasRoomOn (is_from wiring.now.channels node kind) lines.new.items (length wiring.now.channels)) }
+{
+    let numbers = wiring.outgoing(node, kind);
+    for number in numbers {
+        let c = *number as usize;
         lines[c].make_room()?;
     }
     Ok(())
@@ -35,6 +47,25 @@ fn is_back_pressure(protocol: Protocol) -> bool
     match protocol {
         Protocol::BackPressure => true,
         Protocol::TimeBased => false,
+    }
+}
+
+fn is_send(deed: Deed) -> bool
+    ensures { result ≡ is_send deed }
+{
+    match deed {
+        Deed::Nothing => false,
+        Deed::Execute => false,
+        Deed::Send => true,
+    }
+}
+
+fn carries_data(channel: &Chan) -> bool
+    ensures { result ≡ is_data channel.now.kind }
+{
+    match channel.kind {
+        ChanKind::Data => true,
+        ChanKind::Ack => false,
     }
 }
 
@@ -74,13 +105,13 @@ pub fn send_all<L: Ledger>(
     requires node { node < node_count wiring.now }
     requires lines { length lines.old.items ≡ chan_count wiring.now }
     requires sends { length watch.old.sends ≡ chan_count wiring.now }
-    requires room { HasRoom wiring.now.channels lines.old.items node (length wiring.now.channels) }
+    requires room { LinesHaveRoom wiring.now.channels lines.old.items node (length wiring.now.channels) }
     requires oldest { (c : ℕ) → c < chan_count wiring.now → sent_in watch.old c ≡ oldest (line_at lines.old.items c).transit }
     requires time { at ≤ GREATEST_TIME }
-    ensures { SentBelow (λ c. is_sent_on protocol node deed (chan_in wiring.now.channels c)) at (length wiring.now.channels) lines.old.items lines.new.items watch.old watch.new }
+    ensures { SentBelow (λ c. is_sent_on protocol node deed (audited_chan wiring.now.channels c)) at (length wiring.now.channels) lines.old.items lines.new.items watch.old watch.new }
 {
     let channels = wiring.channels();
-    let numbers = wiring.outgoing(node);
+    let numbers = wiring.outgoing(node, is_send(deed));
     for i in 0..numbers.len() {
         let ch = numbers[i];
         let c = ch as usize;

@@ -18,3 +18,7 @@ pub mod Defined
 mod Cuts
 pub mod Shape
 mod Wrapping
+mod Pushing
+pub mod Presence
+pub mod Counted
+pub mod Digits

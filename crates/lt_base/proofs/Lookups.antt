@@ -11,7 +11,7 @@ use Rattle.lt_base.specs.declared.function.Decl.{Decl}
 use Rattle.lt_base.specs.Expression.{Expression, literal, variable, unary, binary, imported, choose, sampled, merged, delayed, follow, arrow, call, Arguments, no_arguments, argument}
 use Rattle.lt_base.specs.Program.{Function, GoodFunction, VarsBelow, ArgumentVarsBelow}
 use Rattle.lt_base.specs.Meaning.{clock_of, right_of, function_of}
-use Rattle.lt_base.specs.Equations.{lefts, inside, EquationsIn, Appended}
+use Rattle.lt_base.specs.Equations.{left_count, inside, EquationsIn, Appended}
 use Rattle.lt_base.specs.Typing.{ty_at}
 
 pub not_same : (x n : ℕ) → n < x → nat_eq x n ≡ false
@@ -109,10 +109,10 @@ left_below f good x e h =
 
 -- ---- how often a left side stands in a list
 
-pub lefts_cons : (x : ℕ) (q : ℕ × Expression) (qs : List (ℕ × Expression)) → lefts x (q ∷ qs) ≡ cond (nat_eq x q.0) 1 0 + lefts x qs
+pub lefts_cons : (x : ℕ) (q : ℕ × Expression) (qs : List (ℕ × Expression)) → left_count x (q ∷ qs) ≡ cond (nat_eq x q.0) 1 0 + left_count x qs
 lefts_cons x q qs = sum_by-cons (λ (z : ℕ × Expression). cond (nat_eq x z.0) 1 0) q qs
 
-pub lefts_append : (x : ℕ) (xs ys : List (ℕ × Expression)) → lefts x (xs ++ ys) ≡ lefts x xs + lefts x ys
+pub lefts_append : (x : ℕ) (xs ys : List (ℕ × Expression)) → left_count x (xs ++ ys) ≡ left_count x xs + left_count x ys
 lefts_append x xs ys = sum_by-append (λ (z : ℕ × Expression). cond (nat_eq x z.0) 1 0) xs ys
 
 pub inside_none : (n x : ℕ) → inside n (n + 0) x ≡ 0
@@ -137,19 +137,19 @@ pub inside_not : (low high x : ℕ) → x < low → inside low high x ≡ 0
 inside_not low high x h = grind (arith, nat_tests)
 
 -- two lists, each with one equation for the numbers of its range
-pub lefts_two : (x low middle high : ℕ) (xs ys : List (ℕ × Expression)) → low ≤ middle → middle ≤ high → lefts x xs ≡ inside low middle x → lefts x ys ≡ inside middle high x → lefts x (xs ++ ys) ≡ inside low high x
+pub lefts_two : (x low middle high : ℕ) (xs ys : List (ℕ × Expression)) → low ≤ middle → middle ≤ high → left_count x xs ≡ inside low middle x → left_count x ys ≡ inside middle high x → left_count x (xs ++ ys) ≡ inside low high x
 lefts_two x low middle high xs ys p q h k = lefts_append x xs ys ∙ (λ i. h i + k i) ∙ inside_two low middle high x p q
 
 -- ---- a list in which no left side stands twice finds each of its equations
 
-later_by : (x : ℕ) (q : ℕ × Expression) (qs : List (ℕ × Expression)) (o : Option Expression) → 0 < lefts x qs → lefts x (q ∷ qs) ≤ 1 → (0 < lefts x (q ∷ qs) → o ≡ (if nat_eq x q.0 then Some q.1 else right_of qs x)) → (t : Bool) → nat_eq x q.0 ≡ t → o ≡ right_of qs x
-later_by x q qs o l m h true t = let k = lefts_cons x q qs ∙ ap (λ b. cond b 1 0 + lefts x qs) t in absurd (omega (arith, k, l, m))
-later_by x q qs o l m h false t = let k = lefts_cons x q qs ∙ ap (λ b. cond b 1 0 + lefts x qs) t in h (omega (arith, k, l)) ∙ ap (λ b. if b then Some q.1 else right_of qs x) t
+later_by : (x : ℕ) (q : ℕ × Expression) (qs : List (ℕ × Expression)) (o : Option Expression) → 0 < left_count x qs → left_count x (q ∷ qs) ≤ 1 → (0 < left_count x (q ∷ qs) → o ≡ (if nat_eq x q.0 then Some q.1 else right_of qs x)) → (t : Bool) → nat_eq x q.0 ≡ t → o ≡ right_of qs x
+later_by x q qs o l m h true t = let k = lefts_cons x q qs ∙ ap (λ b. cond b 1 0 + left_count x qs) t in absurd (omega (arith, k, l, m))
+later_by x q qs o l m h false t = let k = lefts_cons x q qs ∙ ap (λ b. cond b 1 0 + left_count x qs) t in h (omega (arith, k, l)) ∙ ap (λ b. if b then Some q.1 else right_of qs x) t
 
-pub found : (f : Function) (qs : List (ℕ × Expression)) → ((x : ℕ) → lefts x qs ≤ 1) → ((x : ℕ) → 0 < lefts x qs → right_of f.eqs x ≡ right_of qs x) → EquationsIn f qs
+pub found : (f : Function) (qs : List (ℕ × Expression)) → ((x : ℕ) → left_count x qs ≤ 1) → ((x : ℕ) → 0 < left_count x qs → right_of f.eqs x ≡ right_of qs x) → EquationsIn f qs
 found f [] m h = tt
 found f (q ∷ qs) m h =
-    let k = lefts_cons q.0 q qs ∙ ap (λ b. cond b 1 0 + lefts q.0 qs) (same_self q.0) in (
+    let k = lefts_cons q.0 q qs ∙ ap (λ b. cond b 1 0 + left_count q.0 qs) (same_self q.0) in (
       h q.0 (omega (arith, k)) ∙ ap (λ b. if b then Some q.1 else right_of qs q.0) (same_self q.0),
       found f qs (λ x. let n = lefts_cons x q qs in let l = m x in omega (arith, n, l)) (λ x l. later_by x q qs (right_of f.eqs x) l (m x) (h x) (nat_eq x q.0) refl),
     )
@@ -227,7 +227,7 @@ module _ (f : Function) (more : List Decl) (eqs : List (ℕ × Expression)) wher
   with_more = record { name = f.name; decls = f.decls ++ more; n_in = f.n_in; outs = f.outs; eqs = eqs }
 
   -- where the new clocks and all right sides read its variables, and each variable that is no input has one equation
-  pub more_good : GoodFunction f → All (λ d. All (λ p. p.0 < length (f.decls ++ more)) d.clock) more → All (λ q. VarsBelow (length (f.decls ++ more)) q.1) eqs → ((x : ℕ) → lefts x eqs ≡ inside f.n_in (length (f.decls ++ more)) x) → GoodFunction with_more
+  pub more_good : GoodFunction f → All (λ d. All (λ p. p.0 < length (f.decls ++ more)) d.clock) more → All (λ q. VarsBelow (length (f.decls ++ more)) q.1) eqs → ((x : ℕ) → left_count x eqs ≡ inside f.n_in (length (f.decls ++ more)) x) → GoodFunction with_more
   more_good good clocks rights once =
       let n = length (f.decls ++ more) in
       let low : length f.decls ≤ n = let l = length-append f.decls more in omega (arith, l) in

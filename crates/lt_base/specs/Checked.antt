@@ -10,9 +10,9 @@ use Rattle.lt_base.specs.Dependence.{CausalProgram}
 use Rattle.lt_base.specs.Calls.{NotRecursive}
 
 -- the number of a call's arguments
-abbrev pub count : Arguments → ℕ
-count no_arguments = 0
-count (argument e args) = 1 + count args
+abbrev pub argument_count : Arguments → ℕ
+argument_count no_arguments = 0
+argument_count (argument e args) = 1 + argument_count args
 
 -- a fact of each call in an expression: of the function's number and the number of arguments
 abbrev mutual
@@ -28,16 +28,16 @@ abbrev mutual
   EachUse P (delayed v e) = EachUse P e
   EachUse P (follow a b) = EachUse P a × EachUse P b
   EachUse P (arrow a b) = EachUse P a × EachUse P b
-  EachUse P (call g args) = P g (count args) × EachArgumentUse P args
+  EachUse P (call g args) = P g (argument_count args) × EachArgumentUse P args
 
   pub EachArgumentUse : (ℕ → ℕ → Type 0) → Arguments → Type 0
   EachArgumentUse P no_arguments = Unit {0}
   EachArgumentUse P (argument e args) = EachUse P e × EachArgumentUse P args
 
 -- a function that has that many inputs and exactly one output
-abbrev pub Answers : Option Function → ℕ → Type 0
-Answers None n = ⊥
-Answers (Some f) n = (f.n_in ≡ n) × (length f.outs ≡ 1)
+abbrev pub AnswersCall : Option Function → ℕ → Type 0
+AnswersCall None n = ⊥
+AnswersCall (Some f) n = (f.n_in ≡ n) × (length f.outs ≡ 1)
 
 -- no two of these names are equal
 abbrev pub NamesDiffer : List (List ℕ) → Type 0
@@ -47,7 +47,7 @@ NamesDiffer names = (i j : ℕ) → i < length names → j < length names → sl
 pub record NamedProgram (p : WholeProgram) : Type 0 where
   pub functions : NamesDiffer (map (λ f. f.name) p.funcs)
   pub variables : All (λ f. NamesDiffer (map (λ d. d.name) f.decls)) p.funcs
-  pub uses : All (λ f. All (λ e. EachUse (λ g n. Answers (function_of p.funcs g) n) e.1) f.eqs) p.funcs
+  pub uses : All (λ f. All (λ e. EachUse (λ g n. AnswersCall (function_of p.funcs g) n) e.1) f.eqs) p.funcs
   pub not_recursive : NotRecursive p.funcs
 
 -- the checks of names, types, clocks and causality hold

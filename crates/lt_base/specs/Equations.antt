@@ -7,8 +7,8 @@ use Rattle.lt_base.specs.Program.{Function}
 use Rattle.lt_base.specs.Meaning.{right_of}
 
 -- how many of these equations are those of the variable
-abbrev pub lefts : ℕ → List (ℕ × Expression) → ℕ
-lefts x eqs = count_by (λ e. nat_eq x e.0) eqs
+abbrev pub left_count : ℕ → List (ℕ × Expression) → ℕ
+left_count x eqs = count_by (λ e. nat_eq x e.0) eqs
 
 -- 1 for a number from low to below high, and 0 for another
 abbrev pub inside : ℕ → ℕ → ℕ → ℕ

@@ -1,6 +1,7 @@
 // Clocks.
 
 ghost use Rattle.std.specs.Prelude.{◌≡◌, ◌∷◌, [], IfOk};
+ghost use Rattle.lt_base.specs.Meaning.{outer};
 
 use crate::{Duplicate, List, Memory};
 use std::alloc::Global;
@@ -37,6 +38,24 @@ impl Clock {
     {
         let mut steps = self.steps.into_vec();
         steps.push((variable, polarity))?;
+        Ok(Clock {
+            steps: List::of(steps),
+        })
+    }
+
+    /// The clock at the instants of this one at which the variable has that truth value. This one stays as it is.
+    pub fn inner(&self, variable: u32, polarity: bool) -> Result<Clock, Memory>
+        ensures { IfOk result (λ clock. clock ≡ (variable, polarity) ∷ self.now) }
+    {
+        self.copy()?.deeper(variable, polarity)
+    }
+
+    /// The clock without its innermost pair.
+    pub fn outer(&self) -> Result<Clock, Memory>
+        ensures { IfOk result (λ clock. clock ≡ outer self.now) }
+    {
+        let mut steps = self.steps.copy()?.into_vec();
+        let _ = steps.pop();
         Ok(Clock {
             steps: List::of(steps),
         })

@@ -136,7 +136,7 @@ impl Func {
     }
 
     /// What the type keeps, for callers.
-    pub fn kept(&self)
+    pub fn invariant_holds(&self)
         ensures { GoodFunction self.now }
     {
         let _ = &self.n_in;

@@ -1,9 +1,12 @@
 // Lists: a `Vec` that contracts see as the list of its elements.
 ghost use Rattle.std.specs.Prelude.{◌≡◌, ◌↔◌, ◌++◌, ◌∷◌, [], length, IfOk, IsTrue, OnOk, OnErr};
+ghost use Rattle.std.specs.Slice.Iter.{iter_rest};
 
 use crate::Memory;
 use std::alloc::Global;
 use std::marker::Model;
+use std::ops::DerefSlice;
+use std::slice;
 
 /// A value that can be copied, where memory is found.
 pub trait Duplicate: Drop {
@@ -78,6 +81,28 @@ impl<T> List<T> {
         ensures { result.items ≡ self }
     {
         self.items
+    }
+}
+
+impl<T> DerefSlice for List<T> {
+    type Elem = T;
+
+    ghost deref_gives = { λ list items. items ≡ list };
+
+    fn deref(&self) -> &[T] {
+        self.as_slice()
+    }
+}
+
+impl<'a, T> IntoIterator for &'a List<T> {
+    type Item = &'a T;
+
+    type IntoIter = slice::Iter<'a, T>;
+
+    ghost into_iter_gives = { λ list it. iter_rest it ≡ list.now };
+
+    fn into_iter(self) -> Self::IntoIter {
+        self.as_slice().iter()
     }
 }
 

@@ -34,7 +34,7 @@ impl Program {
     }
 
     /// What the type keeps, for callers.
-    pub fn kept(&self)
+    pub fn invariant_holds(&self)
         ensures { GoodProgram self.now }
     {
         let _ = &self.main;

@@ -9,16 +9,16 @@ use Rattle.std.proofs.lemmas.Option.{slice_get_read, slice_get_within, get_or_fr
 use Rattle.std.proofs.lemmas.Bool.Decides.{leb_tells, eqb_tells}
 use Rattle.lt_base.specs.Expression.{Expression, variable}
 use Rattle.lt_base.specs.Program.{Function, GoodFunction}
-use Rattle.lt_base.specs.Equations.{lefts}
+use Rattle.lt_base.specs.Equations.{left_count}
 use Rattle.lt_base.specs.Dependence.{has, Depends}
 use Rattle.lt_base.proofs.Lookups.{same_self, lefts_cons}
-use Rattle.lt_cause.specs.Tables.{count, Sorts}
-use Rattle.lt_cause.specs.Orders.{IsOrder, NumberOf, HasNumbers}
+use Rattle.lt_cause.specs.Tables.{occurrences, Sorts}
+use Rattle.lt_cause.specs.Orders.{IsOrder, NumberOf, HasEquationNumbers}
 use Rattle.lt_cause.proofs.Walks.{one, count_push, has_counted, counted_has}
 use Rattle.lt_cause.proofs.Table.{first_time, left_inside}
 
 -- an equation counts among those of its variable
-lefts_at : (qs : List (ℕ × Expression)) (k : ℕ) (p : ℕ × Expression) → slice_get qs k ≡ Some p → 0 < lefts p.0 qs
+lefts_at : (qs : List (ℕ × Expression)) (k : ℕ) (p : ℕ × Expression) → slice_get qs k ≡ Some p → 0 < left_count p.0 qs
 lefts_at [] k p h = absurd (cc)
 lefts_at (q ∷ qs) zero p h =
     let same : q ≡ p = cc in
@@ -35,15 +35,15 @@ get_take qs k m p l h =
 
 -- the equations of the first variables of an order
 pub record Picked (f : Function) (order : List ℕ) (s : ℕ) (eqs : List ℕ) : Type 0 where
-  pub counts : (k : ℕ) (p : ℕ × Expression) → slice_get f.eqs k ≡ Some p → count k eqs ≡ count p.0 (take s order)
-  pub others : (k : ℕ) → length f.eqs ≤ k → count k eqs ≡ 0
+  pub counts : (k : ℕ) (p : ℕ × Expression) → slice_get f.eqs k ≡ Some p → occurrences k eqs ≡ occurrences p.0 (take s order)
+  pub others : (k : ℕ) → length f.eqs ≤ k → occurrences k eqs ≡ 0
   pub after : (i k m : ℕ) (p q : ℕ × Expression) → slice_get eqs i ≡ Some k → slice_get f.eqs k ≡ Some p → slice_get f.eqs m ≡ Some q → Depends f p.0 q.0 → has m (take i eqs) ≡ true
 
 module _ (f : Function) (good : GoodFunction f) where
   not_before : (k m : ℕ) (p q : ℕ × Expression) → slice_get f.eqs k ≡ Some p → slice_get f.eqs m ≡ Some q → p.0 ≡ q.0 → k < m → ⊥
   not_before k m p q h g e l =
       let some = lefts_at (take m f.eqs) k p (get_take f.eqs k m p l h) in
-      let none : lefts p.0 (take m f.eqs) ≡ 0 = ap (λ x. lefts x (take m f.eqs)) e ∙ first_time f good m q g in
+      let none : left_count p.0 (take m f.eqs) ≡ 0 = ap (λ x. left_count x (take m f.eqs)) e ∙ first_time f good m q g in
       omega (arith, some, none)
 
   -- a variable has one equation
@@ -57,8 +57,8 @@ module _ (f : Function) (good : GoodFunction f) where
   none_picked order = record { counts = λ k p h. refl; others = λ k l. refl; after = λ i k m p q h. absurd (cc) }
 
   module _ (order : List ℕ) (sorts : Sorts (Depends f) (length f.decls) order) (s x : ℕ) (inside : s < length order) (is : x ≡ get_or order s x) (eqs : List ℕ) (before : Picked f order s eqs) where
-    counted_more : (y : ℕ) → count y (take (s + 1) order) ≡ count y (take s order) + one y x
-    counted_more y = ap (count y) (take_more order s x inside ∙ ap (λ z. take s order ++ z ∷ []) (sym is)) ∙ count_push y x (take s order)
+    counted_more : (y : ℕ) → occurrences y (take (s + 1) order) ≡ occurrences y (take s order) + one y x
+    counted_more y = ap (occurrences y) (take_more order s x inside ∙ ap (λ z. take s order ++ z ∷ []) (sym is)) ∙ count_push y x (take s order)
 
     one_not : (a b : ℕ) → (a ≡ b → ⊥) → one a b ≡ 0
     one_not a b h = elim (eqb_tells a b) [ inl e ↦ absurd (h e.1) | inr e ↦ ap (λ t. cond t 1 0) e.0 ]
@@ -73,18 +73,18 @@ module _ (f : Function) (good : GoodFunction f) where
         let m = sum_by-take-le (λ z. cond (nat_eq x z) 1 0) order (s + 1) in
         by (nat_lt x (length f.decls)) refl (sorts.once x) (omega (arith, c, o, m))
       where
-        by : (b : Bool) → nat_lt x (length f.decls) ≡ b → count x order ≡ (if b then 1 else 0) → 0 < count x order → x < length f.decls
+        by : (b : Bool) → nat_lt x (length f.decls) ≡ b → occurrences x order ≡ (if b then 1 else 0) → 0 < occurrences x order → x < length f.decls
         by true e h l = ltb-true x (length f.decls) e
         by false e h l = absurd (omega (arith, h, l))
 
     -- the variable has no equation
-    pub pass_input : lefts x (take (length f.eqs) f.eqs) ≡ 0 → Picked f order (s + 1) eqs
+    pub pass_input : left_count x (take (length f.eqs) f.eqs) ≡ 0 → Picked f order (s + 1) eqs
     pass_input none = record {
       counts = λ k p h.
-          let whole : lefts x f.eqs ≡ 0 = ap (lefts x) (sym (take_all (length f.eqs) f.eqs (omega arith))) ∙ none in
+          let whole : left_count x f.eqs ≡ 0 = ap (left_count x) (sym (take_all (length f.eqs) f.eqs (omega arith))) ∙ none in
           let some = lefts_at f.eqs k p h in
           let c = counted_more p.0 in
-          let o = one_not p.0 x (λ e. let n : lefts p.0 f.eqs ≡ 0 = ap (λ z. lefts z f.eqs) e ∙ whole in omega (arith, n, some)) in
+          let o = one_not p.0 x (λ e. let n : left_count p.0 f.eqs ≡ 0 = ap (λ z. left_count z f.eqs) e ∙ whole in omega (arith, n, some)) in
           let b = before.counts k p h in
           omega (arith, c, o, b);
       others = before.others;
@@ -128,7 +128,7 @@ module _ (f : Function) (good : GoodFunction f) where
       }
 
     -- what the table of numbers tells of the variable
-    pub picks : (numbers : List (Option ℕ)) → HasNumbers f numbers → (o : Option ℕ) → o ≡ get_or numbers x o → MatchOption o (Picked f order (s + 1) eqs) (λ m. Picked f order (s + 1) (eqs ++ m ∷ []))
+    pub picks : (numbers : List (Option ℕ)) → HasEquationNumbers f numbers → (o : Option ℕ) → o ≡ get_or numbers x o → MatchOption o (Picked f order (s + 1) eqs) (λ m. Picked f order (s + 1) (eqs ++ m ∷ []))
     picks numbers told o e = by o (get_or_default numbers x None o (let l = x_inside in let n = told.size in omega (arith, l, n)) ∙ sym e)
       where
         by : (o : Option ℕ) → get_or numbers x None ≡ o → MatchOption o (Picked f order (s + 1) eqs) (λ m. Picked f order (s + 1) (eqs ++ m ∷ []))
@@ -136,15 +136,15 @@ module _ (f : Function) (good : GoodFunction f) where
         by (Some m) h = let t = subst (NumberOf f (length f.eqs) x) h (told.tells x x_inside) in pick m t.0 t.1.1 t.1.2
 
   module _ (order eqs : List ℕ) (s : ℕ) (sorts : Sorts (Depends f) (length f.decls) order) (l : length order ≤ s) (picked : Picked f order s eqs) where
-    stands_once : (k : ℕ) (p : ℕ × Expression) → slice_get f.eqs k ≡ Some p → count k eqs ≡ 1
+    stands_once : (k : ℕ) (p : ℕ × Expression) → slice_get f.eqs k ≡ Some p → occurrences k eqs ≡ 1
     stands_once k p h =
-        picked.counts k p h ∙ ap (count p.0) (take_all s order l) ∙ sorts.once p.0 ∙ ap (λ (b : Bool). if◌then◌else◌ {A = ℕ} b 1 0) (lt-ltb p.0 (length f.decls) (left_inside f good k p h))
+        picked.counts k p h ∙ ap (occurrences p.0) (take_all s order l) ∙ sorts.once p.0 ∙ ap (λ (b : Bool). if◌then◌else◌ {A = ℕ} b 1 0) (lt-ltb p.0 (length f.decls) (left_inside f good k p h))
 
-    there_by : (k : ℕ) (o : Option (ℕ × Expression)) → slice_get f.eqs k ≡ o → k < length f.eqs → count k eqs ≡ 1
+    there_by : (k : ℕ) (o : Option (ℕ × Expression)) → slice_get f.eqs k ≡ o → k < length f.eqs → occurrences k eqs ≡ 1
     there_by k None h w = absurd (none-some (get_or f.eqs k (0, variable 0)) (sym h ∙ slice_get-get_or f.eqs k (0, variable 0) w))
     there_by k (Some p) h w = stands_once k p h
 
-    once_by : (k : ℕ) (b : Bool) → nat_lt k (length f.eqs) ≡ b → ◌≡◌ {A = ℕ} (count k eqs) (if b then 1 else 0)
+    once_by : (k : ℕ) (b : Bool) → nat_lt k (length f.eqs) ≡ b → ◌≡◌ {A = ℕ} (occurrences k eqs) (if b then 1 else 0)
     once_by k true e = there_by k (slice_get f.eqs k) refl (ltb-true k (length f.eqs) e)
     once_by k false e = picked.others k (ltb-false k (length f.eqs) e)
 

@@ -14,8 +14,8 @@ use Rattle.lt_base.specs.Dependence.{has, reads, clock_vars, dependencies_of, De
 use Rattle.lt_base.proofs.Lookups.{same_self}
 use Rattle.lt_base.proofs.Reading.{has_front, has_back, each_from, each_clock_from}
 use Rattle.lt_base.proofs.Order.{causal_from_ranks}
-use Rattle.lt_cause.specs.Tables.{count}
-use Rattle.lt_cause.specs.Orders.{IsOrder, is_left, place_by, place_in}
+use Rattle.lt_cause.specs.Tables.{occurrences}
+use Rattle.lt_cause.specs.Orders.{IsOrder, is_left, place_by, order_place}
 use Rattle.lt_cause.proofs.Walks.{one, count_cons, has_counted}
 use Rattle.lt_graph.proofs.Reaches.{has_place}
 
@@ -23,7 +23,7 @@ use Rattle.lt_graph.proofs.Reaches.{has_place}
 
 total : ℕ → List ℕ → ℕ
 total zero xs = 0
-total (suc n) xs = total n xs + count n xs
+total (suc n) xs = total n xs + occurrences n xs
 
 total_none : (n : ℕ) → total n [] ≡ 0
 unfolding total
@@ -45,10 +45,10 @@ total_one (suc n) x xs =
     step : (n x : ℕ) → ◌≡◌ {A = ℕ} (one n x + (if nat_lt x n then 1 else 0)) (if nat_lt x (suc n) then 1 else 0)
     step n x = grind (arith, nat_tests)
 
-total_length : (n : ℕ) (xs : List ℕ) → ((k : ℕ) → n ≤ k → count k xs ≡ 0) → total n xs ≡ length xs
+total_length : (n : ℕ) (xs : List ℕ) → ((k : ℕ) → n ≤ k → occurrences k xs ≡ 0) → total n xs ≡ length xs
 total_length n [] h = total_none n
 total_length n (x ∷ xs) h =
-    let c : (k : ℕ) → n ≤ k → (count k xs ≡ 0) × (one k x ≡ 0) = λ k l. let a = h k l in let b = count_cons k x xs in (omega (arith, a, b), omega (arith, a, b)) in
+    let c : (k : ℕ) → n ≤ k → (occurrences k xs ≡ 0) × (one k x ≡ 0) = λ k l. let a = h k l in let b = count_cons k x xs in (omega (arith, a, b), omega (arith, a, b)) in
     let rest = total_length n xs (λ k l. (c k l).0) in
     let e = total_one n x xs in
     elim (leb_tells (suc x) n) [
@@ -56,7 +56,7 @@ total_length n (x ∷ xs) h =
       | inr a ↦ let o = (c x (omega (arith, a.1))).1 in let s : one x x ≡ 1 = ap (λ b. cond b 1 0) (same_self x) in absurd (omega (arith, o, s))
     ]
 
-total_each : (n : ℕ) (xs : List ℕ) → ((k : ℕ) → k < n → count k xs ≡ 1) → total n xs ≡ n
+total_each : (n : ℕ) (xs : List ℕ) → ((k : ℕ) → k < n → occurrences k xs ≡ 1) → total n xs ≡ n
 unfolding total
 total_each zero xs h = refl
 total_each (suc n) xs h = let e = total_each n xs (λ k l. h k (omega (arith, l))) in let c = h n (omega arith) in omega (arith, e, c)
@@ -78,8 +78,8 @@ module _ (f : Function) (order : List ℕ) (is : IsOrder f order) where
   size : length order ≡ length f.eqs
   size =
       let n = length f.eqs in
-      let each : (k : ℕ) → k < n → count k order ≡ 1 = λ k l. is.once k ∙ ap (λ b. if◌then◌else◌ {A = ℕ} b 1 0) (lt-ltb k n l) in
-      let none : (k : ℕ) → n ≤ k → count k order ≡ 0 = λ k l. is.once k ∙ ap (λ b. if◌then◌else◌ {A = ℕ} b 1 0) (past k n l) in
+      let each : (k : ℕ) → k < n → occurrences k order ≡ 1 = λ k l. is.once k ∙ ap (λ b. if◌then◌else◌ {A = ℕ} b 1 0) (lt-ltb k n l) in
+      let none : (k : ℕ) → n ≤ k → occurrences k order ≡ 0 = λ k l. is.once k ∙ ap (λ b. if◌then◌else◌ {A = ℕ} b 1 0) (past k n l) in
       sym (total_length n order none) ∙ total_each n order each
     where
       past : (k n : ℕ) → n ≤ k → nat_lt k n ≡ false
@@ -98,7 +98,7 @@ module _ (f : Function) (order : List ℕ) (is : IsOrder f order) where
   stands : (k : ℕ) (q : ℕ × Expression) → slice_get f.eqs k ≡ Some q → (j : ℕ) × ((j < length order) × (get_or order j 0 ≡ k))
   stands k q h =
       let w = slice_get_within f.eqs k q h in
-      let c : count k order ≡ 1 = is.once k ∙ ap (λ b. if◌then◌else◌ {A = ℕ} b 1 0) (lt-ltb k (length f.eqs) w) in
+      let c : occurrences k order ≡ 1 = is.once k ∙ ap (λ b. if◌then◌else◌ {A = ℕ} b 1 0) (lt-ltb k (length f.eqs) w) in
       let p = has_place k order (has_counted k order (omega (arith, c))) in
       (p.0, (p.1, p.2))
 
@@ -118,7 +118,7 @@ module _ (f : Function) (order : List ℕ) (is : IsOrder f order) where
       by None g t = absurd (cc)
       by (Some q) g t = (q, (g, eqb-true x q.0 t))
 
-  placed : (x : ℕ) (e : Expression) → right_of f.eqs x ≡ Some e → place_in f order x ≡ suc (at x)
+  placed : (x : ℕ) (e : Expression) → right_of f.eqs x ≡ Some e → order_place f order x ≡ suc (at x)
   placed x e h = ap (λ o. place_by o (at x)) h
 
   lower_by : (x y : ℕ) (e : Expression) (o : Option Expression) → right_of f.eqs x ≡ Some e → right_of f.eqs y ≡ o → Depends f x y → place_by o (at y) < suc (at x)
@@ -137,17 +137,17 @@ module _ (f : Function) (order : List ℕ) (is : IsOrder f order) where
       let m = at_most y before.0 q.1.0 (ap (slice_get f.eqs) same ∙ q.1.1.0) q.1.1.1 in
       omega (arith, m, j)
 
-  lower : (x y : ℕ) (e : Expression) → right_of f.eqs x ≡ Some e → Depends f x y → place_in f order y < place_in f order x
-  lower x y e h d = subst (λ n. place_in f order y < n) (sym (placed x e h)) (lower_by x y e (right_of f.eqs y) h refl d)
+  lower : (x y : ℕ) (e : Expression) → right_of f.eqs x ≡ Some e → Depends f x y → order_place f order y < order_place f order x
+  lower x y e h d = subst (λ n. order_place f order y < n) (sym (placed x e h)) (lower_by x y e (right_of f.eqs y) h refl d)
 
   -- the places of the variables by the order of the equations
-  pub ordered : Ordered f (place_in f order)
+  pub ordered : Ordered f (order_place f order)
   ordered = record {
     within = λ x e h. let p = placed x e h in let i = at_inside x e h in let s = size in omega (arith, p, i, s);
     later = λ x e h. let p = placed x e h in omega (arith, p);
     ranked = record {
-      reads_before = λ x a e. each_from (λ y. place_in f order y < place_in f order x) a (λ y m. lower x y a e (ap (has y) (dependencies_are x a e) ∙ has_front y (reads a) (clock_vars (clock_of f.decls x)) m));
-      clocks_before = λ x a e. each_clock_from (λ y. place_in f order y < place_in f order x) (clock_of f.decls x) (λ y m. lower x y a e (ap (has y) (dependencies_are x a e) ∙ has_back y (reads a) (clock_vars (clock_of f.decls x)) m));
+      reads_before = λ x a e. each_from (λ y. order_place f order y < order_place f order x) a (λ y m. lower x y a e (ap (has y) (dependencies_are x a e) ∙ has_front y (reads a) (clock_vars (clock_of f.decls x)) m));
+      clocks_before = λ x a e. each_clock_from (λ y. order_place f order y < order_place f order x) (clock_of f.decls x) (λ y m. lower x y a e (ap (has y) (dependencies_are x a e) ∙ has_back y (reads a) (clock_vars (clock_of f.decls x)) m));
     };
   }
     where
@@ -156,4 +156,4 @@ module _ (f : Function) (order : List ℕ) (is : IsOrder f order) where
 
   -- a function whose equations have an order is causal
   pub order_causal : Causal f
-  order_causal = causal_from_ranks f (place_in f order) ordered.ranked
+  order_causal = causal_from_ranks f (order_place f order) ordered.ranked

@@ -7,7 +7,7 @@ use Rattle.std.proofs.lemmas.List.Sums.{sum_by-set}
 use Rattle.std.proofs.lemmas.Bool.Decides.{leb_tells, eqb_tells}
 use Rattle.lt_base.specs.Graph.{Walks, ClosedWalk}
 use Rattle.lt_graph.specs.Tables.{next, Leads}
-use Rattle.lt_cause.specs.Tables.{count, Circles}
+use Rattle.lt_cause.specs.Tables.{occurrences, Circles}
 use Rattle.lt_cause.proofs.Walks.{one, one_self, count_push, Along, Trail, along_push, trail_push, trail_pop}
 use Rattle.lt_graph.proofs.Reaches.{has_place}
 
@@ -31,12 +31,12 @@ Begins v (x ∷ xs) = x ≡ v
 pub record Circling (g : List (List ℕ)) (start : ℕ) (seen : List Bool) (rest path : List ℕ) : Type 0 where
   pub seen_size : length seen ≡ length g
   pub rest_size : length rest ≡ length g
-  pub on_path : (x : ℕ) → count x path ≤ flag (known seen x)
+  pub on_path : (x : ℕ) → occurrences x path ≤ flag (known seen x)
   pub small : (x : ℕ) → x < length g → get_or rest x 0 ≤ length (next g x)
   pub fresh : (x : ℕ) → x < length g → known seen x ≡ false → get_or rest x 0 ≡ length (next g x)
   -- what a number leads to was seen, and is not the start, as far as the search has looked
   pub looked : (x j : ℕ) → known seen x ≡ true → get_or rest x 0 ≤ j → j < length (next g x) → (known seen (get_or (next g x) j 0) ≡ true) × (get_or (next g x) j 0 ≡ start → ⊥)
-  pub waits : (x : ℕ) → known seen x ≡ true → 0 < get_or rest x 0 → 0 < count x path
+  pub waits : (x : ℕ) → known seen x ≡ true → 0 < get_or rest x 0 → 0 < occurrences x path
   pub trail : Trail (Leads g) path
   pub starts : Begins start path
   pub root : known seen start ≡ true
@@ -75,16 +75,16 @@ begins_push : (v : ℕ) (p : List ℕ) (x : ℕ) → 0 < length p → Begins v p
 begins_push v [] x l h = absurd (omega arith)
 begins_push v (z ∷ p) x l h = h
 
-counted_long : (x : ℕ) (p : List ℕ) → 0 < count x p → 0 < length p
+counted_long : (x : ℕ) (p : List ℕ) → 0 < occurrences x p → 0 < length p
 counted_long x [] h = absurd (omega arith)
 counted_long x (z ∷ p) h = omega arith
 
 module _ (g : List (List ℕ)) (start : ℕ) (seen : List Bool) (rest path : List ℕ) (s : Circling g start seen rest path) where
   module _ (p : List ℕ) (x : ℕ) (top : path ≡ p ++ x ∷ []) where
-    counted : (z : ℕ) → count z path ≡ count z p + one z x
-    counted z = ap (count z) top ∙ count_push z x p
+    counted : (z : ℕ) → occurrences z path ≡ occurrences z p + one z x
+    counted z = ap (occurrences z) top ∙ count_push z x p
 
-    pub on : 0 < count x path
+    pub on : 0 < occurrences x path
     on = let c = counted x in let o = one_self x in omega (arith, c, o)
 
     x_known : known seen x ≡ true
@@ -107,7 +107,7 @@ module _ (g : List (List ℕ)) (start : ℕ) (seen : List Bool) (rest path : Lis
 
     -- all that it leads to was looked at
     module _ (none : get_or rest x 0 ≡ 0) where
-      waits_by : (z : ℕ) → 0 < get_or rest z 0 → 0 < count z path → (b : Bool) → nat_eq z x ≡ b → count z path ≡ count z p + cond b 1 0 → 0 < count z p
+      waits_by : (z : ℕ) → 0 < get_or rest z 0 → 0 < occurrences z path → (b : Bool) → nat_eq z x ≡ b → occurrences z path ≡ occurrences z p + cond b 1 0 → 0 < occurrences z p
       waits_by z r c true e k = let n = ap (λ w. get_or rest w 0) (eqb-true z x e) ∙ none in absurd (omega (arith, n, r))
       waits_by z r c false e k = omega (arith, c, k)
 
@@ -141,11 +141,11 @@ module _ (g : List (List ℕ)) (start : ℕ) (seen : List Bool) (rest path : Lis
       fresh_set : (z : ℕ) → z < length g → known seen z ≡ false → get_or (set rest x (left - 1)) z 0 ≡ length (next g z)
       fresh_set z l k = rest_set rest x (left - 1) z rest_inside ∙ fresh_by z l k (nat_eq z x) refl
 
-      waits_set_by : (z : ℕ) → known seen z ≡ true → (b : Bool) → nat_eq z x ≡ b → 0 < (if b then left - 1 else get_or rest z 0) → 0 < count z path
-      waits_set_by z k true e r = subst (λ w. 0 < count w path) (sym (eqb-true z x e)) on
+      waits_set_by : (z : ℕ) → known seen z ≡ true → (b : Bool) → nat_eq z x ≡ b → 0 < (if b then left - 1 else get_or rest z 0) → 0 < occurrences z path
+      waits_set_by z k true e r = subst (λ w. 0 < occurrences w path) (sym (eqb-true z x e)) on
       waits_set_by z k false e r = s.waits z k r
 
-      waits_set : (z : ℕ) → known seen z ≡ true → 0 < get_or (set rest x (left - 1)) z 0 → 0 < count z path
+      waits_set : (z : ℕ) → known seen z ≡ true → 0 < get_or (set rest x (left - 1)) z 0 → 0 < occurrences z path
       waits_set z k r = waits_set_by z k (nat_eq z x) refl (subst (λ n. 0 < n) (rest_set rest x (left - 1) z rest_inside) r)
 
       pub rest_shorter : sum (set rest x (left - 1)) + 1 ≡ sum rest
@@ -200,7 +200,7 @@ module _ (g : List (List ℕ)) (start : ℕ) (seen : List Bool) (rest path : Lis
             now_known : known (set seen y true) y ≡ true
             now_known = get_or-set_same seen y true false y_inside
 
-            path_by : (z : ℕ) (b : Bool) → nat_eq z y ≡ b → count z path + cond b 1 0 ≤ flag (if b then true else known seen z)
+            path_by : (z : ℕ) (b : Bool) → nat_eq z y ≡ b → occurrences z path + cond b 1 0 ≤ flag (if b then true else known seen z)
             path_by z true e = let m = s.on_path z in let n : flag (known seen z) ≡ 0 = ap (λ w. flag (known seen w)) (eqb-true z y e) ∙ ap flag new in omega (arith, m, n)
             path_by z false e = let m = s.on_path z in omega (arith, m)
 
@@ -229,7 +229,7 @@ module _ (g : List (List ℕ)) (start : ℕ) (seen : List Bool) (rest path : Lis
               looked = λ z j b a d. was z ((known (set seen y true) (get_or (next g z) j 0) ≡ true) × (get_or (next g z) j 0 ≡ start → ⊥))
                   (λ k. looked_set (λ w. (known (set seen y true) w ≡ true) × (w ≡ start → ⊥)) (now_known, other) z j (λ i c e. let r = s.looked z i k c e in (still (get_or (next g z) i 0) r.0, r.1)) a d)
                   (λ same. let n = fresh_set z (subst (λ w. w < length g) (sym same) inside) (ap (known seen) same ∙ new) in absurd (omega (arith, n, a, d))) b;
-              waits = λ z b r. let c = count_push z y path in was z (0 < count z (path ++ y ∷ [])) (λ k. let w = waits_set z k r in omega (arith, c, w)) (λ same. let o : one z y ≡ 1 = ap (λ w. one w y) same ∙ one_self y in omega (arith, c, o)) b;
+              waits = λ z b r. let c = count_push z y path in was z (0 < occurrences z (path ++ y ∷ [])) (λ k. let w = waits_set z k r in omega (arith, c, w)) (λ same. let o : one z y ≡ 1 = ap (λ w. one w y) same ∙ one_self y in omega (arith, c, o)) b;
               trail = trail_push (Leads g) path y (along_to y l);
               starts = begins_push start path y (counted_long x path on) s.starts;
               root = still start s.root;

@@ -12,7 +12,7 @@ use Rattle.lt_base.specs.Dependence.{has}
 use Rattle.lt_cause.specs.declared.sorting.Mark.{Mark}
 use Rattle.lt_cause.specs.declared.sorting.Mark.TheVariants.{New, Open, Done}
 use Rattle.lt_graph.specs.Tables.{next, Leads}
-use Rattle.lt_cause.specs.Tables.{count, Sorts, HasClosedWalk}
+use Rattle.lt_cause.specs.Tables.{occurrences, Sorts, HasClosedWalk}
 use Rattle.lt_graph.proofs.Reaches.{has_place}
 use Rattle.lt_cause.proofs.Walks.{one, one_self, count_push, has_counted, Along, Trail, along_push, trail_none, trail_push, trail_pop, comes_back}
 
@@ -38,8 +38,8 @@ weight Done = 0
 pub record Sorting (g : List (List ℕ)) (marks : List Mark) (rest path order : List ℕ) : Type 0 where
   pub marks_size : length marks ≡ length g
   pub rest_size : length rest ≡ length g
-  pub on_path : (x : ℕ) → count x path ≡ opened (mark marks x)
-  pub in_order : (x : ℕ) → count x order ≡ finished (mark marks x)
+  pub on_path : (x : ℕ) → occurrences x path ≡ opened (mark marks x)
+  pub in_order : (x : ℕ) → occurrences x order ≡ finished (mark marks x)
   pub small : (x : ℕ) → x < length g → get_or rest x 0 ≤ length (next g x)
   -- what a number leads to is done as far as the search has looked
   pub looked : (x j : ℕ) → x < length g → get_or rest x 0 ≤ j → j < length (next g x) → mark marks (get_or (next g x) j 0) ≡ Done
@@ -82,8 +82,8 @@ mark_read marks y k l e = get_or_default marks y New k l ∙ sym e
 module _ (g : List (List ℕ)) (marks : List Mark) (rest path order : List ℕ) (s : Sorting g marks rest path order) where
   -- ---- the number at the end of the path
   module _ (p : List ℕ) (x : ℕ) (top : path ≡ p ++ x ∷ []) where
-    counted : (z : ℕ) → count z p + one z x ≡ opened (mark marks z)
-    counted z = sym (count_push z x p) ∙ ap (count z) (sym top) ∙ s.on_path z
+    counted : (z : ℕ) → occurrences z p + one z x ≡ opened (mark marks z)
+    counted z = sym (count_push z x p) ∙ ap (occurrences z) (sym top) ∙ s.on_path z
 
     pub top_open : mark marks x ≡ Open
     top_open = is_open (mark marks x) (let c = counted x in let o = one_self x in omega (arith, c, o))
@@ -96,14 +96,14 @@ module _ (g : List (List ℕ)) (marks : List Mark) (rest path order : List ℕ) 
       here : x < length marks
       here = not_past marks x top_open
 
-      on_path_by : (z : ℕ) (b : Bool) → nat_eq z x ≡ b → count z p + cond b 1 0 ≡ opened (mark marks z) → count z p ≡ opened (if b then Done else mark marks z)
+      on_path_by : (z : ℕ) (b : Bool) → nat_eq z x ≡ b → occurrences z p + cond b 1 0 ≡ opened (mark marks z) → occurrences z p ≡ opened (if b then Done else mark marks z)
       on_path_by z true e h = let m = opened_most (mark marks z) in omega (arith, h, m)
       on_path_by z false e h = omega (arith, h)
 
-      in_order_by : (z : ℕ) (b : Bool) → nat_eq z x ≡ b → count z order + cond b 1 0 ≡ finished (if b then Done else mark marks z)
+      in_order_by : (z : ℕ) (b : Bool) → nat_eq z x ≡ b → occurrences z order + cond b 1 0 ≡ finished (if b then Done else mark marks z)
       in_order_by z true e =
           let o : mark marks z ≡ Open = ap (mark marks) (eqb-true z x e) ∙ top_open in
-          let n : count z order ≡ 0 = s.in_order z ∙ ap finished o in
+          let n : occurrences z order ≡ 0 = s.in_order z ∙ ap finished o in
           omega (arith, n)
       in_order_by z false e = let n = s.in_order z in omega (arith, n)
 
@@ -129,7 +129,7 @@ module _ (g : List (List ℕ)) (marks : List Mark) (rest path order : List ℕ) 
                 let last : length order ≡ i = omega (arith, a.1, within, size) in
                 let same : x ≡ z = sym (get_or_push order x z i last) ∙ get_or_from_slice_get (order ++ x ∷ []) i z z h in
                 let done = all_done y (subst (λ v. Leads g v y) (sym same) l) in
-                let n : count y order ≡ 1 = s.in_order y ∙ ap finished done in
+                let n : occurrences y order ≡ 1 = s.in_order y ∙ ap finished done in
                 ap (has y) (take_at order (x ∷ []) i last) ∙ has_counted y order (omega (arith, n))
           ]
 
@@ -174,7 +174,7 @@ module _ (g : List (List ℕ)) (marks : List Mark) (rest path order : List ℕ) 
     -- it leads to a number that is open: a walk is closed
     pub closes : (y : ℕ) → Leads g x y → mark marks y ≡ Open → HasClosedWalk (Leads g)
     closes y l o =
-        let c : count y path ≡ 1 = s.on_path y ∙ ap opened o in
+        let c : occurrences y path ≡ 1 = s.on_path y ∙ ap opened o in
         let on = has_counted y path (omega (arith, c)) in
         comes_back (Leads g) (p ++ x ∷ []) y (subst (λ q. has y q ≡ true) top on) (along_push (Leads g) p x y along_top l)
 
@@ -209,7 +209,7 @@ module _ (g : List (List ℕ)) (marks : List Mark) (rest path order : List ℕ) 
       pass = record {
         marks_size = s.marks_size;
         rest_size = length-set rest x (left - 1) ∙ s.rest_size;
-        on_path = λ z. ap (count z) (sym top) ∙ s.on_path z;
+        on_path = λ z. ap (occurrences z) (sym top) ∙ s.on_path z;
         in_order = s.in_order;
         small = λ z l. subst (λ n. n ≤ length (next g z)) (sym (rest_set z)) (small_by z l (nat_eq z x) refl);
         looked = λ z j l a b. looked_by z j l b (nat_eq z x) refl (subst (λ n. n ≤ j) (rest_set z) a);
@@ -225,9 +225,9 @@ module _ (g : List (List ℕ)) (marks : List Mark) (rest path order : List ℕ) 
     there : y < length marks
     there = let e = s.marks_size in omega (arith, inside, e)
 
-    add_path_by : (z : ℕ) (b : Bool) → nat_eq z y ≡ b → count z path + cond b 1 0 ≡ opened (if b then Open else mark marks z)
+    add_path_by : (z : ℕ) (b : Bool) → nat_eq z y ≡ b → occurrences z path + cond b 1 0 ≡ opened (if b then Open else mark marks z)
     add_path_by z true e =
-        let n : count z path ≡ 0 = s.on_path z ∙ ap (λ w. opened (mark marks w)) (eqb-true z y e) ∙ ap opened new in
+        let n : occurrences z path ≡ 0 = s.on_path z ∙ ap (λ w. opened (mark marks w)) (eqb-true z y e) ∙ ap opened new in
         omega (arith, n)
     add_path_by z false e = let n = s.on_path z in omega (arith, n)
 

@@ -11,7 +11,7 @@ use Rattle.lt_base.specs.declared.expression.Expr.{Expr}
 use Rattle.lt_base.specs.Expression.{Expression, literal, variable, unary, binary, imported, choose, sampled, merged, delayed, follow, arrow, call, Arguments, no_arguments, argument, shape, arguments_of}
 use Rattle.lt_base.specs.Program.{Function, GoodFunction, VarsBelow, ArgumentVarsBelow}
 use Rattle.lt_base.specs.Meaning.{ClockPairs, clock_of, right_of}
-use Rattle.lt_base.specs.Equations.{lefts, inside, EquationsIn}
+use Rattle.lt_base.specs.Equations.{left_count, inside, EquationsIn}
 use Rattle.lt_base.specs.Order.{EachRead, EachArgumentRead, EachClockVar}
 use Rattle.lt_base.specs.Dependence.{has, reads, arguments_reads, clock_vars, dependencies_of, Depends}
 use Rattle.lt_base.proofs.Lookups.{same_self, right_left, right_right, no_right, lefts_append, lefts_cons, inside_most, all_found, left_below}
@@ -30,25 +30,9 @@ clock_vars_push : (ck : ClockPairs) (p : ℕ × Bool) → clock_vars (ck ++ p �
 clock_vars_push [] p = refl
 clock_vars_push (q ∷ ck) p = ap (λ l. q.0 ∷ l) (clock_vars_push ck p)
 
-pub clock_more : (to fn pushed : List ℕ) (steps : List (ℕ × Bool)) (i : ℕ) (d : ℕ × Bool) → i < length steps → to ≡ fn ++ clock_vars (take i (reverse steps)) → pushed ≡ to ++ (get_or steps (length steps - 1 - i) d).0 ∷ []
-    → pushed ≡ fn ++ clock_vars (take (i + 1) (reverse steps))
-clock_more to fn pushed steps i d l before push =
-    let long : i < length (reverse steps) = let e = length-reverse steps in omega (arith, l, e) in
-    let more : clock_vars (take (i + 1) (reverse steps)) ≡ clock_vars (take i (reverse steps)) ++ (get_or steps (length steps - 1 - i) d).0 ∷ [] =
-    ap clock_vars (take_more (reverse steps) i d long) ∙ clock_vars_push (take i (reverse steps)) (get_or (reverse steps) i d) ∙ ap (λ p. clock_vars (take i (reverse steps)) ++ p.0 ∷ []) (get_or-reverse steps i d l) in
-    push ∙ ap (λ t. t ++ (get_or steps (length steps - 1 - i) d).0 ∷ []) before ∙ append_assoc fn (clock_vars (take i (reverse steps))) ((get_or steps (length steps - 1 - i) d).0 ∷ []) ∙ ap (λ t. fn ++ t) (sym more)
-
-reads_push : (es : List Expression) (e : Expression) → arguments_reads (arguments_of (es ++ e ∷ [])) ≡ arguments_reads (arguments_of es) ++ reads e
-reads_push [] e = Rattle.std.proofs.lemmas.List.append-nil (reads e)
-reads_push (d ∷ es) e = ap (λ l. reads d ++ l) (reads_push es e) ∙ sym (append_assoc (reads d) (arguments_reads (arguments_of es)) (reads e))
-
-pub reads_more : (to fn pushed : List ℕ) (items : List Expr) (i : ℕ) (a : Expr) → i < length items → a ≡ get_or items i a → to ≡ fn ++ arguments_reads (arguments_of (map shape (take i items))) → pushed ≡ to ++ reads (shape a)
-    → pushed ≡ fn ++ arguments_reads (arguments_of (map shape (take (i + 1) items)))
-reads_more to fn pushed items i a l is before push =
-    let old = arguments_reads (arguments_of (map shape (take i items))) in
-    let more : arguments_reads (arguments_of (map shape (take (i + 1) items))) ≡ old ++ reads (shape a) =
-    ap (λ es. arguments_reads (arguments_of es)) (map_more shape items i a l) ∙ reads_push (map shape (take i items)) (shape (get_or items i a)) ∙ ap (λ e. old ++ reads (shape e)) (sym is) in
-    push ∙ ap (λ t. t ++ reads (shape a)) before ∙ append_assoc fn old (reads (shape a)) ∙ ap (λ t. fn ++ t) (sym more)
+pub clock_more : (to fn pushed : List ℕ) (seen : List (ℕ × Bool)) (p : ℕ × Bool) → to ≡ fn ++ clock_vars seen → pushed ≡ to ++ p.0 ∷ [] → pushed ≡ fn ++ clock_vars (seen ++ p ∷ [])
+clock_more to fn pushed seen p before push =
+    push ∙ ap (λ t. t ++ p.0 ∷ []) before ∙ append_assoc fn (clock_vars seen) (p.0 ∷ []) ∙ ap (λ t. fn ++ t) (sym (clock_vars_push seen p))
 
 -- ---- one equation more
 
@@ -70,17 +54,17 @@ module _ (f : Function) (good : GoodFunction f) (i : ℕ) (q : ℕ × Expression
   more : take (i + 1) f.eqs ≡ take i f.eqs ++ q ∷ []
   more = take_more f.eqs i q within ∙ ap (λ p. take i f.eqs ++ p ∷ []) (get_or_from_slice_get f.eqs i q q at)
 
-  lefts_more : (x : ℕ) → lefts x (take (i + 1) f.eqs) ≡ lefts x (take i f.eqs) + cond (nat_eq x q.0) 1 0
-  lefts_more x = let c = lefts_cons x q [] in ap (lefts x) more ∙ lefts_append x (take i f.eqs) (q ∷ []) ∙ omega (arith, c)
+  lefts_more : (x : ℕ) → left_count x (take (i + 1) f.eqs) ≡ left_count x (take i f.eqs) + cond (nat_eq x q.0) 1 0
+  lefts_more x = let c = lefts_cons x q [] in ap (left_count x) more ∙ lefts_append x (take i f.eqs) (q ∷ []) ∙ omega (arith, c)
 
   -- it is the variable's first equation
-  pub first_time : lefts q.0 (take i f.eqs) ≡ 0
+  pub first_time : left_count q.0 (take i f.eqs) ≡ 0
   first_time =
       let m = lefts_more q.0 in
       let s = same_self q.0 in
-      let o : lefts q.0 (take (i + 1) f.eqs) ≡ lefts q.0 (take i f.eqs) + 1 = m ∙ ap (λ b. lefts q.0 (take i f.eqs) + cond b 1 0) s in
+      let o : left_count q.0 (take (i + 1) f.eqs) ≡ left_count q.0 (take i f.eqs) + 1 = m ∙ ap (λ b. left_count q.0 (take i f.eqs) + cond b 1 0) s in
       let t = sum_by-take-le (λ (e : ℕ × Expression). cond (nat_eq q.0 e.0) 1 0) f.eqs (i + 1) in
-      let n : lefts q.0 f.eqs ≤ 1 = subst (λ k. k ≤ 1) (sym (good.lefts q.0)) (inside_most f.n_in (length f.decls) q.0) in
+      let n : left_count q.0 f.eqs ≤ 1 = subst (λ k. k ≤ 1) (sym (good.lefts q.0)) (inside_most f.n_in (length f.decls) q.0) in
       omega (arith, o, t, n)
 
   right_more : (x : ℕ) → right_of (take (i + 1) f.eqs) x ≡ (if nat_eq x q.0 then Some q.1 else right_of (take i f.eqs) x)
@@ -92,7 +76,7 @@ module _ (f : Function) (good : GoodFunction f) (i : ℕ) (q : ℕ × Expression
 
       by : (b : Bool) → nat_eq x q.0 ≡ b → right_of (take i f.eqs ++ q ∷ []) x ≡ (if b then Some q.1 else right_of (take i f.eqs) x)
       by true e =
-          let none : right_of (take i f.eqs) x ≡ None = no_right (take i f.eqs) x (ap (λ w. lefts w (take i f.eqs)) (eqb-true x q.0 e) ∙ first_time) in
+          let none : right_of (take i f.eqs) x ≡ None = no_right (take i f.eqs) x (ap (λ w. left_count w (take i f.eqs)) (eqb-true x q.0 e) ∙ first_time) in
           right_right (take i f.eqs) (q ∷ []) x none ∙ ap (λ b. if b then Some q.1 else None) e
       by false e = others (right_of (take i f.eqs) x) refl e
 

@@ -5,7 +5,7 @@ use Rattle.std.proofs.lemmas.List.{same_from_push}
 use Rattle.std.proofs.lemmas.List.Sums.{sum_by_push, sum_by-cons}
 use Rattle.lt_base.specs.Dependence.{has}
 use Rattle.lt_base.specs.Graph.{Walks, ClosedWalk}
-use Rattle.lt_cause.specs.Tables.{count}
+use Rattle.lt_cause.specs.Tables.{occurrences}
 
 -- ---- how often a number stands in a list
 
@@ -13,28 +13,28 @@ use Rattle.lt_cause.specs.Tables.{count}
 abbrev pub one : ℕ → ℕ → ℕ
 one x y = cond (nat_eq x y) 1 0
 
-pub count_cons : (x y : ℕ) (xs : List ℕ) → count x (y ∷ xs) ≡ one x y + count x xs
+pub count_cons : (x y : ℕ) (xs : List ℕ) → occurrences x (y ∷ xs) ≡ one x y + occurrences x xs
 count_cons x y xs = sum_by-cons (λ z. cond (nat_eq x z) 1 0) y xs
 
-pub count_push : (x y : ℕ) (xs : List ℕ) → count x (xs ++ y ∷ []) ≡ count x xs + one x y
+pub count_push : (x y : ℕ) (xs : List ℕ) → occurrences x (xs ++ y ∷ []) ≡ occurrences x xs + one x y
 count_push x y xs = sum_by_push (λ z. cond (nat_eq x z) 1 0) xs y
 
 pub one_self : (x : ℕ) → one x x ≡ 1
 one_self x = ap (λ b. cond b 1 0) (Rattle.lt_base.proofs.Lookups.same_self x)
 
-pub has_counted : (x : ℕ) (xs : List ℕ) → 0 < count x xs → has x xs ≡ true
+pub has_counted : (x : ℕ) (xs : List ℕ) → 0 < occurrences x xs → has x xs ≡ true
 has_counted x [] h = absurd (omega arith)
 has_counted x (y ∷ xs) h = by (nat_eq x y) (count_cons x y xs) (has_counted x xs)
   where
-    by : (b : Bool) → count x (y ∷ xs) ≡ cond b 1 0 + count x xs → (0 < count x xs → has x xs ≡ true) → (b || has x xs) ≡ true
+    by : (b : Bool) → occurrences x (y ∷ xs) ≡ cond b 1 0 + occurrences x xs → (0 < occurrences x xs → has x xs ≡ true) → (b || has x xs) ≡ true
     by true e later = refl
     by false e later = later (omega (arith, e, h))
 
-pub counted_has : (x : ℕ) (xs : List ℕ) → has x xs ≡ true → 0 < count x xs
+pub counted_has : (x : ℕ) (xs : List ℕ) → has x xs ≡ true → 0 < occurrences x xs
 counted_has x [] h = absurd (cc)
 counted_has x (y ∷ xs) h = go (nat_eq x y) h (count_cons x y xs) (counted_has x xs)
   where
-    go : (b : Bool) → (b || has x xs) ≡ true → count x (y ∷ xs) ≡ cond b 1 0 + count x xs → (has x xs ≡ true → 0 < count x xs) → 0 < count x (y ∷ xs)
+    go : (b : Bool) → (b || has x xs) ≡ true → occurrences x (y ∷ xs) ≡ cond b 1 0 + occurrences x xs → (has x xs ≡ true → 0 < occurrences x xs) → 0 < occurrences x (y ∷ xs)
     go true h e k = omega (arith, e)
     go false h e k = let l = k h in omega (arith, e, l)
 

@@ -5,11 +5,11 @@ ghost use Rattle.lt_base.specs.declared.memory.Or.TheVariants.{Fault as OrFault,
 ghost use Rattle.lt_base.specs.Order.{Ordered};
 ghost use Rattle.lt_base.specs.Dependence.{Depends, Causal};
 ghost use Rattle.lt_cause.specs.Tables.{Sorts};
-ghost use Rattle.lt_cause.specs.Orders.{IsOrder, IsLeastCycle, place_in};
+ghost use Rattle.lt_cause.specs.Orders.{IsOrder, IsLeastCycle, order_place};
 
 use crate::circling::{circle, returns};
 use crate::dependence::{dependencies, equation_numbers};
-use crate::sorting::sorted;
+use crate::sorting::topological_order;
 use lt_base::{Func, List, Memory, Or};
 use lt_graph::components;
 use std::alloc::Global;
@@ -32,7 +32,7 @@ fn equations_in(alloc: Global, f: &Func, order: &Vec<u32>) -> Result<List<u32>, 
     requires sorts { Sorts (Depends f.now) (length f.now.decls) order.now.items }
     ensures { IfOk result (IsOrder f.now) }
 {
-    f.kept();
+    f.invariant_holds();
     let numbers = equation_numbers(alloc, f)?;
     let mut eqs = List::new(alloc);
     for x in order {
@@ -50,12 +50,12 @@ pub fn causal(alloc: Global, f: &Func) -> Result<Order, Or<Cycle>>
     requires equations { length f.now.eqs < 2 ^ 32 }
     ensures causal { OnOk result (Causal f.now) }
     ensures order { IfOk result (λ order. IsOrder f.now order.eqs) }
-    ensures places { IfOk result (λ order. Ordered f.now (place_in f.now order.eqs)) }
+    ensures places { IfOk result (λ order. Ordered f.now (order_place f.now order.eqs)) }
     ensures acyclic { Causal f.now → IfErr result (λ e. e ≡ OrMemory) }
     ensures cycle { (cycle : Cycle) → result ≡ Err (OrFault cycle) → IsLeastCycle f.now cycle.vars }
 {
     let table = dependencies(alloc, f)?;
-    if let Some(order) = sorted(alloc, &table)? {
+    if let Some(order) = topological_order(alloc, &table)? {
         let eqs = equations_in(alloc, f, &order)?;
         return Ok(Order { eqs });
     }
@@ -71,4 +71,19 @@ pub fn causal(alloc: Global, f: &Func) -> Result<Order, Or<Cycle>>
         }
     }
     unreachable!()
+}
+
+/// An order of a causal function's equations.
+pub fn order_of(alloc: Global, f: &Func) -> Result<Order, Memory>
+    requires causal { Causal f.now }
+    requires variables { length f.now.decls < 2 ^ 32 }
+    requires equations { length f.now.eqs < 2 ^ 32 }
+    ensures order { IfOk result (λ order. IsOrder f.now order.eqs) }
+    ensures places { IfOk result (λ order. Ordered f.now (order_place f.now order.eqs)) }
+{
+    match causal(alloc, f) {
+        Ok(order) => Ok(order),
+        Err(Or::Memory) => Err(Memory),
+        Err(Or::Fault(_)) => unreachable!(),
+    }
 }

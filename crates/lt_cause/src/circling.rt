@@ -4,7 +4,7 @@ ghost use Rattle.std.specs.Prelude.{◌≡◌, ◌<◌, ◌^◌, ◌∷◌, ℕ,
 ghost use Rattle.lt_base.specs.Graph.{ClosedWalk};
 ghost use Rattle.lt_graph.specs.Reach.{AreComponents};
 ghost use Rattle.lt_graph.specs.Tables.{Leads, IsTable};
-ghost use Rattle.lt_cause.specs.Tables.{Circles};
+ghost use Rattle.lt_cause.specs.Tables.{Circles, HasWalkFrom, HasNoWalkFrom};
 
 use lt_base::{List, Memory};
 use lt_graph::{degrees, leads_to};
@@ -15,9 +15,9 @@ pub fn returns(table: &List<List<u32>>, names: &Vec<usize>, number: u32) -> bool
     requires names { AreComponents (Leads table.now) (length table.now) names.now.items }
     requires table { IsTable table.now }
     requires number { number < length table.now }
-    ensures { MatchBool result ((walk : Items ℕ) × ClosedWalk (Leads table.now) (number ∷ walk)) ((walk : Items ℕ) → ClosedWalk (Leads table.now) (number ∷ walk) → ⊥) }
+    ensures { MatchBool result (HasWalkFrom (Leads table.now) number) (HasNoWalkFrom (Leads table.now) number) }
 {
-    for next in table.as_slice()[number as usize].as_slice() {
+    for next in table[number as usize].iter() {
         if names[*next as usize] == names[number as usize] {
             return true;
         }
@@ -25,7 +25,7 @@ pub fn returns(table: &List<List<u32>>, names: &Vec<usize>, number: u32) -> bool
     false
 }
 
-fn unseen(alloc: Global, size: usize) -> Result<Vec<bool>, Memory>
+fn unseen_marks(alloc: Global, size: usize) -> Result<Vec<bool>, Memory>
     ensures { IfOk result (λ r. r.items ≡ replicate size false) }
 {
     let mut seen = Vec::with_capacity(alloc, size)?;
@@ -43,9 +43,9 @@ pub fn circle(
 ) -> Result<Option<Vec<u32>>, Memory>
     requires table { IsTable table.now }
     requires start { start < length table.now }
-    ensures { IfOk result (λ r. MatchOption r ((walk : Items ℕ) → ClosedWalk (Leads table.now) (start ∷ walk) → ⊥) (λ walk. Circles (Leads table.now) start walk.items)) }
+    ensures { IfOk result (λ r. MatchOption r (HasNoWalkFrom (Leads table.now) start) (λ walk. Circles (Leads table.now) start walk.items)) }
 {
-    let mut seen = unseen(alloc, table.len())?;
+    let mut seen = unseen_marks(alloc, table.len())?;
     let mut rest = degrees(alloc, table)?;
     let mut path = Vec::new(alloc);
     seen[start as usize] = true;

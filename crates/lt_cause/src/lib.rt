@@ -6,4 +6,4 @@ mod circling;
 mod dependence;
 mod sorting;
 
-pub use causality::{Cycle, Order, causal};
+pub use causality::{Cycle, Order, causal, order_of};

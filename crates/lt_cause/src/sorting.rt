@@ -28,7 +28,7 @@ fn new_marks(alloc: Global, size: usize) -> Result<Vec<Mark>, Memory>
 
 /// The numbers of a table, each after those that it leads to; none where a walk is closed. It searches in depth, and a
 /// number is done when all that it leads to are.
-pub fn sorted(alloc: Global, table: &List<List<u32>>) -> Result<Option<Vec<u32>>, Memory>
+pub fn topological_order(alloc: Global, table: &List<List<u32>>) -> Result<Option<Vec<u32>>, Memory>
     requires table { IsTable table.now }
     requires size { length table.now < 2 ^ 32 }
     ensures { IfOk result (λ r. MatchOption r (HasClosedWalk (Leads table.now)) (λ order. Sorts (Leads table.now) (length table.now) order.items)) }

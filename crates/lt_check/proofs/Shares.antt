@@ -17,7 +17,7 @@ use Rattle.lt_base.proofs.Solution.{and_left, and_right}
 use Rattle.lt_check.specs.declared.sizing.Measure.{Measure}
 use Rattle.lt_check.specs.declared.sizing.Measure.TheVariants.{Weight, Parts}
 use Rattle.lt_check.specs.declared.sizing.Share.{Share}
-use Rattle.lt_check.specs.Shares.{nothing, measured, own, IsShare}
+use Rattle.lt_check.specs.Shares.{nothing, share_measure, own, IsShare}
 
 pub arguments_cost-map : (es : List Expr) → arguments_cost 1 nothing (arguments_of (map shape es)) ≡ sum_by (λ e. cost 1 nothing (shape e)) es
 arguments_cost-map [] = refl
@@ -119,7 +119,7 @@ abbrev alone : Measure → Function → ℕ
 alone Weight f = weight_with nothing f
 alone Parts f = sum_by (λ e. parts e.1) f.eqs
 
-measured_split : (m : Measure) (w : ℕ → ℕ) (f : Function) → measured m w f ≡ alone m f + sum_by w (equations_called f.eqs)
+measured_split : (m : Measure) (w : ℕ → ℕ) (f : Function) → share_measure m w f ≡ alone m f + sum_by w (equations_called f.eqs)
 measured_split Weight w f = omega (arith, costs_split w f.eqs)
 measured_split Parts w f = parts_split w f.eqs
 
@@ -127,7 +127,7 @@ own_alone : (m : Measure) (s : Share) → IsShare s → own m s ≡ cut (alone m
 own_alone Weight s h = h.weight
 own_alone Parts s h = h.parts
 
-pub share_total : (m : Measure) (w : ℕ → ℕ) (s : Share) → IsShare s → cut (own m s + sum_by w s.calls) ≡ cut (measured m w s.function.now)
+pub share_total : (m : Measure) (w : ℕ → ℕ) (s : Share) → IsShare s → cut (own m s + sum_by w s.calls) ≡ cut (share_measure m w s.function.now)
 share_total m w s h = let calls = ap (sum_by w) h.calls in omega (arith, own_alone m s h, measured_split m w s.function.now, calls)
 
 -- ---- rounds
@@ -137,7 +137,7 @@ module _ (w v : ℕ → ℕ) (h : (g : ℕ) → w g ≡ cut (v g)) where
   cut_sums [] = refl
   cut_sums (g ∷ xs) = omega (arith, h g, cut_sums xs, sum_by-cons w g xs, sum_by-cons v g xs)
 
-  cut_measured : (m : Measure) (f : Function) → cut (measured m w f) ≡ cut (measured m v f)
+  cut_measured : (m : Measure) (f : Function) → cut (share_measure m w f) ≡ cut (share_measure m v f)
   cut_measured m f = omega (arith, cut_sums (equations_called f.eqs), measured_split m w f, measured_split m v f)
 
 -- two tables that test as equal are
@@ -168,17 +168,17 @@ module _ (m : Measure) (shares : List Share) where
   fs = map (λ s. s.function.now) shares
 
   abbrev after_rounds : List ℕ → ℕ → Type 0
-  after_rounds table n = (g : ℕ) → in_table table g ≡ cut (nested (measured m) fs n g)
+  after_rounds table n = (g : ℕ) → in_table table g ≡ cut (nested (share_measure m) fs n g)
 
   abbrev is_next : List ℕ → List ℕ → Type 0
-  is_next table next = next ≡ map (λ s. cut (measured m (in_table table) s.function.now)) shares
+  is_next table next = next ≡ map (λ s. cut (share_measure m (in_table table) s.function.now)) shares
 
   -- one more round
   pub one_round : (n : ℕ) (table next : List ℕ) → after_rounds table n → is_next table next → after_rounds next (suc n)
   one_round n table next h e g =
-      ap (λ l. in_table l g) (e ∙ map_twice (λ f. cut (measured m (in_table table) f)) (λ (s : Share). s.function.now) shares)
-      ∙ table_of (λ f. cut (measured m (in_table table) f)) fs g
-      ∙ cut_size (λ f. cut (measured m (in_table table) f)) (measured m (nested (measured m) fs n)) (cut_measured (in_table table) (nested (measured m) fs n) h m) (function_of fs g)
+      ap (λ l. in_table l g) (e ∙ map_twice (λ f. cut (share_measure m (in_table table) f)) (λ (s : Share). s.function.now) shares)
+      ∙ table_of (λ f. cut (share_measure m (in_table table) f)) fs g
+      ∙ cut_size (λ f. cut (share_measure m (in_table table) f)) (share_measure m (nested (share_measure m) fs n)) (cut_measured (in_table table) (nested (share_measure m) fs n) h m) (function_of fs g)
 
   -- after a round that changes nothing no later one does
   pub settled_rounds : (n : ℕ) (table : List ℕ) → after_rounds table n → is_next table table → (k : ℕ) → n ≤ k → after_rounds table k

@@ -20,9 +20,9 @@ abbrev pub HasGoodClocks : Function → Type 0
 HasGoodClocks f = ((x : ℕ) → x < length f.decls → BoolClock f.decls x) × ((x : ℕ) → x < length f.decls → GoodClock f.decls x)
 
 -- the function is typed and clocked
-abbrev pub IsRight : List Function → Function → Type 0
-IsRight fs f = TypedFunction fs f × ClockedFunction fs f
+abbrev pub IsTypedAndClocked : List Function → Function → Type 0
+IsTypedAndClocked fs f = TypedFunction fs f × ClockedFunction fs f
 
 -- every function of the program is typed and clocked
 abbrev pub IsRightProgram : WholeProgram → Type 0
-IsRightProgram p = All (IsRight p.funcs) p.funcs
+IsRightProgram p = All (IsTypedAndClocked p.funcs) p.funcs

@@ -14,9 +14,9 @@ abbrev pub nothing : ℕ → ℕ
 nothing g = 0
 
 -- the measure of a function from those of the called functions
-abbrev pub measured : Measure → (ℕ → ℕ) → Function → ℕ
-measured Weight = weight_with
-measured Parts = parts_with
+abbrev pub share_measure : Measure → (ℕ → ℕ) → Function → ℕ
+share_measure Weight = weight_with
+share_measure Parts = parts_with
 
 -- what a share has of a measure
 abbrev pub own : Measure → Share → ℕ

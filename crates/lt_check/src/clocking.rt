@@ -45,7 +45,7 @@ fn fault_at(f: &Func, func: u32, var: u32, at: Option<u32>) -> Result<ClockFault
     requires { var < length f.now.decls }
     ensures { IfOk result (λ fault. fault ≡ record { func = func; var = var; want = clock_of f.now.decls var; at = at }) }
 {
-    let want = f.decls.as_slice()[var as usize].clock.copy()?;
+    let want = f.decls[var as usize].clock.copy()?;
     Ok(ClockFault {
         func,
         var,
@@ -69,7 +69,7 @@ fn function_clocks(
     if let Some(variable) = ill_formed(alloc, f)? {
         return Err(Or::Fault(fault_at(f, number, variable, None)?));
     }
-    for (k, equation) in f.eqs.as_slice().iter().enumerate() {
+    for (k, equation) in f.eqs.iter().enumerate() {
         let left = equation.left();
         if !is_at(
             funcs,
@@ -93,7 +93,7 @@ pub fn clocks(alloc: Global, p: &Program) -> Result<(), Or<ClockFault>>
     ensures fault { (fault : ClockFault) → result ≡ Err (OrFault fault) → IsFirstClockFault p.now fault }
     ensures first { (fault : ClockFault) → IsFirstClockFault p.now fault → (result ≡ Err (OrFault fault)) ⊎ (result ≡ Err OrMemory) }
 {
-    for (number, f) in p.funcs.as_slice().iter().enumerate() {
+    for (number, f) in p.funcs.iter().enumerate() {
         function_clocks(alloc, &p.funcs, number as u32, f)?;
     }
     Ok(())

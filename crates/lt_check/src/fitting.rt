@@ -1,7 +1,7 @@
 // Types and clocks together, where no fault is told.
 ghost use Rattle.std.specs.Prelude.{◌<◌, ◌↔◌, ◌^◌, All, IfOk, IsTrue, length};
 ghost use Rattle.lt_base.specs.Program.{GoodFunction};
-ghost use Rattle.lt_check.specs.Fitting.{FitsVariable, HasGoodClocks, IsRight, IsRightProgram};
+ghost use Rattle.lt_check.specs.Fitting.{FitsVariable, HasGoodClocks, IsTypedAndClocked, IsRightProgram};
 
 use crate::clocking::ill_formed;
 use crate::innermost::{innermost_of, is_at};
@@ -39,12 +39,12 @@ fn equation_fits(funcs: &List<Func>, decls: &List<Decl>, equation: &Equation) ->
 fn function_fits(alloc: Global, funcs: &List<Func>, f: &Func) -> Result<bool, Memory>
     requires functions { All GoodFunction funcs.now }
     requires variables { length f.now.decls < 2 ^ 32 }
-    ensures { IfOk result (λ b. IsTrue b ↔ IsRight funcs.now f.now) }
+    ensures { IfOk result (λ b. IsTrue b ↔ IsTypedAndClocked funcs.now f.now) }
 {
     if !clocks_fit(alloc, f)? {
         return Ok(false);
     }
-    for equation in f.eqs.as_slice() {
+    for equation in f.eqs.iter() {
         if !equation_fits(funcs, &f.decls, equation) {
             return Ok(false);
         }
@@ -58,7 +58,7 @@ pub fn types_and_clocks(alloc: Global, p: &Program) -> Result<bool, Memory>
     requires { All (λ f. length f.decls < 2 ^ 32) p.now.funcs }
     ensures { IfOk result (λ b. IsTrue b ↔ IsRightProgram p.now) }
 {
-    for f in p.funcs.as_slice() {
+    for f in p.funcs.iter() {
         if !function_fits(alloc, &p.funcs, f)? {
             return Ok(false);
         }

@@ -25,7 +25,7 @@ fn innermost(clock: &Clock) -> Option<(u32, bool)>
 pub fn innermost_of(decls: &List<Decl>, variable: u32) -> Option<(u32, bool)>
     ensures { result ≡ innermost (clock_of decls.now variable) }
 {
-    match decls.as_slice().get(variable as usize) {
+    match decls.get(variable as usize) {
         Some(decl) => innermost(&decl.clock),
         None => None,
     }
@@ -47,7 +47,7 @@ fn is_linked(decls: &List<Decl>, clock: &Clock) -> bool
         return true;
     }
     let last = steps.len() - 1;
-    match decls.as_slice().get(steps[last].0 as usize) {
+    match decls.get(steps[last].0 as usize) {
         Some(decl) => has_steps(&decl.clock, &steps[..last]),
         None => false,
     }
@@ -58,7 +58,7 @@ pub fn links(alloc: Global, decls: &List<Decl>) -> Result<Vec<bool>, Memory>
     ensures { IfOk result (λ table. TellsLinks decls.now table.items) }
 {
     let mut table = Vec::with_capacity(alloc, decls.len())?;
-    for decl in decls.as_slice() {
+    for decl in decls.iter() {
         table.push(is_linked(decls, &decl.clock))?;
     }
     Ok(table)
@@ -97,7 +97,7 @@ fn answers_on_base(f: Option<&Func>) -> bool
     ensures { MatchOption f.entry (result ≡ answers_on_base None) (λ g. result ≡ answers_on_base (Some g.now)) }
 {
     match f {
-        Some(f) => match f.outs.as_slice().get(0) {
+        Some(f) => match f.outs.get(0) {
             Some(output) => innermost_of(&f.decls, *output).is_none(),
             None => false,
         },

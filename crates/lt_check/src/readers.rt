@@ -10,7 +10,7 @@ use lt_base::{Decl, Func, List, Ty};
 pub fn ty_at(decls: &List<Decl>, variable: u32) -> Option<Ty>
     ensures { result ≡ ty_at decls.now variable }
 {
-    match decls.as_slice().get(variable as usize) {
+    match decls.get(variable as usize) {
         Some(decl) => Some(decl.ty),
         None => None,
     }
@@ -21,14 +21,14 @@ pub fn declared_type(decls: &List<Decl>, variable: u32) -> Ty
     requires { variable < length decls.now }
     ensures { Some result ≡ ty_at decls.now variable }
 {
-    decls.as_slice()[variable as usize].ty
+    decls[variable as usize].ty
 }
 
 /// The function of a number, if there is one.
 pub fn function_at(funcs: &List<Func>, number: u32) -> Option<&Func>
     ensures { MatchOption result (function_of funcs.now number ≡ None) (λ f. function_of funcs.now number ≡ Some f.now) }
 {
-    funcs.as_slice().get(number as usize)
+    funcs.get(number as usize)
 }
 
 /// The type of an input.
@@ -36,7 +36,7 @@ pub fn input_type(f: &Func, input: usize) -> Ty
     requires { input < f.now.n_in }
     ensures { slice_get (input_types f.now) input ≡ Some result }
 {
-    f.decls.as_slice()[input].ty
+    f.decls[input].ty
 }
 
 /// The type of the only output.

@@ -4,7 +4,7 @@ ghost use Rattle.std.specs.List.{All, sum_by};
 ghost use Rattle.lt_base.specs.Expression.{shape, arguments_of, parts};
 ghost use Rattle.lt_base.specs.Calls.{called, arguments_called, equations_called};
 ghost use Rattle.lt_base.specs.Sizes.{cost, arguments_cost, cut, in_table, weight_with, nested, program_weight, program_parts};
-ghost use Rattle.lt_check.specs.Shares.{nothing, measured, own, IsShare};
+ghost use Rattle.lt_check.specs.Shares.{nothing, share_measure, own, IsShare};
 
 use lt_base::{Expr, Func, List, Memory, Program, Sizes};
 use std::alloc::Global;
@@ -117,7 +117,7 @@ pub fn calls_of(alloc: Global, f: &Func) -> Result<List<u32>, Memory>
     ensures { IfOk result (λ list. list ≡ equations_called f.now.eqs) }
 {
     let mut list = List::new(alloc);
-    'equations: for equation in f.eqs.as_slice() {
+    'equations: for equation in f.eqs.iter() {
         push_calls(equation.right(), &mut list)?;
     }
     Ok(list)
@@ -128,10 +128,10 @@ fn share_of<'a>(alloc: Global, function: &'a Func) -> Result<Share<'a>, Memory>
     ensures function { IfOk result (λ s. s.function.now ≡ function.now) }
     ensures share { IfOk result IsShare }
 {
-    let mut weight = function.decls.as_slice().len() as u64;
+    let mut weight = function.decls.len() as u64;
     let mut parts = 0u64;
     let mut calls = List::new(alloc);
-    'equations: for equation in function.eqs.as_slice() {
+    'equations: for equation in function.eqs.iter() {
         let right = equation.right();
         weight = weight.saturating_add(delays(right));
         parts = parts.saturating_add(right.parts());
@@ -181,7 +181,7 @@ fn total(own: u64, calls: &List<u32>, table: &[u64]) -> u64
     ensures { result ≡ cut (own + sum_by (in_table table.now) calls.now) }
 {
     let mut sum = own;
-    'calls: for g in calls.as_slice() {
+    'calls: for g in calls.iter() {
         sum = sum.saturating_add(entry_of(table, *g));
     }
     sum
@@ -190,7 +190,7 @@ fn total(own: u64, calls: &List<u32>, table: &[u64]) -> u64
 /// The measure of a function over a table of those that it calls.
 fn measure_of(share: &Share, measure: Measure, table: &[u64]) -> u64
     requires { IsShare share.now }
-    ensures { result ≡ cut (measured measure (in_table table.now) share.now.function.now) }
+    ensures { result ≡ cut (share_measure measure (in_table table.now) share.now.function.now) }
 {
     total(own(measure, share), &share.calls, table)
 }
@@ -203,7 +203,7 @@ fn next_table(
     table: &[u64],
 ) -> Result<Vec<u64>, Memory>
     requires { All IsShare shares.now }
-    ensures { IfOk result (λ next. next.items ≡ map (λ s. cut (measured measure (in_table table.now) s.function.now)) shares.now) }
+    ensures { IfOk result (λ next. next.items ≡ map (λ s. cut (share_measure measure (in_table table.now) s.function.now)) shares.now) }
 {
     let mut next = Vec::with_capacity(alloc, shares.len())?;
     'shares: for share in shares {
@@ -216,12 +216,12 @@ fn next_table(
 /// the last.
 fn totals(alloc: Global, shares: &[Share], measure: Measure) -> Result<Vec<u64>, Memory>
     requires { All IsShare shares.now }
-    ensures { IfOk result (λ table. (g : ℕ) → in_table table.items g ≡ cut (nested (measured measure) (map (λ s. s.function.now) shares.now) (length shares.now) g)) }
+    ensures { IfOk result (λ table. (g : ℕ) → in_table table.items g ≡ cut (nested (share_measure measure) (map (λ s. s.function.now) shares.now) (length shares.now) g)) }
 {
     let mut table: Vec<u64> = Vec::new(alloc);
     'rounds: for _round in 0..shares.len() {
-        let next = next_table(alloc, shares, measure, table.as_slice())?;
-        if next.as_slice() == table.as_slice() {
+        let next = next_table(alloc, shares, measure, &table)?;
+        if next == table {
             return Ok(table);
         }
         table = next;
@@ -235,11 +235,11 @@ pub fn sizes(alloc: Global, p: &Program) -> Result<Sizes, Memory>
     ensures weight { IfOk result (λ s. s.weight ≡ cut (program_weight p.now)) }
     ensures parts { IfOk result (λ s. s.parts ≡ cut (program_parts p.now)) }
 {
-    let shares = shares(alloc, p.funcs.as_slice())?;
+    let shares = shares(alloc, &p.funcs)?;
     let weights = totals(alloc, &shares, Measure::Weight)?;
     let parts = totals(alloc, &shares, Measure::Parts)?;
     Ok(Sizes {
-        weight: entry_of(weights.as_slice(), p.main),
-        parts: entry_of(parts.as_slice(), p.main),
+        weight: entry_of(&weights, p.main),
+        parts: entry_of(&parts, p.main),
     })
 }

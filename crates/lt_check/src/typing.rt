@@ -75,7 +75,7 @@ pub struct TypeFault {
 fn is_bool_clock(decls: &List<Decl>, clock: &Clock) -> bool
     ensures { MatchBool result (AllBools decls.now clock.now) (¬ AllBools decls.now clock.now) }
 {
-    for (variable, _polarity) in clock.steps.as_slice() {
+    for (variable, _polarity) in clock.steps.iter() {
         if !is_type(ty_at(decls, *variable), Ty::Bool) {
             return false;
         }
@@ -88,7 +88,7 @@ pub(crate) fn int_clock(f: &Func) -> Option<u32>
     requires { length f.now.decls < 2 ^ 32 }
     ensures { MatchOption result ((x : ℕ) → x < length f.now.decls → BoolClock f.now.decls x) (FirstDeclaration (BoolClock f.now.decls) f.now) }
 {
-    for (variable, decl) in f.decls.as_slice().iter().enumerate() {
+    for (variable, decl) in f.decls.iter().enumerate() {
         if !is_bool_clock(&f.decls, &decl.clock) {
             return Some(variable as u32);
         }
@@ -126,7 +126,7 @@ fn function_types(funcs: &List<Func>, number: u32, f: &Func) -> Result<(), TypeF
             got: Some(Ty::Int),
         });
     }
-    for equation in f.eqs.as_slice() {
+    for equation in f.eqs.iter() {
         if let Some((want, got)) = misfit(funcs, &f.decls, equation) {
             return Err(TypeFault {
                 func: number,
@@ -146,7 +146,7 @@ pub fn types(p: &Program) -> Result<(), TypeFault>
     ensures typed { (result ≡ Ok tt) ↔ TypedProgram p.now }
     ensures fault { (fault : TypeFault) → (result ≡ Err fault) ↔ IsFirstTypeFault p.now fault }
 {
-    for (number, f) in p.funcs.as_slice().iter().enumerate() {
+    for (number, f) in p.funcs.iter().enumerate() {
         function_types(&p.funcs, number as u32, f)?;
     }
     Ok(())

@@ -9,11 +9,11 @@ use Rattle.lt_answer.specs.World.{World}
 use Rattle.lt_answer.proofs.Stages.{refuses, runs_short, calm_itself, opens_none}
 use Rattle.lt_words.specs.declared.command.Command.{Command as Spoken}
 use Rattle.lt_words.specs.Reading.{Said, said_of, check, meaning, run, plan, sim, big, watch, audit, trace, command_of}
-use Rattle.lt_reply.specs.declared.refusal.Refusal.TheVariants.{Words}
-use Rattle.lt_reply.specs.declared.status.Status.{Status}
-use Rattle.lt_reply.specs.declared.status.Status.TheVariants as status
-use Rattle.lt_reply.specs.Texts.{line_of}
-use Rattle.lt_cli.specs.Written.{Written, Reaches, whole, broke, short}
+use Rattle.lt_text_answers.specs.declared.refusal.Refusal.TheVariants.{Words}
+use Rattle.lt_text_answers.specs.declared.status.Status.{Status}
+use Rattle.lt_text_answers.specs.declared.status.Status.TheVariants as status
+use Rattle.lt_text_answers.specs.Texts.{refusal_line}
+use Rattle.lt_cli.specs.Written.{Written, WriteReaches, whole, broke, short}
 use Rattle.lt_cli.specs.Objects.{Objects, world_of}
 use Rattle.lt_cli.specs.Commands.{asked_verdict, asked_errands, words_verdict}
 use Rattle.lt_cli.specs.Asked.{Asked, EndsBySaid, LeavesFabric, ObeysCommand, VisitsFiles}
@@ -46,18 +46,18 @@ some_asked words o command told is old new ends obeyed =
       visits = subst (λ (s : Option Said). VisitsFiles s old new ends) said obeyed.obeys.visits;
     }
 
-of_three : (text : List ℕ) (old new : SinkState) (ends : Status) → Reaches status.Words text old new ends → (ends ≡ status.Words) ⊎ (ends ≡ status.Write) ⊎ (ends ≡ status.Memory)
+of_three : (text : List ℕ) (old new : SinkState) (ends : Status) → WriteReaches status.Words text old new ends → (ends ≡ status.Words) ⊎ (ends ≡ status.Write) ⊎ (ends ≡ status.Memory)
 of_three text old new ends (whole is took) = inl is
 of_three text old new ends (broke is broken) = inr (inl is)
 of_three text old new ends (short is front) = inr (inr is)
 
 -- they say none
-pub none_asked : (words : List (List ℕ)) (s : Option Spoken) → option_map said_of s ≡ command_of words → s ≡ None → (w : World) (o e e' : SinkState) (ends : Status) → Written status.Words (line_of Words ++ 10 ∷ []) e e' ends
+pub none_asked : (words : List (List ℕ)) (s : Option Spoken) → option_map said_of s ≡ command_of words → s ≡ None → (w : World) (o e e' : SinkState) (ends : Status) → Written status.Words (refusal_line Words ++ 10 ∷ []) e e' ends
     → Asked words (objects w o e) (objects w o e') ends
 unfolding words_verdict
 none_asked words s told is w o e e' ends written =
     let said : None ≡ command_of words = sym (ap (option_map said_of) is) ∙ told in
-    let by_said : EndsBySaid None (objects w o e) (objects w o e') ends = record { words_only = λ at. refl; none_only = λ none. of_three (line_of Words ++ 10 ∷ []) e e' ends written.reaches; leaves = refl } in
+    let by_said : EndsBySaid None (objects w o e) (objects w o e') ends = record { words_only = λ at. refl; none_only = λ none. of_three (refusal_line Words ++ 10 ∷ []) e e' ends written.reaches; leaves = refl } in
     let V = asked_verdict w.files.named w None in
     record {
       ran = subst (λ (c : Option Said). Ran (asked_verdict w.files.named w c) (objects w o e) (objects w o e') ends) said (ran_refused {es = []} V w w o e e' Words ends (refuses w Words (calm_itself w) refl) written);

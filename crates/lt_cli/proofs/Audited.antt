@@ -6,42 +6,42 @@ use Rattle.lt_arch.specs.declared.timing.Timing.{Timing}
 use Rattle.lt_arch.proofs.Schedules.{offence_free}
 use Rattle.lt_timing.specs.Accepts.{Accepts}
 use Rattle.lt_audit.specs.Misses.{HasNoMiss}
-use Rattle.lt_judge.specs.declared.fault.ScheduleFault.{ScheduleFault}
-use Rattle.lt_judge.specs.Verdict.{verdict}
-use Rattle.lt_config.specs.declared.pace.Pace.TheVariants.{Plain}
+use Rattle.lt_schedule.specs.declared.fault.ScheduleFault.{ScheduleFault}
+use Rattle.lt_schedule.specs.Verdict.{verdict}
+use Rattle.lt_arch.specs.declared.pace.Pace.TheVariants.{Plain}
 use Rattle.lt_load.specs.Plan.{Plan}
 use Rattle.lt_run.proofs.Reading.{HasRead}
-use Rattle.lt_commands.specs.declared.scene.Scene.{Scene}
-use Rattle.lt_commands.specs.declared.audited.Audited.{Audited}
-use Rattle.lt_commands.specs.Placed.{IsOfShape}
-use Rattle.lt_commands.specs.Scenes.{IsSceneOf, scene_verdict}
-use Rattle.lt_commands.specs.Inspected.{EndsWith, IsAudited, file_verdict, along_verdict, audit_verdict}
-use Rattle.lt_commands.proofs.ToldFirst.{admissible, in_time}
-use Rattle.lt_reply.specs.declared.status.Status.{Status}
-use Rattle.lt_reply.specs.declared.status.Status.TheVariants as status
+use Rattle.lt_inspect.specs.declared.scene.Scene.{Scene}
+use Rattle.lt_inspect.specs.declared.audited.Audited.{Audited}
+use Rattle.lt_inspect.specs.Placed.{IsOfShape}
+use Rattle.lt_inspect.specs.Scenes.{IsSceneOf, scene_verdict}
+use Rattle.lt_inspect.specs.Inspected.{InspectionEndsWith, IsAudited, inspect_file_verdict, inspect_along_verdict, audit_verdict}
+use Rattle.lt_inspect.proofs.ToldFirst.{admissible, in_time}
+use Rattle.lt_text_answers.specs.declared.status.Status.{Status}
+use Rattle.lt_text_answers.specs.declared.status.Status.TheVariants as status
 use Rattle.lt_cli.specs.AuditShown.{HoldSchedule, TookClean, IsAuditShown}
 use Rattle.lt_cli.specs.Clauses.{IsExact}
 use Rattle.lt_cli.specs.Objects.{Objects}
 use Rattle.lt_cli.specs.Taken.{TookText}
-use Rattle.lt_reply.specs.Texts.{audit_text, audited_text}
+use Rattle.lt_text_answers.specs.Texts.{audit_text, audited_text}
 use Rattle.lt_cli.proofs.Decided.{scene_decided}
 use Rattle.lt_cli.proofs.Inspected.{AreAlike, alike}
 
 -- a schedule file that is judged to its end reads as events
 
-ends_with : {T : Type 0} (end : List Event → T → Type 0) (x : T) (r : Result (List Event) ScheduleFault) → EndsWith end r (Ok x) → (events : List Event) × (r ≡ Ok events) × end events x
+ends_with : {T : Type 0} (end : List Event → T → Type 0) (x : T) (r : Result (List Event) ScheduleFault) → InspectionEndsWith end r (Ok x) → (events : List Event) × (r ≡ Ok events) × end events x
 ends_with end x (Ok events) is = (events, refl, is)
 ends_with end x (Err fault) is = cc
 
-file_read : {T : Type 0} (end : List Event → T → Type 0) (s : Shape) (t : Timing) (rows : ℕ) (file : Option (List ℕ)) (x : T) → file_verdict end s t rows file (Ok x) → HasRead Plain end s t rows file x
-unfolding file_verdict
+file_read : {T : Type 0} (end : List Event → T → Type 0) (s : Shape) (t : Timing) (rows : ℕ) (file : Option (List ℕ)) (x : T) → inspect_file_verdict end s t rows file (Ok x) → HasRead Plain end s t rows file x
+unfolding inspect_file_verdict
 file_read end s t rows None x is = cc
 file_read end s t rows (Some bytes) x is = let e = ends_with end x (verdict s t rows bytes) is in record { bytes = bytes; file_is = refl; events = e.0; reads = e.1; at_end = e.2 }
 
 -- and one that reads so is judged to its end
-read_file : {T : Type 0} (end : List Event → T → Type 0) (s : Shape) (t : Timing) (rows : ℕ) (bytes : List ℕ) (events : List Event) (x : T) → verdict s t rows bytes ≡ Ok events → end events x → file_verdict end s t rows (Some bytes) (Ok x)
-unfolding file_verdict
-read_file end s t rows bytes events x reads ended = subst (λ (r : Result (List Event) ScheduleFault). EndsWith end r (Ok x)) (sym reads) ended
+read_file : {T : Type 0} (end : List Event → T → Type 0) (s : Shape) (t : Timing) (rows : ℕ) (bytes : List ℕ) (events : List Event) (x : T) → verdict s t rows bytes ≡ Ok events → end events x → inspect_file_verdict end s t rows (Some bytes) (Ok x)
+unfolding inspect_file_verdict
+read_file end s t rows bytes events x reads ended = subst (λ (r : Result (List Event) ScheduleFault). InspectionEndsWith end r (Ok x)) (sym reads) ended
 
 -- no miss names a node or a channel
 none_placed : (s : Shape) → IsOfShape s None
@@ -54,7 +54,7 @@ took_clean scene events audited old new audits accepts text =
     subst (λ (t : List ℕ). TookText t old new) same text
 
 module _ (named : List ℕ → Option (List ℕ)) (program inputs schedule config : List ℕ) (old new : Objects) (audited : Audited) (text : TookText (audited_text audited) old new) where
-  along_shown : (plan : Plan) → scene_verdict named program inputs config None (Ok plan) → along_verdict IsAudited None (named schedule) plan (Ok audited) → IsAuditShown named program inputs schedule config old new
+  along_shown : (plan : Plan) → scene_verdict named program inputs config None (Ok plan) → inspect_along_verdict IsAudited None (named schedule) plan (Ok audited) → IsAuditShown named program inputs schedule config old new
   along_shown plan loaded (scene, is, told) =
       let read = file_read (IsAudited scene) scene.shape scene.timing scene.rows (named schedule) audited told in
       record {
@@ -95,7 +95,7 @@ module _ (named : List ℕ → Option (List ℕ)) (program inputs schedule confi
         (
           scene,
           held.scene_is,
-          subst (λ (file : Option (List ℕ)). file_verdict (IsAudited scene) scene.shape scene.timing scene.rows file (Ok without)) (sym held.file) (read_file (IsAudited scene) scene.shape scene.timing scene.rows held.bytes events without held.reads (audits_clean accepts)),
+          subst (λ (file : Option (List ℕ)). inspect_file_verdict (IsAudited scene) scene.shape scene.timing scene.rows file (Ok without)) (sym held.file) (read_file (IsAudited scene) scene.shape scene.timing scene.rows held.bytes events without held.reads (audits_clean accepts)),
         ),
       )
 

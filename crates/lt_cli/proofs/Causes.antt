@@ -4,32 +4,33 @@ use Rattle.std.specs.Prelude.{codes}
 use Rattle.lt_io.specs.FilesState.{FilesState}
 use Rattle.lt_io.specs.FabricState.{FabricState}
 use Rattle.lt_answer.specs.Answered.{Verdict}
-use Rattle.lt_verdict.proofs.Decided.{HasOneKind}
+use Rattle.lt_answer.proofs.Decided.{HasOneKind}
 use Rattle.lt_answer.specs.World.{IsCalm, Blame, Content, Reading, Linking, Blames}
 use Rattle.lt_answer.specs.Answered.{RefusesReading}
-use Rattle.lt_fit.specs.declared.fault.CommandFault.{CommandFault}
-use Rattle.lt_fit.specs.declared.fault.CommandFault.TheVariants.{Read}
-use Rattle.lt_reply.specs.declared.refusal.Refusal.{Refusal}
-use Rattle.lt_reply.specs.declared.refusal.Refusal.TheVariants.{Command}
-use Rattle.lt_reply.specs.declared.status.Status.{Status}
-use Rattle.lt_reply.specs.declared.status.Status.TheVariants as status
-use Rattle.lt_reply.specs.Blamed.{blame_of}
-use Rattle.lt_reply.specs.Texts.{status_of, refusal_status, fault_status, line_of, out_text, err_text}
+use Rattle.lt_load_fit.specs.declared.fault.CommandFault.{CommandFault}
+use Rattle.lt_load_fit.specs.declared.fault.CommandFault.TheVariants.{Read}
+use Rattle.lt_text_answers.specs.declared.refusal.Refusal.{Refusal}
+use Rattle.lt_text_answers.specs.declared.refusal.Refusal.TheVariants.{Command}
+use Rattle.lt_text_answers.specs.declared.status.Status.{Status}
+use Rattle.lt_text_answers.specs.declared.status.Status.TheVariants as status
+use Rattle.lt_text_answers.specs.Blamed.{blame_of}
+use Rattle.lt_text_answers.specs.Texts.{status_of, refusal_status, fault_status, refusal_line, out_text, err_text}
 use Rattle.lt_words.specs.Reading.{Said, command_of}
-use Rattle.lt_cli.specs.Commands.{answer_verdict, text_verdict, command_verdict, asked_verdict, words_verdict}
+use Rattle.lt_cli.specs.Answers.{answer_verdict, text_verdict}
+use Rattle.lt_cli.specs.Commands.{command_verdict, asked_verdict, words_verdict}
 use Rattle.lt_cli.specs.Asked.{LeavesFabric}
 use Rattle.lt_cli.specs.Objects.{Objects, world_of}
-use Rattle.lt_cli.specs.Ran.{Ran, Ends, Printed, Reported, Took, OutcomeBlames}
+use Rattle.lt_cli.specs.Ran.{Ran, CommandEnds, Printed, Reported, Took, OutcomeBlames}
 use Rattle.lt_cli.specs.Ran.{printed, unprinted, both_whole, out_broke, err_broke, both_short}
 use Rattle.lt_cli.specs.Taken.{TookLine}
 use Rattle.lt_cli.specs.Clauses.{IsMissingFor, IsMissingExact, IsOutsideCaused, IsWriteCaused}
-use Rattle.lt_reply.proofs.Refusals.{not_write, outside_blames, blamed_reads, reading_line, linking_line}
+use Rattle.lt_text_answers.proofs.Refusals.{not_write, outside_blames, blamed_reads, reading_line, linking_line}
 use Rattle.lt_cli.proofs.Exact.{refused_status}
 
 -- a failed call
 
 -- the line of a refusal, where it was printed whole
-line_printed : (line : List ℕ) (old new : Objects) (outcome : Result (List ℕ) Refusal) (r : Refusal) → outcome ≡ Err r → line_of r ≡ line → Took (out_text outcome) old.out new.out → Took (err_text outcome) old.err new.err
+line_printed : (line : List ℕ) (old new : Objects) (outcome : Result (List ℕ) Refusal) (r : Refusal) → outcome ≡ Err r → refusal_line r ≡ line → Took (out_text outcome) old.out new.out → Took (err_text outcome) old.err new.err
     → IsTrue old.out.told → IsTrue old.err.told → TookLine line old new
 line_printed line old new outcome r here is out err told_out told_err = record {
   out = out.taken told_out ∙ ap (λ (o : Result (List ℕ) Refusal). old.out.taken ++ out_text o) here ∙ append-nil old.out.taken;
@@ -61,7 +62,7 @@ outside_printed V old new ends p (out_broke is out err) at = cc
 outside_printed V old new ends p (err_broke is out err) at = cc
 outside_printed V old new ends p (both_short is out err) at = cc
 
-outside_ends : (V : Verdict (List ℕ) Refusal) (old new : Objects) (ends : Status) → Ends V old new ends → ends ≡ status.Outside → IsOutsideCaused old new
+outside_ends : (V : Verdict (List ℕ) Refusal) (old new : Objects) (ends : Status) → CommandEnds V old new ends → ends ≡ status.Outside → IsOutsideCaused old new
 outside_ends V old new ends (printed p) at = outside_printed V old new ends p p.reported at
 outside_ends V old new ends (unprinted p) at = let none = sym p.no_memory ∙ at in cc
 
@@ -80,7 +81,7 @@ write_reported old new ends outcome (out_broke is out err) at = inl (out.counted
 write_reported old new ends outcome (err_broke is out err) at = inr (err.counted, λ told. out.taken told ∙ append-nil old.out.taken)
 write_reported old new ends outcome (both_short is out err) at = cc
 
-write_ends : (V : Verdict (List ℕ) Refusal) (old new : Objects) (ends : Status) → Ends V old new ends → ends ≡ status.Write → IsWriteCaused old new
+write_ends : (V : Verdict (List ℕ) Refusal) (old new : Objects) (ends : Status) → CommandEnds V old new ends → ends ≡ status.Write → IsWriteCaused old new
 write_ends V old new ends (printed p) at = write_reported old new ends p.outcome p.reported at
 write_ends V old new ends (unprinted p) at = let none = sym p.no_memory ∙ at in cc
 
@@ -106,7 +107,7 @@ module _ {T E : Type 0} (raise : E → Refusal) (missing : E) (outside : refusal
   outcome_rose (Ok text) cause right is = let wrong : status.Ok ≡ status.Outside = refused_status raise shown V one (Ok text) missing (right cause) is ∙ outside in cc
   outcome_rose (Err r) cause right is = blamed_rose r (blame_of r) refl cause (λ calm. refused_status raise shown V one (Err r) missing (right calm) is ∙ outside)
 
-  ends_rose : (ends : Status) → ends ≢ status.Memory → IsTrue old.files.told → Ends (answer_verdict raise shown V) old new ends → V (Err missing) → old.files.faults < new.files.faults
+  ends_rose : (ends : Status) → ends ≢ status.Memory → IsTrue old.files.told → CommandEnds (answer_verdict raise shown V) old new ends → V (Err missing) → old.files.faults < new.files.faults
   ends_rose ends enough told (printed p) is = outcome_rose p.outcome p.cause (p.right told) is
   ends_rose ends enough told (unprinted p) is = absurd (enough p.no_memory)
 

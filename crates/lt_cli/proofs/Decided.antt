@@ -4,11 +4,11 @@ use Rattle.std.specs.Prelude.{if◌then◌else◌}
 use Rattle.lt_answer.specs.World.{World}
 use Rattle.lt_front.specs.declared.fault.ProgramFault.{ProgramFault}
 use Rattle.lt_front.specs.Limits.{is_limit}
-use Rattle.lt_verdict.proofs.Decided.{HasOneKind, HasOneOutcome, and_then}
+use Rattle.lt_answer.proofs.Decided.{HasOneKind, HasOneOutcome, and_then}
 use Rattle.lt_load.specs.Loaded.{config_verdict}
 use Rattle.lt_load.specs.Setups.{check_verdict}
-use Rattle.lt_stream.specs.Meaning.{meaning_verdict}
-use Rattle.lt_stream.proofs.OneMeaning.{meaning_decided as one_meaning}
+use Rattle.lt_evaluate.specs.Meaning.{meaning_verdict}
+use Rattle.lt_evaluate.proofs.OneMeaning.{meaning_decided as one_meaning}
 use Rattle.lt_run.specs.Run.{run_verdict}
 use Rattle.lt_run.proofs.OneRun.{run_decided as one_run}
 use Rattle.lt_arch.specs.declared.shape.Shape.{Shape}
@@ -17,23 +17,23 @@ use Rattle.lt_io.specs.FabricState.{FabricState}
 use Rattle.lt_place.specs.declared.layout.Layout.{Layout}
 use Rattle.lt_rows.specs.Limits.{most_events}
 use Rattle.lt_run.specs.Run.{IsLaidOutBy}
-use Rattle.lt_commands.specs.Big.{events_of, loaded_verdict, along_verdict, big_verdict}
-use Rattle.lt_commands.specs.Scenes.{scene_verdict}
-use Rattle.lt_commands.specs.Inspected.{audit_verdict, trace_verdict}
-use Rattle.lt_fit.specs.declared.fault.CommandFault.{CommandFault}
+use Rattle.lt_big.specs.Big.{events_of, big_loaded_verdict, big_along_verdict, big_verdict}
+use Rattle.lt_inspect.specs.Scenes.{scene_verdict}
+use Rattle.lt_inspect.specs.Inspected.{audit_verdict, trace_verdict}
+use Rattle.lt_load_fit.specs.declared.fault.CommandFault.{CommandFault}
 use Rattle.lt_load.specs.Plan.{Plan}
 use Rattle.lt_load.specs.Pacing.{plain_load_verdict}
 use Rattle.lt_load.proofs.OneLoad.{config_decided}
 use Rattle.lt_load.proofs.OnePlain.{plain_load_decided}
 use Rattle.lt_load.proofs.OneShape.{one_shape}
-use Rattle.lt_reply.specs.Draws.{Drawing, too_many, drawing, plan_drawn_verdict, sim_verdict}
+use Rattle.lt_text_answers.specs.Draws.{Drawing, too_many_rows, drawing, plan_drawn_verdict, sim_verdict}
 use Rattle.lt_cli.proofs.Inspected.{scene_once, audit_once, trace_once}
 use Rattle.lt_load.proofs.OneCheck.{check_decided as one_check}
-use Rattle.lt_commands.specs.Watch.{watch_verdict}
-use Rattle.lt_commands.proofs.OneWatch.{watch_decided}
-use Rattle.lt_reply.specs.declared.status.Status.TheVariants as status
-use Rattle.lt_reply.specs.Texts.{refusal_status, fault_status, program_status}
-use Rattle.lt_reply.specs.Replies.{watch_refusal}
+use Rattle.lt_watch.specs.Watch.{watch_verdict}
+use Rattle.lt_watch.proofs.OneWatch.{watch_decided}
+use Rattle.lt_text_answers.specs.declared.status.Status.TheVariants as status
+use Rattle.lt_text_answers.specs.Texts.{refusal_status, fault_status, program_status}
+use Rattle.lt_text_answers.specs.Replies.{watch_refusal}
 
 -- whether a limit is passed is all that the status tells of a program's fault
 tells_limits : (e f : ProgramFault) → is_limit e ≡ is_limit f → program_status e ≡ program_status f
@@ -63,7 +63,7 @@ one_drawn seed horizon plan r r' (l, s, laid, is) (m, z, other, it) =
 
 -- the fault of an outcome
 abbrev error_of : Result Drawing CommandFault → CommandFault
-error_of (Ok d) = too_many
+error_of (Ok d) = too_many_rows
 error_of (Err e) = e
 
 drawn_decided : (seed horizon : ℕ) (plan : Plan) → HasOneKind fault_status (plan_drawn_verdict seed horizon plan)
@@ -84,8 +84,8 @@ sim_decided named program inputs config seed horizon =
 same_shape : (plan : Plan) (l m : Layout) (s z : Shape) → IsLaidOutBy plan l s → IsLaidOutBy plan m z → z ≡ s
 same_shape plan l m s z laid other = one_shape (flat_of plan.checked.program) plan.setup.placement m l other.layout laid.layout plan.setup.pace plan.setup.timing z s other.shape laid.shape
 
-along_decided : (instants : ℕ) (fabric : FabricState) (plan : Plan) → HasOneKind fault_status (along_verdict instants fabric plan)
-unfolding along_verdict
+along_decided : (instants : ℕ) (fabric : FabricState) (plan : Plan) → HasOneKind fault_status (big_along_verdict instants fabric plan)
+unfolding big_along_verdict
 along_decided instants fabric plan = record {
   one_kind = λ e f p q. ap fault_status (p.3.1 ∙ sym q.3.1);
   not_both = λ e x p q.
@@ -96,9 +96,9 @@ along_decided instants fabric plan = record {
 }
 
 pub big_decided : (instants : ℕ) (fabric : FabricState) → HasOneKind fault_status (big_verdict instants fabric)
-unfolding big_verdict loaded_verdict
+unfolding big_verdict big_loaded_verdict
 big_decided instants fabric =
-    and_then fault_status (loaded_verdict instants) (λ plan. along_verdict instants fabric plan)
+    and_then fault_status (big_loaded_verdict instants) (λ plan. big_along_verdict instants fabric plan)
     (plain_load_decided fault_status tells_limits (λ f g main main'. refl) (λ f g names names' mixed mixed'. refl) _ _ _ _) (λ plan. along_decided instants fabric plan)
 
 -- the files hold one plan

@@ -12,33 +12,34 @@ use Rattle.lt_io.specs.SinkState.{SinkState, KeepsSink}
 use Rattle.lt_answer.specs.World.{IsCalm, alone}
 use Rattle.lt_answer.specs.Answered.{Answered, RefusesReading}
 use Rattle.lt_answer.proofs.Stages.{beside}
-use Rattle.lt_config.specs.declared.pace.Pace.{Pace}
+use Rattle.lt_arch.specs.declared.pace.Pace.{Pace}
 use Rattle.lt_lead.specs.Paced.{IsShapeBy}
-use Rattle.lt_replay.specs.Played.{world}
-use Rattle.lt_fit.specs.declared.fault.CommandFault.{CommandFault}
+use Rattle.lt_net_start.specs.Outside.{world}
+use Rattle.lt_load_fit.specs.declared.fault.CommandFault.{CommandFault}
 use Rattle.lt_load.specs.Blamed.{command_blame}
 use Rattle.lt_load.specs.Errands.{load_errands}
 use Rattle.lt_load.specs.Plan.{LoadedPlan, IsLoadedFrom, Plan, Loads}
 use Rattle.lt_load.specs.Pacing.{plain_load_verdict}
 use Rattle.lt_sim.specs.Drawn.{drawn}
-use Rattle.lt_sim.specs.File.{file_text, text_of}
+use Rattle.lt_sim.specs.File.{file_text, schedule_text}
 use Rattle.lt_sim.specs.declared.fault.SimFault.{SimFault}
 use Rattle.lt_sim.specs.declared.fault.SimFault.TheVariants as sim
-use Rattle.lt_sim.specs.Recorded.{IsRecorded, IsBroken, IsTooMany, Records, TakesFront}
-use Rattle.lt_reply.specs.declared.refusal.Refusal.{Refusal}
-use Rattle.lt_reply.specs.declared.refusal.Refusal.TheVariants.{Command}
-use Rattle.lt_reply.specs.declared.status.Status.{Status}
-use Rattle.lt_reply.specs.declared.status.Status.TheVariants as status
-use Rattle.lt_reply.specs.Blamed.{blame_of}
-use Rattle.lt_reply.specs.Texts.{status_of, refusal_status, line_of, drawing_text}
+use Rattle.lt_sim.specs.Recorded.{IsRecorded, IsBroken, AreTooManyEvents, Records, TakesFront}
+use Rattle.lt_text_answers.specs.declared.refusal.Refusal.{Refusal}
+use Rattle.lt_text_answers.specs.declared.refusal.Refusal.TheVariants.{Command}
+use Rattle.lt_text_answers.specs.declared.status.Status.{Status}
+use Rattle.lt_text_answers.specs.declared.status.Status.TheVariants as status
+use Rattle.lt_text_answers.specs.Blamed.{blame_of}
+use Rattle.lt_text_answers.specs.Texts.{status_of, refusal_status, refusal_line, drawing_text}
 use Rattle.lt_cli.specs.Written.{Written}
 use Rattle.lt_cli.specs.Objects.{Objects, world_of}
-use Rattle.lt_reply.specs.Draws.{Drawing, too_many, drawing, plan_drawn_verdict, recorded_status, sim_verdict}
-use Rattle.lt_cli.specs.Commands.{text_verdict}
+use Rattle.lt_text_answers.specs.Draws.{Drawing, too_many_rows, drawing, plan_drawn_verdict, recorded_status, sim_verdict}
+use Rattle.lt_cli.specs.Answers.{text_verdict}
 use Rattle.lt_cli.specs.Ran.{Reported, OutcomeBlames}
 use Rattle.lt_cli.specs.Ran.{printed, both_whole, out_broke, err_broke, both_short}
-use Rattle.lt_cli.specs.Asked.{FinishesDrawn, IsReported, Obeys, drawn_outcome, shown_drawing}
-use Rattle.lt_reply.proofs.Refusals.{fault_not_words}
+use Rattle.lt_cli.specs.Asked.{FinishesDrawn, IsReported, drawn_outcome, shown_drawing}
+use Rattle.lt_cli.specs.Obeys.{ObeysErrands}
+use Rattle.lt_text_answers.proofs.Refusals.{fault_not_words}
 use Rattle.lt_cli.proofs.Ends.{took_nothing, front_of_none, keeps_sink, line_reported}
 use Rattle.lt_cli.proofs.Obeyed.{objects, visits_all, line_written, not_found}
 
@@ -49,11 +50,11 @@ shown_right named program inputs config seed horizon (Ok d) right = (d, right, r
 shown_right named program inputs config seed horizon (Err f) right = (f, right, refl)
 
 -- the outcome of a limited list blames nobody outside, and not the words
-limited_calm : (b : Bool) (d : Drawing) (old new : Objects) → IsCalm (world_of old) (world_of new) → OutcomeBlames old new (shown_drawing (if b then Err too_many else Ok d))
+limited_calm : (b : Bool) (d : Drawing) (old new : Objects) → IsCalm (world_of old) (world_of new) → OutcomeBlames old new (shown_drawing (if b then Err too_many_rows else Ok d))
 limited_calm true d old new calm = calm
 limited_calm false d old new calm = calm
 
-limited_not_words : (b : Bool) (d : Drawing) → status_of (shown_drawing (if b then Err too_many else Ok d)) ≡ status.Words → ⊥
+limited_not_words : (b : Bool) (d : Drawing) → status_of (shown_drawing (if b then Err too_many_rows else Ok d)) ≡ status.Words → ⊥
 limited_not_words true d is = cc
 limited_not_words false d is = cc
 
@@ -95,7 +96,7 @@ module _ (named : List ℕ → Option (List ℕ)) (program inputs config : List 
   blamed (f, is, right) = (Command f, is, refused_right f right)
 
   module _ (a b : FilesState) (w : FabricState) (o o' e e' : SinkState) (ends : Status) where
-    loaded_obeyed : (k : LoadedPlan) → Answered command_blame errands loads (world a w) (world b w) (Ok k) → IsReported (drawn_outcome k seed horizon) o o' e e' ends → Obeys errands texts (objects (world a w) o e) (objects (world b w) o' e') ends
+    loaded_obeyed : (k : LoadedPlan) → Answered command_blame errands loads (world a w) (world b w) (Ok k) → IsReported (drawn_outcome k seed horizon) o o' e e' ends → ObeysErrands errands texts (objects (world a w) o e) (objects (world b w) o' e') ends
     loaded_obeyed k answered finish =
         let old = objects (world a w) o e in
         let new = objects (world b w) o' e' in
@@ -128,12 +129,12 @@ module _ (named : List ℕ → Option (List ℕ)) (program inputs config : List 
     short_answered : Answered command_blame errands loads (world a w) (world b w) (Err Memory) → Answered blame_of errands texts (world a w) (world b w) (Err Memory)
     short_answered answered = record { keeps = answered.keeps; visits = answered.visits; cause = answered.cause; exact = λ told calm. tt; sound = λ told sound rose. blamed (answered.sound told sound rose) }
 
-    obeyed : (r : Result LoadedPlan (Or CommandFault)) → Answered command_blame errands loads (world a w) (world b w) r → FinishesDrawn r seed horizon o o' e e' ends → Obeys errands texts (objects (world a w) o e) (objects (world b w) o' e') ends
+    obeyed : (r : Result LoadedPlan (Or CommandFault)) → Answered command_blame errands loads (world a w) (world b w) r → FinishesDrawn r seed horizon o o' e e' ends → ObeysErrands errands texts (objects (world a w) o e) (objects (world b w) o' e') ends
     obeyed (Ok k) answered finish = loaded_obeyed k answered finish
     obeyed (Err (Fault f)) answered (written, same) = line_written errands texts (world a w) (world b w) o o' e e' (Command f) ends (fault_not_words f) (refused_answered f answered) written same
     obeyed (Err Memory) answered (is, same_out, same_err) = not_found errands texts (world a w) (world b w) o o' e e' ends (short_answered answered) is same_out same_err
 
-    pub drawn_obeyed : (r : Result LoadedPlan (Or CommandFault)) → Answered command_blame errands loads (alone a) (alone b) r → FinishesDrawn r seed horizon o o' e e' ends → Obeys errands texts (objects (world a w) o e) (objects (world b w) o' e') ends
+    pub drawn_obeyed : (r : Result LoadedPlan (Or CommandFault)) → Answered command_blame errands loads (alone a) (alone b) r → FinishesDrawn r seed horizon o o' e e' ends → ObeysErrands errands texts (objects (world a w) o e) (objects (world b w) o' e') ends
     drawn_obeyed r answered finish = obeyed r (beside a b w r answered) finish
 
 -- what was written
@@ -150,7 +151,7 @@ module _ (k : LoadedPlan) (seed horizon : ℕ) (o o' e : SinkState) where
 
   -- the outcome by whether the list has too many events
   abbrev outcome_by : Bool → Result (List ℕ) Refusal
-  outcome_by b = shown_drawing (if b then Err too_many else Ok (record { shape = k.shape; events = events }))
+  outcome_by b = shown_drawing (if b then Err too_many_rows else Ok (record { shape = k.shape; events = events }))
 
   abbrev Reports : Bool → SinkState → Status → Type 0
   Reports b e' ends = IsReported (outcome_by b) o o' e e' ends
@@ -185,17 +186,17 @@ module _ (k : LoadedPlan) (seed horizon : ℕ) (o o' e : SinkState) where
     reported = λ f f' w w'. both_short refl (record { counted = front.counted; taken = front.taken }) (front_of_none [] e);
   }
 
-  pub short : TakesFront (text_of k.shape events) o o' → KeepsSink o o' → IsReported (drawn_outcome k seed horizon) o o' e e status.Memory
+  pub short : TakesFront (schedule_text k.shape events) o o' → KeepsSink o o' → IsReported (drawn_outcome k seed horizon) o o' e e status.Memory
   short front keeps = short_by (nat_lt 5000000 (length events)) front keeps
 
-  pub refused : (e' : SinkState) (refusal : Refusal) (ends : Status) → refusal ≡ Command too_many → IsTooMany events o o' → Written (refusal_status refusal) (line_of refusal ++ 10 ∷ []) e e' ends
+  pub refused : (e' : SinkState) (refusal : Refusal) (ends : Status) → refusal ≡ Command too_many_rows → AreTooManyEvents events o o' → Written (refusal_status refusal) (refusal_line refusal ++ 10 ∷ []) e e' ends
       → IsReported (drawn_outcome k seed horizon) o o' e e' ends
   refused e' refusal ends same is written =
-      let line : Written status.Limit (line_of (Command too_many) ++ 10 ∷ []) e e' ends = subst (λ (r : Refusal). Written (refusal_status r) (line_of r ++ 10 ∷ []) e e' ends) same written in
+      let line : Written status.Limit (refusal_line (Command too_many_rows) ++ 10 ∷ []) e e' ends = subst (λ (r : Refusal). Written (refusal_status r) (refusal_line r ++ 10 ∷ []) e e' ends) same written in
       let untaken : IsReported (outcome_by true) o o e e' ends = record {
         out_keeps = keeps_sink o;
         err_keeps = line.keeps;
-        reported = λ f f' w w'. line_reported (world f w) (world f' w') (Command too_many) o e e' ends line.reaches;
+        reported = λ f f' w w'. line_reported (world f w) (world f' w') (Command too_many_rows) o e e' ends line.reaches;
       } in
       subst (λ (b : Bool). Reports b e' ends) (sym (many_limited (length events) is.many)) (subst (λ (s : SinkState). IsReported (outcome_by true) o s e e' ends) (sym is.unchanged) untaken)
 
@@ -214,8 +215,8 @@ module _ (k : LoadedPlan) (seed horizon : ℕ) (o o' e : SinkState) where
   recorded_ends (Err Memory) ends records keeps is = at_status status.Memory ends (short records keeps) is
 
   -- it is refused
-  pub refusal_ends : (r : Result ℕ (Or SimFault)) (e' : SinkState) (refusal : Refusal) (ends : Status) → Records k.shape events o o' r → recorded_status r ≡ None → refusal ≡ Command too_many
-      → Written (refusal_status refusal) (line_of refusal ++ 10 ∷ []) e e' ends → IsReported (drawn_outcome k seed horizon) o o' e e' ends
+  pub refusal_ends : (r : Result ℕ (Or SimFault)) (e' : SinkState) (refusal : Refusal) (ends : Status) → Records k.shape events o o' r → recorded_status r ≡ None → refusal ≡ Command too_many_rows
+      → Written (refusal_status refusal) (refusal_line refusal ++ 10 ∷ []) e e' ends → IsReported (drawn_outcome k seed horizon) o o' e e' ends
   refusal_ends (Ok count) e' refusal ends records is same written = absurd (cc)
   refusal_ends (Err (Fault sim.Write)) e' refusal ends records is same written = absurd (cc)
   refusal_ends (Err (Fault sim.TooMany)) e' refusal ends records is same written = refused e' refusal ends same records written

@@ -6,14 +6,14 @@ use Rattle.lt_io.specs.SinkState.{SinkState, KeepsSink}
 use Rattle.lt_answer.specs.World.{World}
 use Rattle.lt_answer.specs.Answered.{Verdict}
 use Rattle.lt_answer.specs.Answered.{Answered}
-use Rattle.lt_reply.specs.declared.refusal.Refusal.{Refusal}
-use Rattle.lt_reply.specs.declared.status.Status.{Status}
-use Rattle.lt_reply.specs.declared.status.Status.TheVariants as status
-use Rattle.lt_reply.specs.Blamed.{blame_of}
-use Rattle.lt_reply.specs.Texts.{refusal_status, line_of}
+use Rattle.lt_text_answers.specs.declared.refusal.Refusal.{Refusal}
+use Rattle.lt_text_answers.specs.declared.status.Status.{Status}
+use Rattle.lt_text_answers.specs.declared.status.Status.TheVariants as status
+use Rattle.lt_text_answers.specs.Blamed.{blame_of}
+use Rattle.lt_text_answers.specs.Texts.{refusal_status, refusal_line}
 use Rattle.lt_cli.specs.Ran.{Ran, Reported, Took, TookFront}
 use Rattle.lt_cli.specs.Ran.{printed, unprinted, both_whole, out_broke, err_broke, both_short}
-use Rattle.lt_cli.specs.Written.{Written, Reaches, whole, broke, short}
+use Rattle.lt_cli.specs.Written.{Written, WriteReaches, whole, broke, short}
 
 pub took_nothing : (s : SinkState) → Took [] s s
 took_nothing s = record { counted = refl; taken = λ _. sym (append-nil _) }
@@ -25,14 +25,14 @@ pub keeps_sink : (s : SinkState) → KeepsSink s s
 keeps_sink s = record { sound = refl; told = refl }
 
 -- a text, which only `out` takes
-text_reported : (a b : World) (text : List ℕ) (o0 o1 e : SinkState) (ends : Status) → Reaches status.Ok text o0 o1 ends
+text_reported : (a b : World) (text : List ℕ) (o0 o1 e : SinkState) (ends : Status) → WriteReaches status.Ok text o0 o1 ends
     → Reported (Ok text) (record { files = a.files; fabric = a.fabric; out = o0; err = e }) (record { files = b.files; fabric = b.fabric; out = o1; err = e }) ends
 text_reported a b text o0 o1 e ends (whole is took) = both_whole is took (took_nothing e)
 text_reported a b text o0 o1 e ends (broke is broken) = out_broke is broken (took_nothing e)
 text_reported a b text o0 o1 e ends (short is front) = both_short is front (front_of_none [] e)
 
 -- a refusal's line, which only `err` takes
-pub line_reported : (a b : World) (refusal : Refusal) (o e0 e1 : SinkState) (ends : Status) → Reaches (refusal_status refusal) (line_of refusal ++ 10 ∷ []) e0 e1 ends
+pub line_reported : (a b : World) (refusal : Refusal) (o e0 e1 : SinkState) (ends : Status) → WriteReaches (refusal_status refusal) (refusal_line refusal ++ 10 ∷ []) e0 e1 ends
     → Reported (Err refusal) (record { files = a.files; fabric = a.fabric; out = o; err = e0 }) (record { files = b.files; fabric = b.fabric; out = o; err = e1 }) ends
 line_reported a b refusal o e0 e1 ends (whole is took) = both_whole is (took_nothing o) took
 line_reported a b refusal o e0 e1 ends (broke is broken) = err_broke is (took_nothing o) broken
@@ -51,7 +51,7 @@ ran_whole V a b o0 o1 e text ends answered written =
 
 -- a refusal's line
 pub ran_refused : {es : List Errand} (V : Verdict (List ℕ) Refusal) (a b : World) (o e0 e1 : SinkState) (refusal : Refusal) (ends : Status)
-    → Answered blame_of es V a b (Err (Fault refusal)) → Written (refusal_status refusal) (line_of refusal ++ 10 ∷ []) e0 e1 ends
+    → Answered blame_of es V a b (Err (Fault refusal)) → Written (refusal_status refusal) (refusal_line refusal ++ 10 ∷ []) e0 e1 ends
     → Ran V (record { files = a.files; fabric = a.fabric; out = o; err = e0 }) (record { files = b.files; fabric = b.fabric; out = o; err = e1 }) ends
 ran_refused V a b o e0 e1 refusal ends answered written =
     record {

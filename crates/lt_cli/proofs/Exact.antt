@@ -1,17 +1,17 @@
 -- What follows of a call that printed an outcome of a command.
 use Rattle.std.proofs.Common.{◌≡◌, ◌≢◌, ℕ, List, ◌++◌, Result, Ok, Err, refl, sym, ◌∙◌, ap, append-nil}
 use Rattle.lt_answer.specs.Answered.{Verdict}
-use Rattle.lt_verdict.proofs.Decided.{HasOneKind}
-use Rattle.lt_reply.specs.declared.refusal.Refusal.{Refusal}
-use Rattle.lt_reply.specs.declared.status.Status.{Status}
-use Rattle.lt_reply.specs.declared.status.Status.TheVariants as status
-use Rattle.lt_reply.specs.Texts.{status_of, refusal_status, line_of, out_text, err_text}
-use Rattle.lt_cli.specs.Commands.{answer_verdict}
+use Rattle.lt_answer.proofs.Decided.{HasOneKind}
+use Rattle.lt_text_answers.specs.declared.refusal.Refusal.{Refusal}
+use Rattle.lt_text_answers.specs.declared.status.Status.{Status}
+use Rattle.lt_text_answers.specs.declared.status.Status.TheVariants as status
+use Rattle.lt_text_answers.specs.Texts.{status_of, refusal_status, refusal_line, out_text, err_text}
+use Rattle.lt_cli.specs.Answers.{answer_verdict}
 use Rattle.lt_cli.specs.Objects.{Objects}
 use Rattle.lt_cli.specs.Taken.{TookLine, TookText}
 use Rattle.lt_cli.specs.Clauses.{IsExactFor}
 use Rattle.lt_cli.proofs.Gave.{Gave}
-use Rattle.lt_reply.proofs.Refusals.{not_ok}
+use Rattle.lt_text_answers.proofs.Refusals.{not_ok}
 
 module _ {T E : Type 0} (raise : E → Refusal) (shown : T → List ℕ) (V : Verdict T E) where
   shows : (outcome : Result (List ℕ) Refusal) → answer_verdict raise shown V outcome → status_of outcome ≡ status.Ok → (x : T) × V (Ok x) × (outcome ≡ Ok (shown x))
@@ -35,7 +35,7 @@ module _ {T E : Type 0} (raise : E → Refusal) (shown : T → List ℕ) (V : Ve
       err = g.err ∙ ap (λ (o : Result (List ℕ) Refusal). old.err.taken ++ err_text o) is ∙ append-nil old.err.taken;
     }
 
-    line_taken : (r : Refusal) → g.outcome ≡ Err r → TookLine (line_of r) old new
+    line_taken : (r : Refusal) → g.outcome ≡ Err r → TookLine (refusal_line r) old new
     line_taken r is = record {
       out = g.out ∙ ap (λ (o : Result (List ℕ) Refusal). old.out.taken ++ out_text o) is ∙ append-nil old.out.taken;
       err = g.err ∙ ap (λ (o : Result (List ℕ) Refusal). old.err.taken ++ err_text o) is;
@@ -47,7 +47,7 @@ module _ {T E : Type 0} (raise : E → Refusal) (shown : T → List ℕ) (V : Ve
     answered_text : ends ≡ status.Ok → (x : T) × V (Ok x) × TookText (shown x) old new
     answered_text at = let s = shown_at at in (s.0, s.1, text_taken _ s.2)
 
-    answered_line : ends ≢ status.Ok → (f : E) × V (Err f) × (refusal_status (raise f) ≡ ends) × TookLine (line_of (raise f)) old new
+    answered_line : ends ≢ status.Ok → (f : E) × V (Err f) × (refusal_status (raise f) ≡ ends) × TookLine (refusal_line (raise f)) old new
     answered_line not = let s = refused_at not in (s.0, s.1, status_at _ s.2, line_taken _ s.2)
 
 -- where all right outcomes have one status

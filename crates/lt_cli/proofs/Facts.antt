@@ -1,11 +1,11 @@
 -- What follows of a call of `ltta`, for the words.
 use Rattle.std.proofs.Common.{◌≡◌, ℕ, List, Option, Some, None, ◌++◌, Result, Err, ◌∙◌, ap, subst, append-nil}
 use Rattle.lt_words.specs.Reading.{Said, command_of}
-use Rattle.lt_reply.specs.declared.refusal.Refusal.{Refusal}
-use Rattle.lt_reply.specs.declared.refusal.Refusal.TheVariants.{Words}
-use Rattle.lt_reply.specs.declared.status.Status.{Status}
-use Rattle.lt_reply.specs.declared.status.Status.TheVariants as status
-use Rattle.lt_reply.specs.Texts.{status_of, out_text, err_text}
+use Rattle.lt_text_answers.specs.declared.refusal.Refusal.{Refusal}
+use Rattle.lt_text_answers.specs.declared.refusal.Refusal.TheVariants.{Words}
+use Rattle.lt_text_answers.specs.declared.status.Status.{Status}
+use Rattle.lt_text_answers.specs.declared.status.Status.TheVariants as status
+use Rattle.lt_text_answers.specs.Texts.{status_of, out_text, err_text}
 use Rattle.lt_cli.specs.Commands.{command_verdict, asked_verdict, words_verdict}
 use Rattle.lt_cli.specs.Objects.{Objects, world_of}
 use Rattle.lt_cli.specs.Asked.{EndsBySaid}

@@ -2,17 +2,17 @@
 use Rattle.std.proofs.Common.{◌≡◌, ℕ, List, Result, Ok, Err, refl, ◌∙◌, ap, arith, inl, inr}
 use Rattle.lt_answer.specs.Answered.{Verdict}
 use Rattle.lt_answer.specs.World.{IsCalm, Blame, Content, Reading, Linking, Blames}
-use Rattle.lt_reply.specs.declared.refusal.Refusal.{Refusal}
-use Rattle.lt_reply.specs.declared.refusal.Refusal.TheVariants.{Words, Command, Observer}
-use Rattle.lt_reply.specs.declared.status.Status.{Status}
-use Rattle.lt_reply.specs.declared.status.Status.TheVariants as status
-use Rattle.lt_reply.specs.Blamed.{blame_of}
-use Rattle.lt_reply.specs.Texts.{status_of, refusal_status, fault_status}
+use Rattle.lt_text_answers.specs.declared.refusal.Refusal.{Refusal}
+use Rattle.lt_text_answers.specs.declared.refusal.Refusal.TheVariants.{Words, Command, Observer}
+use Rattle.lt_text_answers.specs.declared.status.Status.{Status}
+use Rattle.lt_text_answers.specs.declared.status.Status.TheVariants as status
+use Rattle.lt_text_answers.specs.Blamed.{blame_of}
+use Rattle.lt_text_answers.specs.Texts.{status_of, refusal_status, fault_status}
 use Rattle.lt_cli.specs.Objects.{Objects, world_of}
-use Rattle.lt_cli.specs.Ran.{Ran, Ends, Reported, OutcomeBlames}
+use Rattle.lt_cli.specs.Ran.{Ran, CommandEnds, Reported, OutcomeBlames}
 use Rattle.lt_cli.specs.Ran.{printed, unprinted, both_whole, out_broke, err_broke, both_short}
 use Rattle.lt_cli.specs.Clauses.{HasCallFailed, IsOfFailure}
-use Rattle.lt_reply.proofs.Refusals.{blamed_reads, blamed_links}
+use Rattle.lt_text_answers.proofs.Refusals.{blamed_reads, blamed_links}
 
 module _ (old new : Objects) where
   not_calm : HasCallFailed old new → IsCalm (world_of old) (world_of new) → ⊥
@@ -39,7 +39,7 @@ module _ (old new : Objects) where
   reported_failed outcome ends (err_broke is out err) so = inr (inl is)
   reported_failed outcome ends (both_short is out err) so = inr (inr is)
 
-  ends_failed : (V : Verdict (List ℕ) Refusal) (ends : Status) → Ends V old new ends → HasCallFailed old new → IsOfFailure ends
+  ends_failed : (V : Verdict (List ℕ) Refusal) (ends : Status) → CommandEnds V old new ends → HasCallFailed old new → IsOfFailure ends
   ends_failed V ends (printed p) failed = reported_failed p.outcome ends p.reported (outcome_status p.outcome p.cause failed)
   ends_failed V ends (unprinted p) failed = inr (inr p.no_memory)
 

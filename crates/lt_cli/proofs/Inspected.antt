@@ -6,12 +6,12 @@ use Rattle.lt_arch.specs.declared.timing.Timing.{Timing}
 use Rattle.lt_config.specs.declared.config.Config.{Config}
 use Rattle.lt_front.specs.Examined.{ExaminedText}
 use Rattle.lt_front.specs.Flattened.{flat_of}
-use Rattle.lt_judge.specs.declared.fault.ScheduleFault.{ScheduleFault}
-use Rattle.lt_judge.specs.declared.fault.ScheduleFault.TheVariants.{Read}
-use Rattle.lt_judge.specs.Verdict.{verdict}
-use Rattle.lt_verdict.proofs.Decided.{HasOneKind, HasOneOutcome, exactly, and_then, and_then_one}
-use Rattle.lt_fit.specs.declared.fault.CommandFault.{CommandFault}
-use Rattle.lt_fit.specs.Fits.{placed_verdict}
+use Rattle.lt_schedule.specs.declared.fault.ScheduleFault.{ScheduleFault}
+use Rattle.lt_schedule.specs.declared.fault.ScheduleFault.TheVariants.{Read}
+use Rattle.lt_schedule.specs.Verdict.{verdict}
+use Rattle.lt_answer.proofs.Decided.{HasOneKind, HasOneOutcome, exactly, and_then, and_then_one}
+use Rattle.lt_load_fit.specs.declared.fault.CommandFault.{CommandFault}
+use Rattle.lt_load_fit.specs.Fits.{placed_verdict}
 use Rattle.lt_load.specs.Loaded.{program_verdict, inputs_verdict}
 use Rattle.lt_load.specs.Plan.{Plan, inputs_plan_verdict}
 use Rattle.lt_load.proofs.OneLoad.{TellsLimits, program_decided}
@@ -20,30 +20,30 @@ use Rattle.lt_load.proofs.OnePlan.{inputs_decided}
 use Rattle.lt_load.proofs.OneShape.{one_shape}
 use Rattle.lt_load.proofs.OnePlain.{plain_config_decided}
 use Rattle.lt_load.specs.Pacing.{plain_config_verdict}
-use Rattle.lt_config.specs.declared.pace.Pace.TheVariants.{Plain}
-use Rattle.lt_commands.specs.declared.scene.Scene.{Scene}
-use Rattle.lt_commands.specs.Scenes.{IsSceneOf, named_verdict, named_place_verdict, placed_plan_verdict, setup_scene_verdict, scene_verdict}
-use Rattle.lt_commands.specs.Inspected.{EndsWith, IsAudited, IsTraced, file_verdict, command_fault, along_scene, along_verdict, audit_verdict, trace_verdict}
+use Rattle.lt_arch.specs.declared.pace.Pace.TheVariants.{Plain}
+use Rattle.lt_inspect.specs.declared.scene.Scene.{Scene}
+use Rattle.lt_inspect.specs.Scenes.{IsSceneOf, named_verdict, named_place_verdict, placed_plan_verdict, setup_scene_verdict, scene_verdict}
+use Rattle.lt_inspect.specs.Inspected.{InspectionEndsWith, IsAudited, IsTraced, inspect_file_verdict, schedule_command_fault, along_scene, inspect_along_verdict, audit_verdict, trace_verdict}
 
 -- a schedule file, whatever is told of it
 
 module _ {T : Type 0} (end end' : List Event → T → Type 0) where
-  one_end : (v : Result (List Event) ScheduleFault) (d e : ScheduleFault) → EndsWith end v (Err d) → EndsWith end' v (Err e) → d ≡ e
+  one_end : (v : Result (List Event) ScheduleFault) (d e : ScheduleFault) → InspectionEndsWith end v (Err d) → InspectionEndsWith end' v (Err e) → d ≡ e
   one_end (Ok events) d e p q = absurd p
   one_end (Err f) d e p q = let here : d ≡ f = cc p in let there : e ≡ f = cc q in here ∙ sym there
 
-  no_end : (v : Result (List Event) ScheduleFault) (d : ScheduleFault) (x : T) → EndsWith end v (Err d) → EndsWith end' v (Ok x) → ⊥
+  no_end : (v : Result (List Event) ScheduleFault) (d : ScheduleFault) (x : T) → InspectionEndsWith end v (Err d) → InspectionEndsWith end' v (Ok x) → ⊥
   no_end (Ok events) d x p q = p
   no_end (Err f) d x p q = cc
 
   module _ (s : Shape) (t : Timing) (rows : ℕ) where
-    one_refusal : (file : Option (List ℕ)) (d e : ScheduleFault) → file_verdict end s t rows file (Err d) → file_verdict end' s t rows file (Err e) → d ≡ e
-    unfolding file_verdict
+    one_refusal : (file : Option (List ℕ)) (d e : ScheduleFault) → inspect_file_verdict end s t rows file (Err d) → inspect_file_verdict end' s t rows file (Err e) → d ≡ e
+    unfolding inspect_file_verdict
     one_refusal None d e p q = let here : d ≡ Read = cc p in let there : e ≡ Read = cc q in here ∙ sym there
     one_refusal (Some bytes) d e p q = one_end (verdict s t rows bytes) d e p q
 
-    no_value : (file : Option (List ℕ)) (d : ScheduleFault) (x : T) → file_verdict end s t rows file (Err d) → file_verdict end' s t rows file (Ok x) → ⊥
-    unfolding file_verdict
+    no_value : (file : Option (List ℕ)) (d : ScheduleFault) (x : T) → inspect_file_verdict end s t rows file (Err d) → inspect_file_verdict end' s t rows file (Ok x) → ⊥
+    unfolding inspect_file_verdict
     no_value None d x p q = cc
     no_value (Some bytes) d x p q = no_end (verdict s t rows bytes) d x p q
 
@@ -63,16 +63,16 @@ alike plan place k j is it = record {
 
 module _ {T K : Type 0} (kind : CommandFault → K) (end : Scene → List Event → T → Type 0) (node file : Option (List ℕ)) (plan : Plan) where
   -- what is right of one scene's file is right of the other's
-  told_too : (k j : Scene) → AreAlike k j → (r : Result T ScheduleFault) → file_verdict (end j) j.shape j.timing j.rows file r → file_verdict (end j) k.shape k.timing k.rows file r
+  told_too : (k j : Scene) → AreAlike k j → (r : Result T ScheduleFault) → inspect_file_verdict (end j) j.shape j.timing j.rows file r → inspect_file_verdict (end j) k.shape k.timing k.rows file r
   told_too k j same r h =
-      subst (λ (n : ℕ). file_verdict (end j) k.shape k.timing n file r) same.rows
-      (subst (λ (t : Timing). file_verdict (end j) k.shape t j.rows file r) same.timing (subst (λ (s : Shape). file_verdict (end j) s j.timing j.rows file r) same.shape h))
+      subst (λ (n : ℕ). inspect_file_verdict (end j) k.shape k.timing n file r) same.rows
+      (subst (λ (t : Timing). inspect_file_verdict (end j) k.shape t j.rows file r) same.timing (subst (λ (s : Shape). inspect_file_verdict (end j) s j.timing j.rows file r) same.shape h))
 
   one_fault : (k j : Scene) → AreAlike k j → (e f : CommandFault) → along_scene (end k) k file (Err e) → along_scene (end j) j file (Err f) → e ≡ f
   one_fault k j same e f p q =
-      p.2 ∙ ap (command_fault k.shape) (one_refusal (end k) (end j) k.shape k.timing k.rows file p.0 q.0 p.1 (told_too k j same (Err q.0) q.1)) ∙ ap (λ (s : Shape). command_fault s q.0) (sym same.shape) ∙ sym q.2
+      p.2 ∙ ap (schedule_command_fault k.shape) (one_refusal (end k) (end j) k.shape k.timing k.rows file p.0 q.0 p.1 (told_too k j same (Err q.0) q.1)) ∙ ap (λ (s : Shape). schedule_command_fault s q.0) (sym same.shape) ∙ sym q.2
 
-  along_decided : HasOneKind kind (along_verdict end node file plan)
+  along_decided : HasOneKind kind (inspect_along_verdict end node file plan)
   along_decided = record {
     one_kind = λ e f p q. ap kind (one_fault p.0 q.0 (alike plan node p.0 q.0 p.1 q.1) e f p.2 q.2);
     not_both = λ e x p q. no_value (end p.0) (end q.0) p.0.shape p.0.timing p.0.rows file p.2.0 x p.2.1 (told_too p.0 q.0 (alike plan node p.0 q.0 p.1 q.1) (Ok x) q.2);

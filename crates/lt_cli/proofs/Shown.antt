@@ -11,26 +11,26 @@ use Rattle.lt_io.specs.FabricState.{FabricState}
 use Rattle.lt_answer.specs.Answered.{AndThen}
 use Rattle.lt_front.specs.Flattened.{flat_of}
 use Rattle.lt_place.specs.declared.layout.Layout.{Layout}
-use Rattle.lt_place.specs.Layout.{IsLayoutOf, Gives, part_of}
+use Rattle.lt_place.specs.Layout.{IsLayoutOf, PartGives, part_of}
 use Rattle.lt_timing.specs.Bounds.{bound_of}
 use Rattle.lt_lead.specs.Paced.{IsShapeBy}
 use Rattle.lt_lead.proofs.ByPace.{nodes_are}
-use Rattle.lt_node.specs.Local.{local_stream, fed_row}
-use Rattle.lt_node.specs.Payloads.{between, row_at}
-use Rattle.lt_plant.proofs.Firsts.{length-firsts}
-use Rattle.lt_stream.specs.Main.{output_streams}
+use Rattle.lt_net_node.specs.Local.{local_stream, fed_row}
+use Rattle.lt_net_node.specs.Payloads.{payloads_between, row_at}
+use Rattle.lt_net_bench.proofs.Firsts.{length-firsts}
+use Rattle.lt_evaluate.specs.Main.{output_streams}
 use Rattle.lt_load.specs.Plan.{Plan, load_verdict}
-use Rattle.lt_stream.specs.declared.outputs.Outputs.{Outputs}
+use Rattle.lt_evaluate.specs.declared.outputs.Outputs.{Outputs}
 use Rattle.lt_run.specs.Printed.{AreShown}
-use Rattle.lt_run.specs.Run.{IsLaidOutBy, Shows, along_verdict, ordered_verdict, run_verdict}
+use Rattle.lt_run.specs.Run.{IsLaidOutBy, OutputsShow, run_along_verdict, ordered_verdict, run_verdict}
 use Rattle.lt_run.proofs.Reading.{has_read}
-use Rattle.lt_commands.specs.Big as big
-use Rattle.lt_commands.specs.Big.{ShowsList, big_verdict, loaded_verdict, events_of}
-use Rattle.lt_commands.proofs.Plainly.{plain_plan}
-use Rattle.lt_reply.specs.Replies.{printed_text, summarized_text}
+use Rattle.lt_big.specs.Big as big
+use Rattle.lt_big.specs.Big.{ShowsList, big_verdict, big_loaded_verdict, events_of}
+use Rattle.lt_big.proofs.Plainly.{plain_plan}
+use Rattle.lt_text_answers.specs.Replies.{printed_text, summarized_text}
 use Rattle.lt_cli.specs.Objects.{Objects, world_of}
 use Rattle.lt_cli.specs.Taken.{TookText}
-use Rattle.lt_cli.specs.RunShown.{IsOutputShown, IsRunAlong, IsRunShown, IsBigShown}
+use Rattle.lt_cli.specs.Headline.{IsOutputShown, IsRunAlong, IsRunShown, IsBigShown}
 
 -- one output
 
@@ -43,11 +43,11 @@ module _ (p : Plan) (l : Layout) (s : Shape) (fabric : FabricState) (executed : 
       let same : length l.names ≡ length l.nodes = ap (λ (ns : List (List ℕ)). length ns) laid.names ∙ sym laid.nodes in
       omega (arith, within, names, same)
 
-  output_shown : (y n x : ℕ) → y < length l.outs → n < length l.nodes → Gives (part_of l n) (slice_index_or l.outs y 0) x → IsOutputShown p.checked.program l s p.inputs.rows fabric got (executed n) (least n) y n x (slice_index_or printed.cells y [])
+  output_shown : (y n x : ℕ) → y < length l.outs → n < length l.nodes → PartGives (part_of l n) (slice_index_or l.outs y 0) x → IsOutputShown p.checked.program l s p.inputs.rows fabric got (executed n) (least n) y n x (slice_index_or printed.cells y [])
   output_shown y n x out within gives =
       let cells : List Cell = slice_index_or printed.cells y [] in
       let rows = p.inputs.rows in
-      let among = between s got in
+      let among = payloads_between s got in
       let local : cells ≡ local_stream l among n (row_at rows) (executed n) x = shown.local y n x out within gives in
       let count : length cells ≡ executed n =
       ap (λ (cs : List Cell). length cs) local
@@ -62,10 +62,10 @@ module _ (p : Plan) (l : Layout) (s : Shape) (fabric : FabricState) (executed : 
 
 module _ (named : List ℕ → Option (List ℕ)) (program inputs schedule : List ℕ) (config : Option (List ℕ)) (fabric : FabricState) (ran : Outputs) where
   -- the run of a plan
-  pub run_along : (p : Plan) → load_verdict named program inputs config (Ok p) → along_verdict fabric (named schedule) p (Ok ran) → (r : IsRunAlong named program inputs schedule config fabric ran) × (r.plan ≡ p)
-  unfolding along_verdict
+  pub run_along : (p : Plan) → load_verdict named program inputs config (Ok p) → run_along_verdict fabric (named schedule) p (Ok ran) → (r : IsRunAlong named program inputs schedule config fabric ran) × (r.plan ≡ p)
+  unfolding run_along_verdict
   run_along p loaded (l, s, site, played) =
-      let read = has_read p.setup.pace (Shows p.checked.program l s p.setup.timing p.setup.pace p.inputs.rows fabric) s p.setup.timing (length p.inputs.rows) (named schedule) ran played in (
+      let read = has_read p.setup.pace (OutputsShow p.checked.program l s p.setup.timing p.setup.pace p.inputs.rows fabric) s p.setup.timing (length p.inputs.rows) (named schedule) ran played in (
         record {
           plan = p;
           loaded = loaded;
@@ -84,7 +84,7 @@ module _ (named : List ℕ → Option (List ℕ)) (program inputs schedule : Lis
       )
 
 module _ (named : List ℕ → Option (List ℕ)) (program inputs schedule : List ℕ) (config : Option (List ℕ)) (old new : Objects) (printed : Outputs) (text : TookText (printed_text printed) old new) where
-  steps_shown : AndThen (load_verdict named program inputs config) (λ plan. along_verdict new.fabric (named schedule) plan) (Ok printed) → IsRunShown named program inputs schedule config old new
+  steps_shown : AndThen (load_verdict named program inputs config) (λ plan. run_along_verdict new.fabric (named schedule) plan) (Ok printed) → IsRunShown named program inputs schedule config old new
   steps_shown (inl refused) = absurd refused
   steps_shown (inr (p, loaded, played)) = record { printed = printed; text = text; run = (run_along named program inputs schedule config new.fabric printed p loaded played).0 }
 
@@ -96,7 +96,7 @@ module _ (named : List ℕ → Option (List ℕ)) (program inputs schedule : Lis
 
 module _ (instants : ℕ) (old new : Objects) (printed : Outputs) (text : TookText (summarized_text instants printed) old new) where
   -- each output, with what the run delivered
-  list_shown : (p : Plan) (l : Layout) (s : Shape) → IsLaidOutBy p l s → (list : ShowsList instants new.fabric p.checked.program l s p.setup.timing p.inputs.rows printed) → (y n x : ℕ) → y < length l.outs → n < length l.nodes → Gives (part_of l n) (slice_index_or l.outs y 0) x
+  list_shown : (p : Plan) (l : Layout) (s : Shape) → IsLaidOutBy p l s → (list : ShowsList instants new.fabric p.checked.program l s p.setup.timing p.inputs.rows printed) → (y n x : ℕ) → y < length l.outs → n < length l.nodes → PartGives (part_of l n) (slice_index_or l.outs y 0) x
       → IsOutputShown p.checked.program l s p.inputs.rows new.fabric list.shows.told.run.lists.got (executed_of (reached s p.setup.timing (length p.inputs.rows) (events_of instants s p.setup.timing (length p.inputs.rows))) n) (bound_of p.setup.timing n list.shows.horizon) y n x (slice_index_or printed.cells y [])
   list_shown p l s site list =
       let told = list.shows.told in
@@ -106,8 +106,8 @@ module _ (instants : ℕ) (old new : Objects) (printed : Outputs) (text : TookTe
       let shown = subst (λ (got : ℕ → List (List Value)). AreShown p.checked.program l s p.inputs.rows new.fabric executed got least printed.names printed.cells) told.got_is told.shown in
       output_shown p l s new.fabric executed told.run.lists.got least printed site.shape site.layout shown
 
-  big_along : (p : Plan) → loaded_verdict instants (Ok p) → big.along_verdict instants new.fabric p (Ok printed) → IsBigShown instants old new
-  unfolding big.along_verdict
+  big_along : (p : Plan) → big_loaded_verdict instants (Ok p) → big.big_along_verdict instants new.fabric p (Ok printed) → IsBigShown instants old new
+  unfolding big.big_along_verdict
   big_along p loaded (l, s, site, list) = record {
     plan = p;
     loaded = loaded;
@@ -124,7 +124,7 @@ module _ (instants : ℕ) (old new : Objects) (printed : Outputs) (text : TookTe
     outputs = list_shown p l s site list;
   }
 
-  big_steps : AndThen (loaded_verdict instants) (λ plan. big.along_verdict instants new.fabric plan) (Ok printed) → IsBigShown instants old new
+  big_steps : AndThen (big_loaded_verdict instants) (λ plan. big.big_along_verdict instants new.fabric plan) (Ok printed) → IsBigShown instants old new
   big_steps (inl refused) = absurd refused
   big_steps (inr (p, loaded, played)) = big_along p loaded played
 

@@ -10,20 +10,20 @@ use Rattle.lt_answer.specs.Answered.{Verdict}
 use Rattle.lt_answer.specs.World.{World, Blame, Blames}
 use Rattle.lt_answer.specs.Answered.{Answered, RefusesReading}
 use Rattle.lt_answer.proofs.Stages.{widened}
-use Rattle.lt_verdict.specs.Rules.{Shown}
-use Rattle.lt_fit.specs.declared.fault.CommandFault.{CommandFault}
+use Rattle.lt_answer.specs.Rules.{Shown}
+use Rattle.lt_load_fit.specs.declared.fault.CommandFault.{CommandFault}
 use Rattle.lt_load.specs.Blamed.{command_blame}
-use Rattle.lt_reply.specs.declared.refusal.Refusal.{Refusal}
-use Rattle.lt_reply.specs.declared.refusal.Refusal.TheVariants.{Command}
-use Rattle.lt_reply.specs.Blamed.{blame_of}
-use Rattle.lt_commands.specs.declared.fault.WatchFault.{WatchFault}
-use Rattle.lt_commands.specs.declared.fault.WatchFault.TheVariants as watch
-use Rattle.lt_commands.specs.Blamed.{watch_blame}
-use Rattle.lt_reply.specs.Replies.{watch_refusal}
-use Rattle.lt_cli.specs.Commands.{answer_verdict}
-use Rattle.lt_reply.proofs.Refusals.{watch_blames}
-use Rattle.lt_reply.specs.Replies.{IsTextBy, IsTextOf}
-use Rattle.lt_cli.specs.Asked.{Answers, AnswersText, IsOfCommand}
+use Rattle.lt_text_answers.specs.declared.refusal.Refusal.{Refusal}
+use Rattle.lt_text_answers.specs.declared.refusal.Refusal.TheVariants.{Command}
+use Rattle.lt_text_answers.specs.Blamed.{blame_of}
+use Rattle.lt_watch.specs.declared.fault.WatchFault.{WatchFault}
+use Rattle.lt_watch.specs.declared.fault.WatchFault.TheVariants as watch
+use Rattle.lt_watch.specs.Blamed.{watch_blame}
+use Rattle.lt_text_answers.specs.Replies.{watch_refusal}
+use Rattle.lt_cli.specs.Answers.{answer_verdict}
+use Rattle.lt_text_answers.proofs.Refusals.{watch_blames}
+use Rattle.lt_text_answers.specs.Replies.{IsTextBy, IsTextOf}
+use Rattle.lt_cli.specs.Answers.{AnswersCommand, AnswersText, IsOfCommand}
 
 -- faults as refusals that blame the same, none of them that of the words
 pub record IsRaise {E : Type 0} (raise : E → Refusal) (blame : E → Blame) : Type 0 where
@@ -35,7 +35,7 @@ module _ {T E : Type 0} (raise : E → Refusal) (blame : E → Blame) (is_raise 
   blamed reading = (raise reading.0, is_raise.same reading.0 ∙ reading.1, (reading.0, reading.2, refl))
 
   -- it is shown so
-  answer_shown : {es : List Errand} (x : T) (text : List ℕ) → Answered blame es V a b (Ok x) → text ≡ shown x → Answers raise shown es V a b (Ok text)
+  answer_shown : {es : List Errand} (x : T) (text : List ℕ) → Answered blame es V a b (Ok x) → text ≡ shown x → AnswersCommand raise shown es V a b (Ok text)
   answer_shown x text ran is = record {
     answered = record {
       keeps = ran.keeps;
@@ -47,13 +47,13 @@ module _ {T E : Type 0} (raise : E → Refusal) (blame : E → Blame) (is_raise 
     of_command = tt;
   }
 
-  answer_short : {es : List Errand} (x : T) → Answered blame es V a b (Ok x) → Answers raise shown es V a b (Err Memory)
+  answer_short : {es : List Errand} (x : T) → Answered blame es V a b (Ok x) → AnswersCommand raise shown es V a b (Err Memory)
   answer_short {es} x ran = record {
     answered = record { keeps = ran.keeps; visits = visited_any es a.files.visits b.files.visits false ran.visits; cause = ran.cause; exact = λ told calm. tt; sound = λ told sound rose. blamed (ran.sound told sound rose) };
     of_command = tt;
   }
 
-  raised : {es : List Errand} (fault : E) → Answered blame es V a b (Err (Fault fault)) → Answers raise shown es V a b (Err (Fault (raise fault)))
+  raised : {es : List Errand} (fault : E) → Answered blame es V a b (Err (Fault fault)) → AnswersCommand raise shown es V a b (Err (Fault (raise fault)))
   raised fault ran = record {
     answered = record {
       keeps = ran.keeps;
@@ -66,8 +66,8 @@ module _ {T E : Type 0} (raise : E → Refusal) (blame : E → Blame) (is_raise 
   }
 
   -- it was refused, or no memory was found for it
-  answer_refused : {es : List Errand} (e : Or E) (e' : Or Refusal) → MapsFault e e' (λ fault refusal. refusal ≡ raise fault) → Answered blame es V a b (Err e) → Answers raise shown es V a b (Err e')
-  answer_refused {es} (Fault fault) (Fault refusal) is ran = subst (λ (r : Refusal). Answers raise shown es V a b (Err (Fault r))) (sym is) (raised fault ran)
+  answer_refused : {es : List Errand} (e : Or E) (e' : Or Refusal) → MapsFault e e' (λ fault refusal. refusal ≡ raise fault) → Answered blame es V a b (Err e) → AnswersCommand raise shown es V a b (Err e')
+  answer_refused {es} (Fault fault) (Fault refusal) is ran = subst (λ (r : Refusal). AnswersCommand raise shown es V a b (Err (Fault r))) (sym is) (raised fault ran)
   answer_refused (Fault fault) Memory is ran = absurd is
   answer_refused Memory (Fault refusal) is ran = absurd is
   answer_refused Memory Memory is ran = record {
@@ -76,7 +76,7 @@ module _ {T E : Type 0} (raise : E → Refusal) (blame : E → Blame) (is_raise 
   }
 
   -- the answer that is made of a step's
-  pub answer_text : {es : List Errand} (r : Result T (Or E)) (r' : Result (List ℕ) (Or Refusal)) → IsTextBy raise shown r r' → Answered blame es V a b r → Answers raise shown es V a b r'
+  pub answer_text : {es : List Errand} (r : Result T (Or E)) (r' : Result (List ℕ) (Or Refusal)) → IsTextBy raise shown r r' → Answered blame es V a b r → AnswersCommand raise shown es V a b r'
   answer_text (Ok x) (Ok text) is ran = answer_shown x text ran is
   answer_text (Ok x) (Err (Fault refusal)) is ran = absurd is
   answer_text (Ok x) (Err Memory) is ran = answer_short x ran
@@ -106,7 +106,7 @@ module _ {T E : Type 0} (raise : E → Refusal) (shown : T → List ℕ) (V : Ve
   shown_once (Ok text) q = (q.1.0, q.1.1, q.2 ∙ q.1.2)
   shown_once (Err refusal) q = (q.0, q.1, q.2)
 
-  pub text_of_text : {es : List Errand} (a b : World) (r : Result (List ℕ) (Or Refusal)) → Answers raise (λ text. text) es (Shown shown V) a b r → Answers raise shown es V a b r
+  pub text_of_text : {es : List Errand} (a b : World) (r : Result (List ℕ) (Or Refusal)) → AnswersCommand raise (λ text. text) es (Shown shown V) a b r → AnswersCommand raise shown es V a b r
   text_of_text a b r answers = record { answered = widened (answer_verdict raise (λ text. text) (Shown shown V)) (answer_verdict raise shown V) a b r shown_once answers.answered; of_command = answers.of_command }
 
 -- those of a watched run

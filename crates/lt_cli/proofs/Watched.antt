@@ -5,22 +5,22 @@ use Rattle.lt_base.specs.declared.value.Cell.{Cell}
 use Rattle.lt_lead.specs.Paced.{bound_by}
 use Rattle.lt_past.specs.Faults.{IsObserverOf}
 use Rattle.lt_past.specs.Observer.{Observing}
-use Rattle.lt_fit.specs.declared.fault.What.{What}
-use Rattle.lt_fit.specs.Main.{main_in}
+use Rattle.lt_load_fit.specs.declared.fault.What.{What}
+use Rattle.lt_load_fit.specs.Main.{main_in}
 use Rattle.lt_load.specs.Loaded.{whole_verdict}
 use Rattle.lt_load.specs.Plan.{Plan, load_verdict}
-use Rattle.lt_stream.specs.declared.outputs.Outputs.{Outputs}
+use Rattle.lt_evaluate.specs.declared.outputs.Outputs.{Outputs}
 use Rattle.lt_run.specs.Kinds.{executed_by}
-use Rattle.lt_run.specs.Run.{along_verdict}
-use Rattle.lt_commands.specs.declared.watched.Watched.{Watched}
-use Rattle.lt_commands.specs.Judged.{counted, column, IsLeast, IsWatched}
-use Rattle.lt_commands.specs.Whole.{Counts}
-use Rattle.lt_commands.specs.Watch.{observer_verdict, followed_verdict, plan_watch_verdict, watch_verdict}
-use Rattle.lt_commands.proofs.Whole.{instants, of_whole, counts_below, counts_reached, counts_low, outputs_low}
+use Rattle.lt_run.specs.Run.{run_along_verdict}
+use Rattle.lt_watch.specs.declared.watched.Watched.{Watched}
+use Rattle.lt_watch.specs.Judged.{counted_columns, column, IsShortest, IsWatched}
+use Rattle.lt_watch.specs.Whole.{Counts}
+use Rattle.lt_watch.specs.Watch.{observer_verdict, followed_verdict, plan_watch_verdict, watch_verdict}
+use Rattle.lt_watch.proofs.Whole.{instants, of_whole, counts_below, counts_reached, counts_low, outputs_low}
 use Rattle.lt_cli.specs.Objects.{Objects, world_of}
-use Rattle.lt_cli.specs.RunShown.{IsRunAlong}
+use Rattle.lt_cli.specs.Headline.{IsRunAlong}
 use Rattle.lt_cli.specs.Taken.{TookText}
-use Rattle.lt_reply.specs.Texts.{watched_text}
+use Rattle.lt_text_answers.specs.Texts.{watched_text}
 use Rattle.lt_cli.specs.WatchShown.{HasCounted, AreInstants, IsWatchShown}
 use Rattle.lt_cli.proofs.Shown.{run_along}
 
@@ -42,7 +42,7 @@ module _ (named : List ℕ → Option (List ℕ)) (program inputs schedule obser
         let same : length run.layout.outs ≡ length (main_in run.plan.checked.program).outs = ap (λ (outs : List ℕ). length outs) run.shows.told.shown.outputs_are in
         counts_low o.outs (length run.layout.outs) (λ k low. subst (λ (m : ℕ). slice_index_or o.outs k 0 < m) (sym same) (outputs_low 200 (main_in run.plan.checked.program) bytes o spelled k low)) y counts
 
-    module _ (n : ℕ) (least : IsLeast (counted o.outs ran.cells) n) where
+    module _ (n : ℕ) (least : IsShortest (counted_columns o.outs ran.cells) n) where
       abbrev executed : ℕ → ℕ
       executed m = executed_by run.plan.setup.pace run.shape run.plan.setup.timing (length run.plan.inputs.rows) run.events m
 
@@ -96,7 +96,7 @@ module _ (named : List ℕ → Option (List ℕ)) (program inputs schedule obser
         }
 
   module _ (p : Plan) (loaded : load_verdict named program inputs config (Ok p)) where
-    ran_shown : (o : Observing) (bytes : List ℕ) → named observer ≡ Some bytes → IsObserverOf 200 (main_in p.checked.program) bytes o → (ran : Outputs) → along_verdict new.fabric (named schedule) p (Ok ran)
+    ran_shown : (o : Observing) (bytes : List ℕ) → named observer ≡ Some bytes → IsObserverOf 200 (main_in p.checked.program) bytes o → (ran : Outputs) → run_along_verdict new.fabric (named schedule) p (Ok ran)
         → IsWatched p.checked.program p.inputs.rows new.fabric o ran.cells told → IsWatchShown named program inputs schedule observer config old new
     ran_shown o bytes file spelled ran along watched =
         let r = run_along named program inputs schedule config new.fabric ran p loaded along in

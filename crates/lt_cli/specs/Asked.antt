@@ -1,38 +1,27 @@
 -- What a command does, and a call of `ltta` that is asked for it.
-use Rattle.std.specs.Prelude.{◌≡◌, ◌⊎◌, ℕ, List, [], ◌∷◌, ◌++◌, length, Option, Some, None, Result, Ok, Err, true, false}
+use Rattle.std.specs.Prelude.{◌≡◌, ◌⊎◌, ℕ, List, [], ◌∷◌, ◌++◌, length, Option, Some, None, Result, Ok, Err}
 use Rattle.lt_base.specs.declared.memory.Or.{Or}
 use Rattle.lt_base.specs.declared.memory.Or.TheVariants.{Fault, Memory}
-use Rattle.lt_io.specs.Visits.{Errand, Visited}
 use Rattle.lt_io.specs.FabricState.{FabricState, OpensAtMostOnce}
 use Rattle.lt_io.specs.FilesState.{FilesState}
 use Rattle.lt_io.specs.SinkState.{SinkState, KeepsSink}
-use Rattle.lt_answer.specs.World.{World}
-use Rattle.lt_answer.specs.Answered.{Verdict, Answered}
 use Rattle.lt_words.specs.Reading.{Said, check, meaning, run, plan, sim, big, watch, audit, trace, command_of}
-use Rattle.lt_fit.specs.declared.fault.CommandFault.{CommandFault}
+use Rattle.lt_load_fit.specs.declared.fault.CommandFault.{CommandFault}
 use Rattle.lt_load.specs.Plan.{LoadedPlan}
 use Rattle.lt_run.specs.Run.{LeavesUnloaded}
-use Rattle.lt_commands.specs.Big.{LeavesRefused}
-use Rattle.lt_commands.specs.Watch.{LeavesUnwatched}
-use Rattle.lt_reply.specs.declared.refusal.Refusal.{Refusal}
-use Rattle.lt_reply.specs.declared.refusal.Refusal.TheVariants.{Words, Command, Observer}
-use Rattle.lt_reply.specs.declared.status.Status.{Status}
-use Rattle.lt_reply.specs.declared.status.Status.TheVariants as status
-use Rattle.lt_reply.specs.Blamed.{blame_of}
-use Rattle.lt_reply.specs.Texts.{refusal_status, line_of, drawing_text}
-use Rattle.lt_cli.specs.Commands.{answer_verdict, command_verdict, said_errands, asked_errands, words_verdict}
+use Rattle.lt_big.specs.Big.{LeavesRefused}
+use Rattle.lt_watch.specs.Watch.{LeavesUnwatched}
+use Rattle.lt_text_answers.specs.declared.refusal.Refusal.{Refusal}
+use Rattle.lt_text_answers.specs.declared.refusal.Refusal.TheVariants.{Command}
+use Rattle.lt_text_answers.specs.declared.status.Status.{Status}
+use Rattle.lt_text_answers.specs.declared.status.Status.TheVariants as status
+use Rattle.lt_text_answers.specs.Texts.{refusal_status, refusal_line, drawing_text}
+use Rattle.lt_cli.specs.Commands.{command_verdict, said_errands, asked_errands, words_verdict}
 use Rattle.lt_cli.specs.Objects.{Objects, world_of}
 use Rattle.lt_cli.specs.Written.{Written}
-use Rattle.lt_reply.specs.Draws.{Drawing, drawing}
+use Rattle.lt_text_answers.specs.Draws.{Drawing, drawing}
+use Rattle.lt_cli.specs.Obeys.{ObeysErrands, Visits}
 use Rattle.lt_cli.specs.Ran.{Ran, Reported}
-
--- the words are not refused
-abbrev pub IsOfCommand : Result (List ℕ) (Or Refusal) → Type 0
-IsOfCommand (Ok text) = Unit {0}
-IsOfCommand (Err (Fault Words)) = ⊥
-IsOfCommand (Err (Fault (Command fault))) = Unit {0}
-IsOfCommand (Err (Fault (Observer fault))) = Unit {0}
-IsOfCommand (Err Memory) = Unit {0}
 
 -- only a run touches the fabric, watched or not, or that of the large input; it opens it at most once, and touches it only once all that it is of
 -- is loaded
@@ -48,26 +37,18 @@ LeavesFabric (Some (watch program inputs schedule observer config)) files old ne
 LeavesFabric (Some (audit program inputs schedule config)) files old new = new ≡ old
 LeavesFabric (Some (trace program inputs schedule config place from to)) files old new = new ≡ old
 
--- the text of a value that is right, or the refusal that is
-pub record Answers {T E : Type 0} (raise : E → Refusal) (shown : T → List ℕ) (errands : List Errand) (V : Verdict T E) (old new : World) (result : Result (List ℕ) (Or Refusal)) : Type 0 where
-  pub answered : Answered blame_of errands (answer_verdict raise shown V) old new result
-  pub of_command : IsOfCommand result
-
-abbrev pub AnswersText : {T : Type 0} (shown : T → List ℕ) (errands : List Errand) (V : Verdict T CommandFault) (old new : World) (result : Result (List ℕ) (Or Refusal)) → Type 0
-AnswersText shown errands V old new result = Answers (λ fault. Command fault) shown errands V old new result
-
 -- an answer ends a call: `out` takes its text, or `err` its refusal's line
 abbrev pub Finishes : Result (List ℕ) (Or Refusal) → (out out' err err' : SinkState) → (ends : Status) → Type 0
 Finishes (Ok text) out out' err err' ends = Written status.Ok text out out' ends × (err' ≡ err)
-Finishes (Err (Fault refusal)) out out' err err' ends = Written (refusal_status refusal) (line_of refusal ++ 10 ∷ []) err err' ends × (out' ≡ out)
+Finishes (Err (Fault refusal)) out out' err err' ends = Written (refusal_status refusal) (refusal_line refusal ++ 10 ∷ []) err err' ends × (out' ≡ out)
 Finishes (Err Memory) out out' err err' ends = (ends ≡ status.Memory) × (out' ≡ out) × (err' ≡ err)
 
 -- whence want of memory may come behind an answer: of `out`, which was to take the text; of `err` or the making of the refusal's line;
 -- or of the answer itself
-abbrev pub IsShort : Result (List ℕ) (Or Refusal) → (out err : Type 0) → Type 0
-IsShort (Ok text) out err = out
-IsShort (Err (Fault refusal)) out err = err
-IsShort (Err Memory) out err = Unit {0}
+abbrev pub IsCutShort : Result (List ℕ) (Or Refusal) → (out err : Type 0) → Type 0
+IsCutShort (Ok text) out err = out
+IsCutShort (Err (Fault refusal)) out err = err
+IsCutShort (Err Memory) out err = Unit {0}
 
 -- the same behind what was loaded for a schedule that is drawn
 abbrev pub IsDrawnShort : Result LoadedPlan (Or CommandFault) → (out err : Type 0) → Type 0
@@ -96,26 +77,13 @@ FinishesDrawn (Ok k) seed horizon out out' err err' ends = IsReported (drawn_out
 FinishesDrawn (Err (Fault fault)) seed horizon out out' err err' ends = Finishes (Err (Fault (Command fault))) out out' err err' ends
 FinishesDrawn (Err Memory) seed horizon out out' err err' ends = Finishes (Err Memory) out out' err err' ends
 
--- a call with these errands visits its files
-pub record Visits (errands : List Errand) (old new : Objects) (ends : Status) : Type 0 where
-  -- in their order, each once and within its errand, and no others; it may have stopped behind any of them
-  pub within : Visited errands old.files.visits new.files.visits false
-  -- and all of them where it ends well
-  pub all : ends ≡ status.Ok → Visited errands old.files.visits new.files.visits true
-
--- and one that is asked for this
+-- a call that is asked for this visits its files
 abbrev pub VisitsFiles : Option Said → (old new : Objects) → (ends : Status) → Type 0
 VisitsFiles said old new ends = Visits (asked_errands said) old new ends
 
--- what a call does for a command with these errands and this verdict on its text; the status never says that the words are wrong
-pub record Obeys (errands : List Errand) (V : Verdict (List ℕ) Refusal) (old new : Objects) (ends : Status) : Type 0 where
-  pub ran : Ran V old new ends
-  pub visits : Visits errands old new ends
-  pub not_words : ends ≡ status.Words → ⊥
-
 -- what it does for a command; the last whether or not the objects tell what they hold
 pub record ObeysCommand (said : Said) (old new : Objects) (ends : Status) : Type 0 where
-  pub obeys : Obeys (said_errands said) (command_verdict old.files.named (world_of new) said) old new ends
+  pub obeys : ObeysErrands (said_errands said) (command_verdict old.files.named (world_of new) said) old new ends
   pub leaves : LeavesFabric (Some said) old.files old.fabric new.fabric
 
 -- a call ends so where this is said, whether or not the objects tell what they hold

@@ -1,16 +1,16 @@
 -- What a reader has of an audit that ended well.
 use Rattle.std.specs.Prelude.{◌≡◌, ℕ, List, length, Option, None, Some, Ok}
 use Rattle.lt_arch.specs.declared.event.Event.{Event}
-use Rattle.lt_judge.specs.Verdict.{verdict}
+use Rattle.lt_schedule.specs.Verdict.{verdict}
 use Rattle.lt_timing.specs.Accepts.{Accepts}
 use Rattle.lt_load.specs.Plan.{Plan}
-use Rattle.lt_commands.specs.declared.scene.Scene.{Scene}
-use Rattle.lt_commands.specs.declared.audited.Audited.{Audited}
-use Rattle.lt_commands.specs.Scenes.{IsSceneOf, scene_verdict}
-use Rattle.lt_commands.specs.Inspected.{IsAudited}
+use Rattle.lt_inspect.specs.declared.scene.Scene.{Scene}
+use Rattle.lt_inspect.specs.declared.audited.Audited.{Audited}
+use Rattle.lt_inspect.specs.Scenes.{IsSceneOf, scene_verdict}
+use Rattle.lt_inspect.specs.Inspected.{IsAudited}
 use Rattle.lt_cli.specs.Objects.{Objects}
 use Rattle.lt_cli.specs.Taken.{TookText}
-use Rattle.lt_reply.specs.Texts.{audit_text, audited_text}
+use Rattle.lt_text_answers.specs.Texts.{audit_text, audited_text}
 
 -- these files hold a program, inputs and a setup that are not refused, and a schedule that reads as an admissible list of events over
 -- the nodes and channels of its scene

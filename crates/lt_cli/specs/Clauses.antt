@@ -1,43 +1,51 @@
 -- What holds of a call of `ltta`, fact by fact.
-use Rattle.std.specs.Prelude.{◌≡◌, ◌≢◌, ◌<◌, ◌⊎◌, ◌↔◌, ℕ, IsTrue, List, Option, Some, None, Ok, Err, codes}
+use Rattle.std.specs.Prelude.{◌≡◌, ◌≢◌, ◌<◌, ◌⊎◌, ◌↔◌, ℕ, IsTrue, List, [], Option, Some, None, Result, Ok, Err, IfOk, IfErr, String, Vec, codes, drop, map, string_bytes}
+use Rattle.std.specs.declared.io.Error.{Error}
+use Rattle.std.specs.declared.io.ErrorKind.TheVariants.{OutOfMemory}
+use Rattle.std.specs.declared.alloc.Global.{Global}
+use Rattle.std.specs.IoError.{error_kind}
+use Rattle.lt_io.specs.FabricState.{FabricState}
+use Rattle.lt_io.specs.FilesState.{FilesState}
+use Rattle.lt_io.specs.SinkState.{SinkState}
 use Rattle.lt_arch.specs.declared.event.Event.{Event}
 use Rattle.lt_timing.specs.Accepts.{Accepts}
 use Rattle.lt_answer.specs.Answered.{Verdict}
-use Rattle.lt_fit.specs.declared.fault.CommandFault.{CommandFault}
-use Rattle.lt_fit.specs.declared.fault.CommandFault.TheVariants.{Read}
-use Rattle.lt_reply.specs.declared.refusal.Refusal.{Refusal}
-use Rattle.lt_reply.specs.declared.refusal.Refusal.TheVariants.{Words, Command}
-use Rattle.lt_reply.specs.declared.status.Status.{Status}
-use Rattle.lt_reply.specs.declared.status.Status.TheVariants as status
-use Rattle.lt_reply.specs.Texts.{refusal_status, line_of, drawing_text, watched_text, audited_text}
-use Rattle.lt_words.specs.Reading.{command_of}
+use Rattle.lt_load_fit.specs.declared.fault.CommandFault.{CommandFault}
+use Rattle.lt_load_fit.specs.declared.fault.CommandFault.TheVariants.{Read}
+use Rattle.lt_text_answers.specs.declared.refusal.Refusal.{Refusal}
+use Rattle.lt_text_answers.specs.declared.refusal.Refusal.TheVariants.{Words, Command}
+use Rattle.lt_text_answers.specs.declared.status.Status.{Status}
+use Rattle.lt_text_answers.specs.declared.status.Status.TheVariants as status
+use Rattle.lt_text_answers.specs.Texts.{refusal_status, refusal_line, drawing_text, watched_text, audited_text}
+use Rattle.lt_words.specs.Reading.{Said, command_of}
 use Rattle.lt_words.specs.Reading as said
-use Rattle.lt_texts.specs.PlanText.{plan_of}
-use Rattle.lt_load.specs.Loaded.{config_verdict}
-use Rattle.lt_load.specs.Setups.{check_verdict}
+use Rattle.lt_text_lines.specs.PlanText.{plan_of}
 use Rattle.lt_load.specs.Plan.{Plan}
-use Rattle.lt_stream.specs.Meaning.{meaning_verdict}
-use Rattle.lt_run.specs.Run.{run_verdict}
-use Rattle.lt_commands.specs.Big.{big_verdict}
-use Rattle.lt_commands.specs.declared.scene.Scene.{Scene}
-use Rattle.lt_commands.specs.Inspected.{audit_verdict, trace_verdict}
-use Rattle.lt_commands.specs.declared.fault.WatchFault.TheVariants as watched
-use Rattle.lt_commands.specs.Watch.{watch_verdict}
-use Rattle.lt_reply.specs.Draws.{sim_verdict}
-use Rattle.lt_reply.specs.Replies.{checked_text, printed_text, summarized_text, watch_refusal}
+use Rattle.lt_inspect.specs.declared.scene.Scene.{Scene}
+use Rattle.lt_watch.specs.declared.fault.WatchFault.TheVariants as watched
+use Rattle.lt_text_answers.specs.Replies.{checked_text, printed_text, summarized_text, watch_refusal}
 use Rattle.lt_cli.specs.Commands.{words_verdict}
+use Rattle.lt_cli.specs.Commands.Check.{check_verdict}
+use Rattle.lt_cli.specs.Commands.Meaning.{meaning_verdict}
+use Rattle.lt_cli.specs.Commands.Run.{run_verdict}
+use Rattle.lt_cli.specs.Commands.Plan.{plan_verdict}
+use Rattle.lt_cli.specs.Commands.Sim.{sim_verdict}
+use Rattle.lt_cli.specs.Commands.Big.{big_verdict}
+use Rattle.lt_cli.specs.Commands.Watch.{watch_verdict}
+use Rattle.lt_cli.specs.Commands.Audit.{audit_verdict}
+use Rattle.lt_cli.specs.Commands.Trace.{trace_verdict}
 use Rattle.lt_cli.specs.Taken.{TookLine, TookText}
-use Rattle.lt_cli.specs.RunShown.{IsRunShown, IsBigShown}
+use Rattle.lt_cli.specs.Headline.{IsRunShown, IsBigShown}
 use Rattle.lt_cli.specs.WatchShown.{IsWatchShown}
 use Rattle.lt_cli.specs.AuditShown.{HoldSchedule, TookClean, IsAuditShown}
-use Rattle.lt_cli.specs.Objects.{Objects, IsQuiet, Tells, world_of}
+use Rattle.lt_cli.specs.Objects.{Objects, Between, IsQuiet, ObjectsTell, world_of}
 use Rattle.lt_cli.specs.Ran.{Ran}
 use Rattle.lt_cli.specs.Asked.{EndsBySaid, VisitsFiles}
 
 -- the status says that the words are wrong exactly where they say no command, and then the usage line was printed
 pub record IsWordsExact (words : List (List ℕ)) (old new : Objects) (ends : Status) : Type 0 where
   pub exact : (ends ≡ status.Words) ↔ (command_of words ≡ None)
-  pub line : ends ≡ status.Words → TookLine (line_of Words) old new
+  pub line : ends ≡ status.Words → TookLine (refusal_line Words) old new
 
 -- a command with this verdict, whose values are shown so and whose faults are these refusals: each status comes exactly where it is
 -- right, with its text or its line
@@ -45,7 +53,7 @@ pub record IsExactFor {T E : Type 0} (raise : E → Refusal) (shown : T → List
   pub ok : (ends ≡ status.Ok) ↔ ((x : T) × V (Ok x))
   pub text : ends ≡ status.Ok → (x : T) × V (Ok x) × TookText (shown x) old new
   pub refused : (code : Status) → code ≢ status.Ok → (ends ≡ code) ↔ ((f : E) × V (Err f) × (refusal_status (raise f) ≡ code))
-  pub line : ends ≢ status.Ok → (f : E) × V (Err f) × (refusal_status (raise f) ≡ ends) × TookLine (line_of (raise f)) old new
+  pub line : ends ≢ status.Ok → (f : E) × V (Err f) × (refusal_status (raise f) ≡ ends) × TookLine (refusal_line (raise f)) old new
 
 abbrev pub IsExact : {T : Type 0} (shown : T → List ℕ) (V : Verdict T CommandFault) (old new : Objects) (ends : Status) → Type 0
 IsExact shown V old new ends = IsExactFor (λ fault. Command fault) shown V old new ends
@@ -83,6 +91,18 @@ IsWriteCaused old new =
     ((old.out.faults < new.out.faults) × (IsTrue old.err.told → new.err.taken ≡ old.err.taken))
     ⊎ ((old.err.faults < new.err.faults) × (IsTrue old.out.told → new.out.taken ≡ old.out.taken))
 
+-- where the words say this command, the objects tell what they hold, no count of faults rises and memory is found, this is so
+abbrev pub Asks : (asked : List (List ℕ)) → Said → (old new : Objects) → (ends : Status) → Type 0 → Type 0
+Asks asked said old new ends F = command_of asked ≡ Some said → ObjectsTell old → IsQuiet old new → ends ≢ status.Memory → F
+
+-- and where it ends well
+abbrev pub EndsWell : (asked : List (List ℕ)) → Said → (old new : Objects) → (ends : Status) → Type 0 → Type 0
+EndsWell asked said old new ends F = command_of asked ≡ Some said → ObjectsTell old → IsQuiet old new → ends ≡ status.Ok → F
+
+-- where the words say this command, the files are sound and memory is found, this is so
+abbrev pub AsksSound : (asked : List (List ℕ)) → Said → Objects → (ends : Status) → Type 0 → Type 0
+AsksSound asked said old ends F = command_of asked ≡ Some said → IsTrue old.files.sound → ends ≢ status.Memory → F
+
 -- what holds of a call of `ltta` that is asked for this by its words
 pub record Performs (asked : List (List ℕ)) (old new : Objects) (ends : Status) : Type 0 where
   -- the status says that the words are wrong only where they say no command, and then none but those of a failed write and of want
@@ -92,40 +112,40 @@ pub record Performs (asked : List (List ℕ)) (old new : Objects) (ends : Status
   -- its limit and what shows that it is passed
   pub visits : VisitsFiles (command_of asked) old new ends
   -- where the objects tell what they hold, no count rose and memory was found: each status exactly where it is right, with its text or its line
-  pub words : Tells old → IsQuiet old new → ends ≢ status.Memory → IsWordsExact asked old new ends
-  pub check : (program : List ℕ) (config : Option (List ℕ)) → command_of asked ≡ Some (said.check program config) → Tells old → IsQuiet old new → ends ≢ status.Memory
-      → IsExact checked_text (check_verdict old.files.named program config) old new ends
-  pub meaning : (program inputs : List ℕ) → command_of asked ≡ Some (said.meaning program inputs) → Tells old → IsQuiet old new → ends ≢ status.Memory
-      → IsExact printed_text (meaning_verdict old.files.named program inputs) old new ends
-  pub run : (program inputs schedule : List ℕ) (config : Option (List ℕ)) → command_of asked ≡ Some (said.run program inputs schedule config) → Tells old → IsQuiet old new → ends ≢ status.Memory
-      → IsExact printed_text (run_verdict old.files.named program inputs schedule config (world_of new)) old new ends
-  pub plan : (config : List ℕ) (horizon : Option ℕ) → command_of asked ≡ Some (said.plan config horizon) → Tells old → IsQuiet old new → ends ≢ status.Memory
-      → IsExact (λ setup. plan_of setup horizon) (config_verdict (old.files.named config)) old new ends
-  pub sim : (program inputs config : List ℕ) (seed horizon : ℕ) → command_of asked ≡ Some (said.sim program inputs config seed horizon) → Tells old → IsQuiet old new → ends ≢ status.Memory
-      → IsExact drawing_text (sim_verdict old.files.named program inputs config seed horizon) old new ends
-  pub big : (instants : ℕ) → command_of asked ≡ Some (said.big instants) → Tells old → IsQuiet old new → ends ≢ status.Memory
-      → IsExact (summarized_text instants) (big_verdict instants new.fabric) old new ends
-  pub watch : (program inputs schedule observer : List ℕ) (config : Option (List ℕ)) → command_of asked ≡ Some (said.watch program inputs schedule observer config) → Tells old → IsQuiet old new → ends ≢ status.Memory
-      → IsExactFor watch_refusal watched_text (watch_verdict old.files.named program inputs schedule observer config (world_of new)) old new ends
-  pub audit : (program inputs schedule config : List ℕ) → command_of asked ≡ Some (said.audit program inputs schedule config) → Tells old → IsQuiet old new → ends ≢ status.Memory
-      → IsExact audited_text (audit_verdict old.files.named program inputs schedule config) old new ends
-  pub trace : (program inputs schedule config : List ℕ) (node : Option (List ℕ)) (from to : ℕ) → command_of asked ≡ Some (said.trace program inputs schedule config node from to) → Tells old → IsQuiet old new → ends ≢ status.Memory
-      → IsExact (λ text. text) (trace_verdict old.files.named program inputs schedule config node from to) old new ends
+  pub words : ObjectsTell old → IsQuiet old new → ends ≢ status.Memory → IsWordsExact asked old new ends
+  pub check : (program : List ℕ) (config : Option (List ℕ)) → Asks asked (said.check program config) old new ends
+      (IsExact checked_text (check_verdict old.files.named program config) old new ends)
+  pub meaning : (program inputs : List ℕ) → Asks asked (said.meaning program inputs) old new ends
+      (IsExact printed_text (meaning_verdict old.files.named program inputs) old new ends)
+  pub run : (program inputs schedule : List ℕ) (config : Option (List ℕ)) → Asks asked (said.run program inputs schedule config) old new ends
+      (IsExact printed_text (run_verdict old.files.named program inputs schedule config (world_of new)) old new ends)
+  pub plan : (config : List ℕ) (horizon : Option ℕ) → Asks asked (said.plan config horizon) old new ends
+      (IsExact (λ setup. plan_of setup horizon) (plan_verdict old.files.named config) old new ends)
+  pub sim : (program inputs config : List ℕ) (seed horizon : ℕ) → Asks asked (said.sim program inputs config seed horizon) old new ends
+      (IsExact drawing_text (sim_verdict old.files.named program inputs config seed horizon) old new ends)
+  pub big : (instants : ℕ) → Asks asked (said.big instants) old new ends
+      (IsExact (summarized_text instants) (big_verdict instants new.fabric) old new ends)
+  pub watch : (program inputs schedule observer : List ℕ) (config : Option (List ℕ)) → Asks asked (said.watch program inputs schedule observer config) old new ends
+      (IsExactFor watch_refusal watched_text (watch_verdict old.files.named program inputs schedule observer config (world_of new)) old new ends)
+  pub audit : (program inputs schedule config : List ℕ) → Asks asked (said.audit program inputs schedule config) old new ends
+      (IsExact audited_text (audit_verdict old.files.named program inputs schedule config) old new ends)
+  pub trace : (program inputs schedule config : List ℕ) (node : Option (List ℕ)) (from to : ℕ) → Asks asked (said.trace program inputs schedule config node from to) old new ends
+      (IsExact (λ text. text) (trace_verdict old.files.named program inputs schedule config node from to) old new ends)
   -- what a run shows that ended well, fact by fact
-  pub run_shown : (program inputs schedule : List ℕ) (config : Option (List ℕ)) → command_of asked ≡ Some (said.run program inputs schedule config) → Tells old → IsQuiet old new → ends ≡ status.Ok
-      → IsRunShown old.files.named program inputs schedule config old new
+  pub run_shown : (program inputs schedule : List ℕ) (config : Option (List ℕ)) → EndsWell asked (said.run program inputs schedule config) old new ends
+      (IsRunShown old.files.named program inputs schedule config old new)
   -- the same of a run of the large input
-  pub big_shown : (instants : ℕ) → command_of asked ≡ Some (said.big instants) → Tells old → IsQuiet old new → ends ≡ status.Ok
-      → IsBigShown instants old new
+  pub big_shown : (instants : ℕ) → EndsWell asked (said.big instants) old new ends
+      (IsBigShown instants old new)
   -- what a watched run and an audit show that ended well
-  pub watch_shown : (program inputs schedule observer : List ℕ) (config : Option (List ℕ)) → command_of asked ≡ Some (said.watch program inputs schedule observer config) → Tells old → IsQuiet old new → ends ≡ status.Ok
-      → IsWatchShown old.files.named program inputs schedule observer config old new
-  pub audit_shown : (program inputs schedule config : List ℕ) → command_of asked ≡ Some (said.audit program inputs schedule config) → Tells old → IsQuiet old new → ends ≡ status.Ok
-      → IsAuditShown old.files.named program inputs schedule config old new
+  pub watch_shown : (program inputs schedule observer : List ℕ) (config : Option (List ℕ)) → EndsWell asked (said.watch program inputs schedule observer config) old new ends
+      (IsWatchShown old.files.named program inputs schedule observer config old new)
+  pub audit_shown : (program inputs schedule config : List ℕ) → EndsWell asked (said.audit program inputs schedule config) old new ends
+      (IsAuditShown old.files.named program inputs schedule config old new)
   -- an audit of an admissible list over a setup whose timing is accepted ends well, and tells that no message is too few or too many
-  pub audit_clean : (program inputs schedule config : List ℕ) → command_of asked ≡ Some (said.audit program inputs schedule config) → Tells old → IsQuiet old new → ends ≢ status.Memory
-      → (plan : Plan) (scene : Scene) (events : List Event) → HoldSchedule old.files.named program inputs schedule config plan scene events → Accepts plan.setup.timing
-      → (ends ≡ status.Ok) × TookClean scene events old new
+  pub audit_clean : (program inputs schedule config : List ℕ) → Asks asked (said.audit program inputs schedule config) old new ends
+      ((plan : Plan) (scene : Scene) (events : List Event) → HoldSchedule old.files.named program inputs schedule config plan scene events → Accepts plan.setup.timing
+      → (ends ≡ status.Ok) × TookClean scene events old new)
   -- what a status says of the outside
   pub outside : ends ≡ status.Outside → IsOutsideCaused old new
   pub failed : HasCallFailed old new → IsOfFailure ends
@@ -133,24 +153,36 @@ pub record Performs (asked : List (List ℕ)) (old new : Objects) (ends : Status
   -- no call on a sound fabric fails
   pub steady : IsTrue old.fabric.sound → new.fabric.faults ≡ old.fabric.faults
   -- over sound files a call on them fails exactly where the first file in order that is refused is missing
-  pub check_missing : (program : List ℕ) (config : Option (List ℕ)) → command_of asked ≡ Some (said.check program config) → IsTrue old.files.sound → ends ≢ status.Memory
-      → IsMissingExact (check_verdict old.files.named program config) old new
-  pub meaning_missing : (program inputs : List ℕ) → command_of asked ≡ Some (said.meaning program inputs) → IsTrue old.files.sound → ends ≢ status.Memory
-      → IsMissingExact (meaning_verdict old.files.named program inputs) old new
-  pub run_missing : (program inputs schedule : List ℕ) (config : Option (List ℕ)) → command_of asked ≡ Some (said.run program inputs schedule config) → IsTrue old.files.sound → ends ≢ status.Memory
+  pub check_missing : (program : List ℕ) (config : Option (List ℕ)) → AsksSound asked (said.check program config) old ends
+      (IsMissingExact (check_verdict old.files.named program config) old new)
+  pub meaning_missing : (program inputs : List ℕ) → AsksSound asked (said.meaning program inputs) old ends
+      (IsMissingExact (meaning_verdict old.files.named program inputs) old new)
+  pub run_missing : (program inputs schedule : List ℕ) (config : Option (List ℕ)) → AsksSound asked (said.run program inputs schedule config) old ends
       -- no call on the fabric failed, which may come before the schedule's file is opened
-      → new.fabric.faults ≡ old.fabric.faults
-      → IsMissingExact (run_verdict old.files.named program inputs schedule config (world_of new)) old new
-  pub plan_missing : (config : List ℕ) (horizon : Option ℕ) → command_of asked ≡ Some (said.plan config horizon) → IsTrue old.files.sound → ends ≢ status.Memory
-      → IsMissingExact (config_verdict (old.files.named config)) old new
-  pub sim_missing : (program inputs config : List ℕ) (seed horizon : ℕ) → command_of asked ≡ Some (said.sim program inputs config seed horizon) → IsTrue old.files.sound → ends ≢ status.Memory
-      → IsMissingExact (sim_verdict old.files.named program inputs config seed horizon) old new
-  pub watch_missing : (program inputs schedule observer : List ℕ) (config : Option (List ℕ)) → command_of asked ≡ Some (said.watch program inputs schedule observer config) → IsTrue old.files.sound → ends ≢ status.Memory
-      → new.fabric.faults ≡ old.fabric.faults
-      → IsMissingFor (watched.Command Read) (watch_verdict old.files.named program inputs schedule observer config (world_of new)) old new
-  pub audit_missing : (program inputs schedule config : List ℕ) → command_of asked ≡ Some (said.audit program inputs schedule config) → IsTrue old.files.sound → ends ≢ status.Memory
-      → IsMissingExact (audit_verdict old.files.named program inputs schedule config) old new
-  pub trace_missing : (program inputs schedule config : List ℕ) (node : Option (List ℕ)) (from to : ℕ) → command_of asked ≡ Some (said.trace program inputs schedule config node from to) → IsTrue old.files.sound → ends ≢ status.Memory
-      → IsMissingExact (trace_verdict old.files.named program inputs schedule config node from to) old new
+      (new.fabric.faults ≡ old.fabric.faults → IsMissingExact (run_verdict old.files.named program inputs schedule config (world_of new)) old new)
+  pub plan_missing : (config : List ℕ) (horizon : Option ℕ) → AsksSound asked (said.plan config horizon) old ends
+      (IsMissingExact (plan_verdict old.files.named config) old new)
+  pub sim_missing : (program inputs config : List ℕ) (seed horizon : ℕ) → AsksSound asked (said.sim program inputs config seed horizon) old ends
+      (IsMissingExact (sim_verdict old.files.named program inputs config seed horizon) old new)
+  pub watch_missing : (program inputs schedule observer : List ℕ) (config : Option (List ℕ)) → AsksSound asked (said.watch program inputs schedule observer config) old ends
+      (new.fabric.faults ≡ old.fabric.faults
+      → IsMissingFor (watched.Command Read) (watch_verdict old.files.named program inputs schedule observer config (world_of new)) old new)
+  pub audit_missing : (program inputs schedule config : List ℕ) → AsksSound asked (said.audit program inputs schedule config) old ends
+      (IsMissingExact (audit_verdict old.files.named program inputs schedule config) old new)
+  pub trace_missing : (program inputs schedule config : List ℕ) (node : Option (List ℕ)) (from to : ℕ) → AsksSound asked (said.trace program inputs schedule config node from to) old ends
+      (IsMissingExact (trace_verdict old.files.named program inputs schedule config node from to) old new)
   -- all of it: what was to be printed, how far it was, and whose count rose
   pub ran : Ran (words_verdict old.files.named (world_of new) asked) old new ends
+
+-- the same of a call on objects of these types, whose states these functions read off them
+abbrev pub PerformsOn : {F W O E : Type 0} (files : F → FilesState) (fabric : W → FabricState) (out : O → SinkState) (err : E → SinkState) → (words : List (String Global)) → (old new : F × W × O × E) → Status → Type 0
+PerformsOn files fabric out err words old new ends = Between files fabric out err (Performs (map string_bytes words)) old new ends
+
+-- what holds of a call on the words of a line
+pub record PerformsLine {F W O E : Type 0} (files : F → FilesState) (fabric : W → FabricState) (out : O → SinkState) (err : E → SinkState) (line : Result (Vec (String Global) Global) Error) (old new : F × W × O × E) (ends : Status) : Type 0 where
+  -- it is one on the words behind the first, which is the program's name
+  pub read : IfOk line (λ words. PerformsOn files fabric out err (drop 1 words.items) old new ends)
+  -- where the words are no text, it is one on no words
+  pub unread : IfErr line (λ error. error_kind error ≢ OutOfMemory → PerformsOn files fabric out err [] old new ends)
+  -- and where no memory was found for them, it ends so
+  pub short : IfErr line (λ error. error_kind error ≡ OutOfMemory → ends ≡ status.Memory)

@@ -1,43 +1,46 @@
--- What is right to print for the words and the bytes of the files.
+-- What is right to print for the words and the bytes of the files. Each command has a file below this one.
+pub mod Check
+pub mod Meaning
+pub mod Run
+pub mod Plan
+pub mod Sim
+pub mod Big
+pub mod Watch
+pub mod Audit
+pub mod Trace
 use Rattle.std.specs.Prelude.{◌≡◌, ℕ, List, [], Option, Some, None, Err}
-use Rattle.lt_texts.specs.PlanText.{plan_of}
+use Rattle.lt_text_lines.specs.PlanText.{plan_of}
 use Rattle.lt_words.specs.Reading.{Said, check, meaning, run, plan, sim, big, audit, trace, command_of}
 use Rattle.lt_words.specs.Reading as said
 use Rattle.lt_io.specs.Visits.{Errand}
 use Rattle.lt_answer.specs.Answered.{Verdict}
-use Rattle.lt_verdict.specs.Rules.{Raised, Shown}
 use Rattle.lt_answer.specs.World.{World}
-use Rattle.lt_fit.specs.declared.fault.CommandFault.{CommandFault}
 use Rattle.lt_load.specs.Errands.{config_errand, check_errands, load_errands}
-use Rattle.lt_load.specs.Loaded.{config_verdict}
-use Rattle.lt_load.specs.Setups.{check_verdict}
-use Rattle.lt_stream.specs.Errands.{meaning_errands}
-use Rattle.lt_stream.specs.Meaning.{meaning_verdict}
+use Rattle.lt_evaluate.specs.Errands.{meaning_errands}
 use Rattle.lt_run.specs.Errands.{run_errands}
-use Rattle.lt_run.specs.Run.{run_verdict}
-use Rattle.lt_commands.specs.Big.{big_verdict}
-use Rattle.lt_commands.specs.Errands.{inspect_errands, watch_errands}
-use Rattle.lt_commands.specs.Inspected.{audit_verdict, trace_verdict}
-use Rattle.lt_commands.specs.Watch.{watch_verdict}
-use Rattle.lt_reply.specs.declared.refusal.Refusal.{Refusal}
-use Rattle.lt_reply.specs.declared.refusal.Refusal.TheVariants.{Words, Command}
-use Rattle.lt_reply.specs.Replies.{checked_text, printed_text, summarized_text, watch_refusal}
-use Rattle.lt_reply.specs.Draws.{sim_verdict}
-use Rattle.lt_reply.specs.Texts.{watched_text, audited_text, drawing_text}
-
--- the text of what a command gives, or its refusal
-abbrev pub answer_verdict : {T E : Type 0} → (E → Refusal) → (T → List ℕ) → Verdict T E → Verdict (List ℕ) Refusal
-answer_verdict raise shown V = Raised raise (Shown shown V)
-
-abbrev pub text_verdict : {T : Type 0} → (T → List ℕ) → Verdict T CommandFault → Verdict (List ℕ) Refusal
-text_verdict shown V = answer_verdict (λ fault. Command fault) shown V
+use Rattle.lt_inspect.specs.Errands.{inspect_errands}
+use Rattle.lt_watch.specs.Errands.{watch_errands}
+use Rattle.lt_text_answers.specs.declared.refusal.Refusal.{Refusal}
+use Rattle.lt_text_answers.specs.declared.refusal.Refusal.TheVariants.{Words}
+use Rattle.lt_text_answers.specs.Replies.{checked_text, printed_text, summarized_text, watch_refusal}
+use Rattle.lt_text_answers.specs.Texts.{watched_text, audited_text, drawing_text}
+use Rattle.lt_cli.specs.Answers.{answer_verdict, text_verdict}
+use Rattle.lt_cli.specs.Commands.Check.{check_verdict}
+use Rattle.lt_cli.specs.Commands.Meaning.{meaning_verdict}
+use Rattle.lt_cli.specs.Commands.Run.{run_verdict}
+use Rattle.lt_cli.specs.Commands.Plan.{plan_verdict}
+use Rattle.lt_cli.specs.Commands.Sim.{sim_verdict}
+use Rattle.lt_cli.specs.Commands.Big.{big_verdict}
+use Rattle.lt_cli.specs.Commands.Watch.{watch_verdict}
+use Rattle.lt_cli.specs.Commands.Audit.{audit_verdict}
+use Rattle.lt_cli.specs.Commands.Trace.{trace_verdict}
 
 -- a command on these files; that of a run says what the fabric holds when it has ended, and how far the schedule was read
 abbrev pub command_verdict : (named : List ℕ → Option (List ℕ)) → (new : World) → Said → Verdict (List ℕ) Refusal
 command_verdict named new (check program config) = text_verdict checked_text (check_verdict named program config)
 command_verdict named new (meaning program inputs) = text_verdict printed_text (meaning_verdict named program inputs)
 command_verdict named new (run program inputs schedule config) = text_verdict printed_text (run_verdict named program inputs schedule config new)
-command_verdict named new (plan config horizon) = text_verdict (λ setup. plan_of setup horizon) (config_verdict (named config))
+command_verdict named new (plan config horizon) = text_verdict (λ setup. plan_of setup horizon) (plan_verdict named config)
 command_verdict named new (sim program inputs config seed horizon) = text_verdict drawing_text (sim_verdict named program inputs config seed horizon)
 command_verdict named new (big instants) = text_verdict (summarized_text instants) (big_verdict instants new.fabric)
 command_verdict named new (said.watch program inputs schedule observer config) = answer_verdict watch_refusal watched_text (watch_verdict named program inputs schedule observer config new)

@@ -1,10 +1,13 @@
+pub mod Headline
 pub mod Objects
 pub mod Ran
 pub mod Written
+pub mod Drawing
+pub mod Answers
+pub mod Obeys
 pub mod Commands
 pub mod Asked
 pub mod Taken
-pub mod RunShown
 pub mod WatchShown
 pub mod AuditShown
 pub mod Clauses

@@ -11,6 +11,17 @@ pub record Objects : Type 0 where
   pub out : SinkState
   pub err : SinkState
 
+abbrev pub objects : (files : FilesState) (fabric : FabricState) (out err : SinkState) → Objects
+objects files fabric out err = record { files = files; fabric = fabric; out = out; err = err }
+
+-- what these objects hold, as these functions read it off them
+abbrev pub objects_of : {F W O E : Type 0} (files : F → FilesState) (fabric : W → FabricState) (out : O → SinkState) (err : E → SinkState) → F × W × O × E → Objects
+objects_of files fabric out err (f, w, o, e) = objects (files f) (fabric w) (out o) (err e)
+
+-- this is so of what such objects hold before and after a call, which ends so
+abbrev pub Between : {F W O E S : Type 0} (files : F → FilesState) (fabric : W → FabricState) (out : O → SinkState) (err : E → SinkState) → (Objects → Objects → S → Type 0) → (old new : F × W × O × E) → S → Type 0
+Between files fabric out err does old new ends = does (objects_of files fabric out err old) (objects_of files fabric out err new) ends
+
 -- those from which a command reads
 abbrev pub world_of : Objects → World
 world_of o = record { files = o.files; fabric = o.fabric }
@@ -23,7 +34,7 @@ pub record IsQuiet (old new : Objects) : Type 0 where
   pub err : new.err.faults ≡ old.err.faults
 
 -- the files tell their bytes, and the sinks what they took
-pub record Tells (o : Objects) : Type 0 where
+pub record ObjectsTell (o : Objects) : Type 0 where
   pub files : IsTrue o.files.told
   pub out : IsTrue o.out.told
   pub err : IsTrue o.err.told

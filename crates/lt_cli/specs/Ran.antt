@@ -5,12 +5,12 @@ use Rattle.lt_io.specs.Transfer.{IsFront}
 use Rattle.lt_answer.specs.World.{IsCalm, Blames}
 use Rattle.lt_answer.specs.Answered.{Verdict}
 use Rattle.lt_answer.specs.Answered.{RefusesReading}
-use Rattle.lt_reply.specs.declared.refusal.Refusal.{Refusal}
-use Rattle.lt_reply.specs.declared.status.Status.{Status}
-use Rattle.lt_reply.specs.declared.status.Status.TheVariants.{Write, Memory}
-use Rattle.lt_reply.specs.Texts.{status_of, out_text, err_text}
+use Rattle.lt_text_answers.specs.declared.refusal.Refusal.{Refusal}
+use Rattle.lt_text_answers.specs.declared.status.Status.{Status}
+use Rattle.lt_text_answers.specs.declared.status.Status.TheVariants.{Write, Memory}
+use Rattle.lt_text_answers.specs.Texts.{status_of, out_text, err_text}
 use Rattle.lt_cli.specs.Objects.{Objects, world_of, KeepsObjects}
-use Rattle.lt_reply.specs.Blamed.{blame_of}
+use Rattle.lt_text_answers.specs.Blamed.{blame_of}
 
 -- the sink took this text, and did not fail
 pub record Took (text : List ℕ) (old new : SinkState) : Type 0 where
@@ -54,12 +54,12 @@ pub record FoundNoMemory (old new : Objects) (ends : Status) : Type 0 where
   pub out : Took [] old.out new.out
   pub err : Took [] old.err new.err
 
-pub data Ends (V : Verdict (List ℕ) Refusal) (old new : Objects) (ends : Status) : Type 0 where
-  printed : Printed V old new ends → Ends V old new ends
-  unprinted : FoundNoMemory old new ends → Ends V old new ends
+pub data CommandEnds (V : Verdict (List ℕ) Refusal) (old new : Objects) (ends : Status) : Type 0 where
+  printed : Printed V old new ends → CommandEnds V old new ends
+  unprinted : FoundNoMemory old new ends → CommandEnds V old new ends
 
 pub record Ran (V : Verdict (List ℕ) Refusal) (old new : Objects) (ends : Status) : Type 0 where
   pub keeps : KeepsObjects old new
-  pub outcome : Ends V old new ends
+  pub outcome : CommandEnds V old new ends
   -- over sound files a call on them fails where it is right to say so
   pub sound : IsTrue old.files.told → IsTrue old.files.sound → old.files.faults < new.files.faults → RefusesReading blame_of V

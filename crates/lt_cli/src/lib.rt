@@ -1,12 +1,11 @@
 //! The top call: what the words ask for, done, and printed.
 #![tactic(auto)]
 
-mod answer;
-mod drawing;
+mod commands;
 mod printer;
 mod process;
 mod top;
 
-pub use lt_reply::{Refusal, Status};
-pub use process::program;
+pub use lt_text_answers::{Refusal, Status};
+pub use process::{Errors, Output, program};
 pub use top::ltta;

@@ -1,20 +1,20 @@
 // What is printed on a sink.
-ghost use Rattle.std.specs.Prelude.{◌≡◌, ◌<◌, ◌≤◌, ◌-◌, ◌^◌, ◌++◌, ◌∷◌, [], IfOk, Err, length};
+ghost use Rattle.std.specs.Prelude.{◌≡◌, ◌≤◌, ◌++◌, ◌∷◌, [], IfOk, Err};
+ghost use Rattle.lt_io.specs.Counts.{MayFail};
 ghost use Rattle.lt_arch.specs.declared.limits.TheConstants.{GREATEST_TIME};
 ghost use Rattle.lt_base.specs.declared.memory.Or.TheVariants.{Memory as Wanting};
 ghost use Rattle.lt_io.specs.declared.fault.SinkErr.TheVariants.{Memory as SinkWanting};
 ghost use Rattle.lt_io.specs.SinkState.{KeepsSink};
-ghost use Rattle.lt_sim.specs.Drawn.{drawn};
-ghost use Rattle.lt_sim.specs.Recorded.{Records};
-ghost use Rattle.lt_reply.specs.Texts.{line_of};
-ghost use Rattle.lt_cli.specs.Written.{Prints};
+ghost use Rattle.lt_text_answers.specs.Texts.{refusal_line};
+ghost use Rattle.lt_cli.specs.Drawing.{RecordsDrawn};
+ghost use Rattle.lt_cli.specs.Written.{PrintsText};
 
 use lt_base::{List, Memory, Or};
 use lt_io::{Sink, SinkErr, write_all};
 use lt_load::Loaded;
-use lt_replay::laws::networks_are_sound;
-use lt_reply::Refusal;
+use lt_net_replay::laws::networks_are_sound;
 use lt_sim::{SimFault, record};
+use lt_text_answers::Refusal;
 use std::alloc::Global;
 
 /// A sink that a call prints on. No state shows that memory was wanting, so `short` says that one of these functions answered so:
@@ -24,14 +24,14 @@ pub(crate) trait Printer: Sink {
 
     /// Prints a text.
     fn print_text(&mut self, text: &List<u8>) -> Result<(), SinkErr>
-        requires { (Self.state self.old).faults < 2 ^ 64 - 1 }
-        ensures prints { Prints text.now (Self.state self.old) (Self.state self.new) result }
+        requires { MayFail (Self.state self.old).faults }
+        ensures prints { PrintsText text.now (Self.state self.old) (Self.state self.new) result }
         ensures short { result ≡ Err SinkWanting → short };
 
     /// Prints a refusal's line.
     fn print_line(&mut self, alloc: Global, refusal: &Refusal) -> Result<(), SinkErr>
-        requires { (Self.state self.old).faults < 2 ^ 64 - 1 }
-        ensures prints { Prints (line_of refusal.now ++ 10 ∷ []) (Self.state self.old) (Self.state self.new) result }
+        requires { MayFail (Self.state self.old).faults }
+        ensures prints { PrintsText (refusal_line refusal.now ++ 10 ∷ []) (Self.state self.old) (Self.state self.new) result }
         ensures short { result ≡ Err SinkWanting → short };
 
     /// Prints the schedule of what was loaded, as it is drawn. It is not held in memory.
@@ -42,9 +42,9 @@ pub(crate) trait Printer: Sink {
         seed: u64,
         horizon: u64,
     ) -> Result<u64, Or<SimFault>>
-        requires count { (Self.state self.old).faults < 2 ^ 64 - 1 }
+        requires count { MayFail (Self.state self.old).faults }
         requires horizon { horizon ≤ GREATEST_TIME }
-        ensures records { Records loaded.now.shape (drawn loaded.now.shape loaded.now.timing (length loaded.now.inputs.rows) seed horizon) (Self.state self.old) (Self.state self.new) result }
+        ensures records { RecordsDrawn loaded.now seed horizon (Self.state self.old) (Self.state self.new) result }
         ensures keeps { KeepsSink (Self.state self.old) (Self.state self.new) }
         ensures short { result ≡ Err Wanting → short };
 }
@@ -68,7 +68,7 @@ impl<S: Sink> Printer for S {
         seed: u64,
         horizon: u64,
     ) -> Result<u64, Or<SimFault>> {
-        loaded.kept();
+        loaded.invariant_holds();
         networks_are_sound();
         record(
             alloc,
@@ -84,7 +84,7 @@ impl<S: Sink> Printer for S {
 
 // The refusal's line with its line feed.
 fn whole_line(alloc: Global, refusal: &Refusal) -> Result<List<u8>, Memory>
-    ensures { IfOk result (λ line. line ≡ line_of refusal.now ++ 10 ∷ []) }
+    ensures { IfOk result (λ line. line ≡ refusal_line refusal.now ++ 10 ∷ []) }
 {
     let mut line = refusal.line(alloc)?;
     line.extend(b"\n")?;

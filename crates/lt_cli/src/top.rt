@@ -1,23 +1,27 @@
 // The top call.
-ghost use Rattle.std.specs.Prelude.{◌≡◌, ◌<◌, ◌-◌, ◌^◌, ◌++◌, ◌∷◌, [], map, string_bytes};
-ghost use Rattle.lt_cli.specs.Clauses.{Performs};
-ghost use Rattle.lt_cli.specs.Objects.{Objects};
+ghost use Rattle.std.specs.Prelude.{◌≡◌, ◌++◌, ◌∷◌, [], map, string_bytes};
+ghost use Rattle.lt_io.specs.Counts.{MayFail};
+ghost use Rattle.lt_cli.specs.Clauses.{PerformsOn};
+ghost use Rattle.lt_cli.specs.Objects.{Between};
 ghost use Rattle.lt_words.specs.Reading.{said_of};
 ghost use Rattle.lt_words.specs.Ranges.{HasRanges};
-ghost use Rattle.lt_cli.specs.Asked.{Asked, Finishes, IsShort, ObeysCommand};
-ghost use Rattle.lt_reply.specs.Texts.{refusal_status, line_of};
+ghost use Rattle.lt_cli.specs.Asked.{Asked, Finishes, IsCutShort, ObeysCommand};
+ghost use Rattle.lt_text_answers.specs.Texts.{refusal_status, refusal_line};
 ghost use Rattle.lt_cli.specs.Written.{Written, written_status};
 
-use crate::answer::{
-    audit_answer, big_answer, check_answer, meaning_answer, plan_answer, run_answer, trace_answer,
-    watch_answer,
-};
-use crate::drawing::draw;
+use crate::commands::audit::audit;
+use crate::commands::big::big;
+use crate::commands::check::check;
+use crate::commands::meaning::meaning;
+use crate::commands::plan::plan;
+use crate::commands::run::run;
+use crate::commands::sim::sim;
+use crate::commands::trace::trace;
+use crate::commands::watch::watch;
 use crate::printer::Printer;
 use lt_base::{List, Or};
 use lt_io::{Fabric, Files, Sink, SinkErr};
-use lt_load::load_plain;
-use lt_reply::{Refusal, Status};
+use lt_text_answers::{Refusal, Status};
 use lt_words::{Command, read_words};
 use std::alloc::Global;
 
@@ -32,14 +36,12 @@ pub fn ltta<F: Files, W: Fabric, O: Sink, E: Sink>(
     out: &mut O,
     err: &mut E,
 ) -> Status
-    requires files { (F.state files.old).faults < 2 ^ 64 - 1 }
-    requires fabric { (W.state fabric.old).faults < 2 ^ 64 - 1 }
+    requires files { MayFail (F.state files.old).faults }
+    requires fabric { MayFail (W.state fabric.old).faults }
     requires empty { (W.state fabric.old).kinds ≡ [] }
-    requires out { (O.state out.old).faults < 2 ^ 64 - 1 }
-    requires err { (E.state err.old).faults < 2 ^ 64 - 1 }
-    ensures { let old : Objects = record { files = F.state files.old; fabric = W.state fabric.old; out = O.state out.old; err = E.state err.old } in
-        let new : Objects = record { files = F.state files.new; fabric = W.state fabric.new; out = O.state out.new; err = E.state err.new } in
-        Performs (map string_bytes words.now) old new result }
+    requires out { MayFail (O.state out.old).faults }
+    requires err { MayFail (E.state err.old).faults }
+    ensures { PerformsOn F.state W.state O.state E.state words.now (files.old, fabric.old, out.old, err.old) (files.new, fabric.new, out.new, err.new) result }
 {
     perform(alloc, words, files, fabric, out, err)
 }
@@ -52,14 +54,12 @@ fn perform<F: Files, W: Fabric, O: Sink, E: Sink>(
     out: &mut O,
     err: &mut E,
 ) -> Status
-    requires files { (F.state files.old).faults < 2 ^ 64 - 1 }
-    requires fabric { (W.state fabric.old).faults < 2 ^ 64 - 1 }
+    requires files { MayFail (F.state files.old).faults }
+    requires fabric { MayFail (W.state fabric.old).faults }
     requires empty { (W.state fabric.old).kinds ≡ [] }
-    requires out { (O.state out.old).faults < 2 ^ 64 - 1 }
-    requires err { (E.state err.old).faults < 2 ^ 64 - 1 }
-    ensures { let old : Objects = record { files = F.state files.old; fabric = W.state fabric.old; out = O.state out.old; err = E.state err.old } in
-        let new : Objects = record { files = F.state files.new; fabric = W.state fabric.new; out = O.state out.new; err = E.state err.new } in
-        Asked (map string_bytes words.now) old new result }
+    requires out { MayFail (O.state out.old).faults }
+    requires err { MayFail (E.state err.old).faults }
+    ensures { Between F.state W.state O.state E.state (Asked (map string_bytes words.now)) (files.old, fabric.old, out.old, err.old) (files.new, fabric.new, out.new, err.new) result }
 {
     match read_words(alloc, words) {
         Ok(Some(command)) => obey(alloc, command, files, fabric, out, err),
@@ -77,23 +77,21 @@ fn obey<F: Files, W: Fabric, O: Sink, E: Sink>(
     out: &mut O,
     err: &mut E,
 ) -> Status
-    requires files { (F.state files.old).faults < 2 ^ 64 - 1 }
-    requires fabric { (W.state fabric.old).faults < 2 ^ 64 - 1 }
+    requires files { MayFail (F.state files.old).faults }
+    requires fabric { MayFail (W.state fabric.old).faults }
     requires empty { (W.state fabric.old).kinds ≡ [] }
-    requires out { (O.state out.old).faults < 2 ^ 64 - 1 }
-    requires err { (E.state err.old).faults < 2 ^ 64 - 1 }
+    requires out { MayFail (O.state out.old).faults }
+    requires err { MayFail (E.state err.old).faults }
     requires ranges { HasRanges command }
-    ensures { let old : Objects = record { files = F.state files.old; fabric = W.state fabric.old; out = O.state out.old; err = E.state err.old } in
-        let new : Objects = record { files = F.state files.new; fabric = W.state fabric.new; out = O.state out.new; err = E.state err.new } in
-        ObeysCommand (said_of command.entry) old new result }
+    ensures { Between F.state W.state O.state E.state (ObeysCommand (said_of command.entry)) (files.old, fabric.old, out.old, err.old) (files.new, fabric.new, out.new, err.new) result }
 {
     match command {
         Command::Check { program, config } => {
-            let answer = check_answer(alloc, files, program, config);
+            let answer = check(alloc, files, program, config);
             finish(alloc, out, err, answer)
         }
         Command::Meaning { program, inputs } => {
-            let answer = meaning_answer(alloc, files, program, inputs);
+            let answer = meaning(alloc, files, program, inputs);
             finish(alloc, out, err, answer)
         }
         Command::Run {
@@ -102,11 +100,11 @@ fn obey<F: Files, W: Fabric, O: Sink, E: Sink>(
             schedule,
             config,
         } => {
-            let answer = run_answer(alloc, files, fabric, program, inputs, schedule, config);
+            let answer = run(alloc, files, fabric, program, inputs, schedule, config);
             finish(alloc, out, err, answer)
         }
         Command::Plan { config, horizon } => {
-            let answer = plan_answer(alloc, files, config, horizon);
+            let answer = plan(alloc, files, config, horizon);
             finish(alloc, out, err, answer)
         }
         Command::Sim {
@@ -115,12 +113,11 @@ fn obey<F: Files, W: Fabric, O: Sink, E: Sink>(
             config,
             seed,
             horizon,
-        } => {
-            let loaded = load_plain(alloc, files, program, inputs, config);
-            draw(alloc, out, err, loaded, seed, horizon)
-        }
+        } => sim(
+            alloc, files, out, err, program, inputs, config, seed, horizon,
+        ),
         Command::Big { instants } => {
-            let answer = big_answer(alloc, fabric, instants);
+            let answer = big(alloc, fabric, instants);
             finish(alloc, out, err, answer)
         }
         Command::Watch {
@@ -130,7 +127,7 @@ fn obey<F: Files, W: Fabric, O: Sink, E: Sink>(
             observer,
             config,
         } => {
-            let answer = watch_answer(
+            let answer = watch(
                 alloc, files, fabric, program, inputs, schedule, observer, config,
             );
             finish(alloc, out, err, answer)
@@ -141,7 +138,7 @@ fn obey<F: Files, W: Fabric, O: Sink, E: Sink>(
             schedule,
             config,
         } => {
-            let answer = audit_answer(alloc, files, program, inputs, schedule, config);
+            let answer = audit(alloc, files, program, inputs, schedule, config);
             finish(alloc, out, err, answer)
         }
         Command::Trace {
@@ -153,7 +150,7 @@ fn obey<F: Files, W: Fabric, O: Sink, E: Sink>(
             from,
             to,
         } => {
-            let answer = trace_answer(
+            let answer = trace(
                 alloc, files, program, inputs, schedule, config, node, from, to,
             );
             finish(alloc, out, err, answer)
@@ -168,15 +165,15 @@ fn finish<O: Printer, E: Printer>(
     err: &mut E,
     answer: Result<List<u8>, Or<Refusal>>,
 ) -> Status
-    requires out { (O.state out.old).faults < 2 ^ 64 - 1 }
-    requires err { (E.state err.old).faults < 2 ^ 64 - 1 }
+    requires out { MayFail (O.state out.old).faults }
+    requires err { MayFail (E.state err.old).faults }
     ensures finishes { Finishes answer (O.state out.old) (O.state out.new) (E.state err.old) (E.state err.new) result }
-    ensures short { result ≡ Status.Memory → IsShort answer O.short E.short }
+    ensures short { result ≡ Status.Memory → IsCutShort answer O.short E.short }
 {
     match answer {
         Ok(text) => {
             let printed = out.print_text(&text);
-            ended(Status::Ok, printed)
+            written_status(Status::Ok, printed)
         }
         Err(Or::Fault(refusal)) => refuse(alloc, err, refusal),
         Err(Or::Memory) => Status::Memory,
@@ -184,7 +181,7 @@ fn finish<O: Printer, E: Printer>(
 }
 
 // How a call ends that was to end so, by how its text was printed.
-fn ended(done: Status, printed: Result<(), SinkErr>) -> Status
+fn written_status(done: Status, printed: Result<(), SinkErr>) -> Status
     ensures { result ≡ written_status done printed }
 {
     match printed {
@@ -196,12 +193,12 @@ fn ended(done: Status, printed: Result<(), SinkErr>) -> Status
 
 /// Prints a refusal's line on `err`.
 pub(crate) fn refuse<E: Printer>(alloc: Global, err: &mut E, refusal: Refusal) -> Status
-    requires { (E.state err.old).faults < 2 ^ 64 - 1 }
-    ensures written { Written (refusal_status refusal) (line_of refusal ++ 10 ∷ []) (E.state err.old) (E.state err.new) result }
+    requires { MayFail (E.state err.old).faults }
+    ensures written { Written (refusal_status refusal) (refusal_line refusal ++ 10 ∷ []) (E.state err.old) (E.state err.new) result }
     ensures short { result ≡ Status.Memory → E.short }
 {
     let printed = err.print_line(alloc, &refusal);
     let status = refusal.status();
     drop(refusal);
-    ended(status, printed)
+    written_status(status, printed)
 }

@@ -7,7 +7,7 @@ use Rattle.std.specs.String.{string_cmp}
 use Rattle.std.specs.Cmp.Lexicographic.{slice_cmp}
 use Rattle.toml.specs.View.{members_view}
 use Rattle.toml.specs.declared.value.Value.{Value}
-use Rattle.lt_place.specs.Names.{names_of, byte_order}
+use Rattle.lt_arch.specs.NodeNames.{names_of, byte_order}
 use Rattle.lt_config.specs.Setup.{nodes_in}
 
 all-below : (k : List ℕ) (es : List (String Global × Value)) → AllByRecursion (λ s. slice_cmp nat_cmp k (string_bytes s) ≡ Less) (keys_of es)

@@ -7,14 +7,14 @@ use Rattle.std.specs.List.{list_all, AllPass}
 use Rattle.std.specs.Option.{option_map_or}
 use Rattle.lt_arch.specs.Names.{is_identifier}
 use Rattle.toml.specs.Data.{Data, Members, no_members, member, as_table}
-use Rattle.lt_place.specs.declared.named.NamedNode.{NamedNode}
-use Rattle.lt_place.specs.Names.{names_of}
+use Rattle.lt_arch.specs.declared.named.NamedNode.{NamedNode}
+use Rattle.lt_arch.specs.NodeNames.{names_of}
 use Rattle.lt_config.specs.declared.keys.Key.TheVariants.{Nodes}
 use Rattle.lt_config.specs.declared.limits.TheConstants.{MOST_NODES}
 use Rattle.lt_config.specs.Keys.{value_at, table_at}
 use Rattle.lt_config.specs.Values.{count_members, is_count_of_nodes}
 use Rattle.lt_config.specs.Faults.{first_not}
-use Rattle.lt_config.specs.Setup.{nodes_in, nodes_of}
+use Rattle.lt_config.specs.Setup.{nodes_in, setup_nodes}
 use Rattle.lt_config.proofs.NoFault.{NoFault, there, inside}
 
 le-of : (m n : ℕ) → nat_le m n ≡ true → m ≤ n
@@ -36,10 +36,10 @@ all_pass p (member k d ms) e = by (p k) e (all_pass p ms)
 pub record GoodNodes (t : Members) : Type 0 where
   pub entries : Members
   pub at : table_at t Nodes ≡ Some entries
-  pub nodes : nodes_of t ≡ nodes_in entries
-  pub some : 1 ≤ length (nodes_of t)
-  pub few : length (nodes_of t) ≤ MOST_NODES
-  pub identifiers : AllPass is_identifier (names_of (nodes_of t))
+  pub nodes : setup_nodes t ≡ nodes_in entries
+  pub some : 1 ≤ length (setup_nodes t)
+  pub few : length (setup_nodes t) ≤ MOST_NODES
+  pub identifiers : AllPass is_identifier (names_of (setup_nodes t))
 
 pub good_nodes : (t : Members) → NoFault t → GoodNodes t
 good_nodes t good =
@@ -50,10 +50,10 @@ good_nodes t good =
     by d at None is e = absurd (false≢true e)
     by d at (Some ms) is e =
         let table : table_at t Nodes ≡ Some ms = ap (option_and_then as_table) at ∙ is in
-        let same : nodes_of t ≡ nodes_in ms = ap (λ o. option_map_or nodes_in o []) table in
+        let same : setup_nodes t ≡ nodes_in ms = ap (λ o. option_map_or nodes_in o []) table in
         let (low, high) = and_parts (nat_le 1 (count_members ms)) (nat_le (count_members ms) MOST_NODES) e in
         let names : first_not is_identifier ms ≡ None = sym (ap (option_and_then (first_not is_identifier)) table) ∙ good.names in
-        let count : length (nodes_of t) ≡ count_members ms = ap length same ∙ counted ms in
+        let count : length (setup_nodes t) ≡ count_members ms = ap length same ∙ counted ms in
         record {
           entries = ms;
           at = table;
@@ -65,10 +65,10 @@ good_nodes t good =
 
 -- of the nodes in the table at the key
 pub named_nodes : (t : Members) → NoFault t → (ms : Members) → Some ms ≡ table_at t Nodes → (nodes : List NamedNode) → nodes ≡ nodes_in ms
-    → (nodes ≡ nodes_of t) × (1 ≤ length nodes) × AllPass is_identifier (names_of nodes)
+    → (nodes ≡ setup_nodes t) × (1 ≤ length nodes) × AllPass is_identifier (names_of nodes)
 named_nodes t good ms at nodes is =
     let g = good_nodes t good in
-    let same : nodes ≡ nodes_of t = is ∙ ap (λ o. option_map_or nodes_in o []) at in
+    let same : nodes ≡ setup_nodes t = is ∙ ap (λ o. option_map_or nodes_in o []) at in
     (same, rw same g.some, rw same g.identifiers)
 
 pub no_nodes : (t : Members) → NoFault t → None ≡ table_at t Nodes → ⊥

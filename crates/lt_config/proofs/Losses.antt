@@ -8,8 +8,8 @@ use Rattle.toml.specs.Data.{Data, Members, as_integer, as_str}
 use Rattle.lt_arch.specs.declared.timing.Protocol.TheVariants.{BackPressure, TimeBased}
 use Rattle.lt_config.specs.declared.keys.Key.TheVariants.{Protocol, Losses}
 use Rattle.lt_config.specs.Keys.{value_at}
-use Rattle.lt_config.specs.Limits.{most_losses}
-use Rattle.lt_config.specs.Values.{is_between, is_losses}
+use Rattle.lt_arch.specs.Paced.{most_losses}
+use Rattle.lt_config.specs.Values.{is_int_between, is_losses}
 use Rattle.lt_config.specs.Faults.{says_lossy, says_time, is_lossy}
 use Rattle.lt_config.specs.Setup.{natural, losses_of, protocol_of}
 use Rattle.lt_config.proofs.NoFault.{NoFault, inside}
@@ -31,7 +31,7 @@ lossy_acknowledges t lossy = ap (λ b. if b then TimeBased else BackPressure) (u
 le-of : (m n : ℕ) → nat_le m n ≡ true → m ≤ n
 le-of m n h = grind arith
 
-within : (o : Option ℤ) → option_map_or (is_between 0 most_losses) o false ≡ true → option_map_or natural o 0 ≤ most_losses
+within : (o : Option ℤ) → option_map_or (is_int_between 0 most_losses) o false ≡ true → option_map_or natural o 0 ≤ most_losses
 within None inside = omega arith
 within (Some (pos n)) inside = le-of n most_losses (and_parts (nat_le 0 n) (nat_le n most_losses) inside).1
 within (Some (negsuc n)) inside = omega arith

@@ -9,16 +9,16 @@ use Rattle.lt_arch.specs.declared.timing.Timing.{Timing}
 use Rattle.lt_arch.specs.declared.timing.Protocol.{Protocol}
 use Rattle.lt_arch.specs.Names.{is_identifier}
 use Rattle.lt_arch.specs.Pairs.{ends_of, ordered_pairs, HasNoneAbove}
-use Rattle.lt_place.specs.Names.{names_of, byte_order}
-use Rattle.lt_place.specs.Placement.{node_names}
-use Rattle.lt_place.specs.declared.named.NamedNode.{NamedNode}
-use Rattle.lt_place.specs.declared.nodes.NamedNodes.{NamedNodes}
-use Rattle.lt_place.specs.declared.placement.Placement.{Placement}
-use Rattle.lt_place.specs.declared.placement.Placement.TheVariants.{All as Everything, Named}
+use Rattle.lt_arch.specs.NodeNames.{names_of, byte_order}
+use Rattle.lt_arch.specs.Placement.{node_names}
+use Rattle.lt_arch.specs.declared.named.NamedNode.{NamedNode}
+use Rattle.lt_arch.specs.declared.nodes.NamedNodes.{NamedNodes}
+use Rattle.lt_arch.specs.declared.placement.Placement.{Placement}
+use Rattle.lt_arch.specs.declared.placement.Placement.TheVariants.{All as Everything, Named}
 use Rattle.lt_config.specs.declared.config.Config.{Config}
-use Rattle.lt_config.specs.declared.pace.Pace.{Pace}
+use Rattle.lt_arch.specs.declared.pace.Pace.{Pace}
 use Rattle.lt_config.specs.declared.limits.TheConstants.{MOST_NODES}
-use Rattle.lt_config.specs.Paced.{FitsPace}
+use Rattle.lt_arch.specs.Paced.{FitsPace}
 use Rattle.lt_config.specs.Setup.{NodeNumbers, PairNumbers, Setup}
 use Rattle.lt_config.specs.Reading.{numbers_of, delays_of, placed_of, setup_in}
 use denote.Struct.Props.{props}

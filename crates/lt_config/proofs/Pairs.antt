@@ -6,8 +6,8 @@ use Rattle.toml.specs.Data.{Members}
 use Rattle.lt_arch.specs.declared.times.NodeTime.{NodeTime}
 use Rattle.lt_arch.specs.declared.times.PairTime.{PairTime}
 use Rattle.lt_arch.specs.Pairs.{pairs_from, pairs_below, ends_of, HasNoneAbove}
-use Rattle.lt_place.specs.declared.named.NamedNode.{NamedNode}
-use Rattle.lt_place.specs.Names.{names_of}
+use Rattle.lt_arch.specs.declared.named.NamedNode.{NamedNode}
+use Rattle.lt_arch.specs.NodeNames.{names_of}
 use Rattle.lt_config.specs.Setup.{NodeNumbers, PairNumbers, pair_name, delay_of, pair_numbers, most_delay}
 use Rattle.lt_config.specs.Reading.{numbers_of, delays_of}
 use Rattle.lt_config.proofs.Ranges.{delay_at_most}

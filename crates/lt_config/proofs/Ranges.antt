@@ -9,9 +9,9 @@ use Rattle.toml.specs.Data.{Data, Members, no_members, member, get_member, as_ta
 use Rattle.lt_arch.specs.declared.limits.TheConstants.{GREATEST_BOUND, GREATEST_COUNTDOWN}
 use Rattle.lt_config.specs.declared.keys.Key.TheVariants.{Period, Delay, Send, Execute, Periods, Delays, Sends, Executes}
 use Rattle.lt_config.specs.Keys.{value_at, table_at}
-use Rattle.lt_config.specs.Values.{pair_of, all_values, is_table_of, is_between, is_at_most, is_bounds, is_period, is_delay, is_countdown}
+use Rattle.lt_config.specs.Values.{pair_of, all_values, is_table_of, is_int_between, is_at_most, is_bounds, is_period, is_delay_pair, is_countdown}
 use Rattle.lt_config.specs.Faults.{or_else}
-use Rattle.lt_config.specs.Setup.{natural, naturals, bounds_of, countdown_of, period_of, delay_of, send_of, execute_of, follows, paced_send, greatest_upper, most_delay}
+use Rattle.lt_config.specs.Setup.{natural, naturals, bounds_of, countdown_of, period_of, delay_of, setup_send, setup_execute, follows, paced_send, greatest_upper, most_delay}
 use Rattle.lt_config.proofs.NoFault.{NoFault, there, inside, not_false}
 
 -- ---- one value
@@ -28,20 +28,20 @@ IsGood n = (1 ≤ n) × (n ≤ GREATEST_COUNTDOWN)
 
 good_pair : (low : ℕ) (a b : ℤ) → is_bounds low (Some (a, b)) ≡ true → AreGood low (naturals (a, b))
 good_pair low (pos m) (pos n) h =
-    let (x, r) = and_parts (is_between low GREATEST_BOUND (pos m)) (is_between low GREATEST_BOUND (pos n) && is_at_most (pos m) (pos n)) h in
-    let (y, z) = and_parts (is_between low GREATEST_BOUND (pos n)) (is_at_most (pos m) (pos n)) r in (
+    let (x, r) = and_parts (is_int_between low GREATEST_BOUND (pos m)) (is_int_between low GREATEST_BOUND (pos n) && is_at_most (pos m) (pos n)) h in
+    let (y, z) = and_parts (is_int_between low GREATEST_BOUND (pos n)) (is_at_most (pos m) (pos n)) r in (
       le-of low m (and_parts (nat_le low m) (nat_le m GREATEST_BOUND) x).0,
       le-of m n z,
       le-of n GREATEST_BOUND (and_parts (nat_le low n) (nat_le n GREATEST_BOUND) y).1,
     )
-good_pair low (pos m) (negsuc n) h = absurd (false≢true (and_parts (is_between low GREATEST_BOUND (pos m)) false h).1)
+good_pair low (pos m) (negsuc n) h = absurd (false≢true (and_parts (is_int_between low GREATEST_BOUND (pos m)) false h).1)
 good_pair low (negsuc m) b h = absurd (false≢true h)
 
 good_bounds : (low : ℕ) (o : Option (ℤ × ℤ)) → is_bounds low o ≡ true → AreGood low (option_map_or naturals o (0, 0))
 good_bounds low None e = absurd (false≢true e)
 good_bounds low (Some p) e = good_pair low p.0 p.1 e
 
-good_count : (o : Option ℤ) → option_map_or (is_between 1 GREATEST_COUNTDOWN) o false ≡ true → IsGood (option_map_or natural o 1)
+good_count : (o : Option ℤ) → option_map_or (is_int_between 1 GREATEST_COUNTDOWN) o false ≡ true → IsGood (option_map_or natural o 1)
 good_count None e = absurd (false≢true e)
 good_count (Some (pos n)) e = let (x, y) = and_parts (nat_le 1 n) (nat_le n GREATEST_COUNTDOWN) e in (le-of 1 n x, le-of n GREATEST_COUNTDOWN y)
 good_count (Some (negsuc n)) e = absurd (false≢true e)
@@ -93,20 +93,20 @@ module _ (t : Members) (good : NoFault t) (name : List ℕ) where
   delay_good =
       let (plain, at) = there (value_at t Delay) (good.missing Delay) in
       let (d, is) = own_there (option_and_then (get_member name) (table_at t Delays)) (value_at t Delay) plain at in
-      rw is (good_bounds 0 (pair_of d) (own_passes is_delay name d (value_at t Delays) (value_at t Delay) (good.outside Delays) (good.outside Delay) is))
+      rw is (good_bounds 0 (pair_of d) (own_passes is_delay_pair name d (value_at t Delays) (value_at t Delay) (good.outside Delays) (good.outside Delay) is))
 
-  pub send_good : IsGood (send_of t name)
+  pub send_good : IsGood (setup_send t name)
   send_good = own_counts name (value_at t Sends) (value_at t Send) _ (good.outside Sends) (good.outside Send) refl
 
   -- the greatest countdown is in range too
   pub paced_good : IsGood (paced_send t name)
   paced_good = by (follows t name)
     where
-      by : (b : Bool) → IsGood (if b then GREATEST_COUNTDOWN else send_of t name)
+      by : (b : Bool) → IsGood (if b then GREATEST_COUNTDOWN else setup_send t name)
       by true = (omega arith, omega arith)
       by false = send_good
 
-  pub execute_good : IsGood (execute_of t name)
+  pub execute_good : IsGood (setup_execute t name)
   execute_good = own_counts name (value_at t Executes) (value_at t Execute) _ (good.outside Executes) (good.outside Execute) refl
 
 -- ---- the greatest upper delay
@@ -132,24 +132,24 @@ own_at_most name (Some ms) plain = by (get_member name ms) refl
 pub delay_at_most : (t : Members) (name : List ℕ) → (delay_of t name).1 ≤ most_delay t
 delay_at_most t name = own_at_most name (table_at t Delays) (value_at t Delay)
 
-upper_good : (ms : Members) → all_values is_delay ms ≡ true → greatest_upper ms ≤ GREATEST_BOUND
+upper_good : (ms : Members) → all_values is_delay_pair ms ≡ true → greatest_upper ms ≤ GREATEST_BOUND
 upper_good no_members h = omega arith
 upper_good (member k d ms) h =
-    let (here, rest) = and_parts (is_delay d) (all_values is_delay ms) h in
+    let (here, rest) = and_parts (is_delay_pair d) (all_values is_delay_pair ms) h in
     let (low, order, high) = good_bounds 0 (pair_of d) here in
     omega (arith, high, upper_good ms rest)
 
-own_good : (o : Option Data) → option_map_or (λ x. not (is_table_of is_delay x)) o false ≡ false → option_map_or greatest_upper (option_and_then as_table o) 0 ≤ GREATEST_BOUND
+own_good : (o : Option Data) → option_map_or (λ x. not (is_table_of is_delay_pair x)) o false ≡ false → option_map_or greatest_upper (option_and_then as_table o) 0 ≤ GREATEST_BOUND
 own_good None e = omega arith
 own_good (Some v) e = by (as_table v) (not_false _ e)
   where
-    by : (t : Option Members) → option_map_or (all_values is_delay) t false ≡ true → option_map_or greatest_upper t 0 ≤ GREATEST_BOUND
+    by : (t : Option Members) → option_map_or (all_values is_delay_pair) t false ≡ true → option_map_or greatest_upper t 0 ≤ GREATEST_BOUND
     by None is = omega arith
     by (Some ms) is = upper_good ms is
 
 pub most_good : (t : Members) → NoFault t → most_delay t ≤ GREATEST_BOUND
 most_good t good =
     let (d, at) = there (value_at t Delay) (good.missing Delay) in
-    let (low, order, high) = good_bounds 0 (pair_of d) (inside is_delay (value_at t Delay) d at (good.outside Delay)) in
+    let (low, order, high) = good_bounds 0 (pair_of d) (inside is_delay_pair (value_at t Delay) d at (good.outside Delay)) in
     let plain : (bounds_of (value_at t Delay)).1 ≤ GREATEST_BOUND = rw at high in
     omega (arith, plain, own_good (value_at t Delays) (good.outside Delays))

@@ -5,9 +5,9 @@ use Rattle.lt_base.specs.declared.memory.Or.TheVariants.{Fault, Memory}
 use Rattle.lt_config.specs.declared.fault.ConfigFault.{ConfigFault}
 
 -- this fault, unless memory was wanting
-abbrev pub IsFault : ConfigFault → Or ConfigFault → Type 0
-IsFault f (Fault g) = g ≡ f
-IsFault f Memory = Unit {0}
+abbrev pub IsSetupFault : ConfigFault → Or ConfigFault → Type 0
+IsSetupFault f (Fault g) = g ≡ f
+IsSetupFault f Memory = Unit {0}
 
 -- no fault, or the first one
 abbrev pub Judged : Option ConfigFault → Result (Unit {0}) (Or ConfigFault) → Type 0

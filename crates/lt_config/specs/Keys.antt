@@ -35,5 +35,5 @@ abbrev pub table_at : Members → Key → Option Members
 table_at t key = option_and_then as_table (value_at t key)
 
 -- the value at a name in the table at a key
-abbrev pub entry_at : Members → Key → (name : List ℕ) → Option Data
-entry_at t key name = option_and_then (get_member name) (table_at t key)
+abbrev pub table_entry : Members → Key → (name : List ℕ) → Option Data
+table_entry t key name = option_and_then (get_member name) (table_at t key)

@@ -1,5 +1,4 @@
 pub mod Limits
-pub mod Paced
 pub mod Keys
 pub mod Values
 pub mod Wanted

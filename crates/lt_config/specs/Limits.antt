@@ -9,10 +9,6 @@ greatest_bound = 1000000000
 abbrev pub greatest_countdown : ℕ
 greatest_countdown = 4000000000000000000
 
--- the most losses in a row on a channel that may be allowed
-abbrev pub most_losses : ℕ
-most_losses = 1000
-
 -- the most nodes
 abbrev pub most_nodes : ℕ
 most_nodes = 32

@@ -8,10 +8,10 @@ use Rattle.lt_base.specs.declared.memory.Or.TheVariants.{Fault, Memory}
 use Rattle.lt_arch.specs.declared.times.NodeTime.{NodeTime}
 use Rattle.lt_arch.specs.declared.times.PairTime.{PairTime}
 use Rattle.lt_arch.specs.declared.timing.Protocol.TheVariants.{BackPressure}
-use Rattle.lt_place.specs.declared.named.NamedNode.{NamedNode}
-use Rattle.lt_place.specs.declared.placement.Placement.{Placement}
-use Rattle.lt_place.specs.declared.placement.Placement.TheVariants.{All, Named}
-use Rattle.lt_config.specs.declared.pace.Pace.TheVariants.{Plain}
+use Rattle.lt_arch.specs.declared.named.NamedNode.{NamedNode}
+use Rattle.lt_arch.specs.declared.placement.Placement.{Placement}
+use Rattle.lt_arch.specs.declared.placement.Placement.TheVariants.{All, Named}
+use Rattle.lt_arch.specs.declared.pace.Pace.TheVariants.{Plain}
 use Rattle.lt_config.specs.declared.fault.ConfigKind.TheVariants.{NotToml}
 use Rattle.lt_config.specs.declared.fault.ConfigFault.{ConfigFault}
 use Rattle.lt_config.specs.declared.config.Config.{Config}
@@ -21,8 +21,8 @@ use Rattle.lt_config.specs.Setup.{NodeNumbers, PairNumbers, Setup, setup_of}
 -- ---- the setup of some bytes
 
 -- the table of bytes that are UTF-8 and TOML
-abbrev pub table_of : List ℕ → Option Members
-table_of bytes = if is_utf8 bytes then parse_document bytes else None
+abbrev pub toml_table_of : List ℕ → Option Members
+toml_table_of bytes = if is_utf8 bytes then parse_document bytes else None
 
 abbrev pub not_toml : ConfigFault
 not_toml = record { kind = NotToml; key = [] }
@@ -32,12 +32,12 @@ setup_or t None = Ok (setup_of t)
 setup_or t (Some fault) = Err fault
 
 -- what a table reads as: the setup that it says, or its first fault
-abbrev pub judged : Option Members → Result Setup ConfigFault
-judged None = Err not_toml
-judged (Some t) = setup_or t (first_fault t)
+abbrev pub judged_table : Option Members → Result Setup ConfigFault
+judged_table None = Err not_toml
+judged_table (Some t) = setup_or t (first_fault t)
 
 abbrev pub config_of : List ℕ → Result Setup ConfigFault
-config_of bytes = judged (table_of bytes)
+config_of bytes = judged_table (toml_table_of bytes)
 
 -- a thousand ticks at most for a period and for a delay, on one node
 abbrev pub plain_setup : Setup
@@ -75,7 +75,7 @@ setup_in c = record {
 }
 
 -- a call answers what the bytes read as, or want of memory
-abbrev pub Reads : Result Setup ConfigFault → Result Config (Or ConfigFault) → Type 0
-Reads r (Ok config) = r ≡ Ok (setup_in config)
-Reads r (Err (Fault fault)) = r ≡ Err fault
-Reads r (Err Memory) = Unit {0}
+abbrev pub ReadsSetup : Result Setup ConfigFault → Result Config (Or ConfigFault) → Type 0
+ReadsSetup r (Ok config) = r ≡ Ok (setup_in config)
+ReadsSetup r (Err (Fault fault)) = r ≡ Err fault
+ReadsSetup r (Err Memory) = Unit {0}

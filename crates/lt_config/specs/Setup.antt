@@ -7,13 +7,13 @@ use Rattle.toml.specs.Data.{Data, Items, no_items, item, Members, no_members, me
 use Rattle.lt_arch.specs.declared.timing.Protocol.{Protocol}
 use Rattle.lt_arch.specs.declared.timing.Protocol.TheVariants.{BackPressure, TimeBased}
 use Rattle.lt_arch.specs.Pairs.{ordered_pairs}
-use Rattle.lt_place.specs.declared.named.NamedNode.{NamedNode}
-use Rattle.lt_config.specs.declared.pace.Pace.{Pace}
-use Rattle.lt_config.specs.declared.pace.Pace.TheVariants.{Plain, Lossy, Leader as Led}
+use Rattle.lt_arch.specs.declared.named.NamedNode.{NamedNode}
+use Rattle.lt_arch.specs.declared.pace.Pace.{Pace}
+use Rattle.lt_arch.specs.declared.pace.Pace.TheVariants.{Plain, Lossy, Leader as Led}
 use Rattle.lt_config.specs.declared.keys.Key.{Key}
 use Rattle.lt_config.specs.declared.keys.Key.TheVariants.{Period, Delay, Send, Execute, Losses, Leader, Nodes, Periods, Delays, Sends, Executes}
 use Rattle.lt_config.specs.Limits.{greatest_countdown}
-use Rattle.lt_config.specs.Keys.{tables, value_at, table_at, entry_at}
+use Rattle.lt_config.specs.Keys.{tables, value_at, table_at, table_entry}
 use Rattle.lt_config.specs.Values.{pair_of}
 use Rattle.lt_config.specs.Faults.{or_else, is_led, is_lossy, is_time_based}
 
@@ -67,7 +67,7 @@ losses_of t = option_map_or natural (option_and_then as_integer (value_at t Loss
 
 -- the value of a name in a table, or else the plain one
 abbrev pub own_or_plain : Members → (table plain : Key) → (name : List ℕ) → Option Data
-own_or_plain t table plain name = or_else (entry_at t table name) (value_at t plain)
+own_or_plain t table plain name = or_else (table_entry t table name) (value_at t plain)
 
 abbrev pub period_of : Members → (node : List ℕ) → ℕ × ℕ
 period_of t node = bounds_of (own_or_plain t Periods Period node)
@@ -75,11 +75,11 @@ period_of t node = bounds_of (own_or_plain t Periods Period node)
 abbrev pub delay_of : Members → (pair : List ℕ) → ℕ × ℕ
 delay_of t pair = bounds_of (own_or_plain t Delays Delay pair)
 
-abbrev pub send_of : Members → (node : List ℕ) → ℕ
-send_of t node = countdown_of (own_or_plain t Sends Send node)
+abbrev pub setup_send : Members → (node : List ℕ) → ℕ
+setup_send t node = countdown_of (own_or_plain t Sends Send node)
 
-abbrev pub execute_of : Members → (node : List ℕ) → ℕ
-execute_of t node = countdown_of (own_or_plain t Executes Execute node)
+abbrev pub setup_execute : Members → (node : List ℕ) → ℕ
+setup_execute t node = countdown_of (own_or_plain t Executes Execute node)
 
 -- the name at the key of the leader
 abbrev pub leader_name : Members → Option (List ℕ)
@@ -95,10 +95,10 @@ follows t node = is_led t && not (option_map_or (λ name. bytes_eq node name) (l
 
 -- a node that follows sends when it finds a message, and so long before its countdown ends
 abbrev pub paced_send : Members → (node : List ℕ) → ℕ
-paced_send t node = if follows t node then greatest_countdown else send_of t node
+paced_send t node = if follows t node then greatest_countdown else setup_send t node
 
 abbrev pub node_numbers : Members → (node : List ℕ) → NodeNumbers
-node_numbers t node = record { tmin = (period_of t node).0; tmax = (period_of t node).1; send = paced_send t node; execute = execute_of t node }
+node_numbers t node = record { tmin = (period_of t node).0; tmax = (period_of t node).1; send = paced_send t node; execute = setup_execute t node }
 
 -- `a>b`
 abbrev pub pair_name : (a b : List ℕ) → List ℕ
@@ -119,12 +119,12 @@ most_delay t = max (bounds_of (value_at t Delay)).1 (option_map_or greatest_uppe
 
 -- ---- nodes
 
-abbrev pub text_of : Data → List ℕ
-text_of d = unwrap_or (as_str d) []
+abbrev pub string_of : Data → List ℕ
+string_of d = unwrap_or (as_str d) []
 
 abbrev pub texts_of : Items → List (List ℕ)
 texts_of no_items = []
-texts_of (item d ds) = text_of d ∷ texts_of ds
+texts_of (item d ds) = string_of d ∷ texts_of ds
 
 abbrev pub vars_of : Data → List (List ℕ)
 vars_of d = option_map_or texts_of (as_array d) []
@@ -134,11 +134,11 @@ abbrev pub nodes_in : Members → List NamedNode
 nodes_in no_members = []
 nodes_in (member k d ms) = record { name = k; vars = vars_of d } ∷ nodes_in ms
 
-abbrev pub nodes_of : Members → List NamedNode
-nodes_of t = option_map_or nodes_in (table_at t Nodes) []
+abbrev pub setup_nodes : Members → List NamedNode
+setup_nodes t = option_map_or nodes_in (table_at t Nodes) []
 
-abbrev pub names_of : Members → List (List ℕ)
-names_of t = map (λ node. node.name) (nodes_of t)
+abbrev pub setup_names : Members → List (List ℕ)
+setup_names t = map (λ node. node.name) (setup_nodes t)
 
 -- ---- the setup
 
@@ -146,23 +146,23 @@ abbrev pub protocol_of : Members → Protocol
 protocol_of t = if is_time_based t then TimeBased else BackPressure
 
 -- the number of the node of a name
-abbrev pub number_of : List NamedNode → (name : List ℕ) → ℕ
-number_of nodes name = unwrap_or (position (has_name name) nodes) 0
+abbrev pub setup_node_number : List NamedNode → (name : List ℕ) → ℕ
+setup_node_number nodes name = unwrap_or (position (has_name name) nodes) 0
 
 -- what the protocol does beside its timing
 abbrev pub pace_of : Members → Pace
-pace_of t = if is_led t then Led (option_map_or (number_of (nodes_of t)) (leader_name t) 0) else (if is_lossy t then Lossy (losses_of t) else Plain)
+pace_of t = if is_led t then Led (option_map_or (setup_node_number (setup_nodes t)) (leader_name t) 0) else (if is_lossy t then Lossy (losses_of t) else Plain)
 
 abbrev pub is_mixed : Members → Bool
 is_mixed t = list_any (λ key. is_some (value_at t key)) tables
 
 abbrev pub setup_of : Members → Setup
 setup_of t = record {
-  times = map (node_numbers t) (names_of t);
-  delays = map (pair_numbers t (names_of t)) (ordered_pairs (length (names_of t)));
+  times = map (node_numbers t) (setup_names t);
+  delays = map (pair_numbers t (setup_names t)) (ordered_pairs (length (setup_names t)));
   most = most_delay t;
   protocol = protocol_of t;
-  placed = Some (nodes_of t);
+  placed = Some (setup_nodes t);
   mixed = is_mixed t;
   pace = pace_of t;
 }

@@ -8,10 +8,10 @@ use Rattle.lt_base.specs.declared.memory.Or.{Or}
 use Rattle.lt_base.specs.declared.memory.Or.TheVariants.{Fault, Memory}
 use Rattle.lt_config.specs.declared.fault.ConfigFault.{ConfigFault}
 use Rattle.lt_config.specs.Faults.{first_fault}
-use Rattle.lt_config.specs.Reading.{table_of, config_of}
+use Rattle.lt_config.specs.Reading.{toml_table_of, config_of}
 
 -- a table without a fault, or what is wrong with the bytes
-abbrev pub Told : List ℕ → Result (BTreeMap (String Global) Value) (Or ConfigFault) → Type 0
-Told bytes (Ok t) = (table_of bytes ≡ Some (table_view t)) × (first_fault (table_view t) ≡ None)
-Told bytes (Err (Fault f)) = config_of bytes ≡ Err f
-Told bytes (Err Memory) = Unit {0}
+abbrev pub ToldTable : List ℕ → Result (BTreeMap (String Global) Value) (Or ConfigFault) → Type 0
+ToldTable bytes (Ok t) = (toml_table_of bytes ≡ Some (table_view t)) × (first_fault (table_view t) ≡ None)
+ToldTable bytes (Err (Fault f)) = config_of bytes ≡ Err f
+ToldTable bytes (Err Memory) = Unit {0}

@@ -1,12 +1,11 @@
 // Setups.
 ghost use Rattle.std.specs.Prelude.{◌≡◌, ◌≤◌, length};
-ghost use Rattle.lt_place.specs.Placement.{node_names};
+ghost use Rattle.lt_arch.specs.Placement.{node_names};
 ghost use Rattle.lt_config.specs.declared.limits.TheConstants.{MOST_NODES};
-ghost use Rattle.lt_config.specs.Paced.{FitsPace};
+ghost use Rattle.lt_arch.specs.Paced.{FitsPace};
 
 use crate::Pace;
-use lt_arch::Timing;
-use lt_place::Placement;
+use lt_arch::{Placement, Timing};
 
 /// A setup: the protocol with its bounds of time and countdowns, and what is on which node.
 #[derive(Drop)]

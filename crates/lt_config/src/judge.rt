@@ -5,7 +5,7 @@ ghost use Rattle.toml.specs.View.{table_view};
 ghost use Rattle.lt_config.specs.Keys.{keys, value_at};
 ghost use Rattle.lt_config.specs.declared.keys.Key.TheVariants.{Protocol};
 ghost use Rattle.lt_config.specs.Faults.{says_time, is_led, is_lossy, is_time_based, is_needed, is_missing, is_wrong, is_outside, first_fault};
-ghost use Rattle.lt_config.specs.Judged.{Judged, IsFault};
+ghost use Rattle.lt_config.specs.Judged.{Judged, IsSetupFault};
 
 use crate::keys::{KEYS, Key, key_text, value_at};
 use crate::names::{bad_name, first_unknown};
@@ -134,7 +134,7 @@ fn first_outside(table: &Table) -> Option<Key>
 
 /// A fault with a copy of its name.
 pub fn fault(alloc: Global, kind: ConfigKind, name: &str) -> Or<ConfigFault>
-    ensures { IsFault (record { kind = kind; key = name.now }) result }
+    ensures { IsSetupFault (record { kind = kind; key = name.now }) result }
 {
     match Name::from_str(alloc, name) {
         Ok(key) => Or::Fault(ConfigFault { kind, key }),

@@ -2,7 +2,7 @@
 ghost use Rattle.std.specs.Prelude.{◌≡◌, option_map};
 ghost use Rattle.toml.specs.Data.{get_member};
 ghost use Rattle.toml.specs.View.{view, table_view};
-ghost use Rattle.lt_config.specs.Keys.{key_text, value_at, table_at, entry_at};
+ghost use Rattle.lt_config.specs.Keys.{key_text, value_at, table_at, table_entry};
 
 use toml::{Table, Value};
 
@@ -80,7 +80,7 @@ pub fn table_at<'a>(table: &'a Table, key: Key) -> Option<&'a Table>
 
 /// The value at a name in the table at a key.
 pub fn entry_at<'a>(table: &'a Table, key: Key, name: &str) -> Option<&'a Value>
-    ensures { option_map (λ v. view v.now) result ≡ entry_at (table_view table.entry.now) key name.now }
+    ensures { option_map (λ v. view v.now) result ≡ table_entry (table_view table.entry.now) key name.now }
 {
     match table_at(table, key) {
         Some(entries) => entry(entries, name),

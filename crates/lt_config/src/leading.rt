@@ -3,14 +3,13 @@ ghost use Rattle.std.specs.Prelude.{◌≡◌, ◌≤◌, length, option_map, po
 ghost use Rattle.std.specs.Option.{option_map_or};
 ghost use Rattle.std.specs.Str.{bytes_eq};
 ghost use Rattle.toml.specs.View.{table_view};
-ghost use Rattle.lt_config.specs.Setup.{leader_name, has_name, follows, paced_send, number_of, nodes_of, pace_of};
+ghost use Rattle.lt_config.specs.Setup.{leader_name, has_name, follows, paced_send, setup_node_number, setup_nodes, pace_of};
 
 use crate::Pace;
 use crate::judge::{is_led, is_lossy};
 use crate::keys::{Key, value_at};
 use crate::numbers::{countdown_of, losses_of, own_or_plain};
-use lt_arch::GREATEST_COUNTDOWN;
-use lt_place::NamedNode;
+use lt_arch::{GREATEST_COUNTDOWN, NamedNode};
 use toml::Table;
 
 fn leader_name<'a>(table: &'a Table) -> Option<&'a str>
@@ -62,14 +61,14 @@ fn position_of(nodes: &[NamedNode], name: &str) -> Option<usize>
 #[tactic(auto, using(crate::proofs::Leaders::number_few))]
 fn number_of(nodes: &[NamedNode], name: &str) -> u32
     requires { length nodes.now ≤ 32 }
-    ensures { result ≡ number_of nodes.now name.now }
+    ensures { result ≡ setup_node_number nodes.now name.now }
 {
     position_of(nodes, name).unwrap_or(0) as u32
 }
 
 fn leader_of(table: &Table, nodes: &[NamedNode]) -> u32
     requires { length nodes.now ≤ 32 }
-    ensures { result ≡ option_map_or (number_of nodes.now) (leader_name (table_view table.now)) 0 }
+    ensures { result ≡ option_map_or (setup_node_number nodes.now) (leader_name (table_view table.now)) 0 }
 {
     match leader_name(table) {
         Some(name) => number_of(nodes, name),
@@ -79,7 +78,7 @@ fn leader_of(table: &Table, nodes: &[NamedNode]) -> u32
 
 /// What the protocol does beside its timing.
 pub fn pace_of(table: &Table, nodes: &[NamedNode]) -> Pace
-    requires nodes { nodes.now ≡ nodes_of (table_view table.now) }
+    requires nodes { nodes.now ≡ setup_nodes (table_view table.now) }
     requires few { length nodes.now ≤ 32 }
     ensures { result ≡ pace_of (table_view table.now) }
 {

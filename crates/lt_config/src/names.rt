@@ -2,7 +2,7 @@
 ghost use Rattle.std.specs.Prelude.{◌≡◌, ◌<◌, ◌==◌, ◌||◌, option_map, length, take, drop, slice_index_or};
 ghost use Rattle.std.specs.List.{list_all};
 ghost use Rattle.toml.specs.View.{view, table_view};
-ghost use Rattle.lt_arch.specs.Names.{is_letter, is_digit, is_word_start, is_word_byte, is_word, is_identifier};
+ghost use Rattle.lt_arch.specs.Names.{is_ascii_letter, is_digit, is_word_start, is_word_byte, is_name_word, is_identifier};
 ghost use Rattle.lt_config.specs.Faults.{first_not, is_key, is_cut, is_node_pair, is_entry_of, stray_of, first_stray, first_unknown, bad_name};
 ghost use Rattle.lt_config.specs.Keys.{table_at, tables};
 
@@ -29,7 +29,7 @@ fn are_word_bytes(bytes: &[u8]) -> bool
 }
 
 fn is_word(bytes: &[u8]) -> bool
-    ensures { result ≡ is_word bytes.now }
+    ensures { result ≡ is_name_word bytes.now }
 {
     if bytes.is_empty() {
         return false;

@@ -2,13 +2,13 @@
 ghost use Rattle.std.specs.Prelude.{◌≡◌, IfOk, None};
 ghost use Rattle.std.specs.List.Sorted.{IsStrictlySortedBy};
 ghost use Rattle.toml.specs.View.{view, items_view, table_view};
-ghost use Rattle.lt_place.specs.Names.{names_of, byte_order};
+ghost use Rattle.lt_arch.specs.NodeNames.{names_of, byte_order};
 ghost use Rattle.lt_config.specs.Faults.{first_fault};
-ghost use Rattle.lt_config.specs.Setup.{texts_of, vars_of, nodes_in, nodes_of};
+ghost use Rattle.lt_config.specs.Setup.{texts_of, vars_of, nodes_in, setup_nodes};
 
 use crate::keys::{Key, table_at};
+use lt_arch::{NamedNode, NamedNodes};
 use lt_base::{List, Memory, Name};
-use lt_place::{NamedNode, NamedNodes};
 use std::alloc::Global;
 use toml::{Table, Value};
 
@@ -54,7 +54,7 @@ fn ascends(entries: &Table)
 /// The nodes of a setup without a fault.
 pub fn named_nodes(alloc: Global, table: &Table) -> Result<NamedNodes, Memory>
     requires { first_fault (table_view table.now) ≡ None }
-    ensures { IfOk result (λ named. named.nodes ≡ nodes_of (table_view table.now)) }
+    ensures { IfOk result (λ named. named.nodes ≡ setup_nodes (table_view table.now)) }
 {
     match table_at(table, Key::Nodes) {
         Some(entries) => {

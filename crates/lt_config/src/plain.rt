@@ -4,9 +4,8 @@ ghost use Rattle.lt_arch.specs.declared.timing.Protocol.TheVariants.{BackPressur
 ghost use Rattle.lt_config.specs.Reading.{plain_setup, setup_in, numbers_of};
 
 use crate::{Config, Pace};
-use lt_arch::{NodeTime, Protocol, Timing};
+use lt_arch::{NodeTime, Placement, Protocol, Timing};
 use lt_base::{List, Memory};
-use lt_place::Placement;
 use std::alloc::Global;
 
 impl Config {

@@ -3,8 +3,8 @@ ghost use Rattle.std.specs.Prelude.{◌≡◌, IfOk, None};
 ghost use Rattle.toml.specs.View.{table_view};
 ghost use Rattle.lt_config.specs.Faults.{first_fault};
 ghost use Rattle.lt_config.specs.Setup.{is_mixed, setup_of};
-ghost use Rattle.lt_config.specs.Told.{Told};
-ghost use Rattle.lt_config.specs.Reading.{config_of, setup_in, Reads};
+ghost use Rattle.lt_config.specs.Told.{ToldTable};
+ghost use Rattle.lt_config.specs.Reading.{config_of, setup_in, ReadsSetup};
 
 use crate::judge::{fault, judge};
 use crate::keys::{TABLES, value_at};
@@ -12,9 +12,9 @@ use crate::leading::pace_of;
 use crate::nodes::named_nodes;
 use crate::timing::timing_of;
 use crate::{Config, ConfigFault, ConfigKind};
+use lt_arch::Placement;
+use lt_arch::laws::names_differ;
 use lt_base::{Memory, Or};
-use lt_place::Placement;
-use lt_place::laws::names_differ;
 use std::alloc::Global;
 use toml::Table;
 
@@ -49,7 +49,7 @@ fn setup_of(alloc: Global, table: &Table) -> Result<Config, Memory>
 
 /// The table of some bytes, where it has no fault.
 fn read_table(alloc: Global, bytes: &[u8]) -> Result<Table, Or<ConfigFault>>
-    ensures { Told bytes.now result }
+    ensures { ToldTable bytes.now result }
 {
     match toml::table_from_slice(alloc, bytes) {
         Ok(table) => match judge(alloc, &table) {
@@ -69,7 +69,7 @@ fn read_table(alloc: Global, bytes: &[u8]) -> Result<Table, Or<ConfigFault>>
 /// The setup that the bytes of a file are: TOML with the keys of docs/formats.md. A fault is the first in the order of
 /// the kinds and, within a kind, of the keys; of unknown keys and of entries in byte order.
 pub fn read_config(alloc: Global, bytes: &[u8]) -> Result<Config, Or<ConfigFault>>
-    ensures { Reads (config_of bytes.now) result }
+    ensures { ReadsSetup (config_of bytes.now) result }
 {
     let table = read_table(alloc, bytes)?;
     Ok(setup_of(alloc, &table)?)

@@ -2,18 +2,17 @@
 ghost use Rattle.std.specs.Prelude.{◌≡◌, ◌≤◌, ◌<◌, ◌++◌, length, map, IfOk, OnOk, None, string_bytes};
 ghost use Rattle.toml.specs.View.{table_view};
 ghost use Rattle.lt_arch.specs.Pairs.{ordered_pairs, pairs_from};
-ghost use Rattle.lt_place.specs.Names.{names_of as node_names};
+ghost use Rattle.lt_arch.specs.NodeNames.{names_of as node_names};
 ghost use Rattle.lt_config.specs.Faults.{first_fault};
-ghost use Rattle.lt_config.specs.Setup.{nodes_of, names_of, node_numbers, pair_numbers, pair_name, most_delay, protocol_of, Setup, setup_of};
+ghost use Rattle.lt_config.specs.Setup.{setup_nodes, setup_names, node_numbers, pair_numbers, pair_name, most_delay, protocol_of, Setup, setup_of};
 ghost use Rattle.lt_config.specs.Reading.{numbers_of, delays_of};
 
 use crate::judge::is_time_based;
 use crate::keys::Key;
 use crate::leading::paced_send;
 use crate::numbers::{bounds_of, countdown_of, most_delay, own_or_plain};
-use lt_arch::{NodeTime, PairTime, Protocol, Timing};
+use lt_arch::{NamedNode, NodeTime, PairTime, Protocol, Timing};
 use lt_base::{List, Memory};
-use lt_place::NamedNode;
 use std::alloc::{AllocError, Global};
 use toml::Table;
 
@@ -123,7 +122,7 @@ fn protocol_of(table: &Table) -> Protocol
 /// The timing of a setup without a fault.
 pub fn timing_of(alloc: Global, table: &Table, nodes: &List<NamedNode>) -> Result<Timing, Memory>
     requires none { first_fault (table_view table.now) ≡ None }
-    requires nodes { nodes.now ≡ nodes_of (table_view table.now) }
+    requires nodes { nodes.now ≡ setup_nodes (table_view table.now) }
     ensures times { IfOk result (λ timing. map numbers_of timing.nodes ≡ (setup_of (table_view table.now)).times) }
     ensures delays { IfOk result (λ timing. map delays_of timing.pairs ≡ (setup_of (table_view table.now)).delays) }
     ensures most { IfOk result (λ timing. timing.most ≡ most_delay (table_view table.now)) }

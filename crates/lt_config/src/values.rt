@@ -4,7 +4,7 @@ ghost use Rattle.std.specs.Option.{option_map_or};
 ghost use Rattle.toml.specs.View.{view, items_view, table_view};
 ghost use Rattle.toml.specs.Data.{as_str, as_table};
 ghost use Rattle.lt_config.specs.Wanted.{is_wanted};
-ghost use Rattle.lt_config.specs.Values.{pair_items, pair_of, all_texts, is_texts, all_values, is_table_of, is_pair, is_integer, has_kind, is_node, is_between, is_bounds, is_period, is_delay, is_countdown, is_losses, names_protocol, is_count_of_nodes, in_range, count_members};
+ghost use Rattle.lt_config.specs.Values.{pair_items, pair_of, all_texts, is_texts, all_values, is_table_of, is_pair, is_integer, has_kind, is_node, is_int_between, is_bounds, is_period, is_delay_pair, is_countdown, is_losses, names_protocol, is_count_of_nodes, in_range, count_members};
 
 use crate::keys::{Key, entry_at};
 use crate::limits::{MOST_LOSSES, MOST_NODES};
@@ -80,7 +80,7 @@ pub fn has_kind(key: Key, value: &Value) -> bool
 }
 
 fn is_between(low: u64, high: u64, number: i64) -> bool
-    ensures { result ≡ is_between low high number }
+    ensures { result ≡ is_int_between low high number }
 {
     number >= 0 && low <= number as u64 && number as u64 <= high
 }
@@ -105,7 +105,7 @@ fn is_period(value: &Value) -> bool
 }
 
 fn is_delay(value: &Value) -> bool
-    ensures { result ≡ is_delay (view value.now) }
+    ensures { result ≡ is_delay_pair (view value.now) }
 {
     is_bounds(0, pair_of(value))
 }

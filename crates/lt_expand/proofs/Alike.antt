@@ -6,7 +6,7 @@ use Rattle.lt_base.specs.Expression.{Expression, literal, variable, unary, binar
 use Rattle.lt_base.specs.Program.{Function}
 use Rattle.lt_base.specs.Meaning.{ClockPairs, clock_of, outer}
 use Rattle.lt_base.specs.Calls.{EachCall, EachArgumentCall}
-use Rattle.lt_expand.specs.Copies.{first_of, Library, grown, arguments_grown, inlined, arguments_inlined, copies, arguments_copies, copied_decls, copied_equations, equations_inlined, equations_copies, opened}
+use Rattle.lt_expand.specs.Copies.{first_or_zero, Library, grown, arguments_grown, inlined, arguments_inlined, copies, arguments_copies, copied_decls, copied_equations, equations_inlined, equations_copies, with_copies}
 
 module _ (lib lib' : Library) where
   abbrev pub Same : ℕ → Type 0
@@ -45,7 +45,7 @@ module _ (lib lib' : Library) where
     inlined_alike (delayed v e) n m p s = ap (delayed v) (inlined_alike e n m p s)
     inlined_alike (follow a b) n m p s = λ i. follow (inlined_alike a n m p s.0 i) (inlined_alike b (n + grown lib a) (m + grown lib' a) (λ i. p i + grown_alike a s.0 i) s.1 i)
     inlined_alike (arrow a b) n m p s = λ i. arrow (inlined_alike a n m p s.0 i) (inlined_alike b (n + grown lib a) (m + grown lib' a) (λ i. p i + grown_alike a s.0 i) s.1 i)
-    inlined_alike (call g args) n m p s = λ i. variable (first_of (s.0 i).outs + (p i + arguments_grown_alike args s.1 i))
+    inlined_alike (call g args) n m p s = λ i. variable (first_or_zero (s.0 i).outs + (p i + arguments_grown_alike args s.1 i))
 
     pub arguments_inlined_alike : (args : Arguments) (n m : ℕ) → n ≡ m → EachArgumentCall Same args → arguments_inlined lib n args ≡ arguments_inlined lib' m args
     arguments_inlined_alike no_arguments n m p s = refl
@@ -89,7 +89,7 @@ module _ (lib lib' : Library) where
       let rest = equations_copies_alike ds (n + grown lib q.1) (m + grown lib' q.1) qs (λ i. p i + grown_alike q.1 here i) (All-tail (λ q. EachCall Same q.1) q qs s) in
       λ i. copies_alike q.1 n m (clock_of ds q.0) p here i ++ rest i
 
-  pub opened_alike : (f : Function) → All (λ q. EachCall Same q.1) f.eqs → opened lib f ≡ opened lib' f
+  pub opened_alike : (f : Function) → All (λ q. EachCall Same q.1) f.eqs → with_copies lib f ≡ with_copies lib' f
   opened_alike f s =
       let n = length f.decls in
       let a = equations_inlined_alike n n f.eqs refl s in

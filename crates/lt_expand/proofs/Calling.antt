@@ -9,8 +9,8 @@ use Rattle.lt_base.specs.Program.{Function}
 use Rattle.lt_base.specs.Meaning.{ClockPairs}
 use Rattle.lt_base.specs.Checked.{EachUse}
 use Rattle.lt_base.proofs.Shape.{shape-Call}
-use Rattle.lt_expand.specs.Copies.{Library, grown, arguments_grown, first_of}
-use Rattle.lt_expand.specs.Walk.{library_of, Copyable, Adds, InlinedTo}
+use Rattle.lt_expand.specs.Copies.{Library, grown, arguments_grown, first_or_zero}
+use Rattle.lt_expand.specs.Walk.{library_of, Copyable, AddsCopies, InlinedTo}
 use Rattle.lt_expand.proofs.Steps.{ArgumentsTo, arguments_none, arguments_length, arguments_next, inline_call, inline_length, moved}
 use Rattle.lt_expand.proofs.Loops.{argument_uses, count_of, grown_room}
 
@@ -94,11 +94,11 @@ module _ (versions : List (Option Function)) (e : Expr) (g : ℕ) (args : Vec Ex
         let s = ap (λ k. length (lib k).decls) same in
         omega (arith, n, w, s, r)
 
-    pub call_inlined : (ds2 : List Decl) (es2 : List (ℕ × Expression)) (y : ℕ) → y ≡ first_of (lib h).outs + length ds' → Adds (record { from = length ds'; clock = ck; source = lib h; inputs = arguments_of (map shape inputs) } ∷ []) ds' es' ds2 es2 → InlinedTo lib ck (shape e) ds es ds2 es2 (variable y)
+    pub call_inlined : (ds2 : List Decl) (es2 : List (ℕ × Expression)) (y : ℕ) → y ≡ first_or_zero (lib h).outs + length ds' → AddsCopies (record { from = length ds'; clock = ck; source = lib h; inputs = arguments_of (map shape inputs) } ∷ []) ds' es' ds2 es2 → InlinedTo lib ck (shape e) ds es ds2 es2 (variable y)
     call_inlined ds2 es2 y o r =
         moved lib ck (shape e) (call g (arguments_of xs)) ds es ds2 es2 (variable y) (variable y) call_is refl (inline_call lib ck g xs ds ds' ds2 es es' es2 (map shape inputs) y whole
-        (o ∙ ap (λ k. first_of (lib k).outs + length ds') same)
-        (subst (λ k. Adds (record { from = length ds'; clock = ck; source = lib k; inputs = arguments_of (map shape inputs) } ∷ []) ds' es' ds2 es2) same r))
+        (o ∙ ap (λ k. first_or_zero (lib k).outs + length ds') same)
+        (subst (λ k. AddsCopies (record { from = length ds'; clock = ck; source = lib k; inputs = arguments_of (map shape inputs) } ∷ []) ds' es' ds2 es2) same r))
 
-    pub call_length : (ds2 : List Decl) (es2 : List (ℕ × Expression)) (y : ℕ) → y ≡ first_of (lib h).outs + length ds' → Adds (record { from = length ds'; clock = ck; source = lib h; inputs = arguments_of (map shape inputs) } ∷ []) ds' es' ds2 es2 → length ds2 ≡ length ds + grown lib (shape e)
+    pub call_length : (ds2 : List Decl) (es2 : List (ℕ × Expression)) (y : ℕ) → y ≡ first_or_zero (lib h).outs + length ds' → AddsCopies (record { from = length ds'; clock = ck; source = lib h; inputs = arguments_of (map shape inputs) } ∷ []) ds' es' ds2 es2 → length ds2 ≡ length ds + grown lib (shape e)
     call_length ds2 es2 y o r = inline_length lib ck (shape e) ds es ds2 es2 (variable y) (call_inlined ds2 es2 y o r)

@@ -8,12 +8,12 @@ use Rattle.lt_base.specs.Program.{Function, GoodFunction}
 use Rattle.lt_base.specs.Meaning.{ClockPairs, clock_of, right_of, outer}
 use Rattle.lt_base.specs.Clocking.{WellFormed, Clocked, ArgumentsClocked, ClockedFunction}
 use Rattle.lt_base.specs.Placed.{renamed, below}
-use Rattle.lt_base.specs.Checked.{count}
+use Rattle.lt_base.specs.Checked.{argument_count}
 use Rattle.lt_base.specs.Calls.{EachCall}
 use Rattle.lt_base.proofs.Lookups.{all_found, left_below}
 use Rattle.lt_expand.proofs.Basics.{all_equations}
 use Rattle.lt_expand.proofs.Basics.{well_more}
-use Rattle.lt_expand.specs.Copies.{raise, first_of, Library, Copy, grown, arguments_grown, inlined, arguments_inlined, copies, arguments_copies, input_equations, equations_copies, opened}
+use Rattle.lt_expand.specs.Copies.{raise, first_or_zero, Library, Copy, grown, arguments_grown, inlined, arguments_inlined, copies, arguments_copies, input_equations, equations_copies, with_copies}
 use Rattle.lt_expand.proofs.Standing.{Each, Declared, Stands}
 use Rattle.lt_expand.proofs.Filled.{each_left, each_right, each_copy_map, each_both}
 use Rattle.lt_expand.proofs.Counted.{Countable}
@@ -70,7 +70,7 @@ module _ (F : Function) (c : Copy) (declared : Declared F c) where
   abbrev IsClocked : ℕ → Expression → Type 0
   IsClocked x e = Clocked [] F.decls e (clock_of F.decls x)
 
-  inputs_clocked : (n : ℕ) (args : Arguments) → ((i : ℕ) → i < count args → clock_of F.decls (i + n) ≡ c.clock) → ArgumentsClocked [] F.decls args c.clock → All (λ q. IsClocked q.0 q.1) (input_equations n args)
+  inputs_clocked : (n : ℕ) (args : Arguments) → ((i : ℕ) → i < argument_count args → clock_of F.decls (i + n) ≡ c.clock) → ArgumentsClocked [] F.decls args c.clock → All (λ q. IsClocked q.0 q.1) (input_equations n args)
   inputs_clocked n no_arguments k t = All-nil (λ q. IsClocked q.0 q.1)
   inputs_clocked n (argument e args) k t =
       All-cons (λ q. IsClocked q.0 q.1) (n, e) (input_equations (suc n) args) (subst (Clocked [] F.decls e) (sym (ap (clock_of F.decls) (omega arith) ∙ k 0 (omega arith))) t.0)
@@ -110,7 +110,7 @@ module _ (lib : Library) (fs : List Function) (f F : Function) (low : length f.d
     inlined_clocked (call g args) n ck u k s =
         let own = (each_right (Stands F) (arguments_copies lib n ck args) _ s).0 in
         let h = lib g in
-        let y = first_of h.outs in
+        let y = first_or_zero h.outs in
         (own.declared.numbers y u.0.out_declared, own.declared.clocks y u.0.out_declared ∙ ap (λ z. below (raise (n + arguments_grown lib args)) z ck) u.0.out_on_base)
 
     pub arguments_inlined_clocked : (args : Arguments) (n : ℕ) (ck : ClockPairs) → ArgumentsUsed fs lib args → ArgumentsClocked fs f.decls args ck → Each (Stands F) (arguments_copies lib n ck args) → ArgumentsClocked [] F.decls (arguments_inlined lib n args) ck
@@ -162,7 +162,7 @@ module _ (lib : Library) (fs : List Function) (f : Function) (good : GoodFunctio
   N = length f.decls
 
   abbrev F : Function
-  F = opened lib f
+  F = with_copies lib f
 
   abbrev cs : List Copy
   cs = equations_copies lib f.decls N f.eqs

@@ -7,11 +7,11 @@ use Rattle.lt_base.specs.Expression.{Expression, Arguments}
 use Rattle.lt_base.specs.Program.{Function, GoodFunction}
 use Rattle.lt_base.specs.Meaning.{clock_of, right_of}
 use Rattle.lt_base.specs.Placed.{renamed}
-use Rattle.lt_base.specs.Checked.{count, EachUse, EachArgumentUse}
+use Rattle.lt_base.specs.Checked.{argument_count, EachUse, EachArgumentUse}
 use Rattle.lt_base.specs.Equations.{EachRight}
 use Rattle.lt_base.proofs.Lookups.{all_found, right_all, right_right, beyond}
 use Rattle.lt_expand.proofs.Basics.{all_equations}
-use Rattle.lt_expand.specs.Copies.{raise, Library, Copy, grown, inlined, copies, input_equations, copy_equation, copy_equations, copied_equations, equations_inlined, equations_copies, opened}
+use Rattle.lt_expand.specs.Copies.{raise, Library, Copy, grown, inlined, copies, input_equations, copy_equation, copy_equations, copied_equations, equations_inlined, equations_copies, with_copies}
 use Rattle.lt_expand.proofs.Standing.{Each, span, Numbered}
 use Rattle.lt_expand.proofs.Fitting.{Fits}
 use Rattle.lt_expand.proofs.Told.{same_count}
@@ -23,7 +23,7 @@ use Rattle.lt_expand.proofs.Opened.{inlined_none, old_none, opened_begins, opene
 
 pub record Fitted (fs : List Function) (c : Copy) : Type 0 where
   pub callee : ℕ
-  pub fits : Fits fs c.source callee (count c.inputs)
+  pub fits : Fits fs c.source callee (argument_count c.inputs)
 
 pub fitted_countable : (fs : List Function) (c : Copy) → Fitted fs c → Countable c
 fitted_countable fs c f = record { good = f.fits.good; arity = sym f.fits.arity }
@@ -90,7 +90,7 @@ module _ (lib : Library) (f : Function) (good : GoodFunction f) (countable : Eac
   N = length f.decls
 
   abbrev F : Function
-  F = opened lib f
+  F = with_copies lib f
 
   abbrev cs : List Copy
   cs = equations_copies lib f.decls N f.eqs

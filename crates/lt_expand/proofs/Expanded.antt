@@ -12,7 +12,7 @@ use Rattle.lt_base.specs.Clocking.{FirstOnBase, AnswersOnBase, ClockedFunction}
 use Rattle.lt_base.specs.Dependence.{Causal, has}
 use Rattle.lt_base.specs.Calls.{EachCall, called, equations_called, function_called, CallsFunction}
 use Rattle.lt_base.specs.Solution.{AllSame}
-use Rattle.lt_base.specs.Checked.{EachUse, Answers, CheckedProgram}
+use Rattle.lt_base.specs.Checked.{EachUse, AnswersCall, CheckedProgram}
 use Rattle.lt_base.specs.Kept.{Keeps}
 use Rattle.lt_base.proofs.Heights.{each_call_at, each_call_from, below_each, calls_function, height_of, height_low, height_lower}
 use Rattle.lt_base.proofs.Reading.{has_cases}
@@ -22,8 +22,8 @@ use Rattle.lt_base.proofs.Lookups.{all_found, right_all, function_all, more_good
 use Rattle.lt_base.proofs.Defined.{program_closed, good_function, typed_function, clocked_function, causal_function}
 use Rattle.lt_expand.proofs.Basics.{all_equations, clocked_below}
 use Rattle.lt_expand.proofs.Basics.{well_below}
-use Rattle.lt_expand.specs.Copies.{first_of, Library, Copy, copied_decls, equations_copies, opened, opened_or, expanded}
-use Rattle.lt_expand.specs.Walk.{Within}
+use Rattle.lt_expand.specs.Copies.{first_or_zero, Library, Copy, copied_decls, equations_copies, with_copies, opened_or, expanded}
+use Rattle.lt_expand.specs.Walk.{NestsWithin}
 use Rattle.lt_expand.proofs.Standing.{Each, Stands}
 use Rattle.lt_expand.proofs.Fitting.{Fits, Answering}
 use Rattle.lt_expand.proofs.Filled.{each_copy_map, each_both}
@@ -55,7 +55,7 @@ module _ (callee : Callee) (lib : Library) (fs : List Function) (f : Function) (
   N = length f.decls
 
   abbrev F : Function
-  F = opened lib f
+  F = with_copies lib f
 
   abbrev cs : List Copy
   cs = equations_copies lib f.decls N f.eqs
@@ -114,12 +114,12 @@ answer_same ds y d c [] (env' ∷ es') s = elim s [ ]
 answer_same ds y d c (env ∷ es) [] s = elim s [ ]
 answer_same ds y d c (env ∷ es) (env' ∷ es') s = s.0 y d (ap (present env) c)
 
-only_one : (ys : List ℕ) → length ys ≡ 1 → ys ≡ first_of ys ∷ []
+only_one : (ys : List ℕ) → length ys ≡ 1 → ys ≡ first_or_zero ys ∷ []
 only_one [] h = absurd (omega (arith, h))
 only_one (y ∷ []) h = refl
 only_one (y ∷ z ∷ ys) h = absurd (omega (arith, h))
 
-first_base : (ds : List Decl) (ys : List ℕ) → FirstOnBase ds ys → (first_of ys < length ds) × (clock_of ds (first_of ys) ≡ [])
+first_base : (ds : List Decl) (ys : List ℕ) → FirstOnBase ds ys → (first_or_zero ys < length ds) × (clock_of ds (first_or_zero ys) ≡ [])
 first_base ds [] b = elim b [ ]
 first_base ds (y ∷ ys) b = b
 
@@ -132,13 +132,13 @@ module _ (p : WholeProgram) (good : GoodProgram p) (checked : CheckedProgram p) 
 
   answers_by : (F f : Function) (g : ℕ) → function_of fs g ≡ Some f → Expands C F f → length f.outs ≡ 1 → FirstOnBase f.decls f.outs → Answering C fs F g f.n_in
   answers_by F f g e x one base =
-      let y = first_of f.outs in
+      let y = first_or_zero f.outs in
       let out : f.outs ≡ y ∷ [] = only_one f.outs one in
       let on = first_base f.decls f.outs base in
       let low = x.keeps.more in
       let same = kept_means C F f x.keeps fs x.causal (causal_function p good checked g f e) (clocked_function p good checked g f e) in
       let outs : F.outs ≡ y ∷ [] = x.outputs ∙ out in
-      let first : first_of F.outs ≡ y = ap first_of x.outputs in
+      let first : first_or_zero F.outs ≡ y = ap first_or_zero x.outputs in
       let types_kept : input_types F ≡ input_types f =
       (λ i. map (λ d. d.ty) (take (x.inputs i) (x.declarations i))) ∙ ap (map (λ d. d.ty)) (take-append-le f.n_in f.decls x.more (good_function p good checked g f e).inputs) in
       let answer_kept : answer_type F.decls F.outs ≡ answer_type f.decls f.outs =
@@ -163,32 +163,32 @@ module _ (p : WholeProgram) (good : GoodProgram p) (checked : CheckedProgram p) 
       }
 
   -- a called function over a library for it
-  use_here : (n : ℕ) → ((g : ℕ) (f : Function) → function_of fs g ≡ Some f → Within fs n g → Expands C (expanded fs n g) f) → (h k : ℕ) → (o : Option Function) → function_of fs h ≡ o → Answers o k → Within fs n h → AnswersOnBase o → Answering C fs (expanded fs n h) h k
+  use_here : (n : ℕ) → ((g : ℕ) (f : Function) → function_of fs g ≡ Some f → NestsWithin fs n g → Expands C (expanded fs n g) f) → (h k : ℕ) → (o : Option Function) → function_of fs h ≡ o → AnswersCall o k → NestsWithin fs n h → AnswersOnBase o → Answering C fs (expanded fs n h) h k
   use_here n ih h k None e a l b = elim a [ ]
   use_here n ih h k (Some f) e a l b = subst (Answering C fs (expanded fs n h) h) a.0 (answers_by (expanded fs n h) f h e (ih h f e l) a.1 b)
 
   -- fewer calls nest in a called function
-  pub calls_within : (n g : ℕ) (f : Function) → function_of fs g ≡ Some f → Within fs (suc n) g → (x : ℕ) (e : Expression) → right_of f.eqs x ≡ Some e → EachCall (Within fs n) e
-  calls_within n g f e w x a r = each_call_from (Within fs n) a (λ h m. w h (calls_function fs g f e x a r h m))
+  pub calls_within : (n g : ℕ) (f : Function) → function_of fs g ≡ Some f → NestsWithin fs (suc n) g → (x : ℕ) (e : Expression) → right_of f.eqs x ≡ Some e → EachCall (NestsWithin fs n) e
+  calls_within n g f e w x a r = each_call_from (NestsWithin fs n) a (λ h m. w h (calls_function fs g f e x a r h m))
 
   -- what stands for the calls of a function
-  answering_by : (n g : ℕ) (f : Function) → function_of fs g ≡ Some f → Within fs (suc n) g → ((h : ℕ) (k : Function) → function_of fs h ≡ Some k → Within fs n h → Expands C (expanded fs n h) k) → (x : ℕ) (a : Expression) → right_of f.eqs x ≡ Some a → EachUse (λ h k. Answering C fs (expanded fs n h) h k) a
+  answering_by : (n g : ℕ) (f : Function) → function_of fs g ≡ Some f → NestsWithin fs (suc n) g → ((h : ℕ) (k : Function) → function_of fs h ≡ Some k → NestsWithin fs n h → Expands C (expanded fs n h) k) → (x : ℕ) (a : Expression) → right_of f.eqs x ≡ Some a → EachUse (λ h k. Answering C fs (expanded fs n h) h k) a
   answering_by n g f e w ih x a r =
-      let uses = function_all (λ f. All (λ e. EachUse (λ g n. Answers (function_of fs g) n) e.1) f.eqs) fs checked.named.uses g f e in
-      use_from (λ h k. Answers (function_of fs h) k) (Within fs n) (λ h. AnswersOnBase (function_of fs h)) (λ h k. Answering C fs (expanded fs n h) h k) (λ h k u q b. use_here n ih h k (function_of fs h) refl u q b) a
-      (right_all (λ q. EachUse (λ g n. Answers (function_of fs g) n) q.1) f.eqs uses x a r)
+      let uses = function_all (λ f. All (λ e. EachUse (λ g n. AnswersCall (function_of fs g) n) e.1) f.eqs) fs checked.named.uses g f e in
+      use_from (λ h k. AnswersCall (function_of fs h) k) (NestsWithin fs n) (λ h. AnswersOnBase (function_of fs h)) (λ h k. Answering C fs (expanded fs n h) h k) (λ h k u q b. use_here n ih h k (function_of fs h) refl u q b) a
+      (right_all (λ q. EachUse (λ g n. AnswersCall (function_of fs g) n) q.1) f.eqs uses x a r)
       (calls_within n g f e w x a r)
       (clocked_calls fs f.decls a (clock_of f.decls x) ((clocked_function p good checked g f e).rights x a r))
 
   -- each function, where no more calls nest than that
-  pub expands : (n g : ℕ) (f : Function) → function_of fs g ≡ Some f → Within fs n g → Expands C (expanded fs n g) f
+  pub expands : (n g : ℕ) (f : Function) → function_of fs g ≡ Some f → NestsWithin fs n g → Expands C (expanded fs n g) f
   expands zero g f e w = elim w [ ]
   expands (suc n) g f e w =
       subst (λ o. Expands C (opened_or (expanded fs n) o) f) (sym e)
       (opened_expands C (expanded fs n) fs f (good_function p good checked g f e) (clocked_function p good checked g f e) (typed_function p good checked g f e) (causal_function p good checked g f e) (answering_by n g f e w (λ h. expands n h)))
 
   -- so stands what answers its calls
-  pub answering : (n g : ℕ) (f : Function) → function_of fs g ≡ Some f → Within fs (suc n) g → (x : ℕ) (a : Expression) → right_of f.eqs x ≡ Some a → EachUse (λ h k. Answering C fs (expanded fs n h) h k) a
+  pub answering : (n g : ℕ) (f : Function) → function_of fs g ≡ Some f → NestsWithin fs (suc n) g → (x : ℕ) (a : Expression) → right_of f.eqs x ≡ Some a → EachUse (λ h k. Answering C fs (expanded fs n h) h k) a
   answering n g f e w = answering_by n g f e w (λ h. expands n h)
 
   -- the streams of its variables
@@ -215,10 +215,10 @@ module _ (p : WholeProgram) (good : GoodProgram p) (checked : CheckedProgram p) 
   abbrev height : ℕ → ℕ
   height = height_of fs checked.named.not_recursive
 
-  within_height : (k g : ℕ) → height g < k → Within fs k g
+  within_height : (k g : ℕ) → height g < k → NestsWithin fs k g
   within_height zero g l = absurd (omega arith)
   within_height (suc k) g l = λ h c. within_height k h (let b = height_lower fs checked.named.not_recursive g h c (called_inside g h c) in omega (arith, b, l))
 
   -- in no function nest as many calls as there are functions
-  pub within_all : (g : ℕ) → g < length fs → Within fs (length fs) g
+  pub within_all : (g : ℕ) → g < length fs → NestsWithin fs (length fs) g
   within_all g l = within_height (length fs) g (height_low fs checked.named.not_recursive g l)

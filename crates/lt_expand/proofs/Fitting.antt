@@ -6,7 +6,7 @@ use Rattle.lt_base.specs.Meaning.{Row, Callee, clock_of, environments, answer, f
 use Rattle.lt_base.specs.Typing.{call_type, TypedFunction}
 use Rattle.lt_base.specs.Clocking.{ClockedFunction}
 use Rattle.lt_base.specs.Dependence.{Causal}
-use Rattle.lt_expand.specs.Copies.{first_of}
+use Rattle.lt_expand.specs.Copies.{first_or_zero}
 
 -- h can be copied for calls of function g of a program with that many arguments
 pub record Fits (fs : List Function) (h : Function) (g n : ℕ) : Type 0 where
@@ -15,9 +15,9 @@ pub record Fits (fs : List Function) (h : Function) (g n : ℕ) : Type 0 where
   pub typed : TypedFunction [] h
   pub causal : Causal h
   -- it has one output, on the base clock
-  pub one_out : h.outs ≡ first_of h.outs ∷ []
-  pub out_declared : first_of h.outs < length h.decls
-  pub out_on_base : clock_of h.decls (first_of h.outs) ≡ []
+  pub one_out : h.outs ≡ first_or_zero h.outs ∷ []
+  pub out_declared : first_or_zero h.outs < length h.decls
+  pub out_on_base : clock_of h.decls (first_or_zero h.outs) ≡ []
   -- and the inputs and types of g
   pub arity : h.n_in ≡ n
   pub types : (us : List (Option Ty)) → call_type (function_of fs g) us ≡ call_type (Some h) us

@@ -7,8 +7,8 @@ use Rattle.lt_base.specs.Dependence.{has}
 use Rattle.lt_base.specs.Calls.{EachCall, function_called, CallsFunction}
 use Rattle.lt_base.proofs.Lookups.{all_found}
 use Rattle.lt_expand.specs.Copies.{opened_or, expanded, expansion}
-use Rattle.lt_expand.specs.Expansion.{ProgramsExpand, new_origins}
-use Rattle.lt_expand.specs.Walk.{Within}
+use Rattle.lt_expand.specs.Expansion.{ProgramsExpand, copied_origins}
+use Rattle.lt_expand.specs.Walk.{NestsWithin}
 use Rattle.lt_expand.proofs.Basics.{all_equations}
 use Rattle.lt_expand.proofs.Clocks.{clocked_callless}
 use Rattle.lt_expand.proofs.Alike.{Same, opened_alike}
@@ -24,7 +24,7 @@ stable_by fs n m h ih None e = refl
 stable_by fs n m h ih (Some f) e =
     opened_alike (expanded fs n) (expanded fs m) f (right_in f.eqs (Same (expanded fs n) (expanded fs m)) (λ i k. ih i (ap (λ o. has i (function_called o)) e ∙ k)))
 
-pub stable : (fs : List Function) (n m h : ℕ) → Within fs n h → Within fs m h → expanded fs n h ≡ expanded fs m h
+pub stable : (fs : List Function) (n m h : ℕ) → NestsWithin fs n h → NestsWithin fs m h → expanded fs n h ≡ expanded fs m h
 stable fs zero m h w v = elim w [ ]
 stable fs (suc n) zero h w v = elim v [ ]
 stable fs (suc n) (suc m) h w v = stable_by fs n m h (λ i c. stable fs n m i (w i c) (v i c)) (function_of fs h) refl
@@ -33,7 +33,7 @@ pub programs_expand : ProgramsExpand
 programs_expand p good checked f e =
     let fs = p.funcs in
     let n = length fs in
-    let within : Within fs n p.main = within_all p good checked p.main good.main in
+    let within : NestsWithin fs n p.main = within_all p good checked p.main good.main in
     let x : Expands (calls fs n) (expansion p) f = expands p good checked n p.main f e within in
     record {
       main = f;
@@ -56,7 +56,7 @@ programs_expand p good checked f e =
       parts = expanded_parts fs n p.main;
     }
   where
-    origins_count : (k : ℕ) → length p.funcs ≡ k → Within p.funcs k p.main → length (range_with_len 0 (length f.decls) ++ new_origins p.funcs f.eqs) ≡ length (expanded p.funcs k p.main).decls
+    origins_count : (k : ℕ) → length p.funcs ≡ k → NestsWithin p.funcs k p.main → length (range_with_len 0 (length f.decls) ++ copied_origins p.funcs f.eqs) ≡ length (expanded p.funcs k p.main).decls
     origins_count zero q w = elim w [ ]
     origins_count (suc k) q w =
         let fs = p.funcs in

@@ -6,7 +6,7 @@ use Rattle.std.proofs.lemmas.List.{map-append, append_assoc, append-nil, take_mo
 use Rattle.std.proofs.lemmas.List.Elements.{All-nil, All-cons}
 use Rattle.lt_base.specs.declared.function.Decl.{Decl}
 use Rattle.lt_base.specs.Expression.{Expression, arguments_of}
-use Rattle.lt_base.specs.Checked.{count, EachUse, EachArgumentUse}
+use Rattle.lt_base.specs.Checked.{argument_count, EachUse, EachArgumentUse}
 use Rattle.lt_base.specs.Meaning.{ClockPairs, clock_of}
 use Rattle.lt_expand.specs.Copies.{Library, Copy, grown, arguments_grown, inlined, copies, copy_decl, copy_decls, copy_equation, copy_equations, input_equations, copied_decls, copied_equations, equations_grown, equations_inlined, equations_copies}
 use Rattle.lt_expand.specs.Walk.{InlinedTo, AllInlined, owners}
@@ -55,7 +55,7 @@ pub argument_uses : (P : ℕ → ℕ → Type 0) (xs : List Expression) → Each
 argument_uses P [] u = All-nil (λ x. EachUse P x)
 argument_uses P (x ∷ xs) u = All-cons (λ x. EachUse P x) x xs u.0 (argument_uses P xs u.1)
 
-pub count_of : (xs : List Expression) → count (arguments_of xs) ≡ length xs
+pub count_of : (xs : List Expression) → argument_count (arguments_of xs) ≡ length xs
 count_of [] = refl
 count_of (x ∷ xs) = let h = count_of xs in omega (arith, h)
 
@@ -123,7 +123,7 @@ module _ (lib : Library) where
           let g = inline_length lib ck q.1 ds copied ds' copied' r t in
           let l = origins_length in
           let front : take n origins ≡ origins = take_all n origins (omega (arith, g, l, k)) in
-          let count : n - m ≡ grown lib q.1 = omega (arith, g, l, k, j) in
+          let argument_count : n - m ≡ grown lib q.1 = omega (arith, g, l, k, j) in
           record {
             decls = t.adds.decls
                 ∙ ap (λ l. l ++ copied_decls new) a.decls
@@ -132,7 +132,7 @@ module _ (lib : Library) where
             eqs_are = e ∙ (λ i. a.eqs_are i ++ (q.0, (t.form ∙ ap (λ i. inlined lib i q.1) all_length) i) ∷ []) ∙ sym (inlined_snoc N qs q);
             copied_are = t.adds.eqs ∙ ap (λ l. l ++ copied_equations new) a.copied_are ∙ sym (equations_append cs new) ∙ ap copied_equations (sym all);
             origins_are = s
-                ∙ (λ i. front i ++ replicate (count i) (h i))
+                ∙ (λ i. front i ++ replicate (argument_count i) (h i))
                 ∙ ap (λ l. l ++ replicate (grown lib q.1) q.0) a.origins_are
                 ∙ append_assoc (range_with_len 0 N) (owners lib qs) (replicate (grown lib q.1) q.0)
                 ∙ ap (λ l. range_with_len 0 N ++ l) (sym (owners_snoc qs q));

@@ -12,9 +12,9 @@ use Rattle.lt_base.proofs.Heights.{each_call_at, each_call_from, calls_function}
 use Rattle.lt_base.proofs.Reading.{has_front, has_back, has_cases}
 use Rattle.lt_base.proofs.Lookups.{all_found}
 use Rattle.lt_base.proofs.Defined.{good_function}
-use Rattle.lt_expand.specs.Copies.{Library, grown, arguments_grown, equations_grown, equations_copies, copied_decls, opened, opened_or, expanded}
-use Rattle.lt_expand.specs.Expansion.{variables, new_origins}
-use Rattle.lt_expand.specs.Walk.{Within, library_of, IsMade, Copyable, AreVersions, owners}
+use Rattle.lt_expand.specs.Copies.{Library, grown, arguments_grown, equations_grown, equations_copies, copied_decls, with_copies, opened_or, expanded}
+use Rattle.lt_expand.specs.Expansion.{nested_variables, copied_origins}
+use Rattle.lt_expand.specs.Walk.{NestsWithin, library_of, IsMade, Copyable, AreVersions, owners}
 use Rattle.lt_expand.proofs.Basics.{all_equations}
 use Rattle.lt_expand.proofs.Fitting.{Answering}
 use Rattle.lt_expand.proofs.Filled.{equations_filled, copied_length}
@@ -76,12 +76,12 @@ called_smaller fs n g f e h c =
 -- ---- origins
 
 module _ (fs : List Function) (lib : Library) where
-  pub owners_are : (qs : List (ℕ × Expression)) → All (λ q. EachCall (Same lib (expanded fs (length fs))) q.1) qs → owners lib qs ≡ new_origins fs qs
+  pub owners_are : (qs : List (ℕ × Expression)) → All (λ q. EachCall (Same lib (expanded fs (length fs))) q.1) qs → owners lib qs ≡ copied_origins fs qs
   owners_are [] s = refl
   owners_are (q ∷ qs) s =
       let full = expanded fs (length fs) in
       let P : ℕ × Expression → Type 0 = λ q. EachCall (Same lib full) q.1 in
-      let count : grown lib q.1 ≡ cost 0 (variables fs (length fs)) q.1 =
+      let count : grown lib q.1 ≡ cost 0 (nested_variables fs (length fs)) q.1 =
       grown_alike lib full q.1 (All-head P q qs s) ∙ grown_cost full q.1 ∙ (λ i. cost 0 (λ g. expanded_variables fs (length fs) g i) q.1) in
       λ i. replicate (count i) q.0 ++ owners_are qs (All-tail P q qs s) i
 
@@ -98,10 +98,10 @@ module _ (p : WholeProgram) (good : GoodProgram p) (checked : CheckedProgram p) 
   lib = library_of versions
 
   -- what is made for a function is its version
-  version_is : (n h : ℕ) → IsMade versions h → Within fs n h → lib h ≡ expanded fs n h
+  version_is : (n h : ℕ) → IsMade versions h → NestsWithin fs n h → lib h ≡ expanded fs n h
   version_is n h m w = are.are h (lib h) m n w
 
-  module _ (n g : ℕ) (f : Function) (e : function_of fs g ≡ Some f) (within : Within fs (suc n) g) (made : (h : ℕ) → CallsFunction fs g h → IsMade versions h) where
+  module _ (n g : ℕ) (f : Function) (e : function_of fs g ≡ Some f) (within : NestsWithin fs (suc n) g) (made : (h : ℕ) → CallsFunction fs g h → IsMade versions h) where
     called_here : (h : ℕ) → has h (equations_called f.eqs) ≡ true → CallsFunction fs g h
     called_here h m = ap (λ o. has h (function_called o)) e ∙ m
 
@@ -109,13 +109,13 @@ module _ (p : WholeProgram) (good : GoodProgram p) (checked : CheckedProgram p) 
     all_same = right_in f.eqs (Same lib (expanded fs n)) (λ h m. let k = called_here h m in version_is n h (made h k) (within h k))
 
     -- the function with copies of what is made is its own version
-    pub opened_is : opened lib f ≡ expanded fs (suc n) g
+    pub opened_is : with_copies lib f ≡ expanded fs (suc n) g
     opened_is = opened_alike lib (expanded fs n) f all_same ∙ sym (ap (opened_or (expanded fs n)) e)
 
-    pub opened_good : GoodFunction (opened lib f)
+    pub opened_good : GoodFunction (with_copies lib f)
     opened_good = subst GoodFunction (sym opened_is) (expands p good checked (suc n) g f e within).good
 
-    copyable : (h k : ℕ) → IsMade versions h → Within fs n h → Answering C fs (expanded fs n h) h k → Copyable versions h k
+    copyable : (h k : ℕ) → IsMade versions h → NestsWithin fs n h → Answering C fs (expanded fs n h) h k → Copyable versions h k
     copyable h k m w a =
         let same = version_is n h m w in
         let fits = a.fits in
@@ -130,7 +130,7 @@ module _ (p : WholeProgram) (good : GoodProgram p) (checked : CheckedProgram p) 
     pub all_copyable : All (λ q. EachUse (λ h k. Copyable versions h k) q.1) f.eqs
     all_copyable =
         all_equations (λ x b. EachUse (λ h k. Copyable versions h k) b) f f.eqs (all_found f (good_function p good checked g f e)) (λ x b r.
-        use_from (λ h k. Answering C fs (expanded fs n h) h k) (IsMade versions) (Within fs n) (λ h k. Copyable versions h k) (λ h k a m w. copyable h k m w a) b
+        use_from (λ h k. Answering C fs (expanded fs n h) h k) (IsMade versions) (NestsWithin fs n) (λ h k. Copyable versions h k) (λ h k a m w. copyable h k m w a) b
         (answering p good checked n g f e within x b r)
         (each_call_from (IsMade versions) b (λ h m. made h (calls_function fs g f e x b r h m)))
         (calls_within p good checked n g f e within x b r))
@@ -145,6 +145,6 @@ module _ (p : WholeProgram) (good : GoodProgram p) (checked : CheckedProgram p) 
         omega (arith, cs, l, m, o)
 
     -- the variables of the copies have their origins
-    pub origins_are : owners lib f.eqs ≡ new_origins fs f.eqs
+    pub origins_are : owners lib f.eqs ≡ copied_origins fs f.eqs
     origins_are =
         owners_are fs lib f.eqs (right_in f.eqs (Same lib (expanded fs (length fs))) (λ h m. let k = called_here h m in version_is (length fs) h (made h k) (within_all p good checked h (called_inside p good checked g h k))))

@@ -9,8 +9,8 @@ use Rattle.lt_base.specs.Calls.{equations_called, function_called, CallsFunction
 use Rattle.lt_base.specs.Checked.{EachUse, CheckedProgram}
 use Rattle.lt_base.proofs.Lookups.{same_self}
 use Rattle.lt_base.proofs.Reading.{or_left, or_right}
-use Rattle.lt_expand.specs.Copies.{Library, equations_grown, opened, expanded}
-use Rattle.lt_expand.specs.Walk.{Within, version_in, made_of, library_of, IsMade, Copyable, AreVersions, KeepsVersions}
+use Rattle.lt_expand.specs.Copies.{Library, equations_grown, with_copies, expanded}
+use Rattle.lt_expand.specs.Walk.{NestsWithin, version_in, made_of, library_of, IsMade, Copyable, AreVersions, KeepsVersions}
 use Rattle.lt_expand.proofs.Expanded.{called_inside}
 use Rattle.lt_expand.proofs.Made.{called_smaller, opened_is, opened_good, all_copyable, room_for}
 use Rattle.lt_expand.proofs.Versions.{is_made, made_still, keeps_all, keeps_more, kept_over, all_made, set_are, set_made}
@@ -36,15 +36,15 @@ module _ (fs : List Function) (g : ℕ) (f : Function) (e : function_of fs g ≡
   pub called_made : (versions : List (Option Function)) → ((k : ℕ) → k < length hs → IsMade versions (get_or hs k 0)) → (h : ℕ) → CallsFunction fs g h → IsMade versions h
   called_made versions m h c = all_made versions hs m h (ap (has h) are ∙ sym (ap (λ o. has h (function_called o)) e) ∙ c)
 
-pub some_left : (fs : List Function) (left g : ℕ) → Within fs left g → 0 < left
+pub some_left : (fs : List Function) (left g : ℕ) → NestsWithin fs left g → 0 < left
 some_left fs zero g w = elim w [ ]
 some_left fs (suc n) g w = omega arith
 
-pub within_called : (fs : List Function) (left g h : ℕ) → Within fs left g → CallsFunction fs g h → Within fs (left - 1) h
+pub within_called : (fs : List Function) (left g h : ℕ) → NestsWithin fs left g → CallsFunction fs g h → NestsWithin fs (left - 1) h
 within_called fs zero g h w c = elim w [ ]
-within_called fs (suc n) g h w c = let e : n ≡ suc n - 1 = omega arith in subst (λ k. Within fs k h) e (w h c)
+within_called fs (suc n) g h w c = let e : n ≡ suc n - 1 = omega arith in subst (λ k. NestsWithin fs k h) e (w h c)
 
-pub room_called : (fs : List Function) (left g : ℕ) (f : Function) → function_of fs g ≡ Some f → Within fs left g → (h : ℕ) → CallsFunction fs g h → length (expanded fs left g).decls < 2 ^ 32 → length (expanded fs (left - 1) h).decls < 2 ^ 32
+pub room_called : (fs : List Function) (left g : ℕ) (f : Function) → function_of fs g ≡ Some f → NestsWithin fs left g → (h : ℕ) → CallsFunction fs g h → length (expanded fs left g).decls < 2 ^ 32 → length (expanded fs (left - 1) h).decls < 2 ^ 32
 room_called fs zero g f e w h c r = elim w [ ]
 room_called fs (suc n) g f e w h c r =
     let q : n ≡ suc n - 1 = omega arith in
@@ -57,24 +57,24 @@ module _ (p : WholeProgram) (good : GoodProgram p) (checked : CheckedProgram p) 
   abbrev fs : List Function
   fs = p.funcs
 
-  pub version_made : (n : ℕ) → Within fs n g → opened (library_of versions) f ≡ expanded fs n g
+  pub version_made : (n : ℕ) → NestsWithin fs n g → with_copies (library_of versions) f ≡ expanded fs n g
   version_made zero w = elim w [ ]
   version_made (suc n) w = opened_is p good checked versions are n g f e w made
 
-  pub version_good : (n : ℕ) → Within fs n g → GoodFunction (opened (library_of versions) f)
+  pub version_good : (n : ℕ) → NestsWithin fs n g → GoodFunction (with_copies (library_of versions) f)
   version_good zero w = elim w [ ]
   version_good (suc n) w = opened_good p good checked versions are n g f e w made
 
-  pub version_ready : (n : ℕ) → Within fs n g → All (λ q. EachUse (λ h k. Copyable versions h k) q.1) f.eqs
+  pub version_ready : (n : ℕ) → NestsWithin fs n g → All (λ q. EachUse (λ h k. Copyable versions h k) q.1) f.eqs
   version_ready zero w = elim w [ ]
   version_ready (suc n) w = all_copyable p good checked versions are n g f e w made
 
-  pub version_room : (n : ℕ) → Within fs n g → length (expanded fs n g).decls < 2 ^ 32 → length f.decls + equations_grown (library_of versions) f.eqs < 2 ^ 32
+  pub version_room : (n : ℕ) → NestsWithin fs n g → length (expanded fs n g).decls < 2 ^ 32 → length f.decls + equations_grown (library_of versions) f.eqs < 2 ^ 32
   version_room zero w r = elim w [ ]
   version_room (suc n) w r = let l = room_for p good checked versions are n g f e w made in omega (arith, l, r)
 
   -- once it is made
-  pub now_are : (F : Function) (after : List (Option Function)) → F ≡ opened (library_of versions) f → g < length versions → after ≡ set versions g (Some F) → AreVersions fs after
+  pub now_are : (F : Function) (after : List (Option Function)) → F ≡ with_copies (library_of versions) f → g < length versions → after ≡ set versions g (Some F) → AreVersions fs after
   now_are F after is l s = subst (AreVersions fs) (sym s) (set_are versions g F l fs are (λ n w. is ∙ version_made n w))
 
 -- ---- what is read of the versions
@@ -133,11 +133,11 @@ function_at p P view items are g f l read = function_read p.funcs g f l (read �
 pub record Calling (p : WholeProgram) (left g : ℕ) (f : Function) (hs : List ℕ) : Type 0 where
   pub good : GoodProgram p
   pub checked : CheckedProgram p
-  pub within : Within p.funcs left g
+  pub within : NestsWithin p.funcs left g
   pub found : function_of p.funcs g ≡ Some f
   pub called : hs ≡ equations_called f.eqs
 
-pub calling : (p : WholeProgram) → GoodProgram p → CheckedProgram p → (left g : ℕ) → Within p.funcs left g → g < length p.funcs → (P : WholeProgram) → P ≡ p → (items : List Function) → items ≡ P.funcs → (f : Function) → f ≡ get_or items g f → (called hs : List ℕ) → called ≡ equations_called f.eqs → hs ≡ called → Calling p left g f hs
+pub calling : (p : WholeProgram) → GoodProgram p → CheckedProgram p → (left g : ℕ) → NestsWithin p.funcs left g → g < length p.funcs → (P : WholeProgram) → P ≡ p → (items : List Function) → items ≡ P.funcs → (f : Function) → f ≡ get_or items g f → (called hs : List ℕ) → called ≡ equations_called f.eqs → hs ≡ called → Calling p left g f hs
 calling p good checked left g within number P view items are f read called hs c h = record {
   good = good;
   checked = checked;
@@ -163,7 +163,7 @@ module _ (p : WholeProgram) (left g : ℕ) (f : Function) (hs : List ℕ) (k : C
   pub next_left : 0 < left
   next_left = some_left p.funcs left g k.within
 
-  pub next_within : Within p.funcs (left - 1) h
+  pub next_within : NestsWithin p.funcs (left - 1) h
   next_within = within_called p.funcs left g h k.within next_called
 
   pub next_room : length (expanded p.funcs left g).decls < 2 ^ 32 → length (expanded p.funcs (left - 1) h).decls < 2 ^ 32
@@ -186,7 +186,7 @@ module _ (p : WholeProgram) (left g : ℕ) (f : Function) (hs : List ℕ) (k : C
       found_next : function_of p.funcs h ≡ Some F
       found_next = function_at p P view items items_are h F next_inside there
 
-      pub next_good : GoodFunction (opened lib F)
+      pub next_good : GoodFunction (with_copies lib F)
       next_good = version_good p k.good k.checked between are h F found_next made (left - 1) next_within
 
       pub next_ready : All (λ q. EachUse (λ x n. Copyable between x n) q.1) F.eqs
@@ -195,15 +195,15 @@ module _ (p : WholeProgram) (left g : ℕ) (f : Function) (hs : List ℕ) (k : C
       pub next_fits : length (expanded p.funcs left g).decls < 2 ^ 32 → length F.decls + equations_grown lib F.eqs < 2 ^ 32
       next_fits room = version_room p k.good k.checked between are h F found_next made (left - 1) next_within (next_room room)
 
-      pub reached_next : b ≡ false → (after : List (Option Function)) → after ≡ set between h (Some (opened lib F)) → Reached p.funcs first hs (i + 1) after
+      pub reached_next : b ≡ false → (after : List (Option Function)) → after ≡ set between h (Some (with_copies lib F)) → Reached p.funcs first hs (i + 1) after
       reached_next t after s =
           let l = next_number between are in
           let none = none_read versions h (next_number versions r.are) o read b told t in
-          let over = kept_over versions between after h (opened lib F) l kept none s in
+          let over = kept_over versions between after h (with_copies lib F) l kept none s in
           record {
-            are = now_are p k.good k.checked between are h F found_next made (opened lib F) after refl l s;
+            are = now_are p k.good k.checked between are h F found_next made (with_copies lib F) after refl l s;
             kept = keeps_more first versions after r.kept over;
-            made = made_next versions after hs i over r.made (now_made between after h (opened lib F) l s);
+            made = made_next versions after hs i over r.made (now_made between after h (with_copies lib F) l s);
           }
 
 -- all of them

@@ -5,14 +5,14 @@ use Rattle.std.proofs.lemmas.List.{length-map, append_assoc}
 use Rattle.lt_base.specs.declared.function.Decl.{Decl}
 use Rattle.lt_base.specs.Expression.{Expression}
 use Rattle.lt_base.specs.Program.{Function, GoodFunction}
-use Rattle.lt_base.specs.Equations.{lefts, inside, EquationsIn, EachRight}
+use Rattle.lt_base.specs.Equations.{left_count, inside, EquationsIn, EachRight}
 use Rattle.lt_base.specs.Meaning.{ClockPairs, Callee, clock_of, right_of}
 use Rattle.lt_base.specs.Typing.{ty_at}
 use Rattle.lt_base.specs.Placed.{renamed, below}
 use Rattle.lt_base.specs.Checked.{EachUse}
 use Rattle.lt_base.specs.Kept.{Keeps}
 use Rattle.lt_base.proofs.Lookups.{clock_left, clock_right, ty_left, ty_right, right_left, right_right, no_right, right_counts, found, lefts_two, inside_not, inside_most}
-use Rattle.lt_expand.specs.Copies.{raise, Library, Copy, grown, inlined, copies, input_equations, copy_decl, copy_decls, copy_equations, copied_decls, copied_equations, equations_grown, equations_inlined, equations_copies, opened}
+use Rattle.lt_expand.specs.Copies.{raise, Library, Copy, grown, inlined, copies, input_equations, copy_decl, copy_decls, copy_equations, copied_decls, copied_equations, equations_grown, equations_inlined, equations_copies, with_copies}
 use Rattle.lt_expand.proofs.Standing.{Each, Declared, Stands, span, Numbered}
 use Rattle.lt_expand.proofs.Fitting.{Answering}
 use Rattle.lt_expand.proofs.Filled.{each_left, each_right, equations_filled, copied_length}
@@ -135,7 +135,7 @@ module _ (lib : Library) (f : Function) (good : GoodFunction f) where
   N = length f.decls
 
   abbrev pub F : Function
-  F = opened lib f
+  F = with_copies lib f
 
   abbrev pub cs : List Copy
   cs = equations_copies lib f.decls N f.eqs
@@ -148,7 +148,7 @@ module _ (lib : Library) (f : Function) (good : GoodFunction f) where
     opened_numbers = (equations_filled lib f.decls N f.eqs).numbered
 
     -- each variable that is no input has one equation
-    pub opened_lefts : (x : ℕ) → lefts x F.eqs ≡ inside f.n_in (length F.decls) x
+    pub opened_lefts : (x : ℕ) → left_count x F.eqs ≡ inside f.n_in (length F.decls) x
     opened_lefts x =
         let i = good.inputs in
         lefts_two x f.n_in N (length F.decls) (equations_inlined lib N f.eqs) (copied_equations cs) i (omega (arith, opened_more))

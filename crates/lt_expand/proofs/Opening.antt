@@ -7,7 +7,7 @@ use Rattle.lt_base.specs.Expression.{Expression}
 use Rattle.lt_base.specs.Program.{Function, GoodFunction}
 use Rattle.lt_base.specs.Meaning.{clock_of}
 use Rattle.lt_base.proofs.Lookups.{all_found, left_below}
-use Rattle.lt_expand.specs.Copies.{Library, grown, equations_grown, opened}
+use Rattle.lt_expand.specs.Copies.{Library, grown, equations_grown, with_copies}
 use Rattle.lt_expand.specs.Walk.{InlinedTo, AllInlined, owners}
 use Rattle.lt_expand.proofs.Basics.{all_equations}
 use Rattle.lt_expand.proofs.Loops.{all_length, all_more, room_more}
@@ -54,15 +54,15 @@ module _ (lib : Library) (f F : Function) (view : f ≡ F) where
     abbrev made : Function
     made = record { name = name; decls = decls; n_in = f.n_in; outs = outs; eqs = all }
 
-    made_is : made ≡ opened lib F
+    made_is : made ≡ with_copies lib F
     made_is =
         (λ i. record { name = n i; decls = (d ∙ a.decls) i; n_in = f.n_in; outs = u i; eqs = (e' ∙ e ∙ (λ j. a.eqs_are j ++ a.copied_are j)) i })
-        ∙ ap (opened lib) view
+        ∙ ap (with_copies lib) view
 
-    pub made_good : GoodFunction (opened lib F) → GoodFunction made
+    pub made_good : GoodFunction (with_copies lib F) → GoodFunction made
     made_good = subst GoodFunction (sym made_is)
 
-    pub made_form : (g : Function) → g ≡ made → g ≡ opened lib F
+    pub made_form : (g : Function) → g ≡ made → g ≡ with_copies lib F
     made_form g p = p ∙ made_is
 
     pub made_origins : (os : List ℕ) → os ≡ origins → os ≡ range_with_len 0 (length F.decls) ++ owners lib F.eqs

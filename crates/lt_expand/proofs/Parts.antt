@@ -7,7 +7,7 @@ use Rattle.lt_base.specs.Expression.{Expression, literal, variable, unary, binar
 use Rattle.lt_base.specs.Program.{Function}
 use Rattle.lt_base.specs.Meaning.{ClockPairs, clock_of, outer}
 use Rattle.lt_base.specs.Sizes.{cost, arguments_cost, parts_with, total_parts}
-use Rattle.lt_expand.specs.Copies.{raise, Library, Copy, grown, arguments_grown, inlined, arguments_inlined, copies, arguments_copies, input_equations, copy_equation, copy_equations, copied_equations, equations_inlined, equations_copies, opened, expanded}
+use Rattle.lt_expand.specs.Copies.{raise, Library, Copy, grown, arguments_grown, inlined, arguments_inlined, copies, arguments_copies, input_equations, copy_equation, copy_equations, copied_equations, equations_inlined, equations_copies, with_copies, expanded}
 use Rattle.lt_expand.proofs.Sized.{none, cost_renamed, parts_renamed, sized}
 
 abbrev copy_parts : Copy → ℕ
@@ -120,7 +120,7 @@ module _ (lib : Library) where
       let j = copy_sum c.from c.source.eqs in
       omega (arith, h, a, b, i, j)
 
-  opened_parts : (f : Function) → parts_with none (opened lib f) ≡ parts_with w f
+  opened_parts : (f : Function) → parts_with none (with_copies lib f) ≡ parts_with w f
   opened_parts f =
       let cs = equations_copies lib f.decls (length f.decls) f.eqs in
       let a = sum_by-append Own (equations_inlined lib (length f.decls) f.eqs) (copied_equations cs) in

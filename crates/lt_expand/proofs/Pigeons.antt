@@ -5,14 +5,14 @@ use Rattle.std.proofs.lemmas.List.Elements.{All-head, All-tail}
 use Rattle.std.proofs.lemmas.Bool.Decides.{nat_tests}
 use Rattle.lt_base.specs.Expression.{Expression}
 use Rattle.lt_base.specs.Program.{Function, GoodFunction}
-use Rattle.lt_base.specs.Equations.{lefts}
+use Rattle.lt_base.specs.Equations.{left_count}
 use Rattle.lt_base.proofs.Lookups.{lefts_cons, inside_most, all_found, left_below}
 use Rattle.lt_expand.proofs.Basics.{all_equations}
 
 -- how many of the equations have a number below n
 abbrev low_lefts : ℕ → List (ℕ × Expression) → ℕ
 low_lefts zero eqs = 0
-low_lefts (suc n) eqs = lefts n eqs + low_lefts n eqs
+low_lefts (suc n) eqs = left_count n eqs + low_lefts n eqs
 
 low_none : (n : ℕ) → low_lefts n [] ≡ 0
 low_none zero = refl
@@ -22,7 +22,7 @@ low_past : (n : ℕ) (q : ℕ × Expression) (qs : List (ℕ × Expression)) →
 low_past zero q qs h = refl
 low_past (suc n) q qs h =
     let other : nat_eq n q.0 ≡ false = not_equal n q.0 h in
-    let c = lefts_cons n q qs ∙ ap (λ b. cond b 1 0 + lefts n qs) other in
+    let c = lefts_cons n q qs ∙ ap (λ b. cond b 1 0 + left_count n qs) other in
     let r = low_past n q qs (omega (arith, h)) in
     omega (arith, c, r)
   where
@@ -36,11 +36,11 @@ low_more (suc n) q qs h =
     elim [
       | true ↦ λ t.
           let e = eqb-true n q.0 t in
-          let c = lefts_cons n q qs ∙ ap (λ b. cond b 1 0 + lefts n qs) t in
+          let c = lefts_cons n q qs ∙ ap (λ b. cond b 1 0 + left_count n qs) t in
           let r = low_past n q qs (omega (arith, e)) in
           omega (arith, c, r)
       | false ↦ λ t.
-          let c = lefts_cons n q qs ∙ ap (λ b. cond b 1 0 + lefts n qs) t in
+          let c = lefts_cons n q qs ∙ ap (λ b. cond b 1 0 + left_count n qs) t in
           let r = low_more n q qs (below n q.0 h t) in
           omega (arith, c, r)
     ] in
@@ -53,7 +53,7 @@ low_all : (n : ℕ) (qs : List (ℕ × Expression)) → All (λ q. q.0 < n) qs �
 low_all n [] a = low_none n
 low_all n (q ∷ qs) a = low_more n q qs (All-head (λ q. q.0 < n) q qs a) ∙ ap suc (low_all n qs (All-tail (λ q. q.0 < n) q qs a))
 
-low_once : (n : ℕ) (qs : List (ℕ × Expression)) → ((x : ℕ) → lefts x qs ≤ 1) → low_lefts n qs ≤ n
+low_once : (n : ℕ) (qs : List (ℕ × Expression)) → ((x : ℕ) → left_count x qs ≤ 1) → low_lefts n qs ≤ n
 low_once zero qs m = omega arith
 low_once (suc n) qs m = let h = low_once n qs m in let k = m n in omega (arith, h, k)
 

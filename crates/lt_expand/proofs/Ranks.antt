@@ -10,12 +10,12 @@ use Rattle.lt_base.specs.Clocking.{ClockedFunction}
 use Rattle.lt_base.specs.Dependence.{has, arguments_reads, clock_vars, Causal}
 use Rattle.lt_base.specs.Order.{EachRead, EachArgumentRead, EachClockVar, Ordered}
 use Rattle.lt_base.specs.Placed.{below}
-use Rattle.lt_base.specs.Checked.{count}
+use Rattle.lt_base.specs.Checked.{argument_count}
 use Rattle.lt_base.proofs.Reading.{each_at, each_argument_at, each_clock_at, each_from, each_argument_from, each_clock_from, each_map, each_clock_map, has_front, has_back, has_cases, has_one, members_first, members_rest}
 use Rattle.lt_base.proofs.Order.{place_of, ordered, causal_from_ranks}
 use Rattle.lt_base.proofs.Lookups.{right_all, left_below}
 use Rattle.lt_expand.proofs.Basics.{well_below}
-use Rattle.lt_expand.specs.Copies.{raise, first_of, Library, Copy, grown, arguments_grown, inlined, arguments_inlined, copies, arguments_copies, input_equations, equations_copies, opened}
+use Rattle.lt_expand.specs.Copies.{raise, first_or_zero, Library, Copy, grown, arguments_grown, inlined, arguments_inlined, copies, arguments_copies, input_equations, equations_copies, with_copies}
 use Rattle.lt_expand.proofs.Standing.{Each, Stands, Numbered}
 use Rattle.lt_expand.proofs.Filled.{each_copy_map, each_both, numbered_low}
 use Rattle.lt_expand.proofs.Counted.{Countable}
@@ -187,7 +187,7 @@ module _ (lib : Library) (fs : List Function) (f : Function) (good : GoodFunctio
   N = length f.decls
 
   abbrev F : Function
-  F = opened lib f
+  F = with_copies lib f
 
   abbrev cs : List Copy
   cs = equations_copies lib f.decls N f.eqs
@@ -228,7 +228,7 @@ module _ (lib : Library) (fs : List Function) (f : Function) (good : GoodFunctio
   abbrev FittedLate : Copy → Type 0
   FittedLate c = Fitted fs c × Late c
 
-  out_below : (c : Copy) (K : ℕ) → FittedLate c → EachArgumentRead (λ y. y < c.from) c.inputs → EachClockVar (λ y. y < N) c.clock → c.from + length c.source.decls ≤ K → first_of c.source.outs + c.from < K
+  out_below : (c : Copy) (K : ℕ) → FittedLate c → EachArgumentRead (λ y. y < c.from) c.inputs → EachClockVar (λ y. y < N) c.clock → c.from + length c.source.decls ≤ K → first_or_zero c.source.outs + c.from < K
   out_below c K k r q h = let o = k.0.fits.out_declared in omega (arith, o, h)
 
   before_here : (ck : ClockPairs) (g : ℕ) (args : Arguments) (n : ℕ) → AtClock fs lib f.decls ck (call g args) → Each FittedLate (arguments_copies lib n ck args) → let c : Copy = record { from = n + arguments_grown lib args; clock = ck; source = lib g; inputs = arguments_inlined lib n args } in Late c → ReadsBefore c
@@ -277,13 +277,13 @@ module _ (lib : Library) (fs : List Function) (f : Function) (good : GoodFunctio
         above_least rank (copy_reads_of c) (suc (B + (c.from + c.from)))
         (λ y h. ⊎_elim (λ q. let b = each_argument_at (Bounded c.from) c.inputs r y q in omega (arith, b)) (λ q. let b = old_most y (each_clock_at Old c.clock k y q) in omega (arith, b)) (has_cases y (arguments_reads c.inputs) (clock_vars c.clock) h))
 
-    new : (c : Copy) (K : ℕ) → Ready c → EachArgumentRead (Bounded c.from) c.inputs → EachClockVar Old c.clock → c.from + length c.source.decls ≤ K → Bounded K (first_of c.source.outs + c.from)
+    new : (c : Copy) (K : ℕ) → Ready c → EachArgumentRead (Bounded c.from) c.inputs → EachClockVar Old c.clock → c.from + length c.source.decls ≤ K → Bounded K (first_or_zero c.source.outs + c.from)
     new c K s r k h =
         let fits = s.0.0.fits in
         let o = fits.out_declared in
-        let t = s.1.are (first_of c.source.outs) o in
+        let t = s.1.are (first_or_zero c.source.outs) o in
         let a = top_most c r k in
-        let b = offset_le c s.1.placing (first_of c.source.outs) in
+        let b = offset_le c s.1.placing (first_or_zero c.source.outs) in
         let e = equations_few c.source fits.good in
         omega (arith, t, a, b, e, o, h)
 
@@ -318,7 +318,7 @@ module _ (lib : Library) (fs : List Function) (f : Function) (good : GoodFunctio
   copied =
       each_both (λ c. Stands F c × Ready c) (CopyClocked lib fs f good clocked used countable fitted) cs (each_both (Stands F) Ready cs (opened_stand lib f good countable) ready) (copies_clocked lib fs f good clocked used countable fitted)
 
-  inputs_facts : (c : ℕ) (k : ClockPairs) (n : ℕ) (args : Arguments) → ((i : ℕ) → i < count args → (clock_of F.decls (i + n) ≡ k) × (c ≤ rank (i + n))) → EachArgumentRead (λ y. rank y < c) args → EachClockVar (λ y. rank y < c) k → All (λ q. Facts q.0 q.1) (input_equations n args)
+  inputs_facts : (c : ℕ) (k : ClockPairs) (n : ℕ) (args : Arguments) → ((i : ℕ) → i < argument_count args → (clock_of F.decls (i + n) ≡ k) × (c ≤ rank (i + n))) → EachArgumentRead (λ y. rank y < c) args → EachClockVar (λ y. rank y < c) k → All (λ q. Facts q.0 q.1) (input_equations n args)
   inputs_facts c k n no_arguments h r v = All-nil (λ q. Facts q.0 q.1)
   inputs_facts c k n (argument e args) h r v =
       let own = h 0 (omega arith) in

@@ -7,7 +7,7 @@ use Rattle.lt_base.specs.Meaning.{ClockPairs, outer}
 use Rattle.lt_base.specs.Clocking.{Clocked, ArgumentsClocked}
 use Rattle.lt_base.specs.Order.{EachRead, EachArgumentRead, EachClockVar}
 use Rattle.lt_base.specs.Placed.{renamed, arguments_renamed}
-use Rattle.lt_expand.specs.Copies.{raise, first_of, Library, Copy, grown, arguments_grown, inlined, arguments_inlined, copies, arguments_copies}
+use Rattle.lt_expand.specs.Copies.{raise, first_or_zero, Library, Copy, grown, arguments_grown, inlined, arguments_inlined, copies, arguments_copies}
 use Rattle.lt_expand.proofs.Standing.{Each}
 use Rattle.lt_expand.proofs.Filled.{each_left, each_right}
 
@@ -62,7 +62,7 @@ outer_each P [] k = tt
 outer_each P ((c, b) ∷ ck) k = k.1
 
 -- P K y: a fact of the variable y, weaker for a greater K; the copies that begin below number n have it for n
-module _ (lib : Library) (S : Copy → Type 0) (N : ℕ) (Old : ℕ → Type 0) (P : ℕ → ℕ → Type 0) (low : (c : Copy) → S c → N ≤ c.from) (hold : (K y : ℕ) → N ≤ K → Old y → P K y) (new : (c : Copy) (K : ℕ) → S c → EachArgumentRead (P c.from) c.inputs → EachClockVar Old c.clock → c.from + length c.source.decls ≤ K → P K (first_of c.source.outs + c.from)) where
+module _ (lib : Library) (S : Copy → Type 0) (N : ℕ) (Old : ℕ → Type 0) (P : ℕ → ℕ → Type 0) (low : (c : Copy) → S c → N ≤ c.from) (hold : (K y : ℕ) → N ≤ K → Old y → P K y) (new : (c : Copy) (K : ℕ) → S c → EachArgumentRead (P c.from) c.inputs → EachClockVar Old c.clock → c.from + length c.source.decls ≤ K → P K (first_or_zero c.source.outs + c.from)) where
   mutual
     pub reads_inlined : (e : Expression) (n K : ℕ) (ck : ClockPairs) → N ≤ K → n + grown lib e ≤ K → Each S (copies lib n ck e) → EachRead Old e → EachClockVar Old ck → EachRead (P K) (inlined lib n e)
     reads_inlined (literal v) n K ck l m s r k = tt

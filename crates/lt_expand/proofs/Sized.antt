@@ -7,8 +7,8 @@ use Rattle.lt_base.specs.Program.{Function}
 use Rattle.lt_base.specs.Meaning.{function_of}
 use Rattle.lt_base.specs.Sizes.{cost, arguments_cost, nested, size_of}
 use Rattle.lt_base.specs.Placed.{renamed, arguments_renamed}
-use Rattle.lt_expand.specs.Copies.{Library, grown, arguments_grown, copied_decls, equations_grown, equations_copies, opened, no_function, opened_or, expanded}
-use Rattle.lt_expand.specs.Expansion.{variables_with, variables}
+use Rattle.lt_expand.specs.Copies.{Library, grown, arguments_grown, copied_decls, equations_grown, equations_copies, with_copies, no_function, opened_or, expanded}
+use Rattle.lt_expand.specs.Expansion.{variables_with, nested_variables}
 use Rattle.lt_expand.proofs.Filled.{equations_filled, copied_length}
 
 abbrev pub none : ℕ → ℕ
@@ -80,7 +80,7 @@ equations_grown_cost lib [] = refl
 equations_grown_cost lib (q ∷ qs) =
     (λ i. grown_cost lib q.1 i + equations_grown_cost lib qs i) ∙ sym (sum_by-cons (λ (q : ℕ × Expression). cost 0 (λ g. length (lib g).decls) q.1) q qs)
 
-opened_length : (lib : Library) (f : Function) → length (opened lib f).decls ≡ variables_with (λ g. length (lib g).decls) f
+opened_length : (lib : Library) (f : Function) → length (with_copies lib f).decls ≡ variables_with (λ g. length (lib g).decls) f
 opened_length lib f =
     let cs = equations_copies lib f.decls (length f.decls) f.eqs in
     let l = length-append f.decls (copied_decls cs) in
@@ -90,7 +90,7 @@ opened_length lib f =
     omega (arith, l, m, k, g)
 
 -- a size from the sizes of the called functions, where the function's own part stays
-module _ (s : (ℕ → ℕ) → Function → ℕ) (own : Function → ℕ) (empty : own no_function ≡ 0) (step : (lib : Library) (f : Function) → own (opened lib f) ≡ s (λ g. own (lib g)) f) (fs : List Function) where
+module _ (s : (ℕ → ℕ) → Function → ℕ) (own : Function → ℕ) (empty : own no_function ≡ 0) (step : (lib : Library) (f : Function) → own (with_copies lib f) ≡ s (λ g. own (lib g)) f) (fs : List Function) where
   sized_by : (n : ℕ) → ((g : ℕ) → own (expanded fs n g) ≡ nested s fs n g) → (o : Option Function) → own (opened_or (expanded fs n) o) ≡ size_of (s (nested s fs n)) o
   sized_by n ih None = empty
   sized_by n ih (Some f) = step (expanded fs n) f ∙ (λ i. s (λ g. ih g i) f)
@@ -100,5 +100,5 @@ module _ (s : (ℕ → ℕ) → Function → ℕ) (own : Function → ℕ) (empt
   sized (suc n) g = sized_by n (sized n) (function_of fs g)
 
 -- a function's version without calls has its variables with those of the functions that it calls
-pub expanded_variables : (fs : List Function) (n g : ℕ) → length (expanded fs n g).decls ≡ variables fs n g
+pub expanded_variables : (fs : List Function) (n g : ℕ) → length (expanded fs n g).decls ≡ nested_variables fs n g
 expanded_variables fs = sized variables_with (λ f. length f.decls) refl opened_length fs

@@ -8,8 +8,8 @@ use Rattle.lt_base.specs.declared.operators.Imp.{Imp}
 use Rattle.lt_base.specs.declared.function.Decl.{Decl}
 use Rattle.lt_base.specs.Expression.{Expression, variable, unary, binary, imported, choose, sampled, merged, delayed, follow, arrow, call, Arguments, no_arguments, argument, arguments_of}
 use Rattle.lt_base.specs.Meaning.{ClockPairs, outer}
-use Rattle.lt_expand.specs.Copies.{Library, Copy, grown, arguments_grown, inlined, arguments_inlined, copies, arguments_copies, copy_decls, input_equations, copy_equations, copied_decls, copied_equations, first_of}
-use Rattle.lt_expand.specs.Walk.{Adds, InlinedTo}
+use Rattle.lt_expand.specs.Copies.{Library, Copy, grown, arguments_grown, inlined, arguments_inlined, copies, arguments_copies, copy_decls, input_equations, copy_equations, copied_decls, copied_equations, first_or_zero}
+use Rattle.lt_expand.specs.Walk.{AddsCopies, InlinedTo}
 use Rattle.lt_expand.proofs.Standing.{span}
 use Rattle.lt_expand.proofs.Filled.{filled, arguments_filled, copied_length}
 
@@ -30,10 +30,10 @@ equations_append (c ∷ xs) ys =
     let own = input_equations c.from c.inputs ++ copy_equations c.from c.source.eqs in
     ap (λ l. own ++ l) (equations_append xs ys) ∙ sym (append_assoc own (copied_equations xs) (copied_equations ys))
 
-pub adds_none : (ds : Decls) (es : Eqs) → Adds [] ds es ds es
+pub adds_none : (ds : Decls) (es : Eqs) → AddsCopies [] ds es ds es
 adds_none ds es = record { decls = sym (append-nil ds); eqs = sym (append-nil es) }
 
-pub adds_two : (xs ys : List Copy) (ds ds1 ds2 : Decls) (es es1 es2 : Eqs) → Adds xs ds es ds1 es1 → Adds ys ds1 es1 ds2 es2 → Adds (xs ++ ys) ds es ds2 es2
+pub adds_two : (xs ys : List Copy) (ds ds1 ds2 : Decls) (es es1 es2 : Eqs) → AddsCopies xs ds es ds1 es1 → AddsCopies ys ds1 es1 ds2 es2 → AddsCopies (xs ++ ys) ds es ds2 es2
 adds_two xs ys ds ds1 ds2 es es1 es2 a b = record {
   decls = b.decls
       ∙ ap (λ l. l ++ copied_decls ys) a.decls
@@ -45,7 +45,7 @@ adds_two xs ys ds ds1 ds2 es es1 es2 a b = record {
       ∙ ap (λ l. es ++ l) (sym (equations_append xs ys));
 }
 
-adds_length : (cs : List Copy) (ds : Decls) (es : Eqs) (ds' : Decls) (es' : Eqs) → Adds cs ds es ds' es' → length ds' ≡ length ds + span cs
+adds_length : (cs : List Copy) (ds : Decls) (es : Eqs) (ds' : Decls) (es' : Eqs) → AddsCopies cs ds es ds' es' → length ds' ≡ length ds + span cs
 adds_length cs ds es ds' es' a = ap length a.decls ∙ length-append ds (copied_decls cs) ∙ ap (λ k. length ds + k) (copied_length cs)
 
 module _ (lib : Library) where
@@ -67,9 +67,9 @@ module _ (lib : Library) where
       record { form = ap (λ z. sampled z c b) l'.form; adds = l'.adds }
 
   -- two operands, perhaps at two clocks
-  adds_pair : (ck ck' : ClockPairs) (a a' b b' : Expression) (ds ds1 ds2 : Decls) (es es1 es2 : Eqs) → To ck a ds es ds1 es1 a' → To ck' b ds1 es1 ds2 es2 b' → Adds (copies lib (length ds) ck a ++ copies lib (length ds + grown lib a) ck' b) ds es ds2 es2
+  adds_pair : (ck ck' : ClockPairs) (a a' b b' : Expression) (ds ds1 ds2 : Decls) (es es1 es2 : Eqs) → To ck a ds es ds1 es1 a' → To ck' b ds1 es1 ds2 es2 b' → AddsCopies (copies lib (length ds) ck a ++ copies lib (length ds + grown lib a) ck' b) ds es ds2 es2
   adds_pair ck ck' a a' b b' ds ds1 ds2 es es1 es2 l m =
-      adds_two (copies lib (length ds) ck a) _ ds ds1 ds2 es es1 es2 l.adds (subst (λ n. Adds (copies lib n ck' b) ds1 es1 ds2 es2) (inline_length ck a ds es ds1 es1 a' l) m.adds)
+      adds_two (copies lib (length ds) ck a) _ ds ds1 ds2 es es1 es2 l.adds (subst (λ n. AddsCopies (copies lib n ck' b) ds1 es1 ds2 es2) (inline_length ck a ds es ds1 es1 a' l) m.adds)
 
   form_next : (ck ck' : ClockPairs) (a a' b b' : Expression) (ds ds1 ds2 : Decls) (es es1 es2 : Eqs) → To ck a ds es ds1 es1 a' → To ck' b ds1 es1 ds2 es2 b' → b' ≡ inlined lib (length ds + grown lib a) b
   form_next ck ck' a a' b b' ds ds1 ds2 es es1 es2 l m = m.form ∙ ap (λ n. inlined lib n b) (inline_length ck a ds es ds1 es1 a' l)
@@ -113,7 +113,7 @@ module _ (lib : Library) where
       let g : b' ≡ inlined lib ((length ds + grown lib c) + grown lib a) b = m.form ∙ ap (λ n. inlined lib n b) (inline_length ck a ds1 es1 ds2 es2 a' l ∙ ap (λ n. n + grown lib a) n1) in
       record {
         form = λ i. choose (k.form i) (f i) (g i);
-        adds = adds_two (copies lib (length ds) ck c) _ ds ds1 ds3 es es1 es3 k.adds (subst (λ n. Adds (copies lib n ck a ++ copies lib (n + grown lib a) ck b) ds1 es1 ds3 es3) n1 (adds_pair ck ck a a' b b' ds1 ds2 ds3 es1 es2 es3 l m));
+        adds = adds_two (copies lib (length ds) ck c) _ ds ds1 ds3 es es1 es3 k.adds (subst (λ n. AddsCopies (copies lib n ck a ++ copies lib (n + grown lib a) ck b) ds1 es1 ds3 es3) n1 (adds_pair ck ck a a' b b' ds1 ds2 ds3 es1 es2 es3 l m));
       }
 
   -- the same of equal expressions
@@ -146,7 +146,7 @@ module _ (lib : Library) where
   pub record ArgumentsTo (ck : ClockPairs) (xs : List Expression) (ds : Decls) (es : Eqs) (ds' : Decls) (es' : Eqs) (ys : List Expression) : Type 0 where
     pub form : arguments_of ys ≡ arguments_inlined lib (length ds) (arguments_of xs)
     pub count : length ys ≡ length xs
-    pub adds : Adds (arguments_copies lib (length ds) ck (arguments_of xs)) ds es ds' es'
+    pub adds : AddsCopies (arguments_copies lib (length ds) ck (arguments_of xs)) ds es ds' es'
 
   pub arguments_none : (ck : ClockPairs) (ds : Decls) (es : Eqs) → ArgumentsTo ck [] ds es ds es []
   arguments_none ck ds es = record { form = refl; count = refl; adds = adds_none ds es }
@@ -162,15 +162,15 @@ module _ (lib : Library) where
       record {
         form = of_more ys x' ∙ (λ i. arguments_more (a.form i) (f i)) ∙ sym (inlined_more (length ds) args x) ∙ ap (arguments_inlined lib (length ds)) (sym (of_more xs x));
         count = (let p = length-append ys (x' ∷ []) in let q = length-append xs (x ∷ []) in let c = a.count in omega (arith, p, q, c));
-        adds = subst (λ cs. Adds cs ds es ds2 es2) (sym (ap (arguments_copies lib (length ds) ck) (of_more xs x) ∙ copies_more (length ds) ck args x))
-            (adds_two (arguments_copies lib (length ds) ck args) _ ds ds1 ds2 es es1 es2 a.adds (subst (λ m. Adds (copies lib m ck x) ds1 es1 ds2 es2) n l.adds));
+        adds = subst (λ cs. AddsCopies cs ds es ds2 es2) (sym (ap (arguments_copies lib (length ds) ck) (of_more xs x) ∙ copies_more (length ds) ck args x))
+            (adds_two (arguments_copies lib (length ds) ck args) _ ds ds1 ds2 es es1 es2 a.adds (subst (λ m. AddsCopies (copies lib m ck x) ds1 es1 ds2 es2) n l.adds));
       }
 
   -- and then the copy for the call was appended
-  pub inline_call : (ck : ClockPairs) (g : ℕ) (xs : List Expression) (ds ds1 ds2 : Decls) (es es1 es2 : Eqs) (ys : List Expression) (y : ℕ) → ArgumentsTo ck xs ds es ds1 es1 ys → y ≡ first_of (lib g).outs + length ds1 → Adds (record { from = length ds1; clock = ck; source = lib g; inputs = arguments_of ys } ∷ []) ds1 es1 ds2 es2 → To ck (call g (arguments_of xs)) ds es ds2 es2 (variable y)
+  pub inline_call : (ck : ClockPairs) (g : ℕ) (xs : List Expression) (ds ds1 ds2 : Decls) (es es1 es2 : Eqs) (ys : List Expression) (y : ℕ) → ArgumentsTo ck xs ds es ds1 es1 ys → y ≡ first_or_zero (lib g).outs + length ds1 → AddsCopies (record { from = length ds1; clock = ck; source = lib g; inputs = arguments_of ys } ∷ []) ds1 es1 ds2 es2 → To ck (call g (arguments_of xs)) ds es ds2 es2 (variable y)
   inline_call ck g xs ds ds1 ds2 es es1 es2 ys y a o r =
       let n = arguments_length ck xs ds es ds1 es1 ys a in
       record {
-        form = ap variable (o ∙ ap (λ m. first_of (lib g).outs + m) n);
-        adds = adds_two (arguments_copies lib (length ds) ck (arguments_of xs)) _ ds ds1 ds2 es es1 es2 a.adds (subst (λ (c : Copy). Adds (c ∷ []) ds1 es1 ds2 es2) (λ i. record { from = n i; clock = ck; source = lib g; inputs = a.form i }) r);
+        form = ap variable (o ∙ ap (λ m. first_or_zero (lib g).outs + m) n);
+        adds = adds_two (arguments_copies lib (length ds) ck (arguments_of xs)) _ ds ds1 ds2 es es1 es2 a.adds (subst (λ (c : Copy). AddsCopies (c ∷ []) ds1 es1 ds2 es2) (λ i. record { from = n i; clock = ck; source = lib g; inputs = a.form i }) r);
       }

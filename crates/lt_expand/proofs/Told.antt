@@ -4,7 +4,7 @@ use Rattle.std.proofs.lemmas.List.Elements.{All-head, All-tail}
 use Rattle.lt_base.specs.declared.function.Decl.{Decl}
 use Rattle.lt_base.specs.Expression.{Expression, literal, variable, unary, binary, imported, choose, sampled, merged, delayed, follow, arrow, call, Arguments, no_arguments, argument}
 use Rattle.lt_base.specs.Program.{Function}
-use Rattle.lt_base.specs.Checked.{count, EachUse, EachArgumentUse}
+use Rattle.lt_base.specs.Checked.{argument_count, EachUse, EachArgumentUse}
 use Rattle.lt_base.specs.Equations.{EquationsIn}
 use Rattle.lt_base.specs.Meaning.{ClockPairs, Environment, Row, Callee, clock_of, right_of, entry, present, outer, values_of}
 use Rattle.lt_base.specs.Solution.{Solves}
@@ -13,12 +13,12 @@ use Rattle.lt_base.specs.Tells.{AtEach, Tells, ArgumentsTell}
 use Rattle.lt_base.proofs.Solution.{and_left}
 use Rattle.lt_base.proofs.Lookups.{is_input, left_below}
 use Rattle.lt_base.proofs.Tells.{at_each, at_each_map, at_each_two, TellsAt, tells_same, tells_unary, tells_binary, tells_imported, tells_choose, tells_merged, tells_delayed, tells_follow, tells_arrow, tells_lifted, arguments_tell_more, stands_tells, tells_inlined}
-use Rattle.lt_expand.specs.Copies.{raise, first_of, Library, Copy, grown, arguments_grown, inlined, arguments_inlined, copies, arguments_copies, input_equations}
+use Rattle.lt_expand.specs.Copies.{raise, first_or_zero, Library, Copy, grown, arguments_grown, inlined, arguments_inlined, copies, arguments_copies, input_equations}
 use Rattle.lt_expand.proofs.Standing.{Each, Stands}
 use Rattle.lt_expand.proofs.Fitting.{Fits, Answering}
 use Rattle.lt_expand.proofs.Filled.{each_left, each_right}
 
-pub same_count : (lib : Library) (n : ℕ) (args : Arguments) → count (arguments_inlined lib n args) ≡ count args
+pub same_count : (lib : Library) (n : ℕ) (args : Arguments) → argument_count (arguments_inlined lib n args) ≡ argument_count args
 same_count lib n no_arguments = refl
 same_count lib n (argument e args) = let h = same_count lib (n + grown lib e) args in omega (arith, h)
 
@@ -38,7 +38,7 @@ base_at (d ∷ ds) (suc n) (suc i) a l = base_at ds n i (All-tail (λ d. d.clock
 
 module _ (callee : Callee) (F : Function) (es : List Environment) (rows : List Row) (solves : Solves callee F es rows) where
   -- the inputs of a copy hold its arguments
-  inputs_show : (ck : ClockPairs) (m : ℕ) (args : Arguments) (x : ℕ) → EquationsIn F (input_equations m args) → ((i : ℕ) → i < count args → (i + m < length F.decls) × (clock_of F.decls (i + m) ≡ ck)) → x < count args → AtEach (λ past env. present env ck ≡ true → env (x + m) ≡ entry (values_of callee args ck past env) x) es
+  inputs_show : (ck : ClockPairs) (m : ℕ) (args : Arguments) (x : ℕ) → EquationsIn F (input_equations m args) → ((i : ℕ) → i < argument_count args → (i + m < length F.decls) × (clock_of F.decls (i + m) ≡ ck)) → x < argument_count args → AtEach (λ past env. present env ck ≡ true → env (x + m) ≡ entry (values_of callee args ck past env) x) es
   inputs_show ck m no_arguments x s d h = absurd (omega arith)
   inputs_show ck m (argument e args) zero s d h =
       let k = d 0 (omega arith) in
@@ -48,13 +48,13 @@ module _ (callee : Callee) (F : Function) (es : List Environment) (rows : List R
       (inputs_show ck (suc m) args x s.1 (λ i l. let k = d (suc i) (omega (arith, l)) in (omega (arith, k.0), ap (clock_of F.decls) (omega arith) ∙ k.1)) (omega (arith, h)))
 
   -- one call
-  call_told : (fs : List Function) (g : ℕ) (c : Copy) (args : Arguments) → Answering callee fs c.source g (count args) → Stands F c → count c.inputs ≡ count args → ArgumentsTell callee es c.clock args c.inputs → Tells callee es c.clock (call g args) (variable (first_of c.source.outs + c.from))
+  call_told : (fs : List Function) (g : ℕ) (c : Copy) (args : Arguments) → Answering callee fs c.source g (argument_count args) → Stands F c → argument_count c.inputs ≡ argument_count args → ArgumentsTell callee es c.clock args c.inputs → Tells callee es c.clock (call g args) (variable (first_or_zero c.source.outs + c.from))
   call_told fs g c args a s same tells =
       let h = c.source in
       let fits = a.fits in
       let low : h.n_in ≤ length h.decls = fits.good.inputs in
-      let arity : h.n_in ≡ count args = fits.arity in
-      let at_input : (i : ℕ) → i < count c.inputs → (i + c.from < length F.decls) × (clock_of F.decls (i + c.from) ≡ c.clock) =
+      let arity : h.n_in ≡ argument_count args = fits.arity in
+      let at_input : (i : ℕ) → i < argument_count c.inputs → (i + c.from < length F.decls) × (clock_of F.decls (i + c.from) ≡ c.clock) =
       λ i l.
       let l' : i < length h.decls = omega (arith, l, same, arity, low) in
       (s.declared.numbers i l', s.declared.clocks i l' ∙ ap (λ k. below (raise c.from) k c.clock) (base_at h.decls h.n_in i fits.good.inputs_on_base (omega (arith, l, same, arity)))) in
@@ -63,7 +63,7 @@ module _ (callee : Callee) (F : Function) (es : List Environment) (rows : List R
       at_each_two (λ past env. present env c.clock ≡ true → env (x + c.from) ≡ entry (values_of callee c.inputs c.clock past env) x) (λ past env. present env c.clock ≡ true → values_of callee c.inputs c.clock past env ≡ values_of callee args c.clock past env) (λ past env. present env c.clock ≡ true → env (x + c.from) ≡ entry (values_of callee args c.clock past env) x) (λ past env p q r. p r ∙ ap (λ row. entry row x) (q r)) es
       (inputs_show c.clock c.from c.inputs x s.inputs at_input (let i = is_input h fits.good x l none in omega (arith, i, same, arity)))
       tells in
-      tells_inlined callee [] F h g a.meant (raise c.from) c.clock fits.clocked fits.causal (first_of h.outs) fits.one_out fits.out_declared fits.out_on_base args es rows (stands_tells callee F h (raise c.from) c.clock es (source_stands fs F c g (count args) fits s)) solves hold
+      tells_inlined callee [] F h g a.meant (raise c.from) c.clock fits.clocked fits.causal (first_or_zero h.outs) fits.one_out fits.out_declared fits.out_on_base args es rows (stands_tells callee F h (raise c.from) c.clock es (source_stands fs F c g (argument_count args) fits s)) solves hold
 
   module _ (fs : List Function) (lib : Library) where
     abbrev Use : ℕ → ℕ → Type 0

@@ -13,11 +13,11 @@ use Rattle.lt_base.specs.Typing.{ty_at, un_type, bin_type, imported_type, shared
 use Rattle.lt_base.specs.Clocking.{Clocked, ArgumentsClocked, ClockedFunction}
 use Rattle.lt_base.specs.Order.{EachClockVar}
 use Rattle.lt_base.specs.Placed.{renamed, below}
-use Rattle.lt_base.specs.Checked.{count}
+use Rattle.lt_base.specs.Checked.{argument_count}
 use Rattle.lt_base.proofs.Lookups.{all_found, left_below}
 use Rattle.lt_expand.proofs.Basics.{Has, both_has, under_has, un_has}
 use Rattle.lt_expand.proofs.Basics.{all_equations, declared_clock, each_clock_all, all_each_clock, ty_there, HasOne}
-use Rattle.lt_expand.specs.Copies.{raise, first_of, Library, Copy, grown, arguments_grown, inlined, arguments_inlined, copies, arguments_copies, input_equations, copy_decl, copy_decls, copied_decls, equations_copies, opened}
+use Rattle.lt_expand.specs.Copies.{raise, first_or_zero, Library, Copy, grown, arguments_grown, inlined, arguments_inlined, copies, arguments_copies, input_equations, copy_decl, copy_decls, copied_decls, equations_copies, with_copies}
 use Rattle.lt_expand.proofs.Standing.{Each, Declared, Stands}
 use Rattle.lt_expand.proofs.Fitting.{Fits}
 use Rattle.lt_expand.proofs.Filled.{each_left, each_right, each_copy_map, each_both}
@@ -92,11 +92,11 @@ module _ (lib : Library) (fs : List Function) (f F : Function) (kept : (x : ℕ)
   New e = type_of [] F.decls e
 
   -- the answer of a copy has the type of the call
-  call_has : (g : ℕ) (c : Copy) (n : ℕ) (us : List (Option Ty)) → Fits fs c.source g n → Stands F c → Has (call_type (function_of fs g) us) (ty_at F.decls (first_of c.source.outs + c.from))
+  call_has : (g : ℕ) (c : Copy) (n : ℕ) (us : List (Option Ty)) → Fits fs c.source g n → Stands F c → Has (call_type (function_of fs g) us) (ty_at F.decls (first_or_zero c.source.outs + c.from))
   call_has g c n us fits s t h =
       let r = sym (fits.types us) ∙ h in
       let a = fit_answer (input_types c.source) us (answer_type c.source.decls c.source.outs) t r in
-      s.declared.types (first_of c.source.outs) fits.out_declared ∙ sym (ap (answer_type c.source.decls) fits.one_out) ∙ a
+      s.declared.types (first_or_zero c.source.outs) fits.out_declared ∙ sym (ap (answer_type c.source.decls) fits.one_out) ∙ a
 
   mutual
     pub inlined_typed : (e : Expression) (n : ℕ) (ck : ClockPairs) → Used fs lib e → Clocked fs f.decls e ck → Each (Stands F) (copies lib n ck e) → Has (type_of fs f.decls e) (type_of [] F.decls (inlined lib n e))
@@ -126,7 +126,7 @@ module _ (lib : Library) (fs : List Function) (f F : Function) (kept : (x : ℕ)
         both_has shared_type (Old a) (New (inlined lib n a)) (Old b) (New (inlined lib (n + grown lib a) b)) (inlined_typed a n ck u.0 k.0 (each_left (Stands F) (copies lib n ck a) _ s)) (inlined_typed b (n + grown lib a) ck u.1 k.1 (each_right (Stands F) (copies lib n ck a) _ s)) t h
     inlined_typed (call g args) n ck u k s t h =
         let c : Copy = record { from = n + arguments_grown lib args; clock = ck; source = lib g; inputs = arguments_inlined lib n args } in
-        call_has g c (count args) (arguments_types fs f.decls args) u.0 (each_right (Stands F) (arguments_copies lib n ck args) _ s).0 t h
+        call_has g c (argument_count args) (arguments_types fs f.decls args) u.0 (each_right (Stands F) (arguments_copies lib n ck args) _ s).0 t h
 
   -- the inputs of a copy have the types of the called function's inputs
   pub arguments_inlined_typed : (args : Arguments) (n : ℕ) (ck : ClockPairs) (ws : List Ty) (o : Option Ty) (t : Ty) → ArgumentsUsed fs lib args → ArgumentsClocked fs f.decls args ck → Each (Stands F) (arguments_copies lib n ck args) → arguments_fit ws (arguments_types fs f.decls args) o ≡ Some t → InputsTyped F.decls ws (arguments_inlined lib n args)
@@ -258,7 +258,7 @@ module _ (lib : Library) (fs : List Function) (f : Function) (good : GoodFunctio
   N = length f.decls
 
   abbrev F : Function
-  F = opened lib f
+  F = with_copies lib f
 
   abbrev cs : List Copy
   cs = equations_copies lib f.decls N f.eqs

@@ -6,7 +6,7 @@ use Rattle.lt_base.specs.Expression.{Expression, literal, variable, unary, binar
 use Rattle.lt_base.specs.Program.{Function}
 use Rattle.lt_base.specs.Meaning.{ClockPairs, function_of}
 use Rattle.lt_base.specs.Clocking.{AnswersOnBase, Clocked, ArgumentsClocked}
-use Rattle.lt_base.specs.Checked.{count, EachUse, EachArgumentUse}
+use Rattle.lt_base.specs.Checked.{argument_count, EachUse, EachArgumentUse}
 use Rattle.lt_base.specs.Calls.{EachCall, EachArgumentCall}
 use Rattle.lt_base.specs.Equations.{EachRight}
 
@@ -25,7 +25,7 @@ module _ (P : ℕ → ℕ → Type 0) (Q S : ℕ → Type 0) (R : ℕ → ℕ �
     use_from (delayed v e) p q s = use_from e p q s
     use_from (follow a b) p q s = (use_from a p.0 q.0 s.0, use_from b p.1 q.1 s.1)
     use_from (arrow a b) p q s = (use_from a p.0 q.0 s.0, use_from b p.1 q.1 s.1)
-    use_from (call g args) p q s = (h g (count args) p.0 q.0 s.0, arguments_use_from args p.1 q.1 s.1)
+    use_from (call g args) p q s = (h g (argument_count args) p.0 q.0 s.0, arguments_use_from args p.1 q.1 s.1)
 
     pub arguments_use_from : (args : Arguments) → EachArgumentUse P args → EachArgumentCall Q args → EachArgumentCall S args → EachArgumentUse R args
     arguments_use_from no_arguments p q s = tt
@@ -66,7 +66,7 @@ mutual
   use_map P Q h (delayed v e) u = use_map P Q h e u
   use_map P Q h (follow a b) u = (use_map P Q h a u.0, use_map P Q h b u.1)
   use_map P Q h (arrow a b) u = (use_map P Q h a u.0, use_map P Q h b u.1)
-  use_map P Q h (call g args) u = (h g (count args) u.0, arguments_use_map P Q h args u.1)
+  use_map P Q h (call g args) u = (h g (argument_count args) u.0, arguments_use_map P Q h args u.1)
 
   pub arguments_use_map : (P Q : ℕ → ℕ → Type 0) → ((g n : ℕ) → P g n → Q g n) → (args : Arguments) → EachArgumentUse P args → EachArgumentUse Q args
   arguments_use_map P Q h no_arguments u = tt

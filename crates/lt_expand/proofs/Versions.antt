@@ -7,7 +7,7 @@ use Rattle.lt_base.specs.Program.{Function}
 use Rattle.lt_base.specs.Dependence.{has}
 use Rattle.lt_base.proofs.Reading.{has_one}
 use Rattle.lt_expand.specs.Copies.{expanded}
-use Rattle.lt_expand.specs.Walk.{Within, version_in, made_of, IsMade, AreVersions, KeepsVersions}
+use Rattle.lt_expand.specs.Walk.{NestsWithin, version_in, made_of, IsMade, AreVersions, KeepsVersions}
 
 some_version : (o : Option Function) (F : Function) → o ≡ Some F → o ≡ Some (version_in o)
 some_version None F h = absurd (cc)
@@ -43,18 +43,18 @@ module _ (versions : List (Option Function)) (g : ℕ) (F : Function) (inside : 
   pub set_made : IsMade more g
   set_made = is_made more g F set_here
 
-  pub set_are : (fs : List Function) → AreVersions fs versions → ((n : ℕ) → Within fs n g → F ≡ expanded fs n g) → AreVersions fs more
+  pub set_are : (fs : List Function) → AreVersions fs versions → ((n : ℕ) → NestsWithin fs n g → F ≡ expanded fs n g) → AreVersions fs more
   set_are fs a is = record {
     all = length-set versions g (Some F) ∙ a.all;
     are = λ h G e n w. go h G e n w (nat_eq h g) refl;
   }
     where
-      go : (h : ℕ) (G : Function) → made_of more h ≡ Some G → (n : ℕ) → Within fs n h → (t : Bool) → nat_eq h g ≡ t → G ≡ expanded fs n h
+      go : (h : ℕ) (G : Function) → made_of more h ≡ Some G → (n : ℕ) → NestsWithin fs n h → (t : Bool) → nat_eq h g ≡ t → G ≡ expanded fs n h
       go h G e n w true t =
           let same : h ≡ g = eqb-true h g t in
           let own : made_of more h ≡ Some F = ap (made_of more) same ∙ set_here in
           let equal : F ≡ G = cc in
-          sym equal ∙ is n (subst (Within fs n) same w) ∙ ap (expanded fs n) (sym same)
+          sym equal ∙ is n (subst (NestsWithin fs n) same w) ∙ ap (expanded fs n) (sym same)
       go h G e n w false t = a.are h G (sym (set_there h t) ∙ e) n w
 
 -- what was there before the called functions of a function were made is there after that, and after the function too

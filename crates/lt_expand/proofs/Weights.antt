@@ -8,7 +8,7 @@ use Rattle.lt_base.specs.Expression.{Expression, literal, variable, unary, binar
 use Rattle.lt_base.specs.Program.{Function}
 use Rattle.lt_base.specs.Meaning.{ClockPairs, clock_of, outer}
 use Rattle.lt_base.specs.Sizes.{cost, arguments_cost, weight_with, weight}
-use Rattle.lt_expand.specs.Copies.{raise, Library, Copy, grown, arguments_grown, inlined, arguments_inlined, copies, arguments_copies, copy_decl, input_equations, copy_equation, copy_equations, copied_decls, copied_equations, equations_inlined, equations_copies, opened, expanded}
+use Rattle.lt_expand.specs.Copies.{raise, Library, Copy, grown, arguments_grown, inlined, arguments_inlined, copies, arguments_copies, copy_decl, input_equations, copy_equation, copy_equations, copied_decls, copied_equations, equations_inlined, equations_copies, with_copies, expanded}
 use Rattle.lt_expand.proofs.Sized.{none, cost_renamed, sized}
 
 abbrev copy_weight : Copy → ℕ
@@ -122,7 +122,7 @@ module _ (lib : Library) where
       let m = length-map c.source.decls (copy_decl c.from c.clock) in
       omega (arith, h, a, b, i, j, l, m)
 
-  opened_weight : (f : Function) → weight_with none (opened lib f) ≡ weight_with w f
+  opened_weight : (f : Function) → weight_with none (with_copies lib f) ≡ weight_with w f
   opened_weight f =
       let cs = equations_copies lib f.decls (length f.decls) f.eqs in
       let l = length-append f.decls (copied_decls cs) in

@@ -10,9 +10,9 @@ use Rattle.lt_base.specs.Calls.{EachCall, CallsFunction}
 use Rattle.lt_base.specs.Checked.{EachUse, CheckedProgram}
 use Rattle.lt_base.specs.Sizes.{weight_with, parts_with, program_weight}
 use Rattle.lt_base.proofs.Lookups.{all_found}
-use Rattle.lt_expand.specs.Copies.{Library, grown, equations_grown, equations_copies, copied_decls, opened, expanded, expansion}
+use Rattle.lt_expand.specs.Copies.{Library, grown, equations_grown, equations_copies, copied_decls, with_copies, expanded, expansion}
 use Rattle.lt_expand.specs.Expansion.{ProgramExpansion}
-use Rattle.lt_expand.specs.Walk.{Within, library_of, IsMade, Copyable, AreVersions, owners}
+use Rattle.lt_expand.specs.Walk.{NestsWithin, library_of, IsMade, Copyable, AreVersions, owners}
 use Rattle.lt_expand.proofs.Basics.{all_equations}
 use Rattle.lt_expand.proofs.Filled.{equations_filled, copied_length}
 use Rattle.lt_expand.proofs.Clocks.{clocked_callless}
@@ -30,7 +30,7 @@ owners_length lib (q ∷ qs) =
     let h = owners_length lib qs in
     omega (arith, l, r, h)
 
-pub opened_variables : (lib : Library) (f : Function) → length (range_with_len 0 (length f.decls) ++ owners lib f.eqs) ≡ length (opened lib f).decls
+pub opened_variables : (lib : Library) (f : Function) → length (range_with_len 0 (length f.decls) ++ owners lib f.eqs) ≡ length (with_copies lib f).decls
 opened_variables lib f =
     let r = length-append (range_with_len 0 (length f.decls)) (owners lib f.eqs) in
     let n = length-range_with_len 0 (length f.decls) in
@@ -45,9 +45,9 @@ module _ (p : WholeProgram) (good : GoodProgram p) (checked : CheckedProgram p) 
   fs = p.funcs
 
   -- what is made for the functions that main calls makes its expansion
-  pub expanded_whole : (versions : List (Option Function)) → AreVersions fs versions → (n : ℕ) → length fs ≡ suc n → (f : Function) → function_of fs p.main ≡ Some f → ((h : ℕ) → CallsFunction fs p.main h → IsMade versions h) → (F : Function) (origin : List ℕ) → F ≡ opened (library_of versions) f → origin ≡ range_with_len 0 (length f.decls) ++ owners (library_of versions) f.eqs → (F ≡ expansion p) × ProgramExpansion p F origin
+  pub expanded_whole : (versions : List (Option Function)) → AreVersions fs versions → (n : ℕ) → length fs ≡ suc n → (f : Function) → function_of fs p.main ≡ Some f → ((h : ℕ) → CallsFunction fs p.main h → IsMade versions h) → (F : Function) (origin : List ℕ) → F ≡ with_copies (library_of versions) f → origin ≡ range_with_len 0 (length f.decls) ++ owners (library_of versions) f.eqs → (F ≡ expansion p) × ProgramExpansion p F origin
   expanded_whole versions are n size f e made F origin is from =
-      let within : Within fs (suc n) p.main = subst (λ k. Within fs k p.main) size (within_all p good checked p.main good.main) in
+      let within : NestsWithin fs (suc n) p.main = subst (λ k. NestsWithin fs k p.main) size (within_all p good checked p.main good.main) in
       let same : F ≡ expanded fs (suc n) p.main = is ∙ opened_is p good checked versions are n p.main f e within made in
       let whole : F ≡ expansion p = same ∙ ap (λ k. expanded fs k p.main) (sym size) in
       let x : Expands (calls fs (length fs)) F f = subst (λ F. Expands (calls fs (length fs)) F f) (sym same) (expands p good checked (suc n) p.main f e within) in (
@@ -82,11 +82,11 @@ module _ (p : WholeProgram) (good : GoodProgram p) (checked : CheckedProgram p) 
     main_inside : P.main < length fs
     main_inside = let m = main_is in let l = good.main in omega (arith, m, l)
 
-    within_main : Within fs (length fs) P.main
+    within_main : NestsWithin fs (length fs) P.main
     within_main = within_all p good checked P.main main_inside
 
-    pub main_within : (n : ℕ) → n ≡ length P.funcs → Within fs n P.main
-    main_within n e = subst (λ k. Within fs k P.main) (sym (e ∙ ap (λ (P : WholeProgram). length P.funcs) view)) within_main
+    pub main_within : (n : ℕ) → n ≡ length P.funcs → NestsWithin fs n P.main
+    main_within n e = subst (λ k. NestsWithin fs k P.main) (sym (e ∙ ap (λ (P : WholeProgram). length P.funcs) view)) within_main
 
     module _ (all : List (Option Function)) (all_are : AreVersions fs all) (all_made : (h : ℕ) → CallsFunction fs P.main h → IsMade all h) (versions : List (Option Function)) (same : versions ≡ all) (items : List Function) (items_are : items ≡ P.funcs) (f : Function) (read : f ≡ get_or items P.main f) where
       are : AreVersions fs versions
@@ -98,7 +98,7 @@ module _ (p : WholeProgram) (good : GoodProgram p) (checked : CheckedProgram p) 
       found : function_of fs P.main ≡ Some f
       found = function_at p P view items items_are P.main f main_inside read
 
-      pub main_good : GoodFunction (opened (library_of versions) f)
+      pub main_good : GoodFunction (with_copies (library_of versions) f)
       main_good = version_good p good checked versions are P.main f found made (length fs) within_main
 
       pub main_ready : All (λ q. EachUse (λ h k. Copyable versions h k) q.1) f.eqs
@@ -108,7 +108,7 @@ module _ (p : WholeProgram) (good : GoodProgram p) (checked : CheckedProgram p) 
       main_room room =
           version_room p good checked versions are P.main f found made (length fs) within_main (subst (λ g. length (expanded fs (length fs) g).decls < 2 ^ 32) (sym main_is) room)
 
-      pub main_whole : (F : Function) (origin : List ℕ) → F ≡ opened (library_of versions) f → origin ≡ range_with_len 0 (length f.decls) ++ owners (library_of versions) f.eqs → (F ≡ expansion p) × ProgramExpansion p F origin
+      pub main_whole : (F : Function) (origin : List ℕ) → F ≡ with_copies (library_of versions) f → origin ≡ range_with_len 0 (length f.decls) ++ owners (library_of versions) f.eqs → (F ≡ expansion p) × ProgramExpansion p F origin
       main_whole F origin is from = go (length fs) refl
         where
           go : (k : ℕ) → length fs ≡ k → (F ≡ expansion p) × ProgramExpansion p F origin

@@ -10,9 +10,9 @@ use Rattle.lt_base.specs.Placed.{renamed, below}
 abbrev pub raise : ℕ → ℕ → ℕ
 raise m x = x + m
 
-abbrev pub first_of : List ℕ → ℕ
-first_of [] = 0
-first_of (y ∷ ys) = y
+abbrev pub first_or_zero : List ℕ → ℕ
+first_or_zero [] = 0
+first_or_zero (y ∷ ys) = y
 
 -- a function without calls for each number that is called
 abbrev pub Library : Type 0
@@ -52,7 +52,7 @@ abbrev mutual
   inlined lib n (delayed v e) = delayed v (inlined lib n e)
   inlined lib n (follow a b) = follow (inlined lib n a) (inlined lib (n + grown lib a) b)
   inlined lib n (arrow a b) = arrow (inlined lib n a) (inlined lib (n + grown lib a) b)
-  inlined lib n (call g args) = variable (first_of (lib g).outs + (n + arguments_grown lib args))
+  inlined lib n (call g args) = variable (first_or_zero (lib g).outs + (n + arguments_grown lib args))
 
   pub arguments_inlined : Library → ℕ → Arguments → Arguments
   arguments_inlined lib n no_arguments = no_arguments
@@ -139,8 +139,8 @@ equations_copies lib ds n [] = []
 equations_copies lib ds n (q ∷ qs) = copies lib n (clock_of ds q.0) q.1 ++ equations_copies lib ds (n + grown lib q.1) qs
 
 -- a function with copies in place of its calls: its variables keep their numbers, and those of the copies come after them
-abbrev pub opened : Library → Function → Function
-opened lib f =
+abbrev pub with_copies : Library → Function → Function
+with_copies lib f =
     let cs = equations_copies lib f.decls (length f.decls) f.eqs in
     record {
       name = f.name;
@@ -155,7 +155,7 @@ no_function = record { name = []; decls = []; n_in = 0; outs = []; eqs = [] }
 
 abbrev pub opened_or : Library → Option Function → Function
 opened_or lib None = no_function
-opened_or lib (Some f) = opened lib f
+opened_or lib (Some f) = with_copies lib f
 
 -- each function of a program without its calls, where that many can be nested
 abbrev pub expanded : List Function → ℕ → Library

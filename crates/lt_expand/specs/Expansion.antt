@@ -20,13 +20,13 @@ abbrev pub variables_with : (ℕ → ℕ) → Function → ℕ
 variables_with w f = length f.decls + sum_by (λ e. cost 0 w e.1) f.eqs
 
 -- the same with that many nested calls
-abbrev pub variables : List Function → ℕ → ℕ → ℕ
-variables fs n g = nested variables_with fs n g
+abbrev pub nested_variables : List Function → ℕ → ℕ → ℕ
+nested_variables fs n g = nested variables_with fs n g
 
 -- the variables of main in whose equations the new ones arose, equation by equation
-abbrev pub new_origins : List Function → List (ℕ × Expression) → List ℕ
-new_origins fs [] = []
-new_origins fs (q ∷ qs) = replicate (cost 0 (variables fs (length fs)) q.1) q.0 ++ new_origins fs qs
+abbrev pub copied_origins : List Function → List (ℕ × Expression) → List ℕ
+copied_origins fs [] = []
+copied_origins fs (q ∷ qs) = replicate (cost 0 (nested_variables fs (length fs)) q.1) q.0 ++ copied_origins fs qs
 
 -- the function F with these origins stands for the function f of a program
 pub record ExpansionOf (fs : List Function) (f : Function) (F : Function) (origin : List ℕ) : Type 0 where
@@ -46,7 +46,7 @@ pub record ExpansionOf (fs : List Function) (f : Function) (F : Function) (origi
   pub clocked : ClockedFunction [] F
   pub causal : Causal F
   -- a variable of f is its own origin, and a new one has the variable of f in whose equation it arose
-  pub origins : origin ≡ range_with_len 0 (length f.decls) ++ new_origins fs f.eqs
+  pub origins : origin ≡ range_with_len 0 (length f.decls) ++ copied_origins fs f.eqs
   pub each : length origin ≡ length F.decls
 
 -- the same for the main function of a program, whose weight and parts F has of its own
@@ -69,7 +69,7 @@ pub record IsTooMany (p : WholeProgram) (needed : Sizes) : Type 0 where
 
 -- the origins of the variables of a main function's expansion
 abbrev pub origins_of : List Function → Function → List ℕ
-origins_of fs f = range_with_len 0 (length f.decls) ++ new_origins fs f.eqs
+origins_of fs f = range_with_len 0 (length f.decls) ++ copied_origins fs f.eqs
 
 -- every checked program has an expansion that keeps all this
 abbrev pub ProgramsExpand : Type 0

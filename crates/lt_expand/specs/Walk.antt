@@ -9,19 +9,19 @@ use Rattle.lt_base.specs.Calls.{EachCall, CallsFunction}
 use Rattle.lt_expand.specs.Copies.{Library, Copy, grown, inlined, copies, copied_decls, copied_equations, equations_inlined, equations_copies, no_function, expanded}
 
 -- fewer than n calls nest in function g
-abbrev pub Within : List Function → ℕ → ℕ → Type 0
-Within fs zero g = ⊥
-Within fs (suc n) g = (h : ℕ) → CallsFunction fs g h → Within fs n h
+abbrev pub NestsWithin : List Function → ℕ → ℕ → Type 0
+NestsWithin fs zero g = ⊥
+NestsWithin fs (suc n) g = (h : ℕ) → CallsFunction fs g h → NestsWithin fs n h
 
 -- these copies were appended to the declarations and to the equations
-pub record Adds (cs : List Copy) (ds : List Decl) (es : List (ℕ × Expression)) (ds' : List Decl) (es' : List (ℕ × Expression)) : Type 0 where
+pub record AddsCopies (cs : List Copy) (ds : List Decl) (es : List (ℕ × Expression)) (ds' : List Decl) (es' : List (ℕ × Expression)) : Type 0 where
   pub decls : ds' ≡ ds ++ copied_decls cs
   pub eqs : es' ≡ es ++ copied_equations cs
 
 -- so were the copies for the calls of an expression at a clock, and this form of it is left
 pub record InlinedTo (lib : Library) (ck : ClockPairs) (e : Expression) (ds : List Decl) (es : List (ℕ × Expression)) (ds' : List Decl) (es' : List (ℕ × Expression)) (e' : Expression) : Type 0 where
   pub form : e' ≡ inlined lib (length ds) e
-  pub adds : Adds (copies lib (length ds) ck e) ds es ds' es'
+  pub adds : AddsCopies (copies lib (length ds) ck e) ds es ds' es'
 
 -- the versions without calls that are made, as a library
 abbrev pub version_in : Option Function → Function
@@ -49,7 +49,7 @@ pub record Copyable (versions : List (Option Function)) (g n : ℕ) : Type 0 whe
 -- what was made is a program's functions without their calls
 pub record AreVersions (fs : List Function) (versions : List (Option Function)) : Type 0 where
   pub all : length versions ≡ length fs
-  pub are : (g : ℕ) (F : Function) → made_of versions g ≡ Some F → (n : ℕ) → Within fs n g → F ≡ expanded fs n g
+  pub are : (g : ℕ) (F : Function) → made_of versions g ≡ Some F → (n : ℕ) → NestsWithin fs n g → F ≡ expanded fs n g
 
 -- what was made is still there
 abbrev pub KeepsVersions : List (Option Function) → List (Option Function) → Type 0

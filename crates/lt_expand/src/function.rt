@@ -4,7 +4,7 @@ ghost use Rattle.std.specs.Prelude.{◌≡◌, ◌+◌, ◌<◌, ◌^◌, ◌++�
 ghost use Rattle.std.specs.List.{All, range_with_len};
 ghost use Rattle.lt_base.specs.Program.{GoodFunction};
 ghost use Rattle.lt_base.specs.Checked.{EachUse};
-ghost use Rattle.lt_expand.specs.Copies.{equations_grown, opened};
+ghost use Rattle.lt_expand.specs.Copies.{equations_grown, with_copies};
 ghost use Rattle.lt_expand.specs.Walk.{library_of, Copyable, AllInlined, owners};
 
 use crate::inline::{Pasted, inline_side};
@@ -48,7 +48,7 @@ fn open_equations(
     };
     let mut eqs = Vec::with_capacity(alloc, equations.len())?;
     let mut origins = numbers(alloc, known.len() as u32)?;
-    for equation in equations.as_slice() {
+    for equation in equations.iter() {
         let right = inline_side(alloc, versions, known, &mut pasted, equation)?;
         eqs.push(Equation::new(equation.left(), right))?;
         origins.resize(pasted.decls.len(), equation.left())?;
@@ -62,13 +62,13 @@ fn open_equations(
 
 /// A function with copies in place of its calls, and for each variable the one of the function in whose equation it arose.
 pub(crate) fn open(alloc: Global, versions: &[Option<Func>], f: &Func) -> Result<Whole, Memory>
-    requires good { GoodFunction (opened (library_of versions.now) f.now) }
+    requires good { GoodFunction (with_copies (library_of versions.now) f.now) }
     requires ready { All (λ q. EachUse (λ h k. Copyable versions.now h k) q.1) f.now.eqs }
     requires room { length f.now.decls + equations_grown (library_of versions.now) f.now.eqs < 2 ^ 32 }
-    ensures form { IfOk result (λ whole. whole.func ≡ opened (library_of versions.now) f.now) }
+    ensures form { IfOk result (λ whole. whole.func ≡ with_copies (library_of versions.now) f.now) }
     ensures origins { IfOk result (λ whole. whole.origin ≡ range_with_len 0 (length f.now.decls) ++ owners (library_of versions.now) f.now.eqs) }
 {
-    f.kept();
+    f.invariant_holds();
     let opening = open_equations(alloc, versions, &f.decls, &f.eqs)?;
     let Opening {
         pasted,

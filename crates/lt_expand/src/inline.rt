@@ -5,10 +5,9 @@ ghost use Rattle.lt_base.specs.declared.expression.Expr.{Call};
 ghost use Rattle.lt_base.specs.Expression.{shape, variable, arguments_of};
 ghost use Rattle.lt_base.specs.Checked.{EachUse};
 ghost use Rattle.lt_base.specs.Meaning.{clock_of, outer as outer_pairs};
-ghost use Rattle.lt_expand.specs.Copies.{first_of, grown};
-ghost use Rattle.lt_expand.specs.Walk.{library_of, IsMade, Copyable, Adds, InlinedTo};
+ghost use Rattle.lt_expand.specs.Copies.{first_or_zero, grown};
+ghost use Rattle.lt_expand.specs.Walk.{library_of, IsMade, Copyable, AddsCopies, InlinedTo};
 
-use crate::clocking::{deeper, outer};
 use crate::paste::append_copy;
 use lt_base::{Clock, Decl, Equation, Expr, Func, List, Memory};
 use std::alloc::Global;
@@ -42,8 +41,8 @@ fn copy_for_call(
 ) -> Result<u32, Memory>
     requires ready { Copyable versions.now g (length inputs.items) }
     requires room { length into.old.decls.items + length (library_of versions.now g).decls < 2 ^ 32 }
-    ensures output { IfOk result (λ y. y ≡ first_of (library_of versions.now g).outs + length into.old.decls.items) }
-    ensures adds { IfOk result (λ y. Adds (record { from = length into.old.decls.items; clock = place.now; source = library_of versions.now g; inputs = arguments_of (map shape inputs.items) } ∷ []) into.old.decls.items into.old.eqs.items into.new.decls.items into.new.eqs.items) }
+    ensures output { IfOk result (λ y. y ≡ first_or_zero (library_of versions.now g).outs + length into.old.decls.items) }
+    ensures adds { IfOk result (λ y. AddsCopies (record { from = length into.old.decls.items; clock = place.now; source = library_of versions.now g; inputs = arguments_of (map shape inputs.items) } ∷ []) into.old.decls.items into.old.eqs.items into.new.decls.items into.new.eqs.items) }
 {
     let source = version(versions, g);
     append_copy(&mut into.decls, &mut into.eqs, place, source, inputs)
@@ -116,7 +115,7 @@ fn inline_outside(
     ensures room { OnOk result (length into.new.decls.items ≡ length into.old.decls.items + grown (library_of versions.now) (shape e.old)) }
     ensures all { OnOk result (InlinedTo (library_of versions.now) (outer_pairs clock.now) (shape e.old) into.old.decls.items into.old.eqs.items into.new.decls.items into.new.eqs.items (shape e.new)) }
 {
-    let before = outer(clock)?;
+    let before = clock.outer()?;
     inline(alloc, versions, into, &before, e)
 }
 
@@ -136,7 +135,7 @@ fn inline_branch(
     ensures room { OnOk result (length into.new.decls.items ≡ length into.old.decls.items + grown (library_of versions.now) (shape e.old)) }
     ensures all { OnOk result (InlinedTo (library_of versions.now) ((c, polarity) ∷ clock.now) (shape e.old) into.old.decls.items into.old.eqs.items into.new.decls.items into.new.eqs.items (shape e.new)) }
 {
-    let branch = deeper(clock, c, polarity)?;
+    let branch = clock.inner(c, polarity)?;
     inline(alloc, versions, into, &branch, e)
 }
 
@@ -179,7 +178,7 @@ pub(crate) fn inline_side(
     requires room { length into.old.decls.items + grown (library_of versions.now) equation.now.1 < 2 ^ 32 }
     ensures { IfOk result (λ r. InlinedTo (library_of versions.now) (clock_of known.now equation.now.0) equation.now.1 into.old.decls.items into.old.eqs.items into.new.decls.items into.new.eqs.items (shape r)) }
 {
-    let decl = &known.as_slice()[equation.left() as usize];
+    let decl = &known[equation.left() as usize];
     let mut right = equation.right().copy()?;
     inline(alloc, versions, into, &decl.clock, &mut right)?;
     Ok(right)

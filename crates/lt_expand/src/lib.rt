@@ -1,7 +1,6 @@
 //! Calls replaced by copies of the called functions.
 #![tactic(auto)]
 
-mod clocking;
 mod function;
 mod inline;
 pub mod laws;

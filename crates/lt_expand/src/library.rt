@@ -5,9 +5,9 @@ ghost use Rattle.std.specs.List.{All};
 ghost use Rattle.lt_base.specs.Program.{GoodFunction};
 ghost use Rattle.lt_base.specs.Checked.{EachUse, CheckedProgram};
 ghost use Rattle.lt_base.specs.Calls.{CallsFunction};
-ghost use Rattle.lt_expand.specs.Copies.{equations_grown, opened, expanded, expansion};
+ghost use Rattle.lt_expand.specs.Copies.{equations_grown, with_copies, expanded, expansion};
 ghost use Rattle.lt_expand.specs.Expansion.{ProgramExpansion};
-ghost use Rattle.lt_expand.specs.Walk.{Within, library_of, IsMade, Copyable, AreVersions, KeepsVersions};
+ghost use Rattle.lt_expand.specs.Walk.{NestsWithin, library_of, IsMade, Copyable, AreVersions, KeepsVersions};
 
 use crate::function::open;
 use lt_base::{Func, Memory, Program, Whole};
@@ -28,12 +28,12 @@ fn none_made(alloc: Global, count: usize) -> Result<Vec<Option<Func>>, Memory>
 // Makes one function over those that it calls.
 fn make(alloc: Global, versions: &mut Vec<Option<Func>>, f: &Func, g: u32) -> Result<(), Memory>
     requires number { g < length versions.old.items }
-    requires good { GoodFunction (opened (library_of versions.old.items) f.now) }
+    requires good { GoodFunction (with_copies (library_of versions.old.items) f.now) }
     requires ready { All (λ q. EachUse (λ h k. Copyable versions.old.items h k) q.1) f.now.eqs }
     requires room { length f.now.decls + equations_grown (library_of versions.old.items) f.now.eqs < 2 ^ 32 }
-    ensures { OnOk result (versions.new.items ≡ slice_set versions.old.items g (Some (opened (library_of versions.old.items) f.now))) }
+    ensures { OnOk result (versions.new.items ≡ slice_set versions.old.items g (Some (with_copies (library_of versions.old.items) f.now))) }
 {
-    let whole = open(alloc, versions.as_slice(), f)?;
+    let whole = open(alloc, versions, f)?;
     versions[g as usize] = Some(whole.func);
     Ok(())
 }
@@ -49,21 +49,21 @@ fn make_called(
 ) -> Result<(), Memory>
     requires checked { CheckedProgram p.now }
     requires number { g < length p.now.funcs }
-    requires within { Within p.now.funcs left g }
+    requires within { NestsWithin p.now.funcs left g }
     requires room { length (expanded p.now.funcs left g).decls < 2 ^ 32 }
     requires are { AreVersions p.now.funcs versions.old.items }
     ensures are { OnOk result (AreVersions p.now.funcs versions.new.items) }
     ensures kept { OnOk result (KeepsVersions versions.old.items versions.new.items) }
     ensures made { OnOk result ((h : ℕ) → CallsFunction p.now.funcs g h → IsMade versions.new.items h) }
 {
-    p.kept();
-    let called = calls_of(alloc, &p.funcs.as_slice()[g as usize])?;
-    for h in called.as_slice() {
+    p.invariant_holds();
+    let called = calls_of(alloc, &p.funcs[g as usize])?;
+    for h in called.iter() {
         if versions[*h as usize].is_some() {
             continue;
         }
         make_called(alloc, p, left - 1, versions, *h)?;
-        make(alloc, versions, &p.funcs.as_slice()[*h as usize], *h)?;
+        make(alloc, versions, &p.funcs[*h as usize], *h)?;
     }
     Ok(())
 }
@@ -75,11 +75,11 @@ pub(crate) fn expand_main(alloc: Global, p: &Program) -> Result<Whole, Memory>
     ensures form { IfOk result (λ whole. whole.func ≡ expansion p.now) }
     ensures keeps { IfOk result (λ whole. ProgramExpansion p.now whole.func whole.origin) }
 {
-    p.kept();
+    p.invariant_holds();
     let count = p.funcs.len();
     let mut versions = none_made(alloc, count)?;
     make_called(alloc, p, count, &mut versions, p.main)?;
-    let main = &p.funcs.as_slice()[p.main as usize];
-    let whole = open(alloc, versions.as_slice(), main)?;
+    let main = &p.funcs[p.main as usize];
+    let whole = open(alloc, &versions, main)?;
     Ok(whole)
 }

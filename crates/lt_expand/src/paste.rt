@@ -4,10 +4,10 @@ ghost use Rattle.std.specs.Prelude.{◌≡◌, ◌+◌, ◌-◌, ◌<◌, ◌≤
 ghost use Rattle.lt_base.specs.Expression.{shape, arguments_of};
 ghost use Rattle.lt_base.specs.Program.{VarsBelow};
 ghost use Rattle.lt_base.specs.Calls.{EachCall};
-ghost use Rattle.lt_expand.specs.Copies.{first_of, copy_decls, copy_equations, input_equations};
-ghost use Rattle.lt_expand.specs.Walk.{Adds};
+ghost use Rattle.lt_expand.specs.Copies.{first_or_zero, copy_decls, copy_equations, input_equations};
+ghost use Rattle.lt_expand.specs.Walk.{AddsCopies};
 
-use crate::raised::{raised, raised_decl};
+use crate::raised::{raise_variables, raised_decl};
 use lt_base::{Clock, Decl, Equation, Expr, Func, List, Memory};
 
 // Appends the declarations of a copy that begins at this number.
@@ -20,7 +20,7 @@ fn append_decls(
     requires { All (λ d. All (λ p. p.0 + first < 2 ^ 32) d.clock) known.now }
     ensures { OnOk result (decls.new.items ≡ decls.old.items ++ copy_decls first place.now known.now) }
 {
-    for decl in known.as_slice() {
+    for decl in known.iter() {
         let copy = raised_decl(decl, place, first)?;
         decls.push(copy)?;
     }
@@ -51,8 +51,8 @@ fn append_equations(
     requires callless { All (λ q. EachCall (λ g. ⊥) q.1) known.now }
     ensures { OnOk result (eqs.new.items ≡ eqs.old.items ++ copy_equations first known.now) }
 {
-    for equation in known.as_slice() {
-        let right = raised(equation.right(), first)?;
+    for equation in known.iter() {
+        let right = raise_variables(equation.right(), first)?;
         eqs.push(Equation::new(equation.left() + first, right))?;
     }
     Ok(())
@@ -71,13 +71,13 @@ pub(crate) fn append_copy(
     requires arity { length inputs.items ≡ source.now.n_in }
     requires output { 0 < length source.now.outs }
     requires room { length decls.old.items + length source.now.decls < 2 ^ 32 }
-    ensures output { IfOk result (λ y. y ≡ first_of source.now.outs + length decls.old.items) }
-    ensures adds { IfOk result (λ y. Adds (record { from = length decls.old.items; clock = place.now; source = source.now; inputs = arguments_of (map shape inputs.items) } ∷ []) decls.old.items eqs.old.items decls.new.items eqs.new.items) }
+    ensures output { IfOk result (λ y. y ≡ first_or_zero source.now.outs + length decls.old.items) }
+    ensures adds { IfOk result (λ y. AddsCopies (record { from = length decls.old.items; clock = place.now; source = source.now; inputs = arguments_of (map shape inputs.items) } ∷ []) decls.old.items eqs.old.items decls.new.items eqs.new.items) }
 {
-    source.kept();
+    source.invariant_holds();
     let first = decls.len() as u32;
     append_decls(decls, &source.decls, place, first)?;
     append_inputs(eqs, inputs, first)?;
     append_equations(eqs, &source.eqs, first)?;
-    Ok(source.outs.as_slice()[0] + first)
+    Ok(source.outs[0] + first)
 }

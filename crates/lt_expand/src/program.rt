@@ -7,15 +7,10 @@ ghost use Rattle.lt_expand.specs.Copies.{expansion};
 ghost use Rattle.lt_expand.specs.Expansion.{ProgramExpansion, WithinLimits, IsTooMany};
 
 use crate::library::expand_main;
+use lt_base::limits::{GREATEST_WEIGHT, MOST_PARTS};
 use lt_base::{Memory, Or, Program, Sizes, Whole};
 use lt_check::sizes;
 use std::alloc::Global;
-
-/// The most that `main` may weigh, with all functions that it calls.
-const GREATEST_WEIGHT: u64 = 4_096;
-
-/// The most expression parts of `main`, with all functions that it calls.
-const MOST_PARTS: u64 = 262_144;
 
 /// A program is too large to be expanded, and these are its sizes.
 #[derive(Clone, Copy, Debug, PartialEq, Eq, Drop)]

@@ -55,7 +55,7 @@ fn raise(e: &mut Expr, by: u32)
 }
 
 /// An expression without calls, with numbers for its variables that are that much higher.
-pub(crate) fn raised(e: &Expr, by: u32) -> Result<Expr, Memory>
+pub(crate) fn raise_variables(e: &Expr, by: u32) -> Result<Expr, Memory>
     requires callless { EachCall (λ g. ⊥) (shape e.now) }
     requires room { VarsBelow (2 ^ 32 - by) (shape e.now) }
     ensures { IfOk result (λ r. shape r ≡ renamed (raise by) (shape e.now)) }
@@ -71,7 +71,7 @@ fn raised_clock(clock: &Clock, place: &Clock, by: u32) -> Result<Clock, Memory>
     ensures { IfOk result (λ r. r ≡ below (raise by) clock.now place.now) }
 {
     let mut raised = place.copy()?;
-    for step in clock.steps.as_slice() {
+    for step in clock.steps.iter() {
         raised = raised.deeper(step.0 + by, step.1)?;
     }
     Ok(raised)

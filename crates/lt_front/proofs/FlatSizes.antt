@@ -12,7 +12,7 @@ use Rattle.lt_base.specs.Meaning.{ClockPairs, clock_of, outer}
 use Rattle.lt_base.specs.Clocking.{WellFormed}
 use Rattle.lt_base.specs.Sizes.{cost, weight_with, parts_with}
 use Rattle.lt_norm.specs.Plain.{plain, plain_equations}
-use Rattle.lt_norm.specs.Lift.{Delay, delays, lifted, fresh, right_delays, right_lifted, right_fresh, equations_lifted, equations_fresh, new_equations, normal_form}
+use Rattle.lt_norm.specs.Lift.{Delay, delays, lifted, lifted_delays, right_delays, right_lifted, right_fresh, equations_lifted, equations_fresh, new_equations, normal_form}
 use Rattle.lt_norm.specs.Flat.{Direct, FlatRight, FlatFunction}
 use Rattle.lt_expand.proofs.Pigeons.{equations_few}
 
@@ -99,27 +99,27 @@ rows_more [] ts = omega arith
 rows_more (r ∷ rs) ts = let h = rows_more rs ts in omega (arith, h)
 
 -- a delay leaves a variable, and its equation has it beside what it delays
-lifted_parts : (e : Expression) (n : ℕ) (ck : ClockPairs) → parts (lifted n e) + rows_parts (fresh n ck e) ≤ 2 * parts e
+lifted_parts : (e : Expression) (n : ℕ) (ck : ClockPairs) → parts (lifted n e) + rows_parts (lifted_delays n ck e) ≤ 2 * parts e
 lifted_parts (literal v) n ck = omega arith
 lifted_parts (variable x) n ck = omega arith
 lifted_parts (unary o a) n ck = let p = lifted_parts a n ck in omega (arith, p)
 lifted_parts (binary o a b) n ck =
     let m = n + delays a in
-    let s = rows_more (fresh n ck a) (fresh m ck b) in
+    let s = rows_more (lifted_delays n ck a) (lifted_delays m ck b) in
     let p = lifted_parts a n ck in
     let q = lifted_parts b m ck in
     omega (arith, s, p, q)
 lifted_parts (imported o a b) n ck =
     let m = n + delays a in
-    let s = rows_more (fresh n ck a) (fresh m ck b) in
+    let s = rows_more (lifted_delays n ck a) (lifted_delays m ck b) in
     let p = lifted_parts a n ck in
     let q = lifted_parts b m ck in
     omega (arith, s, p, q)
 lifted_parts (choose c a b) n ck =
     let m = n + delays c in
     let k = m + delays a in
-    let s = rows_more (fresh n ck c) (fresh m ck a ++ fresh k ck b) in
-    let t = rows_more (fresh m ck a) (fresh k ck b) in
+    let s = rows_more (lifted_delays n ck c) (lifted_delays m ck a ++ lifted_delays k ck b) in
+    let t = rows_more (lifted_delays m ck a) (lifted_delays k ck b) in
     let p = lifted_parts c n ck in
     let q = lifted_parts a m ck in
     let r = lifted_parts b k ck in
@@ -127,12 +127,12 @@ lifted_parts (choose c a b) n ck =
 lifted_parts (sampled e c b) n ck = let p = lifted_parts e n (outer ck) in omega (arith, p)
 lifted_parts (merged c a b) n ck =
     let m = n + delays a in
-    let s = rows_more (fresh n ((c, true) ∷ ck) a) (fresh m ((c, false) ∷ ck) b) in
+    let s = rows_more (lifted_delays n ((c, true) ∷ ck) a) (lifted_delays m ((c, false) ∷ ck) b) in
     let p = lifted_parts a n ((c, true) ∷ ck) in
     let q = lifted_parts b m ((c, false) ∷ ck) in
     omega (arith, s, p, q)
 lifted_parts (delayed v e) n ck =
-    let s = rows_more (fresh n ck e) ((ck, v, lifted n e) ∷ []) in
+    let s = rows_more (lifted_delays n ck e) ((ck, v, lifted n e) ∷ []) in
     let p = lifted_parts e n ck in
     omega (arith, s, p)
 lifted_parts (follow a b) n ck = omega arith

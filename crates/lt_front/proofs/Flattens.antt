@@ -13,14 +13,14 @@ use Rattle.lt_base.specs.Checked.{CheckedProgram}
 use Rattle.lt_base.proofs.Defined.{good_function}
 use Rattle.lt_norm.specs.Flat.{Originated}
 use Rattle.lt_norm.specs.Lift.{normal_form}
-use Rattle.lt_norm.specs.NormalForm.{NormalFormOf, new_origins}
+use Rattle.lt_norm.specs.NormalForm.{NormalFormOf, lifted_origins}
 use Rattle.lt_norm.proofs.Loop.{lefts_inside}
 use Rattle.lt_norm.proofs.NormalForms.{normal_is, normal_good}
 use Rattle.lt_expand.specs.Copies.{expansion}
-use Rattle.lt_expand.specs.Expansion.{ExpansionOf, ProgramExpansion, origins_of, new_origins as copy_origins}
+use Rattle.lt_expand.specs.Expansion.{ExpansionOf, ProgramExpansion, origins_of, copied_origins}
 use Rattle.lt_expand.proofs.Expanded.{expands, within_all}
 use Rattle.lt_expand.proofs.Lawful.{programs_expand}
-use Rattle.lt_front.specs.Examined.{IsWithin}
+use Rattle.lt_front.specs.Examined.{ProgramIsWithin}
 use Rattle.lt_front.specs.Flattened.{function_or_none, main_function, expansion_origins, flat_of, KeepsMain}
 use Rattle.lt_front.proofs.FlatSizes.{flat_weight, flat_parts, flat_pairs}
 
@@ -39,7 +39,7 @@ all_range k n zero h = All-nil (λ x. x < k)
 all_range k n (suc m) h = All-cons (λ x. x < k) n (range_with_len (n + 1) m) (omega (arith, h)) (all_range k (n + 1) m (omega (arith, h)))
 
 -- the origins of the copies are left sides
-copies_arose : (P : ℕ → Type 0) (fs : List Function) (qs : List (ℕ × Expression)) → All (λ q. P q.0) qs → All P (copy_origins fs qs)
+copies_arose : (P : ℕ → Type 0) (fs : List Function) (qs : List (ℕ × Expression)) → All (λ q. P q.0) qs → All P (copied_origins fs qs)
 copies_arose P fs [] a = All-nil P
 copies_arose P fs (q ∷ qs) a = all_more P _ _ (all_same P _ q.0 (All-head (λ q. P q.0) q qs a)) (copies_arose P fs qs (All-tail (λ q. P q.0) q qs a))
 
@@ -49,7 +49,7 @@ at_index P (y ∷ ys) zero a l = All-head P y ys a
 at_index P (y ∷ ys) (suc x) a l = at_index P ys x (All-tail P y ys a) (omega (arith, l))
 
 -- the origins of the lifted delays are origins
-lifted_arose : (P : ℕ → Type 0) (origin : List ℕ) (ds : List Decl) (qs : List (ℕ × Expression)) → All P origin → All (λ q. q.0 < length origin) qs → All P (new_origins origin ds qs)
+lifted_arose : (P : ℕ → Type 0) (origin : List ℕ) (ds : List Decl) (qs : List (ℕ × Expression)) → All P origin → All (λ q. q.0 < length origin) qs → All P (lifted_origins origin ds qs)
 lifted_arose P origin ds [] a l = All-nil P
 lifted_arose P origin ds (q ∷ qs) a l =
     all_more P _ _ (all_same P _ (slice_index_or origin q.0 0) (at_index P origin q.0 a (All-head (λ q. q.0 < length origin) q qs l)))
@@ -62,7 +62,7 @@ index_range n (suc m) ys (suc x) l = index_range (n + 1) m ys x (omega (arith, l
 
 -- ---- the flat form
 
-module _ (p : WholeProgram) (good : GoodProgram p) (checked : CheckedProgram p) (within : IsWithin p) where
+module _ (p : WholeProgram) (good : GoodProgram p) (checked : CheckedProgram p) (within : ProgramIsWithin p) where
   module _ (f : Function) (found : function_of p.funcs p.main ≡ Some f) where
     main_is : main_function p ≡ f
     main_is = ap function_or_none found
@@ -82,7 +82,7 @@ module _ (p : WholeProgram) (good : GoodProgram p) (checked : CheckedProgram p) 
     origins_are : expansion_origins p ≡ origins_of p.funcs f
     origins_are = ap (origins_of p.funcs) main_is
 
-    n : NormalFormOf (expansion p) (expansion_origins p) (normal_form (expansion p)) (expansion_origins p ++ new_origins (expansion_origins p) (expansion p).decls (expansion p).eqs)
+    n : NormalFormOf (expansion p) (expansion_origins p) (normal_form (expansion p)) (expansion_origins p ++ lifted_origins (expansion_origins p) (expansion p).decls (expansion p).eqs)
     n = normal_is (expansion p) F_good k.typed k.clocked k.causal (expansion_origins p)
 
     o_each : length (expansion_origins p) ≡ length (expansion p).decls
@@ -97,14 +97,14 @@ module _ (p : WholeProgram) (good : GoodProgram p) (checked : CheckedProgram p) 
     inside : (y : ℕ) → y < length f.decls → y < length (expansion p).decls
     inside y l = let d = ap length k.declarations in let a = length-append f.decls k.more in omega (arith, l, d, a)
 
-    own_at : (y : ℕ) → y < length f.decls → slice_index (expansion_origins p ++ new_origins (expansion_origins p) (expansion p).decls (expansion p).eqs) y ≡ y
+    own_at : (y : ℕ) → y < length f.decls → slice_index (expansion_origins p ++ lifted_origins (expansion_origins p) (expansion p).decls (expansion p).eqs) y ≡ y
     own_at y l =
-        ap (λ (os : List ℕ). slice_index (os ++ new_origins (expansion_origins p) (expansion p).decls (expansion p).eqs) y) origins_are
+        ap (λ (os : List ℕ). slice_index (os ++ lifted_origins (expansion_origins p) (expansion p).decls (expansion p).eqs) y) origins_are
         ∙ ap (λ os. slice_index os y) (append_assoc (range_with_len 0 (length f.decls)) _ _)
         ∙ index_range 0 (length f.decls) _ y l
         ∙ (let e : 0 + y ≡ y = omega arith in e)
 
-    all_arose : All (λ y. y < length f.decls) (expansion_origins p ++ new_origins (expansion_origins p) (expansion p).decls (expansion p).eqs)
+    all_arose : All (λ y. y < length f.decls) (expansion_origins p ++ lifted_origins (expansion_origins p) (expansion p).decls (expansion p).eqs)
     all_arose =
         all_more (λ y. y < length f.decls) _ _ o_arose
         (lifted_arose (λ y. y < length f.decls) (expansion_origins p) (expansion p).decls (expansion p).eqs o_arose
@@ -113,7 +113,7 @@ module _ (p : WholeProgram) (good : GoodProgram p) (checked : CheckedProgram p) 
     few : length (normal_form (expansion p)).decls ≤ 4096
     few = let w = n.within in let s = x.weight in let m = within.weight in omega (arith, w, s, m)
 
-    kept : KeepsMain p (record { func = normal_form (expansion p); origin = expansion_origins p ++ new_origins (expansion_origins p) (expansion p).decls (expansion p).eqs })
+    kept : KeepsMain p (record { func = normal_form (expansion p); origin = expansion_origins p ++ lifted_origins (expansion_origins p) (expansion p).decls (expansion p).eqs })
     kept = record {
       inputs = n.inputs ∙ k.inputs ∙ sym (ap (λ (g : Function). g.n_in) main_is);
       outputs = n.outputs ∙ k.outputs ∙ sym (ap (λ (g : Function). g.outs) main_is);
@@ -130,7 +130,7 @@ module _ (p : WholeProgram) (good : GoodProgram p) (checked : CheckedProgram p) 
       flat = n.flat;
       each = n.each o_each;
       own = λ y l. own_at y (subst (λ (g : Function). y < length g.decls) main_is l);
-      arose = subst (λ (g : Function). All (λ y. y < length g.decls) (expansion_origins p ++ new_origins (expansion_origins p) (expansion p).decls (expansion p).eqs)) (sym main_is) all_arose;
+      arose = subst (λ (g : Function). All (λ y. y < length g.decls) (expansion_origins p ++ lifted_origins (expansion_origins p) (expansion p).decls (expansion p).eqs)) (sym main_is) all_arose;
       few = few;
       slots = (let w = flat_weight (normal_form (expansion p)) (normal_good (expansion p) F_good k.typed k.clocked k.causal) n.flat in omega (arith, w, few));
       parts = (let s = flat_parts (expansion p) in let e = x.parts in let m = within.parts in omega (arith, s, e, m));
@@ -153,11 +153,11 @@ is_flat p W flat form x normal n =
     let os : W.origin ≡ expansion_origins p = x.keeps.origins ∙ ap (origins_of p.funcs) (sym (ap function_or_none x.found)) in
     λ i. record {
       func = (normal ∙ ap normal_form form) i;
-      origin = (n.origins ∙ (λ j. os j ++ new_origins (os j) (form j).decls (form j).eqs)) i;
+      origin = (n.origins ∙ (λ j. os j ++ lifted_origins (os j) (form j).decls (form j).eqs)) i;
     }
 
 -- and keeps what main does
-pub flat_keeps : (p : WholeProgram) → GoodProgram p → CheckedProgram p → IsWithin p → (flat : Originated) → flat ≡ flat_of p → KeepsMain p flat
+pub flat_keeps : (p : WholeProgram) → GoodProgram p → CheckedProgram p → ProgramIsWithin p → (flat : Originated) → flat ≡ flat_of p → KeepsMain p flat
 flat_keeps p good checked within flat is = subst (KeepsMain p) (sym is) (keeps_main p good checked within)
 
 module _ (p : WholeProgram) (W : Whole) (form : W.func ≡ expansion p) (x : ProgramExpansion p W.func W.origin) where
@@ -166,6 +166,6 @@ module _ (p : WholeProgram) (W : Whole) (form : W.func ≡ expansion p) (x : Pro
   flat_if (Ok flat) normal n = is_flat p W flat form x normal n
   flat_if (Err e) normal n = tt
 
-  pub keeps_if : GoodProgram p → CheckedProgram p → IsWithin p → (r : Result Originated Memory) → IfOk r (λ flat. flat.func ≡ normal_form W.func) → IfOk r (λ flat. NormalFormOf W.func W.origin flat.func flat.origin) → IfOk r (KeepsMain p)
+  pub keeps_if : GoodProgram p → CheckedProgram p → ProgramIsWithin p → (r : Result Originated Memory) → IfOk r (λ flat. flat.func ≡ normal_form W.func) → IfOk r (λ flat. NormalFormOf W.func W.origin flat.func flat.origin) → IfOk r (KeepsMain p)
   keeps_if good checked within (Ok flat) normal n = flat_keeps p good checked within flat (is_flat p W flat form x normal n)
   keeps_if good checked within (Err e) normal n = tt

@@ -11,7 +11,7 @@ use Rattle.lt_tokens.specs.Text.{is_blank, is_letter, is_word, is_digit, skip, s
 use Rattle.lt_syntax.specs.declared.tree.NodeText.{NodeText}
 use Rattle.lt_syntax.specs.Tree.{Tm}
 use Rattle.lt_syntax.specs.Grammar.{Form, Forms, meaning, tokens, arguments, polarity, number as numeral, truth, name, paren, minus, negated, binary, choice, sampled, merged, call, nil, cons}
-use Rattle.lt_syntax.specs.Program.{Group, Node, each, between, optional, ident, clause, group, local, locals, equation, node, node_tree, Spells}
+use Rattle.lt_syntax.specs.Program.{Group, Node, each, separated_by, optional, ident, clause, group, local, locals, equation, node, node_tree, Spells}
 
 -- blanks and comments
 
@@ -99,10 +99,10 @@ each_grows : {A : Type 0} (f : A → List Token → List Token) → Grows f → 
 each_grows f grows [] ts = omega arith
 each_grows f grows (x ∷ xs) ts = omega (arith, grows x (each f xs ts), each_grows f grows xs ts)
 
-between_grows : {A : Type 0} (s : Token) (f : A → List Token → List Token) → Grows f → Grows (between s f)
+between_grows : {A : Type 0} (s : Token) (f : A → List Token → List Token) → Grows f → Grows (separated_by s f)
 between_grows s f grows [] ts = omega arith
 between_grows s f grows (x ∷ []) ts = grows x ts
-between_grows s f grows (x ∷ y ∷ xs) ts = omega (arith, grows x (s ∷ between s f (y ∷ xs) ts), between_grows s f grows (y ∷ xs) ts)
+between_grows s f grows (x ∷ y ∷ xs) ts = omega (arith, grows x (s ∷ separated_by s f (y ∷ xs) ts), between_grows s f grows (y ∷ xs) ts)
 
 optional_grows : (b : Bool) (t : Token) (ts : List Token) → length ts ≤ length (optional b t ts)
 optional_grows true t ts = omega arith
@@ -160,7 +160,7 @@ node_grows n ts =
     let last = optional n.last token.Semicolon ts in
     let body = token.Let ∷ each equation n.eqs (token.Tel ∷ last) in
     let after = optional n.semicolon token.Semicolon (locals n.locals body) in
-    let returns = token.Close ∷ token.Returns ∷ token.Open ∷ between token.Semicolon group n.outs (token.Close ∷ after) in
+    let returns = token.Close ∷ token.Returns ∷ token.Open ∷ separated_by token.Semicolon group n.outs (token.Close ∷ after) in
     omega (
       arith,
       between_grows token.Semicolon group group_grows n.ins returns,

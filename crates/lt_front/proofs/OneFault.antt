@@ -12,12 +12,12 @@ use Rattle.lt_graph.specs.Edges.{Joined, IsFirstCircular}
 use Rattle.lt_resolve.specs.declared.fault.NameKind.{NameKind}
 use Rattle.lt_resolve.specs.declared.fault.NameKind.TheVariants.{Twice, Unknown, NoEquation, TwoEquations, EquationForInput, NoMain, WrongCount, NotOneOutput, Recursive, Limit}
 use Rattle.lt_resolve.specs.declared.fault.NameFault.{NameFault}
-use Rattle.lt_resolve.specs.Faults.{Occurrence, First, IsFirstFault, number}
+use Rattle.lt_resolve.specs.Faults.{Occurrence, First, IsFirstNameFault, kind_number}
 use Rattle.lt_front.specs.declared.fault.ProgramFault.{ProgramFault}
 use Rattle.lt_front.specs.declared.fault.ProgramFault.TheVariants as fault
 use Rattle.lt_front.specs.Limits.{is_limit, is_limit_kind}
-use Rattle.lt_front.specs.Front.{syntax_verdict, name_verdict, IsTypeFault, IsClockFault, IsCycle, IsTooMany, fits_verdict, causal_verdict, clocked_verdict, typed_verdict, examine_verdict}
-use Rattle.lt_verdict.proofs.Decided.{HasOneOutcome, of_rule, and_then_one}
+use Rattle.lt_front.specs.Front.{syntax_verdict, name_verdict, IsTypeFault, IsClockFault, IsCycle, IsTooManyFault, fits_verdict, causal_verdict, clocked_verdict, typed_verdict, examine_verdict}
+use Rattle.lt_answer.proofs.Decided.{HasOneOutcome, of_rule, and_then_one}
 use Rattle.lt_front.proofs.OneProgram.{one_program}
 
 -- syntax
@@ -70,7 +70,7 @@ exclusive t NotOneOutput x p q = none_and_some _ x p q
 exclusive t Recursive x p q = closes _ q.place q.circular p
 exclusive t Limit x p q = none_and_some _ x p q
 
-limit_by_number : (k : NameKind) → is_limit_kind k ≡ nat_eq (number k) 10
+limit_by_number : (k : NameKind) → is_limit_kind k ≡ nat_eq (kind_number k) 10
 limit_by_number Twice = refl
 limit_by_number Unknown = refl
 limit_by_number NoEquation = refl
@@ -89,13 +89,13 @@ compare x y = elim (leb_tells (suc x) y) [
 ]
 
 -- first faults have kinds of one number
-one_number : (t : List NodeText) (f g : NameFault) → IsFirstFault t f → IsFirstFault t g → number f.kind ≡ number g.kind
-one_number t f g p q = elim (compare (number f.kind) (number g.kind)) [
+one_number : (t : List NodeText) (f g : NameFault) → IsFirstNameFault t f → IsFirstNameFault t g → kind_number f.kind ≡ kind_number g.kind
+one_number t f g p q = elim (compare (kind_number f.kind) (kind_number g.kind)) [
   | inl less ↦ absurd (exclusive t f.kind (f.func, f.name) (q.before f.kind less) p.here)
   | inr more ↦ elim more [ inl less ↦ absurd (exclusive t g.kind (g.func, g.name) (p.before g.kind less) q.here) | inr same ↦ same ]
 ]
 
-name_fault : (t : List NodeText) (e : ProgramFault) → name_verdict t (Err e) → (f : NameFault) × IsFirstFault t f × (is_limit e ≡ is_limit_kind f.kind)
+name_fault : (t : List NodeText) (e : ProgramFault) → name_verdict t (Err e) → (f : NameFault) × IsFirstNameFault t f × (is_limit e ≡ is_limit_kind f.kind)
 name_fault t (fault.Syntax f) is = absurd is
 name_fault t (fault.Name f u) is = (f, is.0, refl)
 name_fault t (fault.Type f u) is = absurd is
@@ -144,7 +144,7 @@ cycle_no_limit t p (fault.Clock f u) is = absurd is
 cycle_no_limit t p (fault.Cycle func cycle u) is = refl
 cycle_no_limit t p (fault.TooMany s) is = absurd is
 
-size_limit : (p : WholeProgram) (e : ProgramFault) → IsTooMany p e → is_limit e ≡ true
+size_limit : (p : WholeProgram) (e : ProgramFault) → IsTooManyFault p e → is_limit e ≡ true
 size_limit p (fault.Syntax f) is = absurd is
 size_limit p (fault.Name f u) is = absurd is
 size_limit p (fault.Type f u) is = absurd is

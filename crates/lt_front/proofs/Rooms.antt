@@ -11,7 +11,7 @@ use Rattle.lt_syntax.specs.declared.tree.NodeText.{NodeText}
 use Rattle.lt_resolve.specs.Names.{Name}
 use Rattle.lt_resolve.specs.Named.{Along, IsFunction}
 use Rattle.lt_resolve.specs.Resolves.{IsResolved}
-use Rattle.lt_front.specs.Examined.{HasRoom}
+use Rattle.lt_front.specs.Examined.{TreeNumbersFit}
 use Rattle.lt_front.specs.Causality.{IsFirstCycle}
 use Rattle.lt_front.proofs.Lengths.{IsFew}
 
@@ -31,11 +31,11 @@ equations_along funcs k (n ∷ t) (f ∷ fs) along few =
     All-cons (λ g. length g.eqs < k) f fs (omega (arith, same, here)) (equations_along funcs k t fs along.1 (All-tail (λ (m : NodeText). length m.eqs < k) n t few))
 
 -- the equations of a program are numbered in 32 bits, as those of its tree are
-pub equations_fit : (t : List NodeText) (p : WholeProgram) → HasRoom t → IsResolved t p → All (λ f. length f.eqs < 2 ^ 32) p.funcs
+pub equations_fit : (t : List NodeText) (p : WholeProgram) → TreeNumbersFit t → IsResolved t p → All (λ f. length f.eqs < 2 ^ 32) p.funcs
 equations_fit t p room resolved = equations_along _ (2 ^ 32) t p.funcs resolved.named.funcs room.equations
 
 -- a text of fewer bytes has so few functions and equations
-pub room_of : (n : ℕ) (t : List NodeText) → n < 2 ^ 32 → IsFew n t → HasRoom t
+pub room_of : (n : ℕ) (t : List NodeText) → n < 2 ^ 32 → IsFew n t → TreeNumbersFit t
 room_of n t short few = record { functions = omega (arith, few.functions, short); equations = All-weaker (λ (m : NodeText). length m.eqs ≤ n) (λ m. length m.eqs < 2 ^ 32) (λ m less. omega (arith, less, short)) t few.equations }
 
 -- a fact of the function of a number

@@ -19,18 +19,18 @@ abbrev pub coded_examined : Coded ExaminedText
 coded_examined = code_by (List NodeText × WholeProgram) (coded× (coded_list node_row.coded) coded_program) (λ c. (c.tree, c.program)) (λ p. record { tree = p.0; program = p.1 }) (λ _. refl)
 
 -- `main` and all functions that it calls together are not too large
-pub record IsWithin (p : WholeProgram) : Type 0 where
+pub record ProgramIsWithin (p : WholeProgram) : Type 0 where
   pub weight : program_weight p ≤ 4096
   pub parts : program_parts p ≤ 262144
 
 -- the functions of a tree, and the equations of each, are numbered in 32 bits
-pub record HasRoom (t : List NodeText) : Type 0 where
+pub record TreeNumbersFit (t : List NodeText) : Type 0 where
   pub functions : length t < 2 ^ 32
   pub equations : All (λ n. length n.eqs < 2 ^ 32) t
 
 -- what a checked program keeps: the program is the tree's, the checks of names, types, clocks and causality hold, and it is not too large
 pub record IsExamined (c : ExaminedText) : Type 0 where
-  pub room : HasRoom c.tree
+  pub room : TreeNumbersFit c.tree
   pub resolved : IsResolved c.tree c.program
   pub checked : CheckedProgram c.program
-  pub within : IsWithin c.program
+  pub within : ProgramIsWithin c.program

@@ -14,7 +14,7 @@ use Rattle.lt_expand.specs.Copies.{no_function, expansion}
 use Rattle.lt_expand.specs.Expansion.{origins_of}
 use Rattle.lt_norm.specs.Flat.{Originated, FlatFunction}
 use Rattle.lt_norm.specs.Lift.{normal_form}
-use Rattle.lt_norm.specs.NormalForm.{new_origins}
+use Rattle.lt_norm.specs.NormalForm.{lifted_origins}
 
 -- a function, or one that does nothing where there is none
 abbrev pub function_or_none : Option Function → Function
@@ -34,7 +34,7 @@ expansion_origins p = origins_of p.funcs (main_function p)
 unfoldable pub flat_of : WholeProgram → Originated
 flat_of p = record {
   func = normal_form (expansion p);
-  origin = expansion_origins p ++ new_origins (expansion_origins p) (expansion p).decls (expansion p).eqs;
+  origin = expansion_origins p ++ lifted_origins (expansion_origins p) (expansion p).decls (expansion p).eqs;
 }
 
 -- what a flat form keeps of the program's main function

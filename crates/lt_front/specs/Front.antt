@@ -14,8 +14,8 @@ use Rattle.lt_check.specs.ClockFaults.{IsFirstClockFault}
 use Rattle.lt_front.specs.declared.fault.ProgramFault.{ProgramFault}
 use Rattle.lt_front.specs.declared.fault.ProgramFault.TheVariants as fault
 use Rattle.lt_answer.specs.Answered.{Verdict, AndThen}
-use Rattle.lt_verdict.specs.Rules.{OfRule}
-use Rattle.lt_front.specs.Examined.{ExaminedText, IsWithin}
+use Rattle.lt_answer.specs.Rules.{OfRule}
+use Rattle.lt_front.specs.Examined.{ExaminedText, ProgramIsWithin}
 use Rattle.lt_front.specs.Causality.{IsFirstCycle}
 
 -- the bytes spell a tree, or else no tree, and then the fault is at the first place that shows it
@@ -43,14 +43,14 @@ IsCycle t p (fault.Cycle func cycle u) = IsFirstCycle p func cycle.vars × (u �
 IsCycle t p _ = ⊥
 
 -- the sizes, each cut at the greatest number of 64 bits
-abbrev pub IsTooMany : WholeProgram → ProgramFault → Type 0
-IsTooMany p (fault.TooMany s) = (s.weight ≡ cut (program_weight p)) × (s.parts ≡ cut (program_parts p))
-IsTooMany p _ = ⊥
+abbrev pub IsTooManyFault : WholeProgram → ProgramFault → Type 0
+IsTooManyFault p (fault.TooMany s) = (s.weight ≡ cut (program_weight p)) × (s.parts ≡ cut (program_parts p))
+IsTooManyFault p _ = ⊥
 
 -- the program within its limits
 abbrev pub fits_verdict : List NodeText → WholeProgram → Verdict ExaminedText ProgramFault
-fits_verdict t p (Ok c) = IsWithin p × (c ≡ record { tree = t; program = p })
-fits_verdict t p (Err e) = (IsWithin p → ⊥) × IsTooMany p e
+fits_verdict t p (Ok c) = ProgramIsWithin p × (c ≡ record { tree = t; program = p })
+fits_verdict t p (Err e) = (ProgramIsWithin p → ⊥) × IsTooManyFault p e
 
 abbrev pub causal_verdict : List NodeText → WholeProgram → Verdict ExaminedText ProgramFault
 causal_verdict t p = AndThen (OfRule (CausalProgram p) (IsCycle t p)) (λ _. fits_verdict t p)

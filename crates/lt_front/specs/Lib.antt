@@ -1,6 +1,7 @@
 pub mod Examined
 pub mod Causality
 pub mod Front
+pub mod Steps
 pub mod Limits
 pub mod Flattened
 pub mod Checked

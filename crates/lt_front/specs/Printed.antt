@@ -8,9 +8,9 @@ use Rattle.lt_syntax.specs.declared.tree.NodeText.{NodeText}
 use Rattle.lt_print.specs.Canonical.{canonical}
 use Rattle.lt_resolve.specs.Resolves.{IsResolved}
 use Rattle.lt_answer.specs.Answered.{Verdict}
-use Rattle.lt_verdict.specs.Rules.{Shown}
+use Rattle.lt_answer.specs.Rules.{Shown}
 use Rattle.lt_front.specs.declared.fault.ProgramFault.{ProgramFault}
-use Rattle.lt_front.specs.Examined.{ExaminedText, HasRoom, IsWithin}
+use Rattle.lt_front.specs.Examined.{ExaminedText, TreeNumbersFit, ProgramIsWithin}
 use Rattle.lt_front.specs.Front.{examine_verdict}
 
 -- the canonical text of its tree
@@ -24,7 +24,7 @@ printed_verdict bytes = Shown canonical_text (examine_verdict bytes)
 -- the program that some tree names
 pub record IsOfTree (p : WholeProgram) : Type 0 where
   pub tree : List NodeText
-  pub room : HasRoom tree
+  pub room : TreeNumbersFit tree
   pub resolved : IsResolved tree p
 
 -- the checks behind names hold
@@ -32,7 +32,7 @@ pub record IsPassing (p : WholeProgram) : Type 0 where
   pub typed : TypedProgram p
   pub clocked : ClockedProgram p
   pub causal : CausalProgram p
-  pub within : IsWithin p
+  pub within : ProgramIsWithin p
 
 -- the text is the canonical one of the tree, whose program passes all checks
 pub record IsPassingText (t : List NodeText) (text : List ℕ) : Type 0 where

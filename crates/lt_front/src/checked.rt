@@ -30,14 +30,14 @@ impl Model for Checked {
 
 impl Checked {
     /// What the type keeps, for callers.
-    pub fn kept(&self)
+    pub fn invariant_holds(&self)
         ensures { IsChecked self.now }
     {
         let _ = &self.tree;
     }
 
     /// The same program and tree, without the flat form.
-    pub fn examined(self) -> Examined
+    pub fn into_examined(self) -> Examined
         ensures { result ≡ examined_part self }
     {
         Examined {

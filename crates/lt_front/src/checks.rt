@@ -1,17 +1,18 @@
-// The checks of a program, one after another.
-ghost use Rattle.std.specs.Prelude.{◌<◌, ◌^◌, length};
+// The checks of a program. Each is a step: it hands on what it was given, or refuses it by its first fault.
+ghost use Rattle.std.specs.Prelude.{◌<◌, ◌^◌, length, IfOk};
 ghost use Rattle.lt_base.specs.Clocking.{ClockedProgram};
 ghost use Rattle.lt_base.specs.Dependence.{CausalProgram};
 ghost use Rattle.lt_base.specs.Typing.{TypedProgram};
 ghost use Rattle.lt_resolve.specs.Resolves.{IsResolved};
-ghost use Rattle.lt_front.specs.Examined.{HasRoom};
+ghost use Rattle.lt_front.specs.Examined.{TreeNumbersFit};
 ghost use Rattle.lt_answer.specs.Answered.{Settles};
-ghost use Rattle.lt_front.specs.Front.{examine_verdict, resolved_verdict, typed_verdict, clocked_verdict, causal_verdict, fits_verdict};
+ghost use Rattle.lt_front.specs.Front.{syntax_verdict, fits_verdict, IsTypeFault, IsClockFault, IsCycle};
+ghost use Rattle.lt_front.specs.Steps.{HandsOn, named_verdict};
 
 use crate::causality::causality;
 use crate::refusals::{of_circle, of_clocks, of_names};
-use crate::{Examined, ProgramFault};
-use lt_base::{Or, Program};
+use crate::{Examined, Named, ProgramFault};
+use lt_base::Or;
 use lt_check::{clocks, sizes, types};
 use lt_resolve::resolve;
 use lt_syntax::{Tree, parse};
@@ -23,80 +24,76 @@ pub(crate) const GREATEST_WEIGHT: u64 = 4_096;
 /// The most expression parts of `main`, with all functions that it calls.
 pub(crate) const MOST_PARTS: u64 = 262_144;
 
-/// The program of a text: syntax, names, types, clocks, the causality of each function and the sizes are checked in this order.
-#[tactic(auto, unfolding(crate::specs::Front::examine_verdict))]
-pub fn examine(alloc: Global, bytes: &[u8]) -> Result<Examined, Or<ProgramFault>>
+/// The tree that bytes spell.
+pub fn parse_text(alloc: Global, bytes: &[u8]) -> Result<Tree, Or<ProgramFault>>
     requires { length bytes.now < 2 ^ 32 }
-    ensures { Settles (examine_verdict bytes.now) result }
+    ensures answered { Settles (syntax_verdict bytes.now) result }
+    ensures room { IfOk result TreeNumbersFit }
 {
     match parse(alloc, bytes) {
-        Ok(tree) => resolved(alloc, tree),
+        Ok(tree) => Ok(tree),
         Err(e) => Err(e.map(ProgramFault::Syntax)),
     }
 }
 
-// The names, and what follows.
-fn resolved(alloc: Global, tree: Tree) -> Result<Examined, Or<ProgramFault>>
-    requires { HasRoom tree }
-    ensures { Settles (resolved_verdict tree) result }
+/// The program that a tree names, beside the tree.
+pub fn resolve_names(alloc: Global, tree: Tree) -> Result<Named, Or<ProgramFault>>
+    requires { TreeNumbersFit tree }
+    ensures { Settles (named_verdict tree) result }
 {
     match resolve(alloc, &tree) {
-        Ok(program) => typed(alloc, tree, program),
+        Ok(program) => Ok(Named { tree, program }),
         Err(e) => Err(of_names(e, tree)),
     }
 }
 
-// The types, and what follows.
-fn typed(alloc: Global, tree: Tree, program: Program) -> Result<Examined, Or<ProgramFault>>
-    requires room { HasRoom tree }
-    requires resolved { IsResolved tree program }
-    ensures { Settles (typed_verdict tree program) result }
+/// A program that is well typed.
+pub fn check_types(named: Named) -> Result<Named, Or<ProgramFault>>
+    requires { IsResolved named.tree named.program }
+    ensures { Settles (HandsOn named (TypedProgram named.program) (IsTypeFault named.tree named.program)) result }
 {
-    match types(&program) {
-        Ok(()) => clocked(alloc, tree, program),
-        Err(fault) => Err(Or::Fault(ProgramFault::Type(fault, tree))),
+    match types(&named.program) {
+        Ok(()) => Ok(named),
+        Err(fault) => Err(Or::Fault(ProgramFault::Type(fault, named.tree))),
     }
 }
 
-// The clocks, and what follows.
-fn clocked(alloc: Global, tree: Tree, program: Program) -> Result<Examined, Or<ProgramFault>>
-    requires room { HasRoom tree }
-    requires resolved { IsResolved tree program }
-    requires typed { TypedProgram program }
-    ensures { Settles (clocked_verdict tree program) result }
+/// A program whose expressions stand on their clocks.
+pub fn check_clocks(alloc: Global, named: Named) -> Result<Named, Or<ProgramFault>>
+    requires { IsResolved named.tree named.program }
+    ensures { Settles (HandsOn named (ClockedProgram named.program) (IsClockFault named.tree named.program)) result }
 {
-    match clocks(alloc, &program) {
-        Ok(()) => ordered(alloc, tree, program),
-        Err(e) => Err(of_clocks(e, tree)),
+    match clocks(alloc, &named.program) {
+        Ok(()) => Ok(named),
+        Err(e) => Err(of_clocks(e, named.tree)),
     }
 }
 
-// The causality, and what follows.
-fn ordered(alloc: Global, tree: Tree, program: Program) -> Result<Examined, Or<ProgramFault>>
-    requires room { HasRoom tree }
-    requires resolved { IsResolved tree program }
-    requires typed { TypedProgram program }
-    requires clocked { ClockedProgram program }
-    ensures { Settles (causal_verdict tree program) result }
+/// A program in none of whose functions variables depend on each other.
+pub fn check_causality(alloc: Global, named: Named) -> Result<Named, Or<ProgramFault>>
+    requires { IsResolved named.tree named.program }
+    ensures { Settles (HandsOn named (CausalProgram named.program) (IsCycle named.tree named.program)) result }
 {
-    match causality(alloc, &program) {
-        Ok(()) => measured(alloc, tree, program),
-        Err(e) => Err(of_circle(e, tree)),
+    match causality(alloc, &named.program) {
+        Ok(()) => Ok(named),
+        Err(e) => Err(of_circle(e, named.tree)),
     }
 }
 
-// The sizes.
-fn measured(alloc: Global, tree: Tree, program: Program) -> Result<Examined, Or<ProgramFault>>
-    requires room { HasRoom tree }
-    requires resolved { IsResolved tree program }
-    requires typed { TypedProgram program }
-    requires clocked { ClockedProgram program }
-    requires causal { CausalProgram program }
-    ensures { Settles (fits_verdict tree program) result }
+/// A program of bounded size, which with this has passed all checks.
+pub fn check_sizes(alloc: Global, named: Named) -> Result<Examined, Or<ProgramFault>>
+    requires resolved { IsResolved named.tree named.program }
+    requires typed { TypedProgram named.program }
+    requires clocked { ClockedProgram named.program }
+    requires causal { CausalProgram named.program }
+    ensures { Settles (fits_verdict named.tree named.program) result }
 {
-    let sizes = sizes(alloc, &program)?;
+    let sizes = sizes(alloc, &named.program)?;
     if sizes.weight > GREATEST_WEIGHT || sizes.parts > MOST_PARTS {
         return Err(Or::Fault(ProgramFault::TooMany(sizes)));
     }
-    Ok(Examined { tree, program })
+    Ok(Examined {
+        tree: named.tree,
+        program: named.program,
+    })
 }

@@ -26,7 +26,7 @@ impl Model for Examined {
 
 impl Examined {
     /// What the type keeps, for callers.
-    pub fn kept(&self)
+    pub fn invariant_holds(&self)
         ensures { IsExamined self.now }
     {
         let _ = &self.tree;

@@ -1,4 +1,4 @@
-//! A program's text through all checks, from its bytes to a program that has a meaning, and to its flat form.
+//! The checks of a program's text, each a step from its bytes to a program that has a meaning.
 #![tactic(auto)]
 
 mod causality;
@@ -6,13 +6,15 @@ mod checked;
 mod checks;
 mod examined;
 mod fault;
-mod flattening;
+mod named;
 mod printing;
 mod refusals;
 
 pub use checked::Checked;
-pub use checks::examine;
+pub use checks::{
+    check_causality, check_clocks, check_sizes, check_types, parse_text, resolve_names,
+};
 pub use examined::Examined;
 pub use fault::ProgramFault;
-pub use flattening::front;
-pub use printing::print_examined;
+pub use named::Named;
+pub use printing::print_passing;

@@ -2,12 +2,11 @@
 ghost use Rattle.std.specs.Prelude.{◌≡◌, ◌<◌, ◌↔◌, ◌^◌, IfOk, IfSome, IsTrue, length};
 ghost use Rattle.lt_base.specs.Dependence.{CausalProgram};
 ghost use Rattle.lt_answer.specs.Answered.{Settles};
-ghost use Rattle.lt_front.specs.Examined.{HasRoom, IsWithin};
+ghost use Rattle.lt_front.specs.Examined.{TreeNumbersFit, ProgramIsWithin};
 ghost use Rattle.lt_front.specs.Printed.{IsOfTree, IsPassing, IsPassingText, printed_verdict};
 
 use crate::causality::causality;
 use crate::checks::{GREATEST_WEIGHT, MOST_PARTS};
-use crate::{ProgramFault, examine};
 use lt_base::{List, Memory, Or, Program};
 use lt_check::{sizes, types_and_clocks};
 use lt_print::print;
@@ -16,29 +15,9 @@ use lt_syntax::{Tree, parse};
 use std::alloc::Global;
 use std::mem::forget;
 
-/// The canonical text of the program of a text, after the checks of `examine`. The tree is printed before its names are resolved, and
-/// then taken apart; where a check fails `examine` goes over the bytes again, and its fault has the tree that it speaks of.
-pub fn print_examined(alloc: Global, bytes: &[u8]) -> Result<List<u8>, Or<ProgramFault>>
-    requires { length bytes.now < 2 ^ 32 }
-    ensures { Settles (printed_verdict bytes.now) result }
-{
-    match passing_text(alloc, bytes)? {
-        Some(text) => Ok(text),
-        None => examined_text(alloc, bytes),
-    }
-}
-
-// The same without taking the tree apart.
-fn examined_text(alloc: Global, bytes: &[u8]) -> Result<List<u8>, Or<ProgramFault>>
-    requires { length bytes.now < 2 ^ 32 }
-    ensures { Settles (printed_verdict bytes.now) result }
-{
-    let examined = examine(alloc, bytes)?;
-    Ok(print(alloc, &examined.tree)?)
-}
-
-// The canonical text, if all checks pass.
-fn passing_text(alloc: Global, bytes: &[u8]) -> Result<Option<List<u8>>, Memory>
+/// The canonical text of the program of a text, if all checks pass. The tree is printed before its names are resolved, and then taken
+/// apart.
+pub fn print_passing(alloc: Global, bytes: &[u8]) -> Result<Option<List<u8>>, Memory>
     requires { length bytes.now < 2 ^ 32 }
     ensures { IfOk result (λ o. IfSome o (λ text. Settles (printed_verdict bytes.now) (Ok text))) }
 {
@@ -51,7 +30,7 @@ fn passing_text(alloc: Global, bytes: &[u8]) -> Result<Option<List<u8>>, Memory>
 
 // The canonical text of a tree, if its program passes all checks.
 fn passing_tree(alloc: Global, tree: Tree) -> Result<Option<List<u8>>, Memory>
-    requires { HasRoom tree }
+    requires { TreeNumbersFit tree }
     ensures { IfOk result (λ o. IfSome o (IsPassingText tree)) }
 {
     let text = print(alloc, &tree)?;
@@ -91,7 +70,7 @@ fn passes(alloc: Global, p: &Program) -> Result<bool, Memory>
 // Whether the causality and the sizes pass.
 fn order_passes(alloc: Global, p: &Program) -> Result<bool, Memory>
     requires { IsOfTree p.now }
-    ensures { IfOk result (λ b. IsTrue b ↔ (CausalProgram p.now × IsWithin p.now)) }
+    ensures { IfOk result (λ b. IsTrue b ↔ (CausalProgram p.now × ProgramIsWithin p.now)) }
 {
     match causality(alloc, p) {
         Ok(()) => fits(alloc, p),
@@ -102,7 +81,7 @@ fn order_passes(alloc: Global, p: &Program) -> Result<bool, Memory>
 
 // Whether the sizes are within their limits.
 fn fits(alloc: Global, p: &Program) -> Result<bool, Memory>
-    ensures { IfOk result (λ b. IsTrue b ↔ IsWithin p.now) }
+    ensures { IfOk result (λ b. IsTrue b ↔ ProgramIsWithin p.now) }
 {
     let sizes = sizes(alloc, p)?;
     Ok(sizes.weight <= GREATEST_WEIGHT && sizes.parts <= MOST_PARTS)

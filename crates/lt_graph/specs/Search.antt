@@ -76,8 +76,8 @@ pub record Keeping (g : List (List ℕ)) (marks : List Mark) (rest stack starts 
   pub rising_path : Rising path
   pub rising_starts : Rising starts
 
-abbrev pub Stands : List (List ℕ) → Search → Type 0
-Stands g s = Keeping g s.marks.items s.rest.items s.stack.items s.starts.items s.path.items
+abbrev pub SearchStands : List (List ℕ) → Search → Type 0
+SearchStands g s = Keeping g s.marks.items s.rest.items s.stack.items s.starts.items s.path.items
 
 -- the marks are done, and these are the names that they have
 pub record AreNames (marks : List Mark) (names : List ℕ) : Type 0 where

@@ -2,7 +2,7 @@
 
 ghost use Rattle.std.specs.Prelude.{◌≡◌, ◌<◌, ◌≤◌, ◌+◌, ◌-◌, ◌*◌, ◌++◌, ◌∷◌, ℕ, List as Items, [], IfOk, MatchBool, OnOk, length, replicate, slice_index, slice_set, sum, take};
 ghost use Rattle.lt_graph.specs.Tables.{next, IsTable};
-ghost use Rattle.lt_graph.specs.Search.{Stands, IsMet, EndsWith, KeepsUpTo, closed_mark, mark};
+ghost use Rattle.lt_graph.specs.Search.{SearchStands, IsMet, EndsWith, KeepsUpTo, closed_mark, mark};
 
 use crate::table::{degrees, leads_to};
 use lt_base::{List, Memory};
@@ -46,7 +46,7 @@ fn ends_with(places: &[usize], place: usize) -> bool
 impl Search {
     /// Nothing is met.
     pub fn new(alloc: Global, table: &List<List<u32>>) -> Result<Search, Memory>
-        ensures stands { IfOk result (Stands table.now) }
+        ensures stands { IfOk result (SearchStands table.now) }
         ensures idle { IfOk result (λ s. s.path.items ≡ []) }
     {
         let marks = new_marks(alloc, table.len())?;
@@ -114,9 +114,9 @@ impl Search {
     /// From the end of the path to the next number that it leads to, or back.
     pub fn step(&mut self, table: &List<List<u32>>) -> Result<(), Memory>
         requires table { IsTable table.now }
-        requires stands { Stands table.now self.old }
+        requires stands { SearchStands table.now self.old }
         requires busy { 0 < length self.old.path.items }
-        ensures stands { OnOk result (Stands table.now self.new) }
+        ensures stands { OnOk result (SearchStands table.now self.new) }
         ensures met { OnOk result ((x : ℕ) → IsMet (mark self.old.marks.items x) → IsMet (mark self.new.marks.items x)) }
         ensures shorter { OnOk result (2 * sum self.new.rest.items + length self.new.path.items < 2 * sum self.old.rest.items + length self.old.path.items) }
     {
@@ -146,8 +146,8 @@ impl Search {
     /// Goes on to the end of the path.
     pub fn follow(&mut self, table: &List<List<u32>>) -> Result<(), Memory>
         requires table { IsTable table.now }
-        requires stands { Stands table.now self.old }
-        ensures stands { OnOk result (Stands table.now self.new) }
+        requires stands { SearchStands table.now self.old }
+        ensures stands { OnOk result (SearchStands table.now self.new) }
         ensures idle { OnOk result (self.new.path.items ≡ []) }
         ensures met { OnOk result ((x : ℕ) → IsMet (mark self.old.marks.items x) → IsMet (mark self.new.marks.items x)) }
     {
@@ -161,7 +161,7 @@ impl Search {
     pub fn begin(&mut self, root: usize) -> Result<(), Memory>
         requires root { root < length self.old.marks.items }
         requires idle { self.old.path.items ≡ [] }
-        ensures stands { OnOk result ((table : Items (Items ℕ)) → Stands table self.old → Stands table self.new) }
+        ensures stands { OnOk result ((table : Items (Items ℕ)) → SearchStands table self.old → SearchStands table self.new) }
         ensures met { OnOk result ((x : ℕ) → IsMet (mark self.old.marks.items x) → IsMet (mark self.new.marks.items x)) }
         ensures root { OnOk result (IsMet (mark self.new.marks.items root)) }
     {

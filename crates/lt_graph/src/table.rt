@@ -11,7 +11,7 @@ pub fn degrees(alloc: Global, table: &List<List<u32>>) -> Result<Vec<usize>, Mem
     ensures { IfOk result (λ r. r.items ≡ map length table.now) }
 {
     let mut rest = Vec::with_capacity(alloc, table.len())?;
-    for list in table.as_slice() {
+    for list in table.iter() {
         rest.push(list.len())?;
     }
     Ok(rest)
@@ -23,5 +23,5 @@ pub fn leads_to(table: &List<List<u32>>, number: usize, place: usize) -> u32
     requires place { place < length (next table.now number) }
     ensures { result ≡ slice_index (next table.now number) place }
 {
-    table.as_slice()[number].as_slice()[place]
+    table[number][place]
 }

@@ -16,7 +16,7 @@ use Rattle.csv.specs.declared.parser.State.TheVariants as st
 use Rattle.csv.specs.declared.parser.Action.{Action}
 use Rattle.csv.specs.declared.parser.Action.TheVariants as act
 use Rattle.csv.specs.declared.parser.Config.{Config}
-use Rattle.lt_inputs.specs.Records.{records_after, Stands, Advances}
+use Rattle.lt_inputs.specs.Records.{records_after, ReaderStands, ReaderAdvances}
 use Rattle.lt_inputs.specs.declared.records.Next.TheVariants.{Found, OtherLength, End}
 
 -- a step that ends a record stands between records
@@ -151,8 +151,8 @@ abbrev rest_from : State → Option (List ℕ) → List (List (List ℕ))
 rest_from s o = records_after s (unwrap_or o [])
 
 module _ (old new : Reader (Bor (List ℕ))) (width : Option ℕ) (fields : List (List ℕ)) where
-  pub found : Stands old width → ReadRecord (λ (s : Bor (List ℕ)). Some s.now) old new true fields
-      → is_flexible new ≡ is_flexible old → took_first new ≡ true → Advances old width Found new fields
+  pub found : ReaderStands old width → ReadRecord (λ (s : Bor (List ℕ)). Some s.now) old new true fields
+      → is_flexible new ≡ is_flexible old → took_first new ≡ true → ReaderAdvances old width Found new fields
   unfolding Reached
   found s r same_flexible first =
       let (text, source) = s.known in
@@ -175,14 +175,14 @@ module _ (old new : Reader (Bor (List ℕ))) (width : Option ℕ) (fields : List
         },
       )
 
-  pub ended : Stands old width → ReadRecord (λ (s : Bor (List ℕ)). Some s.now) old new false fields → Advances old width End new fields
+  pub ended : ReaderStands old width → ReadRecord (λ (s : Bor (List ℕ)). Some s.now) old new false fields → ReaderAdvances old width End new fields
   ended s r =
       let (text, source) = s.known in
       let none = rows-end (λ (s : Bor (List ℕ)). Some s.now) old new fields default_config text s.config source r in
       ap (rest_from (reader_state old)) source ∙ left-none (reader_state old) text none
 
-  pub other : (e n : ℕ) → Stands old width → expected_len old ≡ Some e → e ≢ n
-      → (f : List (List ℕ)) → TookRecord (λ (s : Bor (List ℕ)). Some s.now) old new f → length f ≡ n → Advances old width OtherLength new fields
+  pub other : (e n : ℕ) → ReaderStands old width → expected_len old ≡ Some e → e ≢ n
+      → (f : List (List ℕ)) → TookRecord (λ (s : Bor (List ℕ)). Some s.now) old new f → length f ≡ n → ReaderAdvances old width OtherLength new fields
   other e n s was differs f took len =
       let (text, source) = s.known in
       let (p, next, f_is) = reads-some default_config (reader_state old) (reader_state new) text f _ (rw (s.config, source) at took) in
@@ -195,7 +195,7 @@ module _ (old new : Reader (Bor (List ℕ))) (width : Option ℕ) (fields : List
       )
 
   -- an error of lengths tells of a record of another length
-  other_at : (k : ErrorKind) → ¬ NotLengths k → Stands old width → ExplainsRead (λ (s : Bor (List ℕ)). Some s.now) old new false k → Advances old width OtherLength new fields
+  other_at : (k : ErrorKind) → ¬ NotLengths k → ReaderStands old width → ExplainsRead (λ (s : Bor (List ℕ)). Some s.now) old new false k → ReaderAdvances old width OtherLength new fields
   other_at (kind.UnequalLengths pos e n) lengths s (flexible, was, differs, f, took, len) = other e n s was differs f took len
   other_at (kind.Io e) lengths s why = absurd (lengths tt)
   other_at (kind.Utf8 pos e) lengths s why = absurd (lengths tt)
@@ -205,6 +205,6 @@ module _ (old new : Reader (Bor (List ℕ))) (width : Option ℕ) (fields : List
 
 pub refused : (old new : Reader (Bor (List ℕ))) (fields : List (List ℕ)) (k : ErrorKind) (r : Result Next Memory) → IfOk r (λ next. next ≡ OtherLength) → OnOk r (¬ NotLengths k)
     → (Ready old → ExplainsRead (λ (s : Bor (List ℕ)). Some s.now) old new false k)
-    → IfOk r (λ next. (width : Option ℕ) → Stands old width → Advances old width next new fields)
-refused old new fields k (Ok next) is lengths why = λ width s. subst (λ x. Advances old width x new fields) (sym is) (other_at old new width fields k lengths s (why s.ready))
+    → IfOk r (λ next. (width : Option ℕ) → ReaderStands old width → ReaderAdvances old width next new fields)
+refused old new fields k (Ok next) is lengths why = λ width s. subst (λ x. ReaderAdvances old width x new fields) (sym is) (other_at old new width fields k lengths s (why s.ready))
 refused old new fields k (Err e) is lengths why = tt

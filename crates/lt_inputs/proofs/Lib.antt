@@ -1,5 +1,4 @@
 pub mod Left
-pub mod Digits
 pub mod Header
 pub mod TextLemmas
 pub mod RowSteps

@@ -2,8 +2,9 @@
 use Rattle.std.proofs.Common.{◌≡◌, ◌≢◌, ℕ, ◌+◌, ◌-◌, ◌≤◌, ◌<◌, ◌==◌, Bool, true, false, not, if◌then◌else◌, List, [], ◌∷◌, ◌++◌, length, drop, get_or, Option, Some, None, option_map, Ok, Err, refl, sym, ap, ◌∙◌, arith, nat_le, nat_lt, append_assoc}
 use Rattle.lt_base.specs.declared.function.Decl.{Decl}
 use Rattle.lt_base.specs.declared.value.Value.{Value}
-use Rattle.lt_inputs.specs.Fields.{number_of, up_to, value_of}
-use Rattle.lt_inputs.specs.Inputs.{is_text, is_number, with_value, values_of, or_no_value, instant_and_values, row_of}
+use Rattle.lt_base.specs.Digits.{number_of, up_to}
+use Rattle.lt_inputs.specs.Fields.{field_value}
+use Rattle.lt_inputs.specs.Inputs.{is_text, is_this_number, with_value, values_of, or_no_value, instant_and_values, row_of}
 use Rattle.lt_inputs.specs.declared.fault.InputKind.{InputKind}
 use Rattle.lt_inputs.specs.declared.fault.InputKind.TheVariants.{NotCsv, Instant, TooMany}
 use Rattle.lt_inputs.proofs.TextLemmas.{reads-text}
@@ -29,7 +30,7 @@ up_to-some most (Some n) v e = by (nat_le n most) e
     by true h = h
     by false h = cc
 
-pub other_number : (most n : ℕ) (o : Option ℕ) → n ≤ most → up_to most o ≡ None → is_number n o ≡ false
+pub other_number : (most n : ℕ) (o : Option ℕ) → n ≤ most → up_to most o ≡ None → is_this_number n o ≡ false
 other_number most n None h e = refl
 other_number most n (Some m) h e = eq-false m n (λ same. by (nat_le m most) (grind (arith, same, h)) e)
   where
@@ -37,8 +38,8 @@ other_number most n (Some m) h e = eq-false m n (λ same. by (nat_le m most) (gr
     by true is g = cc
     by false is g = cc
 
-pub this_number : (most n v : ℕ) (o : Option ℕ) → up_to most o ≡ Some v → is_number n o ≡ (v == n)
-this_number most n v o e = ap (is_number n) (up_to-some most o v e)
+pub this_number : (most n v : ℕ) (o : Option ℕ) → up_to most o ≡ Some v → is_this_number n o ≡ (v == n)
+this_number most n v o e = ap (is_this_number n) (up_to-some most o v e)
 
 -- ---- values
 
@@ -50,11 +51,11 @@ pub front-more : (acc : List Value) (v : Value) (o : Option (List Value)) → fr
 front-more acc v None = refl
 front-more acc v (Some vs) = ap Some (sym (append_assoc acc (v ∷ []) vs))
 
-pub values-next : (d : Decl) (ds : List Decl) (f : List ℕ) (fs : List (List ℕ)) → values_of (d ∷ ds) (f ∷ fs) ≡ with_value (value_of d.ty f) (values_of ds fs)
+pub values-next : (d : Decl) (ds : List Decl) (f : List ℕ) (fs : List (List ℕ)) → values_of (d ∷ ds) (f ∷ fs) ≡ with_value (field_value d.ty f) (values_of ds fs)
 values-next d ds f fs = refl
 
 pub read-by_cases : (ins : List Decl) (k : ℕ) (fields : List (List ℕ)) → 0 < length fields
-    → instant_and_values ins k fields ≡ (if is_number k (number_of (get_or fields 0 [])) then or_no_value (values_of ins (drop 1 fields)) else Err Instant)
+    → instant_and_values ins k fields ≡ (if is_this_number k (number_of (get_or fields 0 [])) then or_no_value (values_of ins (drop 1 fields)) else Err Instant)
 read-by_cases ins k [] h = absurd (omega arith)
 read-by_cases ins k (f ∷ fs) h = refl
 

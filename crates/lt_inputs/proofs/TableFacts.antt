@@ -13,16 +13,17 @@ use Rattle.lt_base.specs.Program.{Function}
 use Rattle.lt_base.specs.Inputs.{InputTable}
 use Rattle.lt_base.specs.Typing.{RowFits, AllFit}
 use Rattle.lt_base.specs.Behaviour.{RowsFit}
-use Rattle.lt_inputs.specs.Fields.{number_of, value_of, int_of, bool_of}
-use Rattle.lt_inputs.specs.Inputs.{inputs_in, inputs_of, table_of, rows_of, rows_from, row_of, then_rows, with_value, values_of, or_no_value, instant_and_values, is_number, is_text, same_fields, header_of, most_rows, at_header}
-use Rattle.lt_inputs.specs.Told.{Told}
+use Rattle.lt_base.specs.Digits.{number_of}
+use Rattle.lt_inputs.specs.Fields.{field_value, int_of, bool_of}
+use Rattle.lt_inputs.specs.Inputs.{inputs_in, inputs_of, input_table_of, input_rows_of, input_rows_from, row_of, then_rows, with_value, values_of, or_no_value, instant_and_values, is_this_number, is_text, same_fields, header_of, most_rows, at_header}
+use Rattle.lt_inputs.specs.Told.{ToldWanted}
 use Rattle.lt_inputs.specs.declared.fault.InputFault.{InputFault}
 use Rattle.lt_inputs.specs.declared.fault.InputKind.{InputKind}
 use Rattle.lt_inputs.specs.declared.fault.InputKind.TheVariants.{NotCsv, Header, Instant, TooMany}
 
 -- ---- values
 
-value-type : (t : Ty) (field : List ℕ) (v : Value) → value_of t field ≡ Some v → ty_of v ≡ t
+value-type : (t : Ty) (field : List ℕ) (v : Value) → field_value t field ≡ Some v → ty_of v ≡ t
 value-type ty.Int field v e = by (int_of field) e
   where
     by : (o : Option ℤ) → option_map Int o ≡ Some v → ty_of v ≡ ty.Int
@@ -45,9 +46,9 @@ values-fit : (ds : List Decl) (fields : List (List ℕ)) (vs : List Value) → v
 values-fit [] [] vs e = subst (Fitting []) (some-values e) (tt, refl)
 values-fit [] (f ∷ fs) vs e = cc
 values-fit (d ∷ ds) [] vs e = cc
-values-fit (d ∷ ds) (f ∷ fs) vs e = by (value_of d.ty f) refl (values_of ds fs) refl e (λ us. values-fit ds fs us)
+values-fit (d ∷ ds) (f ∷ fs) vs e = by (field_value d.ty f) refl (values_of ds fs) refl e (λ us. values-fit ds fs us)
   where
-    by : (o : Option Value) → value_of d.ty f ≡ o → (p : Option (List Value)) → values_of ds fs ≡ p → with_value o p ≡ Some vs
+    by : (o : Option Value) → field_value d.ty f ≡ o → (p : Option (List Value)) → values_of ds fs ≡ p → with_value o p ≡ Some vs
         → ((us : List Value) → values_of ds fs ≡ Some us → Fitting ds us) → Fitting (d ∷ ds) vs
     by None is p more g rest = cc
     by (Some v) is None more g rest = cc
@@ -59,7 +60,7 @@ values-fit (d ∷ ds) (f ∷ fs) vs e = by (value_of d.ty f) refl (values_of ds 
 
 read-values : (ins : List Decl) (k : ℕ) (fields : List (List ℕ)) (vs : List Value) → instant_and_values ins k fields ≡ Ok vs → Fitting ins vs
 read-values ins k [] vs e = cc
-read-values ins k (f ∷ fs) vs e = by (is_number k (number_of f)) (values_of ins fs) refl e
+read-values ins k (f ∷ fs) vs e = by (is_this_number k (number_of f)) (values_of ins fs) refl e
   where
     by : (b : Bool) (p : Option (List Value)) → values_of ins fs ≡ p → (if b then or_no_value p else Err Instant) ≡ Ok vs → Fitting ins vs
     by false p is g = cc
@@ -84,12 +85,12 @@ row-fits ins n fields vs e = by (nat_lt most_rows n) refl (length fields == leng
 abbrev FittingRows : List Decl → ℕ → List (List Value) → Type 0
 FittingRows ins n rows = AllFit (map (λ d. d.ty) ins) (map (map Some) rows) × (length rows + n ≤ 100001)
 
-rows-fit : (ins : List Decl) (n : ℕ) (rs : List (List (List ℕ))) (rows : List (List Value)) → n ≤ 100001 → rows_from ins n rs ≡ Ok rows → FittingRows ins n rows
+rows-fit : (ins : List Decl) (n : ℕ) (rs : List (List (List ℕ))) (rows : List (List Value)) → n ≤ 100001 → input_rows_from ins n rs ≡ Ok rows → FittingRows ins n rows
 rows-fit ins n [] rows few e = let h : [] ≡ rows = cc in subst (FittingRows ins n) h (tt, omega arith)
-rows-fit ins n (r ∷ rs) rows few e = by (row_of ins n r) refl (rows_from ins (n + 1) rs) refl e (λ others small. rows-fit ins (n + 1) rs others small)
+rows-fit ins n (r ∷ rs) rows few e = by (row_of ins n r) refl (input_rows_from ins (n + 1) rs) refl e (λ others small. rows-fit ins (n + 1) rs others small)
   where
-    by : (o : Result (List Value) InputKind) → row_of ins n r ≡ o → (p : Result (List (List Value)) InputFault) → rows_from ins (n + 1) rs ≡ p → then_rows n o p ≡ Ok rows
-        → ((others : List (List Value)) → n + 1 ≤ 100001 → rows_from ins (n + 1) rs ≡ Ok others → FittingRows ins (n + 1) others) → FittingRows ins n rows
+    by : (o : Result (List Value) InputKind) → row_of ins n r ≡ o → (p : Result (List (List Value)) InputFault) → input_rows_from ins (n + 1) rs ≡ p → then_rows n o p ≡ Ok rows
+        → ((others : List (List Value)) → n + 1 ≤ 100001 → input_rows_from ins (n + 1) rs ≡ Ok others → FittingRows ins (n + 1) others) → FittingRows ins n rows
     by (Err k) is p more g rest = cc
     by (Ok vs) is (Err k) more g rest = cc
     by (Ok vs) is (Ok others) more g rest =
@@ -99,11 +100,11 @@ rows-fit ins n (r ∷ rs) rows few e = by (row_of ins n r) refl (rows_from ins (
         let h : vs ∷ others ≡ rows = cc in
         subst (FittingRows ins n) h ((here.1.0, there.0), omega (arith, there.1))
 
-table-rows : (ins : List Decl) (rs : List (List (List ℕ))) (rows : List (List Value)) → rows_of ins rs ≡ Ok rows → FittingRows ins 1 rows
+table-rows : (ins : List Decl) (rs : List (List (List ℕ))) (rows : List (List Value)) → input_rows_of ins rs ≡ Ok rows → FittingRows ins 1 rows
 table-rows ins [] rows e = cc
 table-rows ins (header ∷ rs) rows e = by (is_text header) (same_fields header (header_of ins)) e
   where
-    by : (a b : Bool) → (if not a then Err (at_header NotCsv) else if not b then Err (at_header Header) else rows_from ins 1 rs) ≡ Ok rows → FittingRows ins 1 rows
+    by : (a b : Bool) → (if not a then Err (at_header NotCsv) else if not b then Err (at_header Header) else input_rows_from ins 1 rs) ≡ Ok rows → FittingRows ins 1 rows
     by false b g = cc
     by true false g = cc
     by true true g = rows-fit ins 1 rs rows (omega arith) g
@@ -111,12 +112,12 @@ table-rows ins (header ∷ rs) rows e = by (is_text header) (same_fields header 
 -- ---- the table
 
 -- what was read has rows that fit the function's inputs, and not too many
-pub table-fits : (f : Function) (bytes : List ℕ) (r : Result InputTable (Or InputFault)) → Told (inputs_of f bytes) r
+pub table-fits : (f : Function) (bytes : List ℕ) (r : Result InputTable (Or InputFault)) → ToldWanted (inputs_of f bytes) r
     → IfOk r (λ t. RowsFit f t.rows) × IfOk r (λ t. length t.rows ≤ most_rows)
 table-fits f bytes (Err e) told = (tt, tt)
-table-fits f bytes (Ok t) told = by (rows_of (inputs_in f) (records default_config (strip_bom bytes))) refl told
+table-fits f bytes (Ok t) told = by (input_rows_of (inputs_in f) (records default_config (strip_bom bytes))) refl told
   where
-    by : (o : Result (List (List Value)) InputFault) → rows_of (inputs_in f) (records default_config (strip_bom bytes)) ≡ o → table_of f.n_in o ≡ Ok t
+    by : (o : Result (List (List Value)) InputFault) → input_rows_of (inputs_in f) (records default_config (strip_bom bytes)) ≡ o → input_table_of f.n_in o ≡ Ok t
         → RowsFit f t.rows × (length t.rows ≤ most_rows)
     by (Err e) is g = cc
     by (Ok rows) is g =

@@ -9,8 +9,9 @@ use Rattle.lt_base.specs.declared.value.Ty.{Ty}
 use Rattle.lt_base.specs.declared.value.Ty.TheVariants as ty
 use Rattle.lt_base.specs.declared.value.Value.{Value}
 use Rattle.lt_base.specs.declared.value.Value.TheVariants.{Int, Bool as Truth}
-use Rattle.lt_inputs.specs.Fields.{is_digit, all_digits, read_on, number_of, up_to, int_of, bool_of, value_of}
-use Rattle.lt_inputs.specs.Inputs.{is_text, is_number, with_value, values_of, or_no_value, instant_and_values}
+use Rattle.lt_base.specs.Digits.{is_digit, all_digits, read_on, number_of, up_to}
+use Rattle.lt_inputs.specs.Fields.{int_of, bool_of, field_value}
+use Rattle.lt_inputs.specs.Inputs.{is_text, is_this_number, with_value, values_of, or_no_value, instant_and_values}
 use Rattle.lt_inputs.specs.declared.fault.InputKind.TheVariants.{Instant}
 
 -- an optional result that exists, of a test
@@ -88,7 +89,7 @@ bool-ascii field t e = by (bytes_eq field (codes "true")) refl (bytes_eq field (
     by false is true other g = word-ascii field (codes "false") other false-ascii
     by false is false other g = cc
 
-value-text : (t : Ty) (field : List ℕ) (v : Value) → value_of t field ≡ Some v → is_utf8 field ≡ true
+value-text : (t : Ty) (field : List ℕ) (v : Value) → field_value t field ≡ Some v → is_utf8 field ≡ true
 value-text ty.Int field v e = let (z, is) = mapped Int (int_of field) v e in ascii-text field (int-ascii field z is)
 value-text ty.Bool field v e = let (b, is) = mapped Truth (bool_of field) v e in ascii-text field (bool-ascii field b is)
 
@@ -99,9 +100,9 @@ values-text : (ds : List Decl) (fields : List (List ℕ)) (vs : List Value) → 
 values-text [] [] vs e = refl
 values-text [] (f ∷ fs) vs e = cc
 values-text (d ∷ ds) [] vs e = refl
-values-text (d ∷ ds) (f ∷ fs) vs e = by (value_of d.ty f) refl (values_of ds fs) refl e (λ us. values-text ds fs us)
+values-text (d ∷ ds) (f ∷ fs) vs e = by (field_value d.ty f) refl (values_of ds fs) refl e (λ us. values-text ds fs us)
   where
-    by : (o : Option Value) → value_of d.ty f ≡ o → (p : Option (List Value)) → values_of ds fs ≡ p → with_value o p ≡ Some vs
+    by : (o : Option Value) → field_value d.ty f ≡ o → (p : Option (List Value)) → values_of ds fs ≡ p → with_value o p ≡ Some vs
         → ((us : List Value) → values_of ds fs ≡ Some us → is_text fs ≡ true) → is_text (f ∷ fs) ≡ true
     by None is p more g rest = cc
     by (Some v) is None more g rest = cc
@@ -118,6 +119,6 @@ reads-text ds k (f ∷ fs) vs e = by (number_of f) refl (values_of ds fs) refl e
     values true (Some us) is g = values-text ds fs us is
 
     by : (o : Option ℕ) → number_of f ≡ o → (p : Option (List Value)) → values_of ds fs ≡ p
-        → (if is_number k o then or_no_value p else Err Instant) ≡ Ok vs → is_text (f ∷ fs) ≡ true
+        → (if is_this_number k o then or_no_value p else Err Instant) ≡ Ok vs → is_text (f ∷ fs) ≡ true
     by None is p more g = cc
-    by (Some n) is p more g = both (is_utf8 f) (is_text fs) (ascii-text f (number-ascii f n is)) (values (is_number k (Some n)) p more g)
+    by (Some n) is p more g = both (is_utf8 f) (is_text fs) (ascii-text f (number-ascii f n is)) (values (is_this_number k (Some n)) p more g)

@@ -7,7 +7,8 @@ use Rattle.lt_base.specs.declared.function.Decl.{Decl}
 use Rattle.lt_base.specs.declared.value.Value.{Value}
 use Rattle.lt_base.specs.Program.{Function}
 use Rattle.lt_base.specs.Inputs.{InputTable}
-use Rattle.lt_inputs.specs.Fields.{number_of, value_of}
+use Rattle.lt_base.specs.Digits.{number_of}
+use Rattle.lt_inputs.specs.Fields.{field_value}
 use Rattle.lt_inputs.specs.declared.fault.InputKind.{InputKind}
 use Rattle.lt_inputs.specs.declared.fault.InputKind.TheVariants.{NotCsv, Header, Instant, Value as NoValue, TooMany}
 use Rattle.lt_inputs.specs.declared.fault.InputFault.{InputFault}
@@ -34,12 +35,12 @@ abbrev pub values_of : List Decl → List (List ℕ) → Option (List Value)
 values_of [] [] = Some []
 values_of [] (field ∷ fields) = None
 values_of (d ∷ ds) [] = None
-values_of (d ∷ ds) (field ∷ fields) = with_value (value_of d.ty field) (values_of ds fields)
+values_of (d ∷ ds) (field ∷ fields) = with_value (field_value d.ty field) (values_of ds fields)
 
 -- the number exists and is this one
-abbrev pub is_number : ℕ → Option ℕ → Bool
-is_number n None = false
-is_number n (Some m) = m == n
+abbrev pub is_this_number : ℕ → Option ℕ → Bool
+is_this_number n None = false
+is_this_number n (Some m) = m == n
 
 -- the values, where they exist
 abbrev pub or_no_value : Option (List Value) → Result (List Value) InputKind
@@ -50,7 +51,7 @@ or_no_value (Some vs) = Ok vs
 abbrev pub instant_and_values : List Decl → ℕ → List (List ℕ) → Result (List Value) InputKind
 instant_and_values ins k [] = Err NotCsv
 instant_and_values ins k (instant ∷ fields) =
-    if is_number k (number_of instant) then or_no_value (values_of ins fields) else Err Instant
+    if is_this_number k (number_of instant) then or_no_value (values_of ins fields) else Err Instant
 
 -- the row of number n, counted from 1: too many rows, then no record of text as long as the header, then the
 -- instant, then the values
@@ -68,9 +69,9 @@ then_rows n (Ok vs) (Err fault) = Err fault
 then_rows n (Ok vs) (Ok others) = Ok (vs ∷ others)
 
 -- the rows of these records, from number n on, or the first fault
-abbrev pub rows_from : List Decl → ℕ → List (List (List ℕ)) → Result (List (List Value)) InputFault
-rows_from ins n [] = Ok []
-rows_from ins n (r ∷ rs) = then_rows n (row_of ins n r) (rows_from ins (n + 1) rs)
+abbrev pub input_rows_from : List Decl → ℕ → List (List (List ℕ)) → Result (List (List Value)) InputFault
+input_rows_from ins n [] = Ok []
+input_rows_from ins n (r ∷ rs) = then_rows n (row_of ins n r) (input_rows_from ins (n + 1) rs)
 
 -- the header's fields
 abbrev pub header_of : List Decl → List (List ℕ)
@@ -88,18 +89,18 @@ abbrev pub at_header : InputKind → InputFault
 at_header kind = record { row = 0; kind = kind }
 
 -- the rows under a header, or the first fault
-abbrev pub rows_of : List Decl → List (List (List ℕ)) → Result (List (List Value)) InputFault
-rows_of ins [] = Err (at_header Header)
-rows_of ins (header ∷ rs) =
+abbrev pub input_rows_of : List Decl → List (List (List ℕ)) → Result (List (List Value)) InputFault
+input_rows_of ins [] = Err (at_header Header)
+input_rows_of ins (header ∷ rs) =
     if not (is_text header) then Err (at_header NotCsv)
     else if not (same_fields header (header_of ins)) then Err (at_header Header)
-    else rows_from ins 1 rs
+    else input_rows_from ins 1 rs
 
 -- a table of these rows
-abbrev pub table_of : ℕ → Result (List (List Value)) InputFault → Result InputTable InputFault
-table_of width (Ok rows) = Ok (record { width = width; rows = rows })
-table_of width (Err fault) = Err fault
+abbrev pub input_table_of : ℕ → Result (List (List Value)) InputFault → Result InputTable InputFault
+input_table_of width (Ok rows) = Ok (record { width = width; rows = rows })
+input_table_of width (Err fault) = Err fault
 
 -- what the bytes of a file read as for a function: the table of its inputs, or the first fault
 abbrev pub inputs_of : Function → List ℕ → Result InputTable InputFault
-inputs_of f bytes = table_of f.n_in (rows_of (inputs_in f) (records default_config (strip_bom bytes)))
+inputs_of f bytes = input_table_of f.n_in (input_rows_of (inputs_in f) (records default_config (strip_bom bytes)))

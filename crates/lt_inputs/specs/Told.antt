@@ -6,10 +6,10 @@ use Rattle.lt_inputs.specs.declared.fault.InputKind.{InputKind}
 use Rattle.lt_inputs.specs.declared.fault.InputFault.{InputFault}
 
 -- the value or the fault that was wanted, unless no memory was found
-abbrev pub Told : {V E : Type 0} → Result V E → Result V (Or E) → Type 0
-Told wanted (Ok v) = wanted ≡ Ok v
-Told wanted (Err (Fault e)) = wanted ≡ Err e
-Told wanted (Err Memory) = Unit {0}
+abbrev pub ToldWanted : {V E : Type 0} → Result V E → Result V (Or E) → Type 0
+ToldWanted wanted (Ok v) = wanted ≡ Ok v
+ToldWanted wanted (Err (Fault e)) = wanted ≡ Err e
+ToldWanted wanted (Err Memory) = Unit {0}
 
 -- the values were filled in, or the fault was found, unless no memory was found
 abbrev pub Fills : {V E : Type 0} → Result V E → Result (Unit {0}) (Or E) → V → Type 0

@@ -2,19 +2,17 @@
 ghost use Rattle.std.specs.Prelude.{◌≡◌, ◌≤◌, ◌<◌, ◌+◌, ◌^◌, None, Some, IfOk, length};
 ghost use Rattle.csv.specs.Reading.{records, default_config, strip_bom};
 ghost use Rattle.lt_base.specs.Behaviour.{RowsFit};
-ghost use Rattle.lt_inputs.specs.Inputs.{inputs_of, table_of, rows_of, rows_from, most_rows};
-ghost use Rattle.lt_inputs.specs.Records.{rest_of, Stands, ReadsHeader};
-ghost use Rattle.lt_inputs.specs.Told.{Told, at_row};
+ghost use Rattle.lt_inputs.specs.Inputs.{inputs_of, input_table_of, input_rows_of, input_rows_from, most_rows};
+ghost use Rattle.lt_inputs.specs.Records.{rest_of, ReaderStands, ReadsHeader};
+ghost use Rattle.lt_inputs.specs.Told.{ToldWanted, at_row};
 
 use crate::fault::{InputFault, InputKind};
 use crate::records::{Next, advance, is_text, open};
 use crate::rows::{is_header, read_row};
 use csv::{ByteRecord, Reader};
+use lt_base::limits::MOST_ROWS;
 use lt_base::{Decl, Func, Inputs, Or};
 use std::alloc::Global;
-
-/// The greatest number of rows.
-const MOST_ROWS: u32 = 100_000;
 
 /// The values of a function's inputs, from the bytes of an inputs file, or the first fault.
 ///
@@ -22,19 +20,19 @@ const MOST_ROWS: u32 = 100_000;
 /// has the instant n - 1 in decimal digits and a value for each input: an int as an optional `-` and decimal digits,
 /// within 64 bits, or a bool as `true` or `false`. Leading zeros are accepted. Rows are judged in order.
 pub fn read_inputs(alloc: Global, bytes: &[u8], main: &Func) -> Result<Inputs, Or<InputFault>>
-    ensures told { Told (inputs_of main.now bytes.now) result }
+    ensures told { ToldWanted (inputs_of main.now bytes.now) result }
     ensures width { IfOk result (λ table. table.width ≡ main.now.n_in) }
     ensures fit { IfOk result (λ table. RowsFit main.now table.rows) }
     ensures few { IfOk result (λ table. length table.rows ≤ most_rows) }
 {
-    main.kept();
-    let ins = &main.decls.as_slice()[..main.n_in as usize];
+    main.invariant_holds();
+    let ins = &main.decls[..main.n_in as usize];
     read_table(alloc, bytes, ins)
 }
 
 fn read_table(alloc: Global, bytes: &[u8], ins: &[Decl]) -> Result<Inputs, Or<InputFault>>
     requires { length ins.now < 2 ^ 32 }
-    ensures { Told (table_of (length ins.now) (rows_of ins.now (records default_config (strip_bom bytes.now)))) result }
+    ensures { ToldWanted (input_table_of (length ins.now) (input_rows_of ins.now (records default_config (strip_bom bytes.now)))) result }
 {
     let mut reader = open(alloc, bytes);
     let mut row = ByteRecord::new(alloc);
@@ -48,7 +46,7 @@ fn read_header<'a>(
     ins: &[Decl],
 ) -> Result<(), Or<InputFault>>
     requires inputs { length ins.now < 2 ^ 32 }
-    requires stands { Stands reader.old None }
+    requires stands { ReaderStands reader.old None }
     ensures { ReadsHeader ins.now reader.old result reader.new }
 {
     match advance(reader, row)? {
@@ -71,8 +69,8 @@ fn read_rows<'a>(
     ins: &[Decl],
 ) -> Result<Inputs, Or<InputFault>>
     requires inputs { length ins.now < 2 ^ 32 }
-    requires stands { Stands reader.old (Some (length ins.now + 1)) }
-    ensures { Told (table_of (length ins.now) (rows_from ins.now 1 (rest_of reader.old))) result }
+    requires stands { ReaderStands reader.old (Some (length ins.now + 1)) }
+    ensures { ToldWanted (input_table_of (length ins.now) (input_rows_from ins.now 1 (rest_of reader.old))) result }
 {
     let mut table = Inputs::new(alloc, ins.len() as u32)?;
     let mut values = Vec::with_capacity(alloc, ins.len())?;
@@ -85,7 +83,7 @@ fn read_rows<'a>(
         if let Err(fault) = read_row(row, ins, n, &mut values) {
             return Err(at_row(n + 1, fault));
         }
-        table.push(values.as_slice())?;
+        table.push(&values)?;
     }
     match advance(reader, row)? {
         Next::End => Ok(table),

@@ -4,7 +4,7 @@ ghost use Rattle.std.specs.Str.{is_utf8};
 ghost use Rattle.csv.specs.Reading.{records, default_config, strip_bom, error_kind, NotLengths};
 ghost use Rattle.csv.specs.Records.{fields_of};
 ghost use Rattle.lt_inputs.specs.Inputs.{is_text};
-ghost use Rattle.lt_inputs.specs.Records.{rest_of, Stands, Advances};
+ghost use Rattle.lt_inputs.specs.Records.{rest_of, ReaderStands, ReaderAdvances};
 
 use csv::{ByteRecord, Error, ErrorKind, Reader, ReaderBuilder};
 use lt_base::Memory;
@@ -23,7 +23,7 @@ pub enum Next {
 
 /// A reader of the records of some bytes.
 pub fn open<'a>(alloc: Global, bytes: &'a [u8]) -> Reader<&'a [u8]>
-    ensures stands { Stands result None }
+    ensures stands { ReaderStands result None }
     ensures rest { rest_of result ≡ records default_config (strip_bom bytes.entry.now) }
 {
     ReaderBuilder::new()
@@ -33,17 +33,17 @@ pub fn open<'a>(alloc: Global, bytes: &'a [u8]) -> Reader<&'a [u8]>
 
 /// Reads the next record. A slice of bytes gives no other error than a want of memory.
 pub fn advance<'a>(reader: &mut Reader<&'a [u8]>, row: &mut ByteRecord) -> Result<Next, Memory>
-    ensures { IfOk result (λ next. (width : Option ℕ) → Stands reader.old width → Advances reader.old width next reader.new (fields_of row.new)) }
+    ensures { IfOk result (λ next. (width : Option ℕ) → ReaderStands reader.old width → ReaderAdvances reader.old width next reader.new (fields_of row.new)) }
 {
     match reader.read_byte_record(row) {
         Ok(true) => Ok(Next::Found),
         Ok(false) => Ok(Next::End),
-        Err(error) => refused(&error),
+        Err(error) => next_of_error(&error),
     }
 }
 
 // What an error says of a record: it has another length, or no memory was found.
-fn refused(error: &Error) -> Result<Next, Memory>
+fn next_of_error(error: &Error) -> Result<Next, Memory>
     ensures other { IfOk result (λ next. next ≡ Next.OtherLength) }
     ensures lengths { OnOk result (¬ NotLengths (error_kind error.now)) }
     ensures memory { OnErr result (NotLengths (error_kind error.now)) }

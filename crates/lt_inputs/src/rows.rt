@@ -1,15 +1,15 @@
 // Records as the header and the rows of a table.
 ghost use Rattle.std.specs.Prelude.{◌≡◌, ◌<◌, ◌+◌, ◌^◌, [], Ok, Err, IfOk, MatchOption, if◌then◌else◌, length, slice_index_or};
 ghost use Rattle.csv.specs.Records.{fields_of};
-ghost use Rattle.lt_inputs.specs.Fields.{number_of};
-ghost use Rattle.lt_inputs.specs.Inputs.{header_of, instant_and_values, is_number, is_text, most_rows, row_of, same_fields};
+ghost use Rattle.lt_base.specs.Digits.{number_of};
+ghost use Rattle.lt_inputs.specs.Inputs.{header_of, instant_and_values, is_this_number, is_text, most_rows, row_of, same_fields};
 ghost use Rattle.lt_inputs.specs.Told.{Fills};
 
 use crate::fault::InputKind;
 use crate::records::{field, is_text};
-use crate::values::{number, value};
+use crate::values::value;
 use csv::ByteRecord;
-use lt_base::{Decl, Memory, Or, Value};
+use lt_base::{Decl, Memory, Or, Value, number_up_to};
 
 /// Whether a record is the header of a table with these inputs.
 pub fn is_header(row: &ByteRecord, ins: &[Decl]) -> bool
@@ -75,9 +75,9 @@ fn read_values(
 // Whether the first field of a record is this instant.
 fn is_instant(row: &ByteRecord, n: u32) -> bool
     requires { 0 < length (fields_of row.now) }
-    ensures { result ≡ is_number n (number_of (slice_index_or (fields_of row.now) 0 [])) }
+    ensures { result ≡ is_this_number n (number_of (slice_index_or (fields_of row.now) 0 [])) }
 {
-    match number(field(row, 0), u64::MAX) {
+    match number_up_to(field(row, 0), u64::MAX) {
         Some(instant) => instant == u64::from(n),
         None => false,
     }

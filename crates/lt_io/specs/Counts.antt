@@ -1,5 +1,5 @@
 -- When a count of faults rises.
-use Rattle.std.specs.Prelude.{◌≡◌, ◌<◌, ℕ, Result, MatchResult}
+use Rattle.std.specs.Prelude.{◌≡◌, ◌<◌, ◌-◌, ◌^◌, ℕ, Result, MatchResult}
 use Rattle.lt_io.specs.declared.fault.Failed.{Failed}
 use Rattle.lt_io.specs.declared.fault.SinkErr.{SinkErr}
 use Rattle.lt_io.specs.declared.fault.SinkErr.TheVariants as sink
@@ -7,6 +7,10 @@ use Rattle.lt_io.specs.declared.fault.LinkErr.{LinkErr}
 use Rattle.lt_io.specs.declared.fault.LinkErr.TheVariants as link
 use Rattle.lt_base.specs.declared.memory.Or.{Or}
 use Rattle.lt_base.specs.declared.memory.Or.TheVariants.{Fault, Memory}
+
+-- one fault more can be counted
+abbrev pub MayFail : (faults : ℕ) → Type 0
+MayFail faults = faults < 2 ^ 64 - 1
 
 -- the count rose where the call failed, and else stayed
 abbrev pub Counted : {T E : Type 0} → ℕ → ℕ → Result T E → Type 0

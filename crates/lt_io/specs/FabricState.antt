@@ -30,8 +30,8 @@ pub record FabricState : Type 0 where
   pub faults : ℕ
 
 -- the types on the channel of this number
-abbrev pub kind_of : FabricState → ℕ → List Ty
-kind_of s ch = slice_index_or s.kinds ch []
+abbrev pub channel_kind : FabricState → ℕ → List Ty
+channel_kind s ch = slice_index_or s.kinds ch []
 
 -- what no call changes; and none ends `prompt`
 pub record KeepsPromises (old new : FabricState) : Type 0 where
@@ -83,7 +83,7 @@ pub record Delivers (old new : FabricState) (ch : ℕ) (message : Message) : Typ
   pub elsewhere : (c : ℕ) → c ≢ ch → new.transit c ≡ old.transit c
   pub bit : message.bit ≡ oldest.bit
   pub types : map ty_of message.payload ≡ map ty_of oldest.payload
-  pub typed : map ty_of message.payload ≡ kind_of old ch
+  pub typed : map ty_of message.payload ≡ channel_kind old ch
   pub values : IsTrue old.faithful → message.payload ≡ oldest.payload
   pub sent : IsTrue old.told → (c : ℕ) → new.sent c ≡ old.sent c
   pub delivered : IsTrue old.told → Grows old.delivered new.delivered ch message

@@ -22,8 +22,8 @@ pub record FilesState : Type 0 where
   pub faults : ℕ
 
 -- what is left of the open file
-abbrev pub left : FilesState → List ℕ
-left s = drop s.place s.bytes
+abbrev pub file_left : FilesState → List ℕ
+file_left s = drop s.place s.bytes
 
 -- what no call changes
 pub record KeepsNames (old new : FilesState) : Type 0 where
@@ -55,9 +55,9 @@ pub record OpensFile {T E : Type 0} (old new : FilesState) (name : List ℕ) (re
 
 -- the next bytes are at the buffer's front, and there are none exactly at the end of the file
 pub record Reads (old new : FilesState) (count : ℕ) (buf : List ℕ) : Type 0 where
-  pub next : left old ≡ take count buf ++ left new
+  pub next : file_left old ≡ take count buf ++ file_left new
   pub place : new.place ≡ old.place + count
-  pub at_end : 0 < length buf → (count ≡ 0) ↔ (left old ≡ [])
+  pub at_end : 0 < length buf → (count ≡ 0) ↔ (file_left old ≡ [])
 
 -- a call of `read`, which leaves these bytes in the buffer
 pub record ReadsNext {E : Type 0} (old new : FilesState) (buf : List ℕ) (result : Result ℕ E) : Type 0 where

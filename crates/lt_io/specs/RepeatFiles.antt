@@ -16,12 +16,12 @@ pub record RepeatState : Type 0 where
   pub faults : ℕ
 
 -- these bytes, so many times
-unfoldable pub repeated : ℕ → List ℕ → List ℕ
-repeated zero line = []
-repeated (suc n) line = line ++ repeated n line
+unfoldable pub repeated_bytes : ℕ → List ℕ → List ℕ
+repeated_bytes zero line = []
+repeated_bytes (suc n) line = line ++ repeated_bytes n line
 
 -- the place is in the file, and the bytes read since are fewer than a line has, or none
-pub record IsWithin (s : RepeatState) : Type 0 where
+pub record RepeatIsWithin (s : RepeatState) : Type 0 where
   pub whole : s.whole ≤ s.times
   pub since : s.since < max 1 (length s.line)
   pub at_end : s.whole ≡ s.times → s.since ≡ 0
@@ -31,4 +31,4 @@ abbrev pub only_file : List ℕ → List ℕ → Option (List ℕ)
 only_file bytes name = if bytes_eq name (codes "lines") then Some bytes else None
 
 abbrev pub repeat_files_state : RepeatState → FilesState
-repeat_files_state s = record { sound = true; told = true; named = only_file (repeated s.times s.line); bytes = repeated s.times s.line; place = s.whole * length s.line + s.since; visits = s.visits; is_open = s.is_open; faults = s.faults }
+repeat_files_state s = record { sound = true; told = true; named = only_file (repeated_bytes s.times s.line); bytes = repeated_bytes s.times s.line; place = s.whole * length s.line + s.since; visits = s.visits; is_open = s.is_open; faults = s.faults }

@@ -14,7 +14,7 @@ pub struct Calls {
 
 impl Calls {
     ghost use Rattle.std.specs.Prelude.{◌↔◌};
-    ghost use Rattle.lt_io.specs.Counts.{Counted};
+    ghost use Rattle.lt_io.specs.Counts.{MayFail, Counted};
     ghost use Rattle.lt_io.specs.Calls.{IsListed, CountsCall};
 
     pub fn new(fails: List<u64>) -> Self
@@ -29,13 +29,13 @@ impl Calls {
 
     /// Counts a call, which fails where it is listed.
     pub fn call(&mut self) -> Result<(), Failed>
-        requires { self.old.faults < 2 ^ 64 - 1 }
+        requires { MayFail self.old.faults }
         ensures counts { CountsCall self.old self.new }
         ensures cause { Counted self.old.faults self.new.faults result }
         ensures listed { IsErr result ↔ IsListed self.old }
     {
         self.made = self.made.saturating_add(1);
-        if self.fails.as_slice().contains(&self.made) {
+        if self.fails.contains(&self.made) {
             return Err(self.fault());
         }
         Ok(())
@@ -43,7 +43,7 @@ impl Calls {
 
     /// Counts a fault.
     pub fn fault(&mut self) -> Failed
-        requires { self.old.faults < 2 ^ 64 - 1 }
+        requires { MayFail self.old.faults }
         ensures { self.new ≡ record self.old { faults = self.old.faults + 1 } }
     {
         self.faults += 1;

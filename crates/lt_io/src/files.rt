@@ -1,5 +1,6 @@
 // Files that are read, one at a time.
 ghost use Rattle.std.specs.Prelude.{◌<◌, ◌-◌, ◌^◌, IsTrue};
+ghost use Rattle.lt_io.specs.Counts.{MayFail};
 ghost use Rattle.lt_io.specs.FilesState.{FilesState, OpensFile, ReadsNext};
 
 use crate::Failed;
@@ -10,13 +11,13 @@ pub trait Files {
 
     /// Makes the named file the open one, at its start. A missing file is a counted failure.
     fn open(&mut self, name: &str) -> Result<(), Failed>
-        requires { (state self.old).faults < 2 ^ 64 - 1 }
+        requires { MayFail (state self.old).faults }
         ensures { OpensFile (state self.old) (state self.new) name.now result };
 
     /// Fills a front of the buffer with the next bytes, and says how many they are. Zero for a
     /// buffer that is not empty is the end of the file.
     fn read(&mut self, buf: &mut [u8]) -> Result<usize, Failed>
-        requires count { (state self.old).faults < 2 ^ 64 - 1 }
+        requires count { MayFail (state self.old).faults }
         requires opened { IsTrue (state self.old).is_open }
         ensures { ReadsNext (state self.old) (state self.new) buf.new result };
 

@@ -63,8 +63,8 @@ impl FlipChannel {
     {
         let oldest = &self.sent[self.delivered.len()];
         let bit = oldest.bit;
-        let payload = flip_all(alloc, oldest.payload.as_slice())?;
-        into.copy_from_slice(payload.as_slice());
+        let payload = flip_all(alloc, &oldest.payload)?;
+        into.copy_from_slice(&payload);
         self.delivered.push(Message { payload, bit })?;
         Ok(bit)
     }

@@ -1,5 +1,6 @@
 // A fabric that changes what it carries, for tests.
 ghost use Rattle.std.specs.Prelude.{◌≡◌, ◌≢◌, ◌<◌, ℕ, [], length, map, true, false, IfOk, OnOk, OnErr, slice_index_or, vec_len};
+ghost use Rattle.lt_io.specs.Counts.{MayFail};
 ghost use Rattle.lt_io.specs.ChannelState.{IsOfKind};
 ghost use Rattle.lt_io.specs.FabricState.{Grows};
 ghost use Rattle.lt_io.specs.FlipState.{silent, flip_at, flip_kinds, transit_at, sent_at, delivered_at, TakesFlipped};
@@ -40,7 +41,7 @@ impl FlipFabric {
 
 impl Fabric for FlipFabric {
     ghost use Rattle.std.specs.Prelude.{◌≡◌, ◌≢◌, ◌<◌, ◌-◌, ◌^◌, [], length, map, OnOk};
-    ghost use Rattle.lt_io.specs.FabricState.{DeliversOldest, kind_of};
+    ghost use Rattle.lt_io.specs.FabricState.{DeliversOldest, channel_kind};
     ghost use Rattle.lt_io.specs.FlipState.{Flips};
     ghost use Rattle.lt_io.specs.FlipFabric.{flip_fabric_state};
 
@@ -60,10 +61,10 @@ impl Fabric for FlipFabric {
     }
 
     fn deliver(&mut self, ch: u32, into: &mut [Value]) -> Result<bool, LinkErr>
-        requires count { (flip_fabric_state self.old).faults < 2 ^ 64 - 1 }
+        requires count { MayFail (flip_fabric_state self.old).faults }
         requires channel { ch < length (flip_fabric_state self.old).kinds }
         requires some { (flip_fabric_state self.old).transit ch ≢ [] }
-        requires room { length into.old ≡ length (kind_of (flip_fabric_state self.old) ch) }
+        requires room { length into.old ≡ length (channel_kind (flip_fabric_state self.old) ch) }
         ensures delivers { DeliversOldest (flip_fabric_state self.old) (flip_fabric_state self.new) ch into.new result }
         ensures flips { OnOk result (Flips ((flip_fabric_state self.old).transit ch) ((flip_fabric_state self.new).transit ch) into.new) }
     {
@@ -78,7 +79,7 @@ fn channels_of(alloc: Global, kinds: &[List<Ty>]) -> Result<Vec<FlipChannel>, Me
 {
     let mut channels = Vec::with_capacity(alloc, kinds.len())?;
     for kind in kinds {
-        channels.push(FlipChannel::new(alloc, kind.as_slice())?)?;
+        channels.push(FlipChannel::new(alloc, kind)?)?;
     }
     Ok(channels)
 }

@@ -1,5 +1,6 @@
 // Files in memory.
 ghost use Rattle.std.specs.Prelude.{◌≡◌, ◌==◌, ◌<◌, ◌-◌, ◌^◌, ◌+◌, All, true, drop, length, take, min};
+ghost use Rattle.lt_io.specs.Counts.{MayFail};
 ghost use Rattle.lt_io.specs.MemFiles.{lookup, bytes_at, place_of};
 
 use crate::calls::Calls;
@@ -62,7 +63,7 @@ impl Files for MemFiles {
 
     #[tactic(auto, using(crate::proofs::Lookup::lookup_is))]
     fn open(&mut self, name: &str) -> Result<(), Failed>
-        requires { (mem_files_state self.old).faults < 2 ^ 64 - 1 }
+        requires { MayFail (mem_files_state self.old).faults }
         ensures opens { OpensFile (mem_files_state self.old) (mem_files_state self.new) name.now result }
         ensures fails { IsErr result ↔ (IsListed (files_calls self.old) ⊎ IsNone ((mem_files_state self.old).named name.now)) }
         ensures calls { CountsCall (files_calls self.old) (files_calls self.new) }
@@ -70,7 +71,7 @@ impl Files for MemFiles {
         self.is_open = false;
         self.history = self.history.then(&Note::Open(name));
         self.calls.call()?;
-        match find(self.files.as_slice(), name) {
+        match find(&self.files, name) {
             Some(i) => {
                 self.current = i;
                 self.place = 0;
@@ -82,7 +83,7 @@ impl Files for MemFiles {
     }
 
     fn read(&mut self, buf: &mut [u8]) -> Result<usize, Failed>
-        requires count { (mem_files_state self.old).faults < 2 ^ 64 - 1 }
+        requires count { MayFail (mem_files_state self.old).faults }
         requires opened { IsTrue (mem_files_state self.old).is_open }
         ensures reads { ReadsNext (mem_files_state self.old) (mem_files_state self.new) buf.new result }
         ensures fails { IsErr result ↔ IsListed (files_calls self.old) }
@@ -109,8 +110,8 @@ fn read_part(files: &List<MemFile>, current: usize, place: usize, buf: &mut [u8]
     ensures count { result ≡ min (length (drop place (bytes_at files.now current))) (length buf.old) }
     ensures fits { place + result < 2 ^ 64 }
 {
-    match files.as_slice().get(current) {
+    match files.get(current) {
         None => 0,
-        Some(file) => copy_from(file.bytes.as_slice(), place, buf),
+        Some(file) => copy_from(&file.bytes, place, buf),
     }
 }

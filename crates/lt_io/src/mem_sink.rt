@@ -1,5 +1,6 @@
 // A sink in memory.
 ghost use Rattle.std.specs.Prelude.{◌≡◌, ◌==◌, ◌<◌, ◌-◌, ◌^◌, All, length, true, []};
+ghost use Rattle.lt_io.specs.Counts.{MayFail};
 
 use crate::calls::Calls;
 use crate::{Sink, SinkErr};
@@ -45,7 +46,7 @@ impl Sink for MemSink {
     ghost state = { mem_sink_state };
 
     fn write(&mut self, bytes: &[u8]) -> Result<usize, SinkErr>
-        requires count { (mem_sink_state self.old).faults < 2 ^ 64 - 1 }
+        requires count { MayFail (mem_sink_state self.old).faults }
         requires some { 0 < length bytes.now }
         ensures writes { WritesFront (mem_sink_state self.old) (mem_sink_state self.new) bytes.now result }
         ensures fails { IsErrOf result SinkErr.Failed ↔ IsListed (sink_calls self.old) }

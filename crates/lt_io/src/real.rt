@@ -1,5 +1,6 @@
 // The program's files and streams. What they hold is not told.
 ghost use Rattle.std.specs.Prelude.{◌≡◌, ◌<◌, ◌+◌, ◌-◌, ◌^◌, false, is_some, None, []};
+ghost use Rattle.lt_io.specs.Counts.{MayFail};
 
 use crate::history::{History, Note};
 use crate::{Failed, Files, Sink, SinkErr};
@@ -31,7 +32,7 @@ impl<R: rt::Files> RealFiles<R> {
 
 impl<R: rt::Files> RealFiles<R> {
     fn fault(&mut self) -> Failed
-        requires { self.old.faults < 2 ^ 64 - 1 }
+        requires { MayFail self.old.faults }
         ensures { self.new ≡ record self.old { faults = self.old.faults + 1 } }
     {
         self.faults += 1;
@@ -62,7 +63,7 @@ impl<R: rt::Files> Files for RealFiles<R> {
     }
 
     fn read(&mut self, buf: &mut [u8]) -> Result<usize, Failed>
-        requires count { (⟦<RealFiles<R> as Files>⟧.state self.old).faults < 2 ^ 64 - 1 }
+        requires count { MayFail (⟦<RealFiles<R> as Files>⟧.state self.old).faults }
         requires opened { IsTrue (⟦<RealFiles<R> as Files>⟧.state self.old).is_open }
         ensures reads { ReadsNext (⟦<RealFiles<R> as Files>⟧.state self.old) (⟦<RealFiles<R> as Files>⟧.state self.new) buf.new result }
 
@@ -103,7 +104,7 @@ impl<W: Write> Sink for RealSink<W> {
     ghost state = { λ s. record { sound = false; told = false; taken = []; faults = s.faults } };
 
     fn write(&mut self, bytes: &[u8]) -> Result<usize, SinkErr>
-        requires count { self.old.faults < 2 ^ 64 - 1 }
+        requires count { MayFail self.old.faults }
         requires some { 0 < length bytes.now }
         ensures writes { WritesFront (⟦<RealSink<W> as Sink>⟧.state self.old) (⟦<RealSink<W> as Sink>⟧.state self.new) bytes.now result }
         ensures never { ¬ IsErrOf result SinkErr.Memory }

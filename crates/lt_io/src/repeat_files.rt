@@ -21,24 +21,24 @@ pub struct RepeatFiles {
 }
 
 impl Model for RepeatFiles {
-    ghost use Rattle.lt_io.specs.RepeatFiles.{RepeatState, IsWithin};
+    ghost use Rattle.lt_io.specs.RepeatFiles.{RepeatState, RepeatIsWithin};
 
     ghost Value = { RepeatState };
 
     ghost view = { λ f. record { line = f.line; times = f.times; whole = f.whole; since = f.since; is_open = f.is_open; visits = f.history.visits; faults = f.faults } };
 
-    ghost invariant = { λ f. IsWithin (record { line = f.line; times = f.times; whole = f.whole; since = f.since; is_open = f.is_open; visits = f.history.visits; faults = f.faults }) };
+    ghost invariant = { λ f. RepeatIsWithin (record { line = f.line; times = f.times; whole = f.whole; since = f.since; is_open = f.is_open; visits = f.history.visits; faults = f.faults }) };
 }
 
 impl RepeatFiles {
-    ghost use Rattle.lt_io.specs.RepeatFiles.{repeat_files_state, repeated, only_file};
+    ghost use Rattle.lt_io.specs.RepeatFiles.{repeat_files_state, repeated_bytes, only_file};
 
     /// The file that has these bytes so many times; it is not open. It takes no memory.
     pub fn new(line: List<u8>, times: u64) -> Self
         requires { length line * times < 2 ^ 63 }
         ensures sound { (repeat_files_state result).sound ≡ true }
         ensures told { (repeat_files_state result).told ≡ true }
-        ensures named { (repeat_files_state result).named ≡ only_file (repeated times line) }
+        ensures named { (repeat_files_state result).named ≡ only_file (repeated_bytes times line) }
         ensures faults { (repeat_files_state result).faults ≡ 0 }
     {
         RepeatFiles {
@@ -78,7 +78,7 @@ impl Files for RepeatFiles {
             self.history = self.history.then(&Note::Read(0));
             return Ok(0);
         }
-        let count = copy_from(self.line.as_slice(), self.since, buf);
+        let count = copy_from(&self.line, self.since, buf);
         self.history = self.history.then(&Note::Read(count));
         self.since += count;
         if self.since == self.line.len() {

@@ -1,5 +1,6 @@
 // What takes the bytes that are written.
 ghost use Rattle.std.specs.Prelude.{◌<◌, ◌-◌, ◌^◌, length};
+ghost use Rattle.lt_io.specs.Counts.{MayFail};
 ghost use Rattle.lt_io.specs.SinkState.{SinkState, WritesFront};
 
 use crate::SinkErr;
@@ -10,7 +11,7 @@ pub trait Sink {
 
     /// Takes a front of at least one byte, and says how many bytes it took. An error takes nothing.
     fn write(&mut self, bytes: &[u8]) -> Result<usize, SinkErr>
-        requires count { (state self.old).faults < 2 ^ 64 - 1 }
+        requires count { MayFail (state self.old).faults }
         requires some { 0 < length bytes.now }
         ensures { WritesFront (state self.old) (state self.new) bytes.now result };
 }

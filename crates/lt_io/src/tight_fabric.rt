@@ -1,5 +1,6 @@
 // A fabric of which one send finds no memory, for tests.
 ghost use Rattle.std.specs.Prelude.{◌≡◌, ◌<◌, ◌-◌, ◌^◌, [], true, false};
+ghost use Rattle.lt_io.specs.Counts.{MayFail};
 
 use crate::{Fabric, LinkErr, MemFabric};
 use lt_base::{List, Ty, Value};
@@ -40,13 +41,13 @@ impl TightFabric {
 impl Fabric for TightFabric {
     ghost use Rattle.std.specs.Prelude.{◌≡◌, ◌≢◌, ◌<◌, ◌-◌, ◌^◌, [], length, map, IsErrOf};
     ghost use Rattle.lt_base.specs.Value.{ty_of};
-    ghost use Rattle.lt_io.specs.FabricState.{OpensChannels, SendsMessage, DeliversOldest, kind_of};
+    ghost use Rattle.lt_io.specs.FabricState.{OpensChannels, SendsMessage, DeliversOldest, channel_kind};
     ghost use Rattle.lt_io.specs.TightFabric.{tight_fabric_state, next_send, tight_at, CountsSend, KeepsSends};
 
     ghost state = { tight_fabric_state };
 
     fn open(&mut self, kinds: &[List<Ty>]) -> Result<(), LinkErr>
-        requires count { (tight_fabric_state self.old).faults < 2 ^ 64 - 1 }
+        requires count { MayFail (tight_fabric_state self.old).faults }
         requires empty { (tight_fabric_state self.old).kinds ≡ [] }
         ensures opens { OpensChannels (tight_fabric_state self.old) (tight_fabric_state self.new) kinds.now result }
         ensures keeps { KeepsSends self.old self.new }
@@ -55,9 +56,9 @@ impl Fabric for TightFabric {
     }
 
     fn send(&mut self, ch: u32, payload: &[Value], bit: bool) -> Result<(), LinkErr>
-        requires count { (tight_fabric_state self.old).faults < 2 ^ 64 - 1 }
+        requires count { MayFail (tight_fabric_state self.old).faults }
         requires channel { ch < length (tight_fabric_state self.old).kinds }
-        requires types { map ty_of payload.now ≡ kind_of (tight_fabric_state self.old) ch }
+        requires types { map ty_of payload.now ≡ channel_kind (tight_fabric_state self.old) ch }
         ensures sends { SendsMessage (tight_fabric_state self.old) (tight_fabric_state self.new) ch (record { payload = payload.now; bit = bit }) result }
         ensures tight { next_send self.old ≡ tight_at self.old → IsErrOf result LinkErr.Memory }
         ensures free { next_send self.old ≢ tight_at self.old → (tight_fabric_state self.old).transit ch ≡ [] → ¬ IsErrOf result LinkErr.Memory }
@@ -71,10 +72,10 @@ impl Fabric for TightFabric {
     }
 
     fn deliver(&mut self, ch: u32, into: &mut [Value]) -> Result<bool, LinkErr>
-        requires count { (tight_fabric_state self.old).faults < 2 ^ 64 - 1 }
+        requires count { MayFail (tight_fabric_state self.old).faults }
         requires channel { ch < length (tight_fabric_state self.old).kinds }
         requires some { (tight_fabric_state self.old).transit ch ≢ [] }
-        requires room { length into.old ≡ length (kind_of (tight_fabric_state self.old) ch) }
+        requires room { length into.old ≡ length (channel_kind (tight_fabric_state self.old) ch) }
         ensures delivers { DeliversOldest (tight_fabric_state self.old) (tight_fabric_state self.new) ch into.new result }
         ensures keeps { KeepsSends self.old self.new }
     {

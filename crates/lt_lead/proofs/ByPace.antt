@@ -3,8 +3,8 @@ use Rattle.std.proofs.Common.{◌≡◌}
 use Rattle.lt_arch.specs.declared.timing.Timing.{Timing}
 use Rattle.lt_arch.specs.declared.shape.Shape.{Shape}
 use Rattle.lt_place.specs.declared.layout.Layout.{Layout}
-use Rattle.lt_config.specs.declared.pace.Pace.{Pace}
-use Rattle.lt_config.specs.declared.pace.Pace.TheVariants.{Plain, Lossy, Leader}
+use Rattle.lt_arch.specs.declared.pace.Pace.{Pace}
+use Rattle.lt_arch.specs.declared.pace.Pace.TheVariants.{Plain, Lossy, Leader}
 use Rattle.lt_lead.specs.Paced.{IsShapeBy}
 
 pub nodes_are : (l : Layout) (pace : Pace) (t : Timing) (s : Shape) → IsShapeBy l pace t s → s.nodes ≡ l.names

@@ -13,7 +13,7 @@ use Rattle.lt_tb.proofs.Round.{Stands, Opens}
 use Rattle.lt_tb.proofs.Steady.{IsSteady}
 use Rattle.lt_tb.proofs.Wake.{count_up, some_left, eqb_ne}
 use Rattle.lt_tb.proofs.Least.{quotient}
-use Rattle.lt_lead.specs.Bounds.{first_sent_by, sent_by, second_by, follower_bound}
+use Rattle.lt_lead.specs.Bounds.{first_sent_by, leader_sent_by, second_by, follower_bound}
 
 -- what the steady pace of node j tells of its sends
 module _ (t : Timing) (rows j : ℕ) where
@@ -26,7 +26,7 @@ module _ (t : Timing) (rows j : ℕ) where
   first_sum : (send_of t j + 1) * tmax_of t j ≡ send_of t j * tmax_of t j + tmax_of t j
   first_sum = rw (add-mul (send_of t j) 1 (tmax_of t j), one-mul)
 
-  pub begin_by : (phase : Phase) (e : ℕ) (last : Option ℕ) (turn at : ℕ) → IsSteady t rows j phase e last → e ≡ suc turn → e - unsent phase ≡ turn → at ≤ after_last last (tmax_of t j) → at ≤ sent_by t j turn
+  pub begin_by : (phase : Phase) (e : ℕ) (last : Option ℕ) (turn at : ℕ) → IsSteady t rows j phase e last → e ≡ suc turn → e - unsent phase ≡ turn → at ≤ after_last last (tmax_of t j) → at ≤ leader_sent_by t j turn
   begin_by Wait e last turn at k is had due = absurd k
   begin_by Ready e last turn at k is had due = absurd k
   begin_by First e None turn at k is had due = absurd (omega (arith, k))
@@ -42,7 +42,7 @@ module _ (t : Timing) (rows j : ℕ) where
   begin_by (Executing left) e (Some last) turn at k is had due = absurd (omega arith)
 
   -- before its next deadline a node that has sent m times, with a row left, is below its next send
-  pub lead_by : (phase : Phase) (e : ℕ) (last : Option ℕ) (m h : ℕ) → IsSteady t rows j phase e last → e - unsent phase ≡ m → m < rows → h < after_last last (tmax_of t j) → h < sent_by t j m
+  pub lead_by : (phase : Phase) (e : ℕ) (last : Option ℕ) (m h : ℕ) → IsSteady t rows j phase e last → e - unsent phase ≡ m → m < rows → h < after_last last (tmax_of t j) → h < leader_sent_by t j m
   lead_by Wait e last m h k is row due = absurd k
   lead_by Ready e last m h k is row due = absurd k
   lead_by First e None m h k is row due =
@@ -91,17 +91,17 @@ module _ (t : Timing) (rows leader j at e : ℕ) (execute_some : 1 ≤ execute_o
   follow_idle true is zero_yet none = omega arith
   follow_idle false is zero_yet none = (zero_yet, none)
 
-  follow_sends : 1 ≤ e → ((k : ℕ) → e ≡ suc k → at ≤ sent_by t leader k + (tmax_of t j + dmax_of t leader j)) → IsFollowerBy t rows leader j (execute_of t j) e at
+  follow_sends : 1 ≤ e → ((k : ℕ) → e ≡ suc k → at ≤ leader_sent_by t leader k + (tmax_of t j + dmax_of t leader j)) → IsFollowerBy t rows leader j (execute_of t j) e at
   follow_sends some by = record {
     some = some;
     counts = execute_some;
     by = λ k is row.
-        let b : at ≤ sent_by t leader k + (tmax_of t j + dmax_of t leader j) = by k is in
+        let b : at ≤ leader_sent_by t leader k + (tmax_of t j + dmax_of t leader j) = by k is in
         let d : (execute_of t j + 1) * tmax_of t j ≡ execute_of t j * tmax_of t j + 1 * tmax_of t j = add-mul (execute_of t j) 1 (tmax_of t j) in
         omega arith;
   }
 
-  follow_sending : (one any : Bool) (left : ℕ) → 1 ≤ e → ((if one || any then Send else Nothing) ≡ Send → (k : ℕ) → e ≡ suc k → at ≤ sent_by t leader k + (tmax_of t j + dmax_of t leader j)) →
+  follow_sending : (one any : Bool) (left : ℕ) → 1 ≤ e → ((if one || any then Send else Nothing) ≡ Send → (k : ℕ) → e ≡ suc k → at ≤ leader_sent_by t leader k + (tmax_of t j + dmax_of t leader j)) →
       IsFollowing t rows leader j (phase_after (send_of t j) (execute_of t j) (Sending left) (if one || any then Send else Nothing)) (if is_execute (if one || any then Send else Nothing) then e + 1 else e) (Some at)
   follow_sending true any left some by = follow_sends some (by refl)
   follow_sending false true left some by = follow_sends some (by refl)
@@ -125,7 +125,7 @@ module _ (t : Timing) (rows leader j at e : ℕ) (execute_some : 1 ≤ execute_o
       })
 
   pub follow_woken : (phase : Phase) (last : Option ℕ) (every any acks : Bool) → IsFollowing t rows leader j phase e last → at ≤ after_last last (tmax_of t j) →
-      (deed_of phase every any acks (nat_le (suc e) rows) ≡ Send → (k : ℕ) → e ≡ suc k → at ≤ sent_by t leader k + (tmax_of t j + dmax_of t leader j)) →
+      (deed_of phase every any acks (nat_le (suc e) rows) ≡ Send → (k : ℕ) → e ≡ suc k → at ≤ leader_sent_by t leader k + (tmax_of t j + dmax_of t leader j)) →
       IsFollowing t rows leader j (phase_after (send_of t j) (execute_of t j) phase (deed_of phase every any acks (nat_le (suc e) rows)))
       (if is_execute (deed_of phase every any acks (nat_le (suc e) rows)) then e + 1 else e) (Some at)
   follow_woken Wait last every any acks h due by = absurd h
@@ -140,7 +140,7 @@ module _ (t : Timing) (rows leader j at e : ℕ) (execute_some : 1 ≤ execute_o
 abbrev pub HasCome : Timing → (leader j h e : ℕ) → Type 0
 HasCome t leader j h e = (e ≡ 0 → h < tmax_of t j) × ((k : ℕ) → e ≡ suc k → h < second_by t leader j + k * time_based_cycle t leader)
 
-pub open_come : (t : Timing) (rows leader j h e : ℕ) (phase : Phase) (last : Option ℕ) → Opens t rows j phase e last → e < rows → h < after_last last (tmax_of t j) → h < sent_by t leader 0 → HasCome t leader j h e
+pub open_come : (t : Timing) (rows leader j h e : ℕ) (phase : Phase) (last : Option ℕ) → Opens t rows j phase e last → e < rows → h < after_last last (tmax_of t j) → h < leader_sent_by t leader 0 → HasCome t leader j h e
 open_come t rows leader j h e Wait last o row due lead = absurd o
 open_come t rows leader j h e Ready last o row due lead = absurd o
 open_come t rows leader j h e First None o row due lead = (λ is. due, λ k is. absurd (omega arith))
@@ -151,7 +151,7 @@ open_come t rows leader j h e (Sending left) (Some last) o row due lead =
     (λ is. absurd (omega arith), λ k is. omega arith)
 open_come t rows leader j h e (Executing left) last o row due lead = absurd o
 
-pub round_come : (s : Shape) (t : Timing) (rows leader j turn start reach h e : ℕ) → reach ≡ tmax_of t j + dmax_of t leader j → start ≤ sent_by t leader turn → (suc turn < rows → h < sent_by t leader (suc turn)) →
+pub round_come : (s : Shape) (t : Timing) (rows leader j turn start reach h e : ℕ) → reach ≡ tmax_of t j + dmax_of t leader j → start ≤ leader_sent_by t leader turn → (suc turn < rows → h < leader_sent_by t leader (suc turn)) →
     (phase : Phase) (last : Option ℕ) → Stands s t rows turn start reach j phase e last → IsFollowing t rows leader j phase e last → e < rows → h < after_last last (tmax_of t j) → HasCome t leader j h e
 round_come s t rows leader j turn start reach h e r begun lead Wait last k f row due = absurd k
 round_come s t rows leader j turn start reach h e r begun lead Ready last k f row due = absurd k
@@ -164,7 +164,7 @@ round_come s t rows leader j turn start reach h e r begun lead (Sending left) (S
       λ is. absurd (omega arith),
       λ m is.
           let same : turn ≡ m = omega arith in
-          let begun' : start ≤ sent_by t leader m = subst (λ i. start ≤ sent_by t leader i) same begun in
+          let begun' : start ≤ leader_sent_by t leader m = subst (λ i. start ≤ leader_sent_by t leader i) same begun in
           let d' : (execute_of t j + 1) * tmax_of t j ≡ execute_of t j * tmax_of t j + 1 * tmax_of t j = add-mul (execute_of t j) 1 (tmax_of t j) in
           omega arith,
     )
@@ -173,7 +173,7 @@ round_come s t rows leader j turn start reach h e r begun lead (Sending left) (S
       λ is. absurd (omega arith),
       λ m is.
           let same : suc turn ≡ m = omega arith in
-          let lead' : h < sent_by t leader m = subst (λ i. h < sent_by t leader i) same (lead d.row) in
+          let lead' : h < leader_sent_by t leader m = subst (λ i. h < leader_sent_by t leader i) same (lead d.row) in
           omega arith,
     )
 round_come s t rows leader j turn start reach h e r begun lead (Executing left) None k f row due = absurd k

@@ -30,9 +30,9 @@ use Rattle.lt_tb.proofs.Starts.{ready_for_next}
 use Rattle.lt_tb.proofs.Opening.{kept_open, KeptOpen, no_fresh, first_ready, open_executed}
 use Rattle.lt_tb.proofs.Least.{some_cycle, step_steady, starts_steady, least}
 use Rattle.lt_tb.proofs.Whole.{step_keeps, starts}
-use Rattle.lt_config.specs.Paced.{IsLed}
+use Rattle.lt_arch.specs.Paced.{IsLed}
 use Rattle.lt_lead.specs.Shapes.{IsLeaderShape}
-use Rattle.lt_lead.specs.Bounds.{sent_by, second_by, lead_bound_of}
+use Rattle.lt_lead.specs.Bounds.{leader_sent_by, second_by, lead_bound_of}
 use Rattle.lt_lead.proofs.Premises.{only_leader, leader_shape, lead_reach, reach_other, lead_paced}
 use Rattle.lt_lead.proofs.Following.{IsFollowing, HasCome, begin_by, lead_by, follow_woken, open_come, round_come, come_bound}
 
@@ -51,7 +51,7 @@ module _ (s : Shape) (t : Timing) (rows leader : ℕ) (shape : IsLeaderShape s l
 
   -- a round begins in time
   abbrev pub in_turn : ℕ → ℕ → ℕ → Type 0
-  in_turn turn starter start = start ≤ sent_by t leader turn
+  in_turn turn starter start = start ≤ leader_sent_by t leader turn
 
   pub record KeepsUp (st : State) : Type 0 where
     pub steady : AreSteady s t rows st
@@ -61,19 +61,19 @@ module _ (s : Shape) (t : Timing) (rows leader : ℕ) (shape : IsLeaderShape s l
   may_begin : (st : State) (e : Event) → offence_of s t st e ≡ None → AreSteady s t rows st → MayBegin s t GREATEST_TIME in_turn st (time_of e)
   may_begin st e none k n turn within paces is had =
       let same : n ≡ leader = only_leader s t leader same_nodes led n within paces in
-      let by : time_of e ≤ sent_by t n turn = begin_by t rows n (st.node n).phase (st.node n).executed (st.node n).last turn (time_of e) (k.steady n within) is had ((in_time s t st e none).by_node n within) in
-      subst (λ i. time_of e ≤ sent_by t i turn) same by
+      let by : time_of e ≤ leader_sent_by t n turn = begin_by t rows n (st.node n).phase (st.node n).executed (st.node n).last turn (time_of e) (k.steady n within) is had ((in_time s t st e none).by_node n within) in
+      subst (λ i. time_of e ≤ leader_sent_by t i turn) same by
 
-  follow_by : (k turn at start : ℕ) (j e : ℕ) → leader ≢ j → e ≡ suc k → e ≡ suc turn → start ≤ sent_by t leader turn → at ≤ start + lead_reach t leader j → at ≤ sent_by t leader k + (tmax_of t j + dmax_of t leader j)
+  follow_by : (k turn at start : ℕ) (j e : ℕ) → leader ≢ j → e ≡ suc k → e ≡ suc turn → start ≤ leader_sent_by t leader turn → at ≤ start + lead_reach t leader j → at ≤ leader_sent_by t leader k + (tmax_of t j + dmax_of t leader j)
   follow_by k turn at start j e other is is' begun by =
       let same : turn ≡ k = omega arith in
       let r : lead_reach t leader j ≡ tmax_of t j + dmax_of t leader j = reach_other t leader j other in
-      let begun' : start ≤ sent_by t leader k = subst (λ i. start ≤ sent_by t leader i) same begun in
+      let begun' : start ≤ leader_sent_by t leader k = subst (λ i. start ≤ leader_sent_by t leader i) same begun in
       omega arith
 
-  sends_in_round : (st : State) (turn starter start : ℕ) (r : IsRound s t rows GREATEST_TIME the_paced st turn starter start) → start ≤ sent_by t leader turn → (n at : ℕ) → n < node_count s → at ≤ GREATEST_TIME → leader ≢ n → IsInTime s t st at →
+  sends_in_round : (st : State) (turn starter start : ℕ) (r : IsRound s t rows GREATEST_TIME the_paced st turn starter start) → start ≤ leader_sent_by t leader turn → (n at : ℕ) → n < node_count s → at ≤ GREATEST_TIME → leader ≢ n → IsInTime s t st at →
       (deed : Deed) (phase : Phase) → Kept s t rows turn start (lead_reach t leader n) n at (sent_of st n) (executed_of st n) deed phase → deed ≡ Send →
-      (k : ℕ) → executed_of st n ≡ suc k → at ≤ sent_by t leader k + (tmax_of t n + dmax_of t leader n)
+      (k : ℕ) → executed_of st n ≡ suc k → at ≤ leader_sent_by t leader k + (tmax_of t n + dmax_of t leader n)
   sends_in_round st turn starter start r begun n at within in_limit other in_time Nothing phase q is k e = absurd cc
   sends_in_round st turn starter start r begun n at within in_limit other in_time Execute phase q is k e = absurd cc
   sends_in_round st turn starter start r begun n at within in_limit other in_time Send phase (inl q) is k e = follow_by k turn at start n (executed_of st n) other e q.executed_is begun q.in_reach
@@ -82,7 +82,7 @@ module _ (s : Shape) (t : Timing) (rows leader : ℕ) (shape : IsLeaderShape s l
       absurd (other (sym (only_leader s t leader same_nodes led n within ready.paces)))
 
   sends_in_opening : (st : State) (o : IsOpening s t rows st) (n at : ℕ) → n < node_count s → at ≤ GREATEST_TIME → leader ≢ n → IsInTime s t st at →
-      (deed : Deed) (phase : Phase) → KeptOpen t rows n at (executed_of st n) deed phase → deed ≡ Send → (k : ℕ) → executed_of st n ≡ suc k → at ≤ sent_by t leader k + (tmax_of t n + dmax_of t leader n)
+      (deed : Deed) (phase : Phase) → KeptOpen t rows n at (executed_of st n) deed phase → deed ≡ Send → (k : ℕ) → executed_of st n ≡ suc k → at ≤ leader_sent_by t leader k + (tmax_of t n + dmax_of t leader n)
   sends_in_opening st o n at within in_limit other in_time Nothing phase q is k e = absurd cc
   sends_in_opening st o n at within in_limit other in_time Execute phase q is k e = absurd cc
   sends_in_opening st o n at within in_limit other in_time Send phase q is k e =
@@ -90,7 +90,7 @@ module _ (s : Shape) (t : Timing) (rows leader : ℕ) (shape : IsLeaderShape s l
       absurd (other (sym (only_leader s t leader same_nodes led n within ready.paces)))
 
   sends : (st : State) → InRounds s t rows GREATEST_TIME the_paced in_turn st → (n at : ℕ) → offence_of s t st (Act n at) ≡ None → n < node_count s → at ≤ GREATEST_TIME → leader ≢ n →
-      deed_at s rows st n ≡ Send → (k : ℕ) → executed_of st n ≡ suc k → at ≤ sent_by t leader k + (tmax_of t n + dmax_of t leader n)
+      deed_at s rows st n ≡ Send → (k : ℕ) → executed_of st n ≡ suc k → at ≤ leader_sent_by t leader k + (tmax_of t n + dmax_of t leader n)
   sends st (inl o) n at none within in_limit other is k e =
       let facts = in_time s t st (Act n at) none in
       let rest = rested n (tmin_of t n) at (st.node n).last (clear s t st (Act n at) none).own in
@@ -132,7 +132,7 @@ module _ (s : Shape) (t : Timing) (rows leader : ℕ) (shape : IsLeaderShape s l
   starts_up = record { steady = starts_steady s t rows; rounds = starts s t rows GREATEST_TIME the_shape the_paced in_turn; following = λ j w ne. refl }
 
   -- how far a follower has come by its next deadline
-  leader_by : (st : State) → AreSteady s t rows st → (h : ℕ) → st.horizon ≡ Some h → (m : ℕ) → sent_of st leader ≡ m → m < rows → h < sent_by t leader m
+  leader_by : (st : State) → AreSteady s t rows st → (h : ℕ) → st.horizon ≡ Some h → (m : ℕ) → sent_of st leader ≡ m → m < rows → h < leader_sent_by t leader m
   leader_by st k h is m had row = lead_by t rows leader (st.node leader).phase (st.node leader).executed (st.node leader).last m h (k.steady leader shape.leader_in) had row (k.ended h is leader shape.leader_in)
 
   come_from : (st : State) → InRounds s t rows GREATEST_TIME the_paced in_turn st → KeepsUp st → (h : ℕ) → st.horizon ≡ Some h → (n : ℕ) → n < node_count s → n ≢ leader → executed_of st n < rows → HasCome t leader n h (executed_of st n)

@@ -10,7 +10,7 @@ use Rattle.lt_arch.proofs.Ranges.{tmin-some}
 use Rattle.lt_timing.specs.Accepts.{count_of, answer_time, Accepts, MeetsEach}
 use Rattle.lt_tb.specs.Rounds.{MayPace, IsRoundShape, IsPaced}
 use Rattle.lt_tb.proofs.Accepted.{answers, rounds_apart, each}
-use Rattle.lt_config.specs.Paced.{IsLed}
+use Rattle.lt_arch.specs.Paced.{IsLed}
 use Rattle.lt_lead.specs.Shapes.{IsLeaderShape}
 
 long : (limit send tmin : ℕ) → limit < send → 1 ≤ tmin → limit < send * tmin

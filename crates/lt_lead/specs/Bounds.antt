@@ -9,8 +9,8 @@ abbrev pub first_sent_by : Timing → (leader : ℕ) → ℕ
 first_sent_by t leader = (send_of t leader + 1) * tmax_of t leader
 
 -- and the one after k more by this time, since it sends once a cycle
-abbrev pub sent_by : Timing → (leader k : ℕ) → ℕ
-sent_by t leader k = first_sent_by t leader + k * time_based_cycle t leader
+abbrev pub leader_sent_by : Timing → (leader k : ℕ) → ℕ
+leader_sent_by t leader k = first_sent_by t leader + k * time_based_cycle t leader
 
 -- node n executes its second instant by this time: that message has come, and the node has been activated, has sent and has counted
 abbrev pub second_by : Timing → (leader n : ℕ) → ℕ

@@ -1,3 +1,5 @@
+pub mod Chosen
+pub mod Controllers
 pub mod Shapes
 pub mod Bounds
 pub mod Laws

@@ -6,10 +6,10 @@ use Rattle.lt_arch.specs.declared.shape.Shape.{Shape}
 use Rattle.lt_timing.specs.Bounds.{bound_of}
 use Rattle.lt_lossy.specs.Laws.{lossy_bound}
 use Rattle.lt_place.specs.declared.layout.Layout.{Layout}
-use Rattle.lt_node.specs.Channels.{IsShapeOf}
-use Rattle.lt_config.specs.declared.pace.Pace.{Pace}
-use Rattle.lt_config.specs.declared.pace.Pace.TheVariants.{Plain, Lossy, Leader}
-use Rattle.lt_config.specs.Paced.{FitsPace}
+use Rattle.lt_net_node.specs.Channels.{IsShapeOf}
+use Rattle.lt_arch.specs.declared.pace.Pace.{Pace}
+use Rattle.lt_arch.specs.declared.pace.Pace.TheVariants.{Plain, Lossy, Leader}
+use Rattle.lt_arch.specs.Paced.{FitsPace}
 use Rattle.lt_lead.specs.Channels.{IsLeadShapeOf}
 use Rattle.lt_lead.specs.Bounds.{lead_bound_of}
 

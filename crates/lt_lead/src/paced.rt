@@ -3,16 +3,15 @@ ghost use Rattle.std.specs.Prelude.{◌≡◌, ◌<◌, ◌^◌, length, IfOk};
 ghost use Rattle.lt_arch.specs.declared.timing.Protocol.TheVariants.{BackPressure};
 ghost use Rattle.lt_norm.specs.Flat.{Originated};
 ghost use Rattle.lt_place.specs.Layout.{IsPlaced};
-ghost use Rattle.lt_node.specs.Channels.{IsShapeOf};
-ghost use Rattle.lt_config.specs.Paced.{FitsPace};
+ghost use Rattle.lt_net_node.specs.Channels.{IsShapeOf};
+ghost use Rattle.lt_arch.specs.Paced.{FitsPace};
 ghost use Rattle.lt_lead.specs.Paced.{IsShapeBy};
 
 use crate::lead_shape;
-use lt_arch::{Shape, Timing};
+use lt_arch::{Pace, Shape, Timing};
 use lt_base::Memory;
-use lt_config::Pace;
+use lt_net_node::shape_of;
 use lt_place::Layout;
-use lt_plant::shape_of;
 use std::alloc::Global;
 
 /// The nodes of a placed layout and the channels between them: those of the timing's protocol, also where links lose messages, or those of

@@ -3,25 +3,25 @@ ghost use Rattle.std.specs.Prelude.{◌≡◌, ◌<◌, ◌^◌, length, IfOk, O
 ghost use Rattle.lt_arch.specs.declared.chan.ChanKind.TheVariants.{Data};
 ghost use Rattle.lt_norm.specs.Flat.{Originated};
 ghost use Rattle.lt_place.specs.Layout.{IsPlaced};
-ghost use Rattle.lt_node.specs.Channels.{channel, push_if, chans_from, chans_below, all_chans};
-ghost use Rattle.lt_lead.specs.Channels.{leads_to, IsLeadShapeOf};
+ghost use Rattle.lt_net_node.specs.Channels.{channel, push_channel_if, chans_from, chans_below, all_chans};
+ghost use Rattle.lt_lead.specs.Channels.{is_leader_channel, IsLeadShapeOf};
 
+use lt_arch::laws::names_differ;
 use lt_arch::{Chan, ChanKind, Shape};
 use lt_base::{List, Memory};
-use lt_place::laws::names_differ;
+use lt_net_node::is_crossed;
 use lt_place::{Crossing, Layout};
-use lt_plant::is_crossed;
 use std::alloc::Global;
 
 fn leads_to(cross: &[Crossing], leader: u32, from: u32, to: u32) -> bool
-    ensures { result ≡ leads_to cross.now leader Data from to }
+    ensures { result ≡ is_leader_channel cross.now leader Data from to }
 {
     from != to && (from == leader || is_crossed(cross, from, to))
 }
 
 // Appends a data channel, or nothing.
 fn add_if(has: bool, from: u32, to: u32, channels: &mut List<Chan>) -> Result<(), Memory>
-    ensures { OnOk result (channels.new ≡ push_if has (channel Data from to) channels.old) }
+    ensures { OnOk result (channels.new ≡ push_channel_if has (channel Data from to) channels.old) }
 {
     if has {
         let kind = ChanKind::Data;
@@ -38,7 +38,7 @@ fn add_from(
     nodes: u32,
     channels: &mut List<Chan>,
 ) -> Result<(), Memory>
-    ensures { OnOk result (channels.new ≡ chans_from (leads_to cross.now leader) Data from nodes channels.old) }
+    ensures { OnOk result (channels.new ≡ chans_from (is_leader_channel cross.now leader) Data from nodes channels.old) }
 {
     for to in 0..nodes {
         add_if(leads_to(cross, leader, from, to), from, to, channels)?;
@@ -52,7 +52,7 @@ fn channels_of(
     leader: u32,
     nodes: u32,
 ) -> Result<List<Chan>, Memory>
-    ensures { IfOk result (λ channels. channels ≡ all_chans (leads_to cross.now leader) nodes) }
+    ensures { IfOk result (λ channels. channels ≡ all_chans (is_leader_channel cross.now leader) nodes) }
 {
     let mut channels = List::new(alloc);
     for from in 0..nodes {

@@ -7,9 +7,9 @@ use Rattle.lt_timing.specs.declared.fault.TimingFault.{TimingFault}
 use Rattle.lt_lossy.specs.declared.room.WindowFault.{WindowFault}
 use Rattle.lt_answer.specs.World.{Blame, Content}
 use Rattle.lt_front.specs.Examined.{ExaminedText}
-use Rattle.lt_fit.specs.declared.fault.CommandFault.{CommandFault}
-use Rattle.lt_fit.specs.declared.fault.CommandFault.TheVariants as fault
-use Rattle.lt_fit.specs.Fits.{placed_verdict, timed_verdict, windowed_verdict, accepted_verdict, fitting_verdict}
+use Rattle.lt_load_fit.specs.declared.fault.CommandFault.{CommandFault}
+use Rattle.lt_load_fit.specs.declared.fault.CommandFault.TheVariants as fault
+use Rattle.lt_load_fit.specs.Fits.{placed_verdict, timed_verdict, windowed_verdict, accepted_verdict, fitting_verdict}
 use Rattle.lt_load.specs.Blamed.{command_blame}
 use Rattle.lt_load.proofs.OneCheck.{place_fault, timing_fault, window_fault}
 use Rattle.lt_load.proofs.Steps.{IsContent, content_then}

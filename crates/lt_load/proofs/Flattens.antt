@@ -20,7 +20,7 @@ use Rattle.lt_step.specs.Run.{HasRowValues}
 use Rattle.lt_place.specs.Sizes.{HasCodeRoom}
 use Rattle.lt_front.specs.Flattened.{main_function, function_or_none, KeepsMain}
 use Rattle.lt_meaning.specs.Streams.{InputsFit, InputsFitMain}
-use Rattle.lt_fit.specs.Main.{main_in}
+use Rattle.lt_load_fit.specs.Main.{main_in}
 use Rattle.lt_load.proofs.Mains.{of_main}
 
 -- the function that is run

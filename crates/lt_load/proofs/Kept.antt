@@ -3,9 +3,10 @@ use Rattle.lt_base.specs.Inputs.{InputTable}
 use Rattle.lt_base.specs.Program.{GoodProgram}
 use Rattle.lt_meaning.specs.Streams.{InputsFitMain}
 use Rattle.lt_front.specs.Checked.{CheckedText, IsChecked}
-use Rattle.lt_load.specs.declared.sites.Site.{Site}
+use Rattle.lt_compile.specs.declared.site.Site.{Site}
 use Rattle.lt_load.specs.Plan.{IsLoaded}
-use Rattle.lt_load.specs.Sites.{IsSited, loaded_of}
+use Rattle.lt_compile.specs.Sites.{IsSited}
+use Rattle.lt_load.specs.Sites.{loaded_of}
 use Rattle.lt_load.proofs.Flattens.{width_is, wide_rows, rows_fit, code_room}
 
 pub is_loaded : (checked : CheckedText) → IsChecked checked → GoodProgram checked.program → (s : Site) → IsSited checked.flat s → (table : InputTable) → InputsFitMain checked.program table → IsLoaded (loaded_of checked s table)

@@ -14,6 +14,4 @@ pub mod Contents
 pub mod Equals
 pub mod Planned
 pub mod Onward
-pub mod Sited
-pub mod Misplaced
 pub mod OnePlain

@@ -8,18 +8,18 @@ use Rattle.lt_front.specs.Examined.{ExaminedText}
 use Rattle.lt_front.specs.Flattened.{flat_of}
 use Rattle.lt_place.specs.declared.fault.PlaceFault.{PlaceFault}
 use Rattle.lt_place.specs.Legal.{Legal}
-use Rattle.lt_place.specs.Placement.{node_names}
+use Rattle.lt_arch.specs.Placement.{node_names}
 use Rattle.lt_timing.specs.declared.fault.TimingFault.{TimingFault}
 use Rattle.lt_timing.specs.Accepts.{Accepts}
 use Rattle.lt_lossy.specs.declared.room.WindowFault.{WindowFault}
 use Rattle.lt_lossy.specs.Window.{IsWindowFault}
-use Rattle.lt_verdict.specs.Rules.{Exactly}
-use Rattle.lt_verdict.proofs.Decided.{HasOneKind, HasOneOutcome, exactly, and_then, and_then_one, raised_one}
-use Rattle.lt_fit.specs.declared.fault.What.TheVariants.{ConfigBytes}
-use Rattle.lt_fit.specs.declared.fault.CommandFault.{CommandFault}
-use Rattle.lt_fit.specs.declared.fault.CommandFault.TheVariants as fault
-use Rattle.lt_fit.specs.Fits.{Passes, HasWindowBy, IsPlaceFault, IsTimingFault, IsOutsideWindow, placed_verdict, timed_verdict, windowed_verdict, accepted_verdict, fitting_verdict}
-use Rattle.lt_fit.proofs.Windows.{one_window_fault}
+use Rattle.lt_answer.specs.Rules.{Exactly}
+use Rattle.lt_answer.proofs.Decided.{HasOneKind, HasOneOutcome, exactly, and_then, and_then_one, raised_one}
+use Rattle.lt_load_fit.specs.declared.fault.What.TheVariants.{ConfigBytes}
+use Rattle.lt_load_fit.specs.declared.fault.CommandFault.{CommandFault}
+use Rattle.lt_load_fit.specs.declared.fault.CommandFault.TheVariants as fault
+use Rattle.lt_load_fit.specs.Fits.{SetupPasses, HasWindowBy, IsPlaceFault, IsTimingFault, IsOutsideWindow, placed_verdict, timed_verdict, windowed_verdict, accepted_verdict, fitting_verdict}
+use Rattle.lt_load_fit.proofs.Windows.{one_window_fault}
 use Rattle.lt_load.specs.Loaded.{whole_verdict, setup_verdict, program_verdict, config_verdict}
 use Rattle.lt_load.specs.Setups.{fitted_verdict, with_setup_verdict, check_verdict}
 use Rattle.lt_load.proofs.OneLoad.{TellsLimits, whole_decided, program_decided, setup_decided}
@@ -86,7 +86,7 @@ abbrev pub MergesTimings : {K : Type 0} → (CommandFault → K) → Type 0
 MergesTimings kind = (f g : TimingFault) (names names' : List (List ℕ)) (mixed mixed' : Bool) → kind (fault.Timing f names mixed) ≡ kind (fault.Timing g names' mixed')
 
 pub passes_decided : {K : Type 0} (kind : CommandFault → K) (setup : Config) (Rule : Type 0) (IsFault : CommandFault → Type 0) → ((e f : CommandFault) → IsFault e → IsFault f → kind e ≡ kind f)
-    → HasOneOutcome kind (Passes setup Rule IsFault)
+    → HasOneOutcome kind (SetupPasses setup Rule IsFault)
 passes_decided kind setup Rule IsFault one = record {
   faults = record { one_kind = λ e f p q. one e f p.1 q.1; not_both = λ e x p right. p.0 right.0 };
   one_value = λ x y p q. p.1 ∙ sym q.1;

@@ -6,16 +6,16 @@ use Rattle.lt_front.specs.declared.fault.ProgramFault.{ProgramFault}
 use Rattle.lt_front.specs.Limits.{is_limit}
 use Rattle.lt_front.specs.Front.{examine_verdict}
 use Rattle.lt_front.proofs.OneFault.{front_decided}
-use Rattle.lt_verdict.proofs.Decided.{HasOneKind, HasOneOutcome, of_form, of_file, and_then, raised, and_then_one, raised_one, coarser}
-use Rattle.lt_fit.specs.declared.fault.What.{What}
-use Rattle.lt_fit.specs.declared.fault.What.TheVariants.{ProgramBytes, ConfigBytes}
-use Rattle.lt_fit.specs.declared.fault.CommandFault.{CommandFault}
-use Rattle.lt_fit.specs.declared.fault.CommandFault.TheVariants as fault
-use Rattle.lt_load.specs.Loaded.{IsWithin, limit_of, whole_verdict, setup_verdict, program_verdict, config_verdict}
+use Rattle.lt_answer.proofs.Decided.{HasOneKind, HasOneOutcome, of_form, of_file, and_then, raised, and_then_one, raised_one, coarser}
+use Rattle.lt_load_fit.specs.declared.fault.What.{What}
+use Rattle.lt_load_fit.specs.declared.fault.What.TheVariants.{ProgramBytes, ConfigBytes}
+use Rattle.lt_load_fit.specs.declared.fault.CommandFault.{CommandFault}
+use Rattle.lt_load_fit.specs.declared.fault.CommandFault.TheVariants as fault
+use Rattle.lt_load.specs.Loaded.{BytesAreWithin, limit_of, whole_verdict, setup_verdict, program_verdict, config_verdict}
 
 pub whole_decided : {K : Type 0} (kind : CommandFault → K) (what : What) (file : Option (List ℕ)) → HasOneOutcome kind (whole_verdict what file)
 unfolding whole_verdict
-whole_decided kind what file = of_file kind fault.Read file _ (λ bytes. of_form kind (IsWithin (limit_of what) bytes) (fault.Limit what) (λ x y p q. p.same ∙ sym q.same))
+whole_decided kind what file = of_file kind fault.Read file _ (λ bytes. of_form kind (BytesAreWithin (limit_of what) bytes) (fault.Limit what) (λ x y p q. p.same ∙ sym q.same))
 
 -- a kind that tells a limit that is passed from other faults of a program
 abbrev pub TellsLimits : {K : Type 0} → (CommandFault → K) → Type 0

@@ -1,10 +1,10 @@
 -- Where no node may lead, one plan is left, or one refusal up to its kind.
 use Rattle.std.proofs.Common.{◌≡◌, ◌∙◌, ℕ, List, Option, sym, ap}
 use Rattle.lt_config.specs.declared.config.Config.{Config}
-use Rattle.lt_config.specs.declared.pace.Pace.TheVariants.{Plain}
+use Rattle.lt_arch.specs.declared.pace.Pace.TheVariants.{Plain}
 use Rattle.lt_front.specs.Examined.{ExaminedText}
-use Rattle.lt_verdict.proofs.Decided.{HasOneOutcome, and_then_one}
-use Rattle.lt_fit.specs.declared.fault.CommandFault.{CommandFault}
+use Rattle.lt_answer.proofs.Decided.{HasOneOutcome, and_then_one}
+use Rattle.lt_load_fit.specs.declared.fault.CommandFault.{CommandFault}
 use Rattle.lt_load.specs.Loaded.{program_verdict, config_verdict}
 use Rattle.lt_load.specs.Pacing.{pace_fault, unpaced_verdict, plain_config_verdict, plain_setup_plan_verdict, plain_load_verdict}
 use Rattle.lt_load.proofs.OneLoad.{TellsLimits, program_decided}

@@ -5,13 +5,13 @@ use Rattle.lt_inputs.specs.Inputs.{inputs_of}
 use Rattle.lt_config.specs.declared.config.Config.{Config}
 use Rattle.lt_config.proofs.OneSetup.{one_setup}
 use Rattle.lt_front.specs.Examined.{ExaminedText}
-use Rattle.lt_verdict.specs.Rules.{Exactly}
-use Rattle.lt_verdict.proofs.Decided.{HasOneOutcome, exactly, and_then_one, raised_one}
-use Rattle.lt_fit.specs.declared.fault.What.TheVariants.{InputsBytes}
-use Rattle.lt_fit.specs.declared.fault.CommandFault.{CommandFault}
-use Rattle.lt_fit.specs.declared.fault.CommandFault.TheVariants as fault
-use Rattle.lt_fit.specs.Main.{main_in}
-use Rattle.lt_fit.specs.Fits.{fitting_verdict}
+use Rattle.lt_answer.specs.Rules.{Exactly}
+use Rattle.lt_answer.proofs.Decided.{HasOneOutcome, exactly, and_then_one, raised_one}
+use Rattle.lt_load_fit.specs.declared.fault.What.TheVariants.{InputsBytes}
+use Rattle.lt_load_fit.specs.declared.fault.CommandFault.{CommandFault}
+use Rattle.lt_load_fit.specs.declared.fault.CommandFault.TheVariants as fault
+use Rattle.lt_load_fit.specs.Main.{main_in}
+use Rattle.lt_load_fit.specs.Fits.{fitting_verdict}
 use Rattle.lt_load.specs.Loaded.{whole_verdict, program_verdict, inputs_verdict}
 use Rattle.lt_load.specs.Plan.{plain_verdict, chosen_setup_verdict, inputs_plan_verdict, fitting_plan_verdict, setup_plan_verdict, load_verdict}
 use Rattle.lt_load.proofs.OneLoad.{TellsLimits, whole_decided, program_decided}

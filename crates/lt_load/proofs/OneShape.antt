@@ -16,16 +16,16 @@ use Rattle.lt_arch.specs.declared.shape.Shape.{Shape}
 use Rattle.lt_arch.specs.Names.{is_identifier}
 use Rattle.lt_arch.specs.Ends.{HasEnds}
 use Rattle.lt_norm.specs.Flat.{Originated}
-use Rattle.lt_reads.specs.declared.crossing.Crossing.{Crossing}
+use Rattle.lt_place_reads.specs.declared.crossing.Crossing.{Crossing}
 use Rattle.lt_place.specs.declared.layout.Layout.{Layout}
-use Rattle.lt_place.specs.declared.placement.Placement.{Placement}
+use Rattle.lt_arch.specs.declared.placement.Placement.{Placement}
 use Rattle.lt_place.specs.Layout.{IsLayoutOf, HasCrossings, crossing_of, no_crossing}
 use Rattle.lt_place.specs.Nodes.{node_of}
-use Rattle.lt_node.specs.Layout.{joins}
-use Rattle.lt_node.specs.Channels.{has_channel, all_chans, channels_of}
-use Rattle.lt_config.specs.declared.pace.Pace.{Pace}
-use Rattle.lt_config.specs.declared.pace.Pace.TheVariants.{Plain, Lossy, Leader}
-use Rattle.lt_lead.specs.Channels.{leads_to, lead_channels}
+use Rattle.lt_net_node.specs.Layout.{joins}
+use Rattle.lt_net_node.specs.Channels.{has_channel, all_chans, channels_of}
+use Rattle.lt_arch.specs.declared.pace.Pace.{Pace}
+use Rattle.lt_arch.specs.declared.pace.Pace.TheVariants.{Plain, Lossy, Leader}
+use Rattle.lt_lead.specs.Channels.{is_leader_channel, lead_channels}
 use Rattle.lt_lead.specs.Paced.{IsShapeBy}
 use Rattle.lt_arch.specs.declared.timing.Timing.{Timing}
 use denote.Struct.Props.{props}
@@ -112,7 +112,7 @@ module _ (f : Originated) (p : Placement) where
     pub channels_same : (pr : Protocol) → channels_of l pr ≡ channels_of m pr
     channels_same pr = λ t. all_chans (λ kind i j. has_same pr kind i j t) (length (names_same t))
 
-    leads_same : (leader : ℕ) (kind : ChanKind) (i j : ℕ) → leads_to l.cross leader kind i j ≡ leads_to m.cross leader kind i j
+    leads_same : (leader : ℕ) (kind : ChanKind) (i j : ℕ) → is_leader_channel l.cross leader kind i j ≡ is_leader_channel m.cross leader kind i j
     leads_same leader Data i j = ap (λ b. not (i == j) && ((i == leader) || b)) (joins_same i j)
     leads_same leader Ack i j = refl
 

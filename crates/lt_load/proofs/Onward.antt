@@ -6,7 +6,7 @@ use Rattle.lt_io.specs.Visits.{Errand}
 use Rattle.lt_answer.specs.World.{World}
 use Rattle.lt_answer.specs.Answered.{Answered, Verdict, AndThen}
 use Rattle.lt_answer.proofs.Stages.{goes_on, stops, widened}
-use Rattle.lt_fit.specs.declared.fault.CommandFault.{CommandFault}
+use Rattle.lt_load_fit.specs.declared.fault.CommandFault.{CommandFault}
 use Rattle.lt_load.specs.Blamed.{command_blame}
 use Rattle.lt_load.specs.Plan.{Plan, LoadedPlan, IsLoadedFrom, Loads}
 

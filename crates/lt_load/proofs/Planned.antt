@@ -7,7 +7,7 @@ use Rattle.lt_base.specs.Inputs.{InputTable}
 use Rattle.lt_io.specs.Visits.{Errand}
 use Rattle.lt_io.specs.FilesState.{FilesState}
 use Rattle.lt_answer.specs.World.{Blames, Content, alone}
-use Rattle.lt_verdict.specs.Rules.{Exactly}
+use Rattle.lt_answer.specs.Rules.{Exactly}
 use Rattle.lt_answer.specs.Answered.{Answered, Verdict, AndThen, Refuses}
 use Rattle.lt_answer.proofs.Stages.{widened, refuses, runs_short, calm_itself}
 use Rattle.lt_place.specs.declared.layout.Layout.{Layout}
@@ -15,13 +15,14 @@ use Rattle.lt_place.specs.Layout.{IsLayoutOf}
 use Rattle.lt_front.specs.Checked.{CheckedText, examined_part}
 use Rattle.lt_front.specs.Flattened.{flat_of}
 use Rattle.lt_config.specs.declared.config.Config.{Config}
-use Rattle.lt_fit.specs.declared.fault.CommandFault.{CommandFault}
-use Rattle.lt_fit.specs.Fits.{fitting_verdict}
-use Rattle.lt_load.specs.declared.sites.Site.{Site}
+use Rattle.lt_load_fit.specs.declared.fault.CommandFault.{CommandFault}
+use Rattle.lt_load_fit.specs.Fits.{fitting_verdict}
+use Rattle.lt_compile.specs.declared.site.Site.{Site}
 use Rattle.lt_load.specs.Blamed.{command_blame}
 use Rattle.lt_load.specs.Loaded.{inputs_verdict}
 use Rattle.lt_load.specs.Plan.{Plan, LoadedPlan, IsLoadedFrom, Loads, inputs_plan_verdict, fitting_plan_verdict}
-use Rattle.lt_load.specs.Sites.{IsSiteOf, loaded_of, site_verdict, sited_verdict}
+use Rattle.lt_compile.specs.Sites.{IsSiteOf, site_verdict}
+use Rattle.lt_load.specs.Sites.{loaded_of, sited_verdict}
 use Rattle.lt_load.proofs.Contents.{fitting_content}
 use Rattle.lt_load.proofs.Steps.{Names, refused_step, next_step}
 

@@ -6,7 +6,7 @@ use Rattle.lt_base.specs.declared.memory.Or.TheVariants.{Fault, Memory}
 use Rattle.lt_io.specs.Visits.{Errand}
 use Rattle.lt_answer.specs.World.{World, Blame, Blames}
 use Rattle.lt_answer.specs.Answered.{Answered, Verdict, RefusesReading}
-use Rattle.lt_verdict.specs.Rules.{Raised}
+use Rattle.lt_answer.specs.Rules.{Raised}
 
 module _ {T E G : Type 0} (raise : E → G) (blame : E → Blame) (outer : G → Blame) (same : (e : E) → outer (raise e) ≡ blame e) (V : Verdict T E) (a b : World) where
   reads : RefusesReading blame V → RefusesReading outer (Raised raise V)

@@ -1,5 +1,5 @@
 -- One step after another.
-use Rattle.std.proofs.Common.{◌≡◌, ◌<◌, ℕ, List, [], ◌++◌, Option, Result, Ok, Err, sym, ap, ◌∙◌, subst, inl, inr}
+use Rattle.std.proofs.Common.{◌≡◌, ◌<◌, ℕ, List, [], ◌++◌, Option, Result, Ok, Err, MatchResult, IfOk, sym, ap, ◌∙◌, subst, inl, inr}
 use Rattle.std.specs.Prelude.{◌-◌, ◌^◌, IsErrAnd}
 use Rattle.lt_base.specs.Or.{MapsFault}
 use Rattle.lt_base.specs.declared.memory.Or.{Or}
@@ -9,7 +9,7 @@ use Rattle.lt_io.specs.FilesState.{FilesState}
 use Rattle.lt_answer.specs.World.{World, Blame, Content, Blames, alone}
 use Rattle.lt_answer.specs.Answered.{Answered, Verdict, AndThen, Refuses, Settles}
 use Rattle.lt_answer.proofs.Stages.{settles, refuses, runs_short, calm_itself, goes_on, stops, renamed, errands_all}
-use Rattle.lt_verdict.specs.Rules.{Raised}
+use Rattle.lt_answer.specs.Rules.{Raised}
 
 -- a count that stayed
 pub counts_on : (a b : ℕ) → b ≡ a → a < 2 ^ 64 - 1 → b < 2 ^ 64 - 1
@@ -38,6 +38,19 @@ raised_refusal raise V (Fault f) (Fault h) is refused = (f, refused, is)
 raised_refusal raise V (Fault f) Memory is refused = absurd is
 raised_refusal raise V Memory (Fault h) is refused = absurd is
 raised_refusal raise V Memory Memory is refused = tt
+
+-- its answer as that of the step around it
+pub raised_answer : {T E G : Type 0} (raise : E → G) (V : Verdict T E) (r : Result T (Or E)) (q : Result T (Or G)) → Settles V r
+    → MatchResult r (λ x. q ≡ Ok x) (λ e. IsErrAnd q (λ g. MapsFault e g (λ f h. h ≡ raise f))) → Settles (Raised raise V) q
+raised_answer raise V (Ok x) q right is = subst (Settles (Raised raise V)) (sym is) right
+raised_answer raise V (Err e) (Ok y) right is = absurd is
+raised_answer raise V (Err e) (Err g) right is = raised_refusal raise V e g is right
+
+-- and what is so of its value
+pub raised_value : {T E G : Type 0} (P : T → Type 0) (R : E → G → Type 0) (r : Result T E) (q : Result T G) → IfOk r P → MatchResult r (λ x. q ≡ Ok x) (λ e. IsErrAnd q (R e)) → IfOk q P
+raised_value P R (Ok x) q of is = subst (λ z. IfOk z P) (sym is) of
+raised_value P R (Err e) (Ok y) of is = absurd is
+raised_value P R (Err e) (Err g) of is = tt
 
 -- a step on files, and then another on what is left of them
 

@@ -12,13 +12,13 @@ use Rattle.lt_io.specs.Visits.{Visited}
 use Rattle.lt_io.proofs.Visiting.{visited_any}
 use Rattle.lt_io.specs.Counts.{OrCounted}
 use Rattle.lt_io.specs.Transfer.{whole_of}
-use Rattle.lt_fit.specs.declared.fault.What.{What}
-use Rattle.lt_fit.specs.declared.fault.CommandFault.TheVariants.{Limit, Read}
+use Rattle.lt_load_fit.specs.declared.fault.What.{What}
+use Rattle.lt_load_fit.specs.declared.fault.CommandFault.TheVariants.{Limit, Read}
 use Rattle.lt_answer.specs.World.{KeepsWorld, alone}
 use Rattle.lt_answer.specs.Answered.{Answered, RefusesReading}
 use Rattle.lt_load.specs.Blamed.{command_blame}
 use Rattle.lt_load.specs.Errands.{whole_errand}
-use Rattle.lt_load.specs.Loaded.{limit_of, whole_verdict, within}
+use Rattle.lt_load.specs.Loaded.{limit_of, whole_verdict, within_file_limit}
 use Rattle.lt_load.specs.Found.{fetched}
 use Rattle.lt_answer.proofs.Stages.{keeps_itself}
 
@@ -133,7 +133,7 @@ fetched_past what old new name bytes read long =
     }
 
 -- a whole file
-fetched_whole : (what : What) (old new : FilesState) (name : List ℕ) (whole : Whole) → IsRead what old new name (Ok whole) → Answered command_blame (whole_errand what name) (whole_verdict what (old.named name)) (alone old) (alone new) (within what whole)
+fetched_whole : (what : What) (old new : FilesState) (name : List ℕ) (whole : Whole) → IsRead what old new name (Ok whole) → Answered command_blame (whole_errand what name) (whole_verdict what (old.named name)) (alone old) (alone new) (within_file_limit what whole)
 fetched_whole what old new name TooLong read = fetched_too_long what old new name read
 fetched_whole what old new name (Bytes bytes) read =
     elim (leb_tells (length bytes) (limit_of what)) [
@@ -147,7 +147,7 @@ is_fetched what old new name (Ok whole) is = fetched_whole what old new name who
 is_fetched what old new name (Err (Fault failed)) is = fetch_failed what old new name failed is
 is_fetched what old new name (Err Memory) is = fetch_short what old new name is
 
-within_limit : (what : What) (whole : Whole) → IfOk (within what whole) (λ bytes. length bytes ≤ limit_of what)
+within_limit : (what : What) (whole : Whole) → IfOk (within_file_limit what whole) (λ bytes. length bytes ≤ limit_of what)
 within_limit what TooLong = tt
 within_limit what (Bytes bytes) =
     elim (leb_tells (length bytes) (limit_of what)) [

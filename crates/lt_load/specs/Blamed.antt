@@ -1,6 +1,6 @@
 -- Whose fault a refusal is.
-use Rattle.lt_fit.specs.declared.fault.CommandFault.{CommandFault}
-use Rattle.lt_fit.specs.declared.fault.CommandFault.TheVariants.{Program, Config, Place, Timing, Window, Inputs, TooManyCells, Row, Offence, Lossy, Limit, Read, Link}
+use Rattle.lt_load_fit.specs.declared.fault.CommandFault.{CommandFault}
+use Rattle.lt_load_fit.specs.declared.fault.CommandFault.TheVariants.{Program, Config, Place, Timing, Window, Inputs, TooManyCells, Row, Offence, Lossy, Limit, Read, Link}
 use Rattle.lt_answer.specs.World.{Blame, Content, Reading, Linking}
 
 abbrev pub command_blame : CommandFault → Blame

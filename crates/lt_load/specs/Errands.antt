@@ -1,8 +1,8 @@
 -- The files that a command reads whole, in their order, and how far each may be read.
 use Rattle.std.specs.Prelude.{ℕ, ◌+◌, List, [], ◌∷◌, ◌++◌, Option, Some, None}
 use Rattle.lt_io.specs.Visits.{Errand}
-use Rattle.lt_fit.specs.declared.fault.What.{What}
-use Rattle.lt_fit.specs.declared.fault.What.TheVariants.{ProgramBytes, ConfigBytes, InputsBytes}
+use Rattle.lt_load_fit.specs.declared.fault.What.{What}
+use Rattle.lt_load_fit.specs.declared.fault.What.TheVariants.{ProgramBytes, ConfigBytes, InputsBytes}
 use Rattle.lt_load.specs.Loaded.{limit_of}
 
 -- to read a file up to its limit, and one byte more, which shows that there are too many

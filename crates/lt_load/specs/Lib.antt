@@ -6,3 +6,4 @@ pub mod Setups
 pub mod Plan
 pub mod Sites
 pub mod Pacing
+pub mod OnFiles

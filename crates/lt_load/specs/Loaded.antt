@@ -5,7 +5,7 @@ use Rattle.lt_base.specs.declared.memory.Or.TheVariants.{Fault}
 use Rattle.lt_io.specs.declared.transfer.Whole.{Whole}
 use Rattle.lt_io.specs.declared.transfer.Whole.TheVariants.{Bytes, TooLong}
 use Rattle.lt_answer.specs.Answered.{Verdict, AndThen, OfForm, OfFile}
-use Rattle.lt_verdict.specs.Rules.{Raised, Exactly}
+use Rattle.lt_answer.specs.Rules.{Raised, Exactly}
 use Rattle.lt_front.specs.Examined.{ExaminedText}
 use Rattle.lt_front.specs.Checked.{CheckedText, examined_part}
 use Rattle.lt_front.specs.Front.{examine_verdict}
@@ -15,11 +15,11 @@ use Rattle.lt_inputs.specs.Inputs.{inputs_of}
 use Rattle.lt_config.specs.declared.config.Config.{Config}
 use Rattle.lt_config.specs.declared.fault.ConfigFault.{ConfigFault}
 use Rattle.lt_config.specs.Reading.{config_of, setup_in}
-use Rattle.lt_fit.specs.declared.fault.What.{What}
-use Rattle.lt_fit.specs.declared.fault.What.TheVariants.{ProgramBytes, ConfigBytes, InputsBytes, ObserverBytes, ScheduleBytes}
-use Rattle.lt_fit.specs.declared.fault.CommandFault.{CommandFault}
-use Rattle.lt_fit.specs.declared.fault.CommandFault.TheVariants as fault
-use Rattle.lt_fit.specs.Main.{main_in}
+use Rattle.lt_load_fit.specs.declared.fault.What.{What}
+use Rattle.lt_load_fit.specs.declared.fault.What.TheVariants.{ProgramBytes, ConfigBytes, InputsBytes, ObserverBytes, ScheduleBytes}
+use Rattle.lt_load_fit.specs.declared.fault.CommandFault.{CommandFault}
+use Rattle.lt_load_fit.specs.declared.fault.CommandFault.TheVariants as fault
+use Rattle.lt_load_fit.specs.Main.{main_in}
 
 -- the most bytes of a file
 abbrev pub limit_of : What → ℕ
@@ -30,18 +30,18 @@ limit_of ObserverBytes = 65536
 limit_of ScheduleBytes = 1073741824
 
 -- these are the bytes, and not too many
-pub record IsWithin (most : ℕ) (bytes whole : List ℕ) : Type 0 where
+pub record BytesAreWithin (most : ℕ) (bytes whole : List ℕ) : Type 0 where
   pub same : whole ≡ bytes
   pub short : length bytes ≤ most
 
 -- what was read of a file: its bytes, or that they are too many
-abbrev pub within : What → Whole → Result (List ℕ) (Or CommandFault)
-within what (Bytes bytes) = if nat_le (length bytes) (limit_of what) then Ok bytes else Err (Fault (fault.Limit what))
-within what TooLong = Err (Fault (fault.Limit what))
+abbrev pub within_file_limit : What → Whole → Result (List ℕ) (Or CommandFault)
+within_file_limit what (Bytes bytes) = if nat_le (length bytes) (limit_of what) then Ok bytes else Err (Fault (fault.Limit what))
+within_file_limit what TooLong = Err (Fault (fault.Limit what))
 
 -- the bytes of a file, that they are too many, or that the file is missing
 unfoldable pub whole_verdict : What → Option (List ℕ) → Verdict (List ℕ) CommandFault
-whole_verdict what file = OfFile fault.Read file (λ bytes. OfForm (IsWithin (limit_of what) bytes) (fault.Limit what))
+whole_verdict what file = OfFile fault.Read file (λ bytes. OfForm (BytesAreWithin (limit_of what) bytes) (fault.Limit what))
 
 -- the program of a file, through all checks
 unfoldable pub program_verdict : Option (List ℕ) → Verdict ExaminedText CommandFault

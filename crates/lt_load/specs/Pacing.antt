@@ -3,12 +3,12 @@
 use Rattle.std.specs.Prelude.{◌≡◌, ℕ, List, Option, codes}
 use Rattle.lt_config.specs.declared.config.Config.{Config}
 use Rattle.lt_config.specs.declared.fault.ConfigKind.TheVariants.{OutOfRange}
-use Rattle.lt_config.specs.declared.pace.Pace.TheVariants.{Plain}
+use Rattle.lt_arch.specs.declared.pace.Pace.TheVariants.{Plain}
 use Rattle.lt_answer.specs.Answered.{Verdict, AndThen}
 use Rattle.lt_front.specs.Examined.{ExaminedText}
-use Rattle.lt_fit.specs.declared.fault.CommandFault.{CommandFault}
-use Rattle.lt_fit.specs.declared.fault.CommandFault.TheVariants as fault
-use Rattle.lt_fit.specs.Fits.{Passes}
+use Rattle.lt_load_fit.specs.declared.fault.CommandFault.{CommandFault}
+use Rattle.lt_load_fit.specs.declared.fault.CommandFault.TheVariants as fault
+use Rattle.lt_load_fit.specs.Fits.{SetupPasses}
 use Rattle.lt_load.specs.Loaded.{program_verdict, config_verdict}
 use Rattle.lt_load.specs.Plan.{Plan, fitting_plan_verdict}
 
@@ -18,7 +18,7 @@ pace_fault = fault.Config (record { kind = OutOfRange; key = codes "protocol" })
 
 -- a setup with such a protocol
 unfoldable pub unpaced_verdict : Config → Verdict Config CommandFault
-unpaced_verdict setup = Passes setup (setup.pace ≡ Plain) (λ e. e ≡ pace_fault)
+unpaced_verdict setup = SetupPasses setup (setup.pace ≡ Plain) (λ e. e ≡ pace_fault)
 
 -- that of a file
 unfoldable pub plain_config_verdict : Option (List ℕ) → Verdict Config CommandFault

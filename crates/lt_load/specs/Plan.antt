@@ -22,13 +22,13 @@ use Rattle.lt_front.specs.Checked.{CheckedText, coded_checked, examined_part}
 use Rattle.lt_front.specs.Examined.{ExaminedText}
 use Rattle.lt_front.specs.Flattened.{flat_of}
 use Rattle.lt_config.specs.declared.config.Config.{Config}
-use Rattle.lt_config.specs.declared.pace.Pace.{Pace}
-use Rattle.lt_config.specs.contracts.pace.Pace.{the_row as pace_row}
+use Rattle.lt_arch.specs.declared.pace.Pace.{Pace}
+use Rattle.lt_arch.specs.contracts.pace.Pace.{the_row as pace_row}
 use Rattle.lt_config.specs.Reading.{plain_setup, setup_in}
 use Rattle.lt_answer.specs.Answered.{Verdict, AndThen}
-use Rattle.lt_verdict.specs.Rules.{Exactly}
-use Rattle.lt_fit.specs.declared.fault.CommandFault.{CommandFault}
-use Rattle.lt_fit.specs.Fits.{HasWindowBy, fitting_verdict}
+use Rattle.lt_answer.specs.Rules.{Exactly}
+use Rattle.lt_load_fit.specs.declared.fault.CommandFault.{CommandFault}
+use Rattle.lt_load_fit.specs.Fits.{HasWindowBy, fitting_verdict}
 use Rattle.lt_load.specs.Loaded.{program_verdict, config_verdict, inputs_verdict}
 
 -- the program, the setup and the rows of inputs

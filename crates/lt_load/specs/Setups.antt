@@ -3,9 +3,9 @@ use Rattle.std.specs.Prelude.{ℕ, List, Option, Some, None, Ok}
 use Rattle.lt_front.specs.Examined.{ExaminedText}
 use Rattle.lt_config.specs.declared.config.Config.{Config}
 use Rattle.lt_answer.specs.Answered.{Verdict, AndThen}
-use Rattle.lt_verdict.specs.Rules.{Exactly}
-use Rattle.lt_fit.specs.declared.fault.CommandFault.{CommandFault}
-use Rattle.lt_fit.specs.Fits.{fitting_verdict}
+use Rattle.lt_answer.specs.Rules.{Exactly}
+use Rattle.lt_load_fit.specs.declared.fault.CommandFault.{CommandFault}
+use Rattle.lt_load_fit.specs.Fits.{fitting_verdict}
 use Rattle.lt_load.specs.Loaded.{program_verdict, config_verdict}
 
 -- the setup of a file for a program

@@ -34,7 +34,7 @@ impl Model for Loaded {
 
 impl Loaded {
     /// What the type keeps, for callers.
-    pub fn kept(&self)
+    pub fn invariant_holds(&self)
         ensures { IsLoaded self.now }
     {
         let _ = &self.layout;

@@ -1,22 +1,25 @@
 // The files that a command reads before it runs.
 ghost use Rattle.std.specs.Prelude.{◌≡◌, ◌≤◌, ◌<◌, ◌-◌, ◌^◌, IfOk, length};
+ghost use Rattle.lt_io.specs.Counts.{MayFail};
 ghost use Rattle.lt_answer.specs.World.{alone};
 ghost use Rattle.lt_answer.specs.Answered.{Answered};
-ghost use Rattle.lt_verdict.specs.Rules.{Shown};
+ghost use Rattle.lt_answer.specs.Rules.{Shown};
 ghost use Rattle.lt_front.specs.Printed.{canonical_text};
 ghost use Rattle.lt_meaning.specs.Streams.{InputsFitMain};
-ghost use Rattle.lt_load.specs.Blamed.{command_blame};
 ghost use Rattle.lt_load.specs.Errands.{whole_errand, program_errand, config_errand, inputs_errand};
-ghost use Rattle.lt_load.specs.Loaded.{Flattened, limit_of, whole_verdict, within, program_verdict, config_verdict, inputs_verdict};
+ghost use Rattle.lt_load.specs.OnFiles.{ReadsFile};
+ghost use Rattle.lt_load.specs.Loaded.{Flattened, limit_of, whole_verdict, within_file_limit, program_verdict, config_verdict, inputs_verdict};
 ghost use Rattle.lt_load.specs.Found.{fetched};
 
+use crate::raised::raise_fault;
 use crate::{CommandFault, What};
 use lt_base::{Inputs, List, Or, Program};
+use lt_compile::{check_program, compile_program, print_program};
 use lt_config::{Config, read_config};
-use lt_fit::main_of;
-use lt_front::{Checked, Examined, examine, print_examined};
+use lt_front::{Checked, Examined};
 use lt_inputs::read_inputs;
 use lt_io::{Failed, Files, Whole, read_file};
+use lt_load_fit::main_of;
 use std::alloc::Global;
 
 // The most bytes of a file.
@@ -39,16 +42,16 @@ pub fn fetch_within<F: Files>(
     name: &str,
     what: What,
 ) -> Result<List<u8>, Or<CommandFault>>
-    requires { (F.state files.old).faults < 2 ^ 64 - 1 }
-    ensures answered { Answered command_blame (whole_errand what name.now) (whole_verdict what ((F.state files.old).named name.now)) (alone (F.state files.old)) (alone (F.state files.new)) result }
+    requires { MayFail (F.state files.old).faults }
+    ensures answered { ReadsFile name.now (whole_errand what) (whole_verdict what) (F.state files.old) (F.state files.new) result }
     ensures short { IfOk result (λ bytes. length bytes ≤ limit_of what) }
 {
     let read = read_file(alloc, files, name, limit(what));
-    fetched(what, read)
+    bytes_or_fault(what, read)
 }
 
 // What was read of a file, as a command's.
-fn fetched(what: What, read: Result<Whole, Or<Failed>>) -> Result<List<u8>, Or<CommandFault>>
+fn bytes_or_fault(what: What, read: Result<Whole, Or<Failed>>) -> Result<List<u8>, Or<CommandFault>>
     ensures { result ≡ fetched what read }
 {
     match read {
@@ -60,7 +63,7 @@ fn fetched(what: What, read: Result<Whole, Or<Failed>>) -> Result<List<u8>, Or<C
 
 // The bytes of a whole file, if they are not too many. Files that do not tell their bytes could give more than they were asked for.
 fn within(what: What, whole: Whole) -> Result<List<u8>, Or<CommandFault>>
-    ensures { result ≡ within what whole }
+    ensures { result ≡ within_file_limit what whole }
 {
     match whole {
         Whole::Bytes(bytes) => {
@@ -79,14 +82,14 @@ pub fn load_program<F: Files>(
     files: &mut F,
     name: &str,
 ) -> Result<Examined, Or<CommandFault>>
-    requires { (F.state files.old).faults < 2 ^ 64 - 1 }
-    ensures { Answered command_blame (program_errand name.now) (program_verdict ((F.state files.old).named name.now)) (alone (F.state files.old)) (alone (F.state files.new)) result }
+    requires { MayFail (F.state files.old).faults }
+    ensures { ReadsFile name.now program_errand program_verdict (F.state files.old) (F.state files.new) result }
 {
     let bytes = fetch_within(alloc, files, name, What::ProgramBytes)?;
-    match examine(alloc, bytes.as_slice()) {
-        Ok(checked) => Ok(checked),
-        Err(e) => Err(e.map(CommandFault::Program)),
-    }
+    raise_fault(
+        check_program(alloc, bytes.as_slice()),
+        CommandFault::Program,
+    )
 }
 
 /// The canonical text of the program of a file that passes all checks. Neither its tree nor the program is kept, so this takes less memory
@@ -96,14 +99,14 @@ pub fn load_text<F: Files>(
     files: &mut F,
     name: &str,
 ) -> Result<List<u8>, Or<CommandFault>>
-    requires { (F.state files.old).faults < 2 ^ 64 - 1 }
-    ensures { Answered command_blame (program_errand name.now) (Shown canonical_text (program_verdict ((F.state files.old).named name.now))) (alone (F.state files.old)) (alone (F.state files.new)) result }
+    requires { MayFail (F.state files.old).faults }
+    ensures { ReadsFile name.now program_errand (λ file. Shown canonical_text (program_verdict file)) (F.state files.old) (F.state files.new) result }
 {
     let bytes = fetch_within(alloc, files, name, What::ProgramBytes)?;
-    match print_examined(alloc, bytes.as_slice()) {
-        Ok(text) => Ok(text),
-        Err(e) => Err(e.map(CommandFault::Program)),
-    }
+    raise_fault(
+        print_program(alloc, bytes.as_slice()),
+        CommandFault::Program,
+    )
 }
 
 /// Reads a program's file as `load_program` does, and puts the program into its flat form.
@@ -112,11 +115,14 @@ pub fn load_flat<F: Files>(
     files: &mut F,
     name: &str,
 ) -> Result<Checked, Or<CommandFault>>
-    requires { (F.state files.old).faults < 2 ^ 64 - 1 }
-    ensures { Answered command_blame (program_errand name.now) (Flattened (program_verdict ((F.state files.old).named name.now))) (alone (F.state files.old)) (alone (F.state files.new)) result }
+    requires { MayFail (F.state files.old).faults }
+    ensures { ReadsFile name.now program_errand (λ file. Flattened (program_verdict file)) (F.state files.old) (F.state files.new) result }
 {
-    let examined = load_program(alloc, files, name)?;
-    Ok(examined.flatten(alloc)?)
+    let bytes = fetch_within(alloc, files, name, What::ProgramBytes)?;
+    raise_fault(
+        compile_program(alloc, bytes.as_slice()),
+        CommandFault::Program,
+    )
 }
 
 /// Reads a setup's file.
@@ -125,14 +131,11 @@ pub fn load_config<F: Files>(
     files: &mut F,
     name: &str,
 ) -> Result<Config, Or<CommandFault>>
-    requires { (F.state files.old).faults < 2 ^ 64 - 1 }
-    ensures { Answered command_blame (config_errand name.now) (config_verdict ((F.state files.old).named name.now)) (alone (F.state files.old)) (alone (F.state files.new)) result }
+    requires { MayFail (F.state files.old).faults }
+    ensures { ReadsFile name.now config_errand config_verdict (F.state files.old) (F.state files.new) result }
 {
     let bytes = fetch_within(alloc, files, name, What::ConfigBytes)?;
-    match read_config(alloc, bytes.as_slice()) {
-        Ok(config) => Ok(config),
-        Err(e) => Err(e.map(CommandFault::Config)),
-    }
+    raise_fault(read_config(alloc, bytes.as_slice()), CommandFault::Config)
 }
 
 /// Reads the file of a program's inputs: a row of values for each instant.
@@ -142,14 +145,14 @@ pub fn load_inputs<F: Files>(
     name: &str,
     program: &Program,
 ) -> Result<Inputs, Or<CommandFault>>
-    requires { (F.state files.old).faults < 2 ^ 64 - 1 }
-    ensures answered { Answered command_blame (inputs_errand name.now) (inputs_verdict program.now ((F.state files.old).named name.now)) (alone (F.state files.old)) (alone (F.state files.new)) result }
+    requires { MayFail (F.state files.old).faults }
+    ensures answered { ReadsFile name.now inputs_errand (inputs_verdict program.now) (F.state files.old) (F.state files.new) result }
     ensures fit { IfOk result (InputsFitMain program.now) }
 {
-    program.kept();
+    program.invariant_holds();
     let bytes = fetch_within(alloc, files, name, What::InputsBytes)?;
-    match read_inputs(alloc, bytes.as_slice(), main_of(program)) {
-        Ok(table) => Ok(table),
-        Err(e) => Err(e.map(CommandFault::Inputs)),
-    }
+    raise_fault(
+        read_inputs(alloc, bytes.as_slice(), main_of(program)),
+        CommandFault::Inputs,
+    )
 }

@@ -1,12 +1,11 @@
 // What a command reads where a protocol may be no more than its timing.
 ghost use Rattle.std.specs.Prelude.{◌≡◌, ◌++◌, ◌<◌, ◌-◌, ◌^◌, Some};
-ghost use Rattle.lt_answer.specs.World.{alone};
-ghost use Rattle.lt_answer.specs.Answered.{Answered, Settles};
+ghost use Rattle.lt_io.specs.Counts.{MayFail};
+ghost use Rattle.lt_answer.specs.Answered.{Settles};
 ghost use Rattle.lt_front.specs.Checked.{examined_part};
-ghost use Rattle.lt_load.specs.Blamed.{command_blame};
-ghost use Rattle.lt_load.specs.Errands.{config_errand, inputs_errand, load_errands};
-ghost use Rattle.lt_load.specs.Pacing.{plain_config_verdict, plain_load_verdict, plain_setup_plan_verdict, unpaced_verdict};
-ghost use Rattle.lt_load.specs.Plan.{Loads};
+ghost use Rattle.lt_load.specs.Errands.{config_errand};
+ghost use Rattle.lt_load.specs.OnFiles.{LoadsPlain, LoadsPlainSetup, ReadsFile};
+ghost use Rattle.lt_load.specs.Pacing.{plain_config_verdict, unpaced_verdict};
 
 use crate::loading::load_flat;
 use crate::planning::load_fitting;
@@ -25,9 +24,8 @@ pub fn load_plain<F: Files>(
     inputs: &str,
     config: &str,
 ) -> Result<Loaded, Or<CommandFault>>
-    requires { (F.state files.old).faults < 2 ^ 64 - 1 }
-    ensures { Answered command_blame (load_errands program.now inputs.now (Some config.now)) (Loads (plain_load_verdict (F.state files.old).named program.now inputs.now config.now))
-        (alone (F.state files.old)) (alone (F.state files.new)) result }
+    requires { MayFail (F.state files.old).faults }
+    ensures { LoadsPlain program.now inputs.now config.now (F.state files.old) (F.state files.new) result }
 {
     let checked = load_flat(alloc, files, program)?;
     load_plain_setup(alloc, files, checked, inputs, config)
@@ -41,9 +39,8 @@ fn load_plain_setup<F: Files>(
     inputs: &str,
     config: &str,
 ) -> Result<Loaded, Or<CommandFault>>
-    requires { (F.state files.old).faults < 2 ^ 64 - 1 }
-    ensures { Answered command_blame (config_errand config.now ++ inputs_errand inputs.now) (Loads (plain_setup_plan_verdict (F.state files.old).named inputs.now config.now (examined_part checked)))
-        (alone (F.state files.old)) (alone (F.state files.new)) result }
+    requires { MayFail (F.state files.old).faults }
+    ensures { LoadsPlainSetup inputs.now config.now (examined_part checked) (F.state files.old) (F.state files.new) result }
 {
     let setup = load_plain_config(alloc, files, config)?;
     load_fitting(alloc, files, checked, setup, inputs)
@@ -55,16 +52,16 @@ pub fn load_plain_config<F: Files>(
     files: &mut F,
     name: &str,
 ) -> Result<Config, Or<CommandFault>>
-    requires { (F.state files.old).faults < 2 ^ 64 - 1 }
-    ensures { Answered command_blame (config_errand name.now) (plain_config_verdict ((F.state files.old).named name.now)) (alone (F.state files.old)) (alone (F.state files.new)) result }
+    requires { MayFail (F.state files.old).faults }
+    ensures { ReadsFile name.now config_errand plain_config_verdict (F.state files.old) (F.state files.new) result }
 {
     let setup = load_config(alloc, files, name)?;
-    unpaced(alloc, setup)
+    refuse_unpaced(alloc, setup)
 }
 
 // The setup, if its protocol is no more than its timing.
 #[tactic(auto, unfolding(crate::specs::Pacing::unpaced_verdict))]
-fn unpaced(alloc: Global, setup: Config) -> Result<Config, Or<CommandFault>>
+fn refuse_unpaced(alloc: Global, setup: Config) -> Result<Config, Or<CommandFault>>
     ensures { Settles (unpaced_verdict setup) result }
 {
     match setup.pace {

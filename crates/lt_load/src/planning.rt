@@ -1,18 +1,17 @@
 // The program, the setup and the inputs of a run.
 ghost use Rattle.std.specs.Prelude.{◌≡◌, ◌++◌, ◌<◌, ◌-◌, ◌^◌, option_map};
-ghost use Rattle.lt_answer.specs.World.{alone};
-ghost use Rattle.lt_answer.specs.Answered.{Answered};
+ghost use Rattle.lt_io.specs.Counts.{MayFail};
 ghost use Rattle.lt_front.specs.Checked.{examined_part};
 ghost use Rattle.lt_meaning.specs.Streams.{InputsFitMain};
-ghost use Rattle.lt_load.specs.Blamed.{command_blame};
-ghost use Rattle.lt_load.specs.Errands.{inputs_errand, setup_errand, load_errands};
-ghost use Rattle.lt_load.specs.Plan.{Loads, chosen_setup_verdict, fitting_plan_verdict, load_verdict, setup_plan_verdict};
-ghost use Rattle.lt_load.specs.Sites.{IsSited, loaded_of, sited_verdict};
+ghost use Rattle.lt_load.specs.Errands.{inputs_errand};
+ghost use Rattle.lt_load.specs.OnFiles.{ChoosesSetup, LoadsFitting, LoadsRun, LoadsSetup, OnFiles};
+ghost use Rattle.lt_compile.specs.Sites.{IsSited};
+ghost use Rattle.lt_load.specs.Sites.{loaded_of, sited_verdict};
 
 use crate::loading::load_flat;
-use crate::sites::{Site, find_site};
 use crate::{CommandFault, Loaded, load_config, load_inputs};
 use lt_base::{Inputs, Or};
+use lt_compile::{Site, place_program};
 use lt_config::Config;
 use lt_front::Checked;
 use lt_io::Files;
@@ -28,9 +27,8 @@ pub fn load<F: Files>(
     inputs: &str,
     config: Option<&str>,
 ) -> Result<Loaded, Or<CommandFault>>
-    requires { (F.state files.old).faults < 2 ^ 64 - 1 }
-    ensures { Answered command_blame (load_errands program.now inputs.now (option_map (λ s. s.now) config.entry)) (Loads (load_verdict (F.state files.old).named program.now inputs.now (option_map (λ s. s.now) config.entry)))
-        (alone (F.state files.old)) (alone (F.state files.new)) result }
+    requires { MayFail (F.state files.old).faults }
+    ensures { LoadsRun program.now inputs.now (option_map (λ s. s.now) config.entry) (F.state files.old) (F.state files.new) result }
 {
     let checked = load_flat(alloc, files, program)?;
     load_setup(alloc, files, checked, inputs, config)
@@ -44,9 +42,8 @@ fn load_setup<F: Files>(
     inputs: &str,
     config: Option<&str>,
 ) -> Result<Loaded, Or<CommandFault>>
-    requires { (F.state files.old).faults < 2 ^ 64 - 1 }
-    ensures { Answered command_blame (setup_errand (option_map (λ s. s.now) config.entry) ++ inputs_errand inputs.now) (Loads (setup_plan_verdict (F.state files.old).named inputs.now (option_map (λ s. s.now) config.entry) (examined_part checked)))
-        (alone (F.state files.old)) (alone (F.state files.new)) result }
+    requires { MayFail (F.state files.old).faults }
+    ensures { LoadsSetup inputs.now (option_map (λ s. s.now) config.entry) (examined_part checked) (F.state files.old) (F.state files.new) result }
 {
     let setup = read_setup(alloc, files, config)?;
     load_fitting(alloc, files, checked, setup, inputs)
@@ -58,9 +55,8 @@ fn read_setup<F: Files>(
     files: &mut F,
     config: Option<&str>,
 ) -> Result<Config, Or<CommandFault>>
-    requires { (F.state files.old).faults < 2 ^ 64 - 1 }
-    ensures { Answered command_blame (setup_errand (option_map (λ s. s.now) config.entry)) (chosen_setup_verdict (F.state files.old).named (option_map (λ s. s.now) config.entry))
-        (alone (F.state files.old)) (alone (F.state files.new)) result }
+    requires { MayFail (F.state files.old).faults }
+    ensures { ChoosesSetup (option_map (λ s. s.now) config.entry) (F.state files.old) (F.state files.new) result }
 {
     match config {
         Some(config) => load_config(alloc, files, config),
@@ -76,11 +72,10 @@ pub(crate) fn load_fitting<F: Files>(
     setup: Config,
     inputs: &str,
 ) -> Result<Loaded, Or<CommandFault>>
-    requires { (F.state files.old).faults < 2 ^ 64 - 1 }
-    ensures { Answered command_blame (inputs_errand inputs.now) (Loads (fitting_plan_verdict (F.state files.old).named inputs.now (examined_part checked) setup))
-        (alone (F.state files.old)) (alone (F.state files.new)) result }
+    requires { MayFail (F.state files.old).faults }
+    ensures { LoadsFitting inputs.now (examined_part checked) setup (F.state files.old) (F.state files.new) result }
 {
-    let site = find_site(alloc, &checked, setup)?;
+    let site = place_program(alloc, &checked, setup)?;
     load_rows(alloc, files, checked, site, inputs)
 }
 
@@ -92,10 +87,9 @@ fn load_rows<F: Files>(
     site: Site,
     inputs: &str,
 ) -> Result<Loaded, Or<CommandFault>>
-    requires count { (F.state files.old).faults < 2 ^ 64 - 1 }
+    requires count { MayFail (F.state files.old).faults }
     requires sited { IsSited checked.flat site }
-    ensures { Answered command_blame (inputs_errand inputs.now) (sited_verdict (F.state files.old).named inputs.now checked site)
-        (alone (F.state files.old)) (alone (F.state files.new)) result }
+    ensures { OnFiles (inputs_errand inputs.now) (sited_verdict (F.state files.old).named inputs.now checked site) (F.state files.old) (F.state files.new) result }
 {
     match load_inputs(alloc, files, inputs, &checked.program) {
         Ok(table) => Ok(with_inputs(checked, site, table)),
@@ -113,8 +107,8 @@ fn with_inputs(checked: Checked, site: Site, inputs: Inputs) -> Loaded
     requires fit { InputsFitMain checked.program inputs }
     ensures { result ≡ loaded_of checked site inputs }
 {
-    checked.kept();
-    checked.program.kept();
+    checked.invariant_holds();
+    checked.program.invariant_holds();
     Loaded {
         checked,
         layout: site.layout,

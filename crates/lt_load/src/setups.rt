@@ -1,20 +1,19 @@
 // A program with its setup.
 ghost use Rattle.std.specs.Prelude.{◌≡◌, ◌++◌, ◌<◌, ◌-◌, ◌^◌};
+ghost use Rattle.lt_io.specs.Counts.{MayFail};
 ghost use Rattle.lt_front.specs.Checked.{examined_part};
-ghost use Rattle.lt_answer.specs.World.{alone};
-ghost use Rattle.lt_answer.specs.Answered.{Answered};
-ghost use Rattle.lt_load.specs.Blamed.{command_blame};
-ghost use Rattle.lt_load.specs.Errands.{program_errand, config_errand};
+ghost use Rattle.lt_load.specs.Errands.{config_errand};
+ghost use Rattle.lt_load.specs.OnFiles.{ChecksWith, OnFiles};
 ghost use Rattle.lt_load.specs.Found.{fitted};
-ghost use Rattle.lt_load.specs.Setups.{fitted_verdict, with_setup_verdict};
+ghost use Rattle.lt_load.specs.Setups.{fitted_verdict};
 
 use crate::loading::load_flat;
 use crate::{CommandFault, load_config};
 use lt_base::Or;
 use lt_config::Config;
-use lt_fit::fitting;
 use lt_front::{Checked, Examined};
 use lt_io::Files;
+use lt_load_fit::fitting;
 use std::alloc::Global;
 
 /// A program that passes all checks and that the file of a setup fits: its placement is legal, its timing is accepted, and it has the
@@ -25,17 +24,16 @@ pub fn check_with<F: Files>(
     program: &str,
     config: &str,
 ) -> Result<Examined, Or<CommandFault>>
-    requires { (F.state files.old).faults < 2 ^ 64 - 1 }
-    ensures { Answered command_blame (program_errand program.now ++ config_errand config.now) (with_setup_verdict (F.state files.old).named program.now config.now)
-        (alone (F.state files.old)) (alone (F.state files.new)) result }
+    requires { MayFail (F.state files.old).faults }
+    ensures { ChecksWith program.now config.now (F.state files.old) (F.state files.new) result }
 {
     let checked = load_flat(alloc, files, program)?;
     let setup = check_setup(alloc, files, &checked, config);
-    fitted(checked, setup)
+    fit_program(checked, setup)
 }
 
 // The program, if a setup fits it.
-fn fitted(
+fn fit_program(
     checked: Checked,
     setup: Result<Config, Or<CommandFault>>,
 ) -> Result<Examined, Or<CommandFault>>
@@ -44,7 +42,7 @@ fn fitted(
     match setup {
         Ok(setup) => {
             drop(setup);
-            Ok(checked.examined())
+            Ok(checked.into_examined())
         }
         Err(e) => {
             drop(checked);
@@ -60,9 +58,8 @@ fn check_setup<F: Files>(
     checked: &Checked,
     config: &str,
 ) -> Result<Config, Or<CommandFault>>
-    requires { (F.state files.old).faults < 2 ^ 64 - 1 }
-    ensures { Answered command_blame (config_errand config.now) (fitted_verdict (F.state files.old).named config.now (examined_part checked.now))
-        (alone (F.state files.old)) (alone (F.state files.new)) result }
+    requires { MayFail (F.state files.old).faults }
+    ensures { OnFiles (config_errand config.now) (fitted_verdict (F.state files.old).named config.now (examined_part checked.now)) (F.state files.old) (F.state files.new) result }
 {
     let setup = load_config(alloc, files, config)?;
     fitting(alloc, checked, setup)

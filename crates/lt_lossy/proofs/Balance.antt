@@ -17,10 +17,10 @@ use Rattle.lt_arch.proofs.Changes.{one_if, same_or_not}
 use Rattle.lt_bp.proofs.Balance.{IsPhase, Woke, either}
 use Rattle.lt_lossy.specs.declared.event.LossyEvent.{LossyEvent}
 use Rattle.lt_lossy.specs.declared.event.LossyEvent.TheVariants.{Plain, Lose}
-use Rattle.lt_lossy.specs.State.{LossyState, lossy_start, plain_of, sent_by, number_on}
+use Rattle.lt_lossy.specs.State.{LossyState, lossy_start, plain_of, sent_count, number_on}
 use Rattle.lt_lossy.specs.Step.{lossy_offence, lossy_after}
 use Rattle.lt_lossy.specs.Schedule.{lossy_after_all, HasNoLossyOffence}
-use Rattle.lt_lossy.specs.Laws.{Ascends, IsOrdered, IsOneAhead, HasNumbers, KeepsOrder, KeepsOneAhead, ReadsItsNumber}
+use Rattle.lt_lossy.specs.Laws.{Ascends, IsOrdered, IsOneAhead, HasMessageNumbers, KeepsOrder, KeepsOneAhead, ReadsItsNumber}
 use Rattle.lt_lossy.proofs.Changes.{loss_clear, node-act, node-act_here, node-act_other, link-act_from, link-act_other, newest-act, losses-act, link-del, link-lose, node-del, node-lose}
 use Rattle.lt_lossy.proofs.Numbers.{ascends-ends, ascends-sent, ascends-delivered, ascends-lost, newest-delivered, newest-lost, losses-delivered, losses-lost}
 
@@ -30,7 +30,7 @@ pub record IsBalanced (s : Shape) (limit : ℕ) (st : LossyState) : Type 0 where
   pub ordered : IsOrdered s limit st
   -- nothing is executed before its messages came, and nothing is sent before its acknowledgements came
   pub read : (c : ℕ) → c < chan_count s → carries_data s c ≡ true → (st.node (to_of s c)).executed ≤ (st.link c).newest + 1
-  pub heard : (c : ℕ) → c < chan_count s → carries_data s c ≡ false → sent_by (st.node (to_of s c)) ≤ (st.link c).newest
+  pub heard : (c : ℕ) → c < chan_count s → carries_data s c ≡ false → sent_count (st.node (to_of s c)) ≤ (st.link c).newest
 
 -- What one activation of a node does to its counts.
 
@@ -61,7 +61,7 @@ executed_more Nothing e = omega arith
 executed_more Execute e = omega arith
 executed_more Send e = omega arith
 
-number_more : (b : Bool) (v w : NodeState) → sent_by v ≤ sent_by w → v.executed ≤ w.executed → (if b then sent_by v else v.executed) ≤ (if b then sent_by w else w.executed)
+number_more : (b : Bool) (v w : NodeState) → sent_count v ≤ sent_count w → v.executed ≤ w.executed → (if b then sent_count v else v.executed) ≤ (if b then sent_count w else w.executed)
 number_more true v w sent executed = sent
 number_more false v w sent executed = executed
 
@@ -73,7 +73,7 @@ module _ (s : Shape) (t : Timing) (limit rows : ℕ) (st : LossyState) (inv : Is
     pub executed-grows : (st.node n).executed ≤ (woken s t rows (plain_of st) n at).executed
     executed-grows = executed_more (deed_at s rows (plain_of st) n) (st.node n).executed
 
-    pub sent-woken : sent_by (woken s t rows (plain_of st) n at) ≡ sent_by (st.node n) + one_if (is_send (deed_at s rows (plain_of st) n))
+    pub sent-woken : sent_count (woken s t rows (plain_of st) n at) ≡ sent_count (st.node n) + one_if (is_send (deed_at s rows (plain_of st) n))
     sent-woken = woke-n.sends
 
     pub number-grows : (c : ℕ) → number_on s (st.node n) c ≤ number_on s (woken s t rows (plain_of st) n at) c
@@ -98,9 +98,9 @@ module _ (s : Shape) (t : Timing) (limit rows : ℕ) (st : LossyState) (inv : Is
         (λ e. let before = rw e at (inv.read c lc d) in grown_by (deed_at s rows (plain_of st) n) (st.node n).executed ((st.link c).newest + 1) before (λ is. let m = has_message c lc e d is in omega (arith, m)))
         (λ ne. inv.read c lc d))
 
-    heard-act : (c : ℕ) → c < chan_count s → carries_data s c ≡ false → sent_by ((lossy_after s t rows st (Plain (Act n at))).node (to_of s c)) ≤ ((lossy_after s t rows st (Plain (Act n at))).link c).newest
-    heard-act c lc d = rw (newest-act s t rows st n at c) (node-act s t rows st n at (λ v. sent_by v ≤ (st.link c).newest) (to_of s c)
-        (λ e. let before = rw e at (inv.heard c lc d) in rw sent-woken (sent_more (deed_at s rows (plain_of st) n) (sent_by (st.node n)) (st.link c).newest before (λ is. let m = has_ack c lc e d is in let k = (woke-n.needs_acks is).1 in omega (arith, m, k))))
+    heard-act : (c : ℕ) → c < chan_count s → carries_data s c ≡ false → sent_count ((lossy_after s t rows st (Plain (Act n at))).node (to_of s c)) ≤ ((lossy_after s t rows st (Plain (Act n at))).link c).newest
+    heard-act c lc d = rw (newest-act s t rows st n at c) (node-act s t rows st n at (λ v. sent_count v ≤ (st.link c).newest) (to_of s c)
+        (λ e. let before = rw e at (inv.heard c lc d) in rw sent-woken (sent_more (deed_at s rows (plain_of st) n) (sent_count (st.node n)) (st.link c).newest before (λ is. let m = has_ack c lc e d is in let k = (woke-n.needs_acks is).1 in omega (arith, m, k))))
         (λ ne. inv.heard c lc d))
 
     kept-act : IsBalanced s limit (lossy_after s t rows st (Plain (Act n at)))
@@ -126,8 +126,8 @@ module _ (s : Shape) (t : Timing) (limit rows : ℕ) (st : LossyState) (inv : Is
       read = λ i li d. rw (node-del s t rows st c at (to_of s i)) (link-del s t rows st c at (λ l. (st.node (to_of s i)).executed ≤ l.newest + 1) i
           (λ e. let f = newest-delivered (st.link c) (st.link c).transit _ refl (subst (λ k. Ascends (st.link k).newest (st.link k).transit (number_on s (st.node (from_of s i)) i)) e (inv.ordered.ascends i li)) in let before = subst (λ k. (st.node (to_of s i)).executed ≤ (st.link k).newest + 1) e (inv.read i li d) in omega (arith, f, before))
           (λ ne. inv.read i li d));
-      heard = λ i li d. rw (node-del s t rows st c at (to_of s i)) (link-del s t rows st c at (λ l. sent_by (st.node (to_of s i)) ≤ l.newest) i
-          (λ e. let f = newest-delivered (st.link c) (st.link c).transit _ refl (subst (λ k. Ascends (st.link k).newest (st.link k).transit (number_on s (st.node (from_of s i)) i)) e (inv.ordered.ascends i li)) in let before = subst (λ k. sent_by (st.node (to_of s i)) ≤ (st.link k).newest) e (inv.heard i li d) in omega (arith, f, before))
+      heard = λ i li d. rw (node-del s t rows st c at (to_of s i)) (link-del s t rows st c at (λ l. sent_count (st.node (to_of s i)) ≤ l.newest) i
+          (λ e. let f = newest-delivered (st.link c) (st.link c).transit _ refl (subst (λ k. Ascends (st.link k).newest (st.link k).transit (number_on s (st.node (from_of s i)) i)) e (inv.ordered.ascends i li)) in let before = subst (λ k. sent_count (st.node (to_of s i)) ≤ (st.link k).newest) e (inv.heard i li d) in omega (arith, f, before))
           (λ ne. inv.heard i li d));
     }
 
@@ -145,8 +145,8 @@ module _ (s : Shape) (t : Timing) (limit rows : ℕ) (st : LossyState) (inv : Is
       read = λ i li d. rw (node-lose s t rows st c at (to_of s i)) (link-lose s t rows st c at (λ l. (st.node (to_of s i)).executed ≤ l.newest + 1) i
           (λ e. rw (newest-lost (st.link c) (st.link c).transit) (subst (λ k. (st.node (to_of s i)).executed ≤ (st.link k).newest + 1) e (inv.read i li d)))
           (λ ne. inv.read i li d));
-      heard = λ i li d. rw (node-lose s t rows st c at (to_of s i)) (link-lose s t rows st c at (λ l. sent_by (st.node (to_of s i)) ≤ l.newest) i
-          (λ e. rw (newest-lost (st.link c) (st.link c).transit) (subst (λ k. sent_by (st.node (to_of s i)) ≤ (st.link k).newest) e (inv.heard i li d)))
+      heard = λ i li d. rw (node-lose s t rows st c at (to_of s i)) (link-lose s t rows st c at (λ l. sent_count (st.node (to_of s i)) ≤ l.newest) i
+          (λ e. rw (newest-lost (st.link c) (st.link c).transit) (subst (λ k. sent_count (st.node (to_of s i)) ≤ (st.link k).newest) e (inv.heard i li d)))
           (λ ne. inv.heard i li d));
     }
 
@@ -189,8 +189,8 @@ other false false h = absurd (h refl)
 
 record IsChain (s : Shape) (st : LossyState) (c d : ℕ) : Type 0 where
   read : (st.node (to_of s c)).executed ≤ (st.link c).newest + 1
-  came : (st.link c).newest ≤ sent_by (st.node (from_of s c))
-  heard : sent_by (st.node (from_of s c)) ≤ (st.link d).newest
+  came : (st.link c).newest ≤ sent_count (st.node (from_of s c))
+  heard : sent_count (st.node (from_of s c)) ≤ (st.link d).newest
   answered : (st.link d).newest ≤ (st.node (to_of s c)).executed
 
 -- a data channel and the one that acknowledges it
@@ -215,11 +215,11 @@ module _ (s : Shape) (limit : ℕ) (st : LossyState) (partners : IsBackPressureS
       let k' : carries_data s p.0 ≡ true = rw k at (other _ _ p.2.other_kind) in
       (p.0, p.2.from_is, p.2.to_is, chain s limit st inv p.0 d p.1 ld (sym p.2.to_is) (sym p.2.from_is) k' k)
 
-  next-data : (c : ℕ) → c < chan_count s → carries_data s c ≡ true → sent_by (st.node (from_of s c)) ≤ (st.link c).newest + 1
+  next-data : (c : ℕ) → c < chan_count s → carries_data s c ≡ true → sent_count (st.node (from_of s c)) ≤ (st.link c).newest + 1
   next-data c lc k = let h = (chain_data c lc k).1 in omega (arith, h.read, h.heard, h.answered)
 
   next-ack : (d : ℕ) → d < chan_count s → carries_data s d ≡ false → (st.node (from_of s d)).executed ≤ (st.link d).newest + 1
-  next-ack d ld k = let h = chain_ack d ld k in let x = h.3 in let y : (st.node (to_of s h.0)).executed ≡ (st.node (from_of s d)).executed = rw h.2 refl in let z : sent_by (st.node (from_of s h.0)) ≤ (st.link d).newest = x.heard in omega (arith, x.read, x.came, z, y)
+  next-ack d ld k = let h = chain_ack d ld k in let x = h.3 in let y : (st.node (to_of s h.0)).executed ≡ (st.node (from_of s d)).executed = rw h.2 refl in let z : sent_count (st.node (from_of s h.0)) ≤ (st.link d).newest = x.heard in omega (arith, x.read, x.came, z, y)
 
   one_ahead : IsOneAhead s st
   one_ahead = record {
@@ -227,11 +227,11 @@ module _ (s : Shape) (limit : ℕ) (st : LossyState) (partners : IsBackPressureS
     data_low = inv.read;
     data_high = λ c lc k. let h = (chain_data c lc k).1 in omega (arith, h.came, h.heard, h.answered);
     ack_low = inv.heard;
-    ack_high = λ d ld k. let h = chain_ack d ld k in let x = h.3 in let y : sent_by (st.node (from_of s h.0)) ≡ sent_by (st.node (to_of s d)) = rw h.1 refl in omega (arith, x.read, x.came, x.answered, y);
+    ack_high = λ d ld k. let h = chain_ack d ld k in let x = h.3 in let y : sent_count (st.node (from_of s h.0)) ≡ sent_count (st.node (to_of s d)) = rw h.1 refl in omega (arith, x.read, x.came, x.answered, y);
   }
 
   -- what a node reads at its next activation
-  has_numbers : (t : Timing) (rows n : ℕ) → HasNumbers s rows st n
+  has_numbers : (t : Timing) (rows n : ℕ) → HasMessageNumbers s rows st n
   has_numbers t rows n = record {
     executes = λ is c lc to k.
         let low = has_message s t limit rows st inv n 0 c lc to k is in

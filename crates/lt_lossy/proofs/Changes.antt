@@ -13,7 +13,7 @@ use Rattle.lt_lossy.specs.declared.event.LossyEvent.TheVariants.{Plain, Lose}
 use Rattle.lt_lossy.specs.declared.event.LossyOffence.{LossyOffence}
 use Rattle.lt_lossy.specs.declared.event.LossyOffence.TheVariants.{TooManyLost}
 use Rattle.lt_lossy.specs.State.{LinkState, LossyState, plain_of, number_on}
-use Rattle.lt_lossy.specs.Step.{at_any_time, too_many_lost, common_or, lossy_offence, lossy_after, with_message, link_delivered, link_lost}
+use Rattle.lt_lossy.specs.Step.{at_any_time, too_many_lost, common_or, lossy_offence, lossy_after, link_with_message, link_delivered, link_lost}
 
 -- a function changed at one number, at any number
 pub at_place : {A : Type 0} (Q : A → Type 0) (f : ℕ → A) (at : ℕ) (v : A) (i : ℕ) → (i ≡ at → Q v) → (i ≢ at → Q (f i)) → Q (updated f at v i)
@@ -48,7 +48,7 @@ module _ (s : Shape) (t : Timing) (rows : ℕ) (st : LossyState) (n at : ℕ) wh
   unfolding lossy_after
   node-act Q i here there = at_place Q st.node n (woken s t rows (plain_of st) n at) i here there
 
-  pub link-act_from : (c : ℕ) → from_of s c ≡ n → (lossy_after s t rows st (Plain (Act n at))).link c ≡ with_message (nat_lt 0 (number_on s (woken s t rows (plain_of st) n at) c)) (number_on s (woken s t rows (plain_of st) n at) c) at (st.link c)
+  pub link-act_from : (c : ℕ) → from_of s c ≡ n → (lossy_after s t rows st (Plain (Act n at))).link c ≡ link_with_message (nat_lt 0 (number_on s (woken s t rows (plain_of st) n at) c)) (number_on s (woken s t rows (plain_of st) n at) c) at (st.link c)
   unfolding lossy_after
   link-act_from c e = rw (eq-eqb (from_of s c) n e) refl
 
@@ -65,11 +65,11 @@ module _ (s : Shape) (t : Timing) (rows : ℕ) (st : LossyState) (n at : ℕ) wh
   node-act_other i ne = updated-other st.node n (woken s t rows (plain_of st) n at) i ne
 
 -- sending changes the transit alone
-pub with_message-newest : (b : Bool) (number at : ℕ) (link : LinkState) → (with_message b number at link).newest ≡ link.newest
+pub with_message-newest : (b : Bool) (number at : ℕ) (link : LinkState) → (link_with_message b number at link).newest ≡ link.newest
 with_message-newest true number at link = refl
 with_message-newest false number at link = refl
 
-pub with_message-losses : (b : Bool) (number at : ℕ) (link : LinkState) → (with_message b number at link).losses ≡ link.losses
+pub with_message-losses : (b : Bool) (number at : ℕ) (link : LinkState) → (link_with_message b number at link).losses ≡ link.losses
 with_message-losses true number at link = refl
 with_message-losses false number at link = refl
 

@@ -5,7 +5,7 @@ use Rattle.lt_arch.specs.declared.event.Event.TheVariants.{Act, Del, End}
 use Rattle.lt_arch.specs.declared.event.Offence.{Offence}
 use Rattle.lt_arch.specs.declared.timing.Timing.{Timing}
 use Rattle.lt_arch.specs.declared.shape.Shape.{Shape}
-use Rattle.lt_arch.specs.Step.{or_else, where_true}
+use Rattle.lt_arch.specs.Step.{offence_or_else, where_true}
 use Rattle.lt_arch.proofs.Facts.{clear}
 use Rattle.lt_lossy.specs.declared.event.LossyEvent.{LossyEvent}
 use Rattle.lt_lossy.specs.declared.event.LossyEvent.TheVariants.{Plain, Lose}
@@ -17,7 +17,7 @@ use Rattle.lt_lossy.proofs.Changes.{plain_clear, none_common}
 use Rattle.lt_lossy.proofs.Losses.{loss-judged_in_order}
 use Rattle.lt_lossy.proofs.Schedules.{first_lossy_offence-is}
 
-none-first : (b : Bool) (o : Offence) (rest : Option Offence) → or_else (where_true b o) rest ≡ None → b ≡ false
+none-first : (b : Bool) (o : Offence) (rest : Option Offence) → offence_or_else (where_true b o) rest ≡ None → b ≡ false
 none-first true o rest h = absurd cc
 none-first false o rest h = refl
 

@@ -7,7 +7,7 @@ use Rattle.lt_arch.specs.declared.timing.Timing.{Timing}
 use Rattle.lt_arch.specs.declared.shape.Shape.{Shape}
 use Rattle.lt_arch.specs.Readers.{node_count, from_of, to_of, dmin_of}
 use Rattle.lt_arch.specs.Deadline.{first_due}
-use Rattle.lt_arch.specs.Step.{offence_of, or_else, where_true, is_backwards, is_late, overdue_by, overdue_place, too_early}
+use Rattle.lt_arch.specs.Step.{offence_of, offence_or_else, where_true, is_backwards, is_late, overdue_by, overdue_place, too_early}
 use Rattle.lt_lossy.specs.State.{Message, LossyState, plain_of}
 use Rattle.lt_lossy.specs.Step.{lossy_offence, common_or, at_any_time, too_many_lost}
 use Rattle.lt_lossy.specs.Laws.{nothing_sent, loss_offence, IsLossJudged}
@@ -16,7 +16,7 @@ use Rattle.lt_lossy.specs.Laws.{nothing_sent, loss_offence, IsLossJudged}
 abbrev IsKept : Option Offence → Type 0
 IsKept o = at_any_time o ≡ o
 
-any_or : (a b : Option Offence) → IsKept a → at_any_time (or_else a b) ≡ or_else a (at_any_time b)
+any_or : (a b : Option Offence) → IsKept a → at_any_time (offence_or_else a b) ≡ offence_or_else a (at_any_time b)
 any_or None b h = refl
 any_or (Some o) b h = h
 
@@ -52,9 +52,9 @@ module _ (s : Shape) (t : Timing) (st : LossyState) (c at : ℕ) where
       let overdue = overdue_by s (Del c at) (first_due s t (plain_of st)) in
       let own = too_early c (dmin_of t (from_of s c) (to_of s c)) at (map (λ (m : Message). m.sent_at) (st.link c).transit) in
       any_or (where_true (is_some st.horizon) AfterEnd) _ (kept_where (is_some st.horizon) AfterEnd refl)
-      ∙ ap (or_else (where_true (is_some st.horizon) AfterEnd)) (any_or (where_true (is_backwards at st.latest) Backwards) _ (kept_where (is_backwards at st.latest) Backwards refl)
-      ∙ ap (or_else (where_true (is_backwards at st.latest) Backwards)) (any_or overdue own (kept_overdue s c at (first_due s t (plain_of st)))
-      ∙ ap (or_else overdue) (any_own c (dmin_of t (from_of s c) (to_of s c)) at (st.link c).transit)))
+      ∙ ap (offence_or_else (where_true (is_some st.horizon) AfterEnd)) (any_or (where_true (is_backwards at st.latest) Backwards) _ (kept_where (is_backwards at st.latest) Backwards refl)
+      ∙ ap (offence_or_else (where_true (is_backwards at st.latest) Backwards)) (any_or overdue own (kept_overdue s c at (first_due s t (plain_of st)))
+      ∙ ap (offence_or_else overdue) (any_own c (dmin_of t (from_of s c) (to_of s c)) at (st.link c).transit)))
 
   pub loss-judged_in_order : (limit : ℕ) → IsLossJudged s t limit st c at
   unfolding lossy_offence

@@ -8,11 +8,11 @@ use Rattle.lt_arch.specs.declared.event.Offence.{Offence}
 use Rattle.lt_arch.specs.declared.event.Offence.TheVariants.{AfterEnd, Backwards}
 use Rattle.lt_arch.specs.Readers.{from_of, to_of, dmin_of}
 use Rattle.lt_arch.specs.Deadline.{first_due}
-use Rattle.lt_arch.specs.Step.{or_else, where_true, is_backwards, overdue_by, too_early, woken}
+use Rattle.lt_arch.specs.Step.{offence_or_else, where_true, is_backwards, overdue_by, too_early, woken}
 use Rattle.lt_arch.proofs.Facts.{clear}
 use Rattle.lt_lossy.specs.declared.event.LossyEvent.TheVariants.{Plain, Lose}
 use Rattle.lt_lossy.specs.State.{Message, LinkState, LossyState, plain_of}
-use Rattle.lt_lossy.specs.Step.{lossy_offence, lossy_after, too_many_lost, sends_number, with_message, link_delivered, link_lost}
+use Rattle.lt_lossy.specs.Step.{lossy_offence, lossy_after, too_many_lost, sends_number, link_with_message, link_delivered, link_lost}
 use Rattle.lt_lossy.specs.Times.{LossyTimes, HasLossyTimes, FollowsLossyEvents, AreQueued, queue_at, losses_at, with_last, without_oldest, with_losses, with_end}
 use Rattle.lt_lossy.specs.Laws.{nothing_sent, loss_offence}
 use Rattle.lt_lossy.proofs.Changes.{plain_clear, none_common, node-act, losses-act, link-del, link-lose}
@@ -22,7 +22,7 @@ use Rattle.lt_lossy.proofs.Losses.{loss-judged_in_order}
 abbrev times : List Message → List ℕ
 times xs = map (λ (m : Message). m.sent_at) xs
 
-queued-sent : (b : Bool) (number at : ℕ) (link : LinkState) (queue : List ℕ) → times link.transit ≡ queue → times (with_message b number at link).transit ≡ (if b then queue ++ at ∷ [] else queue)
+queued-sent : (b : Bool) (number at : ℕ) (link : LinkState) (queue : List ℕ) → times link.transit ≡ queue → times (link_with_message b number at link).transit ≡ (if b then queue ++ at ∷ [] else queue)
 queued-sent true number at link queue e = map-append (λ (m : Message). m.sent_at) link.transit (record { number = number; sent_at = at } ∷ []) ∙ ap (λ xs. xs ++ at ∷ []) e
 queued-sent false number at link queue e = e
 
@@ -35,7 +35,7 @@ some-early : (c dmin at : ℕ) (xs : List Message) → too_early c dmin at (time
 some-early c dmin at [] h = cc
 some-early c dmin at (m ∷ later) h = tt
 
-none-or : (a b : Option Offence) → or_else a b ≡ None → b ≡ None
+none-or : (a b : Option Offence) → offence_or_else a b ≡ None → b ≡ None
 none-or None b h = h
 none-or (Some o) b h = absurd cc
 
@@ -54,7 +54,7 @@ module _ (s : Shape) (t : Timing) (allowed : ℕ) (st : LossyState) (c at : ℕ)
       let overdue = overdue_by s (Del c at) (first_due s t (plain_of st)) in
       let backwards = where_true (is_backwards at st.latest) Backwards in
       let ended = where_true (is_some st.horizon) AfterEnd in
-      some-nothing c (st.link c).transit (none-or overdue own (none-or backwards (or_else overdue own) (none-or ended (or_else backwards (or_else overdue own)) k)))
+      some-nothing c (st.link c).transit (none-or overdue own (none-or backwards (offence_or_else overdue own) (none-or ended (offence_or_else backwards (offence_or_else overdue own)) k)))
 
 -- what the oldest message leaves
 left-delivered : (link : LinkState) (xs : List Message) → IsSome xs → (times (link_delivered link xs).transit ≡ drop 1 (times xs)) × ((link_delivered link xs).losses ≡ 0)

@@ -1,7 +1,7 @@
 -- The numbers of a channel go up.
 use Rattle.std.proofs.Common.{◌≡◌, ℕ, ◌+◌, ◌≤◌, List, [], ◌∷◌, ◌++◌, Bool, true, false, refl, arith}
 use Rattle.lt_lossy.specs.State.{Message, LinkState}
-use Rattle.lt_lossy.specs.Step.{with_message, link_delivered, link_lost}
+use Rattle.lt_lossy.specs.Step.{link_with_message, link_delivered, link_lost}
 use Rattle.lt_lossy.specs.Laws.{Ascends}
 
 pub ascends-ends : (low : ℕ) (xs : List Message) (high : ℕ) → Ascends low xs high → low ≤ high
@@ -21,7 +21,7 @@ ascends-append low [] high number at h le = (omega arith, omega arith)
 ascends-append low (m ∷ later) high number at h le = (h.0, ascends-append m.number later high number at h.1 le)
 
 -- a message of a number that is not below what was counted before
-pub ascends-sent : (b : Bool) (number at high : ℕ) (link : LinkState) → Ascends link.newest link.transit high → high ≤ number → Ascends (with_message b number at link).newest (with_message b number at link).transit number
+pub ascends-sent : (b : Bool) (number at high : ℕ) (link : LinkState) → Ascends link.newest link.transit high → high ≤ number → Ascends (link_with_message b number at link).newest (link_with_message b number at link).transit number
 ascends-sent true number at high link h le = ascends-append link.newest link.transit high number at h le
 ascends-sent false number at high link h le = ascends-higher link.newest link.transit high number h le
 

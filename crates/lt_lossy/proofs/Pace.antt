@@ -21,7 +21,7 @@ use Rattle.lt_arch.proofs.Ranges.{tmax-slowest, slowest-some, dmax-most}
 use Rattle.lt_bp.proofs.Balance.{IsPhase}
 use Rattle.lt_lossy.specs.declared.event.LossyEvent.{LossyEvent}
 use Rattle.lt_lossy.specs.declared.event.LossyEvent.TheVariants.{Plain, Lose}
-use Rattle.lt_lossy.specs.State.{Message, LossyState, lossy_start, plain_of, sent_by, number_on}
+use Rattle.lt_lossy.specs.State.{Message, LossyState, lossy_start, plain_of, sent_count, number_on}
 use Rattle.lt_lossy.specs.Step.{lossy_offence, lossy_after}
 use Rattle.lt_lossy.specs.Schedule.{lossy_after_all, HasNoLossyOffence}
 use Rattle.lt_lossy.specs.Laws.{lossy_cycle, lossy_bound, ReachesLossyBound}
@@ -73,7 +73,7 @@ deadline_in t st n = node_deadline t (plain_of st) n
 pub record IsOnPace (s : Shape) (t : Timing) (limit : ℕ) (st : LossyState) (k : ℕ) : Type 0 where
   pub execs : (n : ℕ) → n < node_count s → (st.node n).executed ≤ k → deadline_in t st n ≤ executed_by t limit k
   pub acks : (c : ℕ) → c < chan_count s → carries_data s c ≡ false → (st.link c).newest ≤ k → Resends (slowest_of t) k (executed_by t limit k) (st.link c) (deadline_in t st (from_of s c))
-  pub sends : (n : ℕ) → n < node_count s → sent_by (st.node n) ≤ k → deadline_in t st n ≤ all_sent_by t limit k
+  pub sends : (n : ℕ) → n < node_count s → sent_count (st.node n) ≤ k → deadline_in t st n ≤ all_sent_by t limit k
   pub datas : (c : ℕ) → c < chan_count s → carries_data s c ≡ true → (st.link c).newest ≤ k → Resends (slowest_of t) k (all_sent_by t limit k) (st.link c) (deadline_in t st (from_of s c))
 
 -- an event at this time is in time for each node and each channel
@@ -110,8 +110,8 @@ module _ (s : Shape) (t : Timing) (limit : ℕ) (of : IsCovered s t) (st : Lossy
     | inr h ↦ h.1
   ]
 
-  all_sent : all_sent_by t limit k < at → (n : ℕ) → n < node_count s → k < sent_by (st.node n)
-  all_sent late n lt = elim (leb_tells (sent_by (st.node n)) k) [
+  all_sent : all_sent_by t limit k < at → (n : ℕ) → n < node_count s → k < sent_count (st.node n)
+  all_sent late n lt = elim (leb_tells (sent_count (st.node n)) k) [
     | inl h ↦ let p = pace.sends n lt h.1 in let q = time.nodes n lt in absurd (omega (arith, p, q))
     | inr h ↦ h.1
   ]
@@ -160,8 +160,8 @@ module _ (s : Shape) (t : Timing) (limit rows : ℕ) (of : IsCovered s t) (st : 
   executed_then : deed_at s rows (plain_of st) n ≡ Execute → (woken s t rows (plain_of st) n at).executed ≡ (st.node n).executed + 1
   executed_then is = executed_with (deed_at s rows (plain_of st) n) (st.node n).executed is
 
-  sent_then : deed_at s rows (plain_of st) n ≡ Send → sent_by (woken s t rows (plain_of st) n at) ≡ sent_by (st.node n) + 1
-  sent_then is = sent-woken s t limit rows st bal n at ∙ sent_with (deed_at s rows (plain_of st) n) (sent_by (st.node n)) is
+  sent_then : deed_at s rows (plain_of st) n ≡ Send → sent_count (woken s t rows (plain_of st) n at) ≡ sent_count (st.node n) + 1
+  sent_then is = sent-woken s t limit rows st bal n at ∙ sent_with (deed_at s rows (plain_of st) n) (sent_count (st.node n)) is
 
   -- a node that has executed nothing does so when it is activated
   executes_first : 0 < rows → (st.node n).executed ≤ 0 → deed_at s rows (plain_of st) n ≡ Execute
@@ -178,7 +178,7 @@ module _ (s : Shape) (t : Timing) (limit rows : ℕ) (of : IsCovered s t) (st : 
       (all_in-from s (plain_of st) n (λ c lt k. let d = all_delivered s t limit of st bal at j pace time late c lt k in omega arith))
       (le-leb (suc (st.node n).executed) rows (omega arith))
 
-  sends_next : (k : ℕ) → IsOnPace s t limit st k → executed_by t limit k + passage t limit < at → sent_by (st.node n) ≤ k → deed_at s rows (plain_of st) n ≡ Send
+  sends_next : (k : ℕ) → IsOnPace s t limit st k → executed_by t limit k + passage t limit < at → sent_count (st.node n) ≤ k → deed_at s rows (plain_of st) n ≡ Send
   sends_next k pace late e =
       let before = all_executed s t limit of st bal at k pace time (omega arith) n ln in
       let r = ready_if (st.node n).phase (st.node n).executed (bal.phases n) (omega arith) in
@@ -220,7 +220,7 @@ module _ (s : Shape) (t : Timing) (limit rows : ℕ) (of : IsCovered s t) (st : 
           absurd (omega (arith, e', before))
     ]
 
-    send-here : n < node_count s → (k : ℕ) → k < rows → sent_by (woken s t rows (plain_of st) n at) ≤ k → at + tmax_of t n ≤ all_sent_by t limit k
+    send-here : n < node_count s → (k : ℕ) → k < rows → sent_count (woken s t rows (plain_of st) n at) ≤ k → at + tmax_of t n ≤ all_sent_by t limit k
     send-here ln k lk le = elim (leb_tells at (executed_by t limit k + passage t limit)) [
       | inl h ↦ let y = of.slowest n ln in omega (arith, h.1, y)
       | inr h ↦
@@ -277,7 +277,7 @@ module _ (s : Shape) (t : Timing) (limit rows : ℕ) (of : IsCovered s t) (st : 
       | inr ne ↦ rw (deadline-other s t rows st n at i ne) ((inv.pace k lk).execs i li (rw (node-act_other s t rows st n at i ne) at le))
     ]
 
-    sends-act : (k : ℕ) → k < rows → (i : ℕ) → i < node_count s → sent_by ((lossy_after s t rows st (Plain (Act n at))).node i) ≤ k → deadline_in t (lossy_after s t rows st (Plain (Act n at))) i ≤ all_sent_by t limit k
+    sends-act : (k : ℕ) → k < rows → (i : ℕ) → i < node_count s → sent_count ((lossy_after s t rows st (Plain (Act n at))).node i) ≤ k → deadline_in t (lossy_after s t rows st (Plain (Act n at))) i ≤ all_sent_by t limit k
     sends-act k lk i li le = elim (same_or_not i n) [
       | inl e ↦ rw (deadline-here s t rows st n at i e, e) (send-here (rw e at li) k lk (rw (node-act_here s t rows st n at i e) at le))
       | inr ne ↦ rw (deadline-other s t rows st n at i ne) ((inv.pace k lk).sends i li (rw (node-act_other s t rows st n at i ne) at le))

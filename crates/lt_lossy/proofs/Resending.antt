@@ -6,7 +6,7 @@ use Rattle.std.proofs.Common.{◌≡◌, ℕ, ◌+◌, ◌*◌, ◌<◌, ◌≤�
 use Rattle.std.proofs.Math.Nat.{mul-le-mul_right}
 use Rattle.std.proofs.lemmas.Bool.{lt-leb}
 use Rattle.lt_lossy.specs.State.{Message, LinkState}
-use Rattle.lt_lossy.specs.Step.{with_message, link_delivered, link_lost}
+use Rattle.lt_lossy.specs.Step.{link_with_message, link_delivered, link_lost}
 use Rattle.lt_lossy.specs.Laws.{Ascends}
 
 -- a message above k makes the next one due a gap later
@@ -90,13 +90,13 @@ module _ (gap k by d d' number at : ℕ) where
       paced-old gap k (m ∷ later) _ d d' number at h below (omega (arith, low)) (omega (arith, low))
 
   sent-any : (above : Bool) (some : Bool) (link : LinkState) → nat_le number k ≡ above → nat_lt 0 number ≡ some → Resends gap k by link d → at ≤ d → d' ≤ d + gap → (number ≤ k → (at ≤ by) × (d' ≤ by)) →
-      Resends gap k by (with_message some number at link) d'
+      Resends gap k by (link_with_message some number at link) d'
   sent-any true true link is given h le le' early = let e = early (leb-true number k is) in sent-below link.transit link.losses h is e.0 e.1
   sent-any true false link is given h le le' early = let e = early (leb-true number k is) in paced-deadline gap k link.transit _ d d' h (let l = oldest_by-low gap k by link.losses link.transit in omega (arith, e.1, l))
   sent-any false true link is given h le le' early = sent-above link.transit link.losses h is le le'
   sent-any false false link is given h le le' early = let z = ltb-false 0 number given in let y = leb-false number k is in absurd (omega arith)
 
-  pub resends-sent : (link : LinkState) → Resends gap k by link d → at ≤ d → d' ≤ d + gap → (number ≤ k → (at ≤ by) × (d' ≤ by)) → Resends gap k by (with_message (nat_lt 0 number) number at link) d'
+  pub resends-sent : (link : LinkState) → Resends gap k by link d → at ≤ d → d' ≤ d + gap → (number ≤ k → (at ≤ by) × (d' ≤ by)) → Resends gap k by (link_with_message (nat_lt 0 number) number at link) d'
   resends-sent link h le le' early = sent-any (nat_le number k) (nat_lt 0 number) link refl refl h le le' early
 
 -- A delivery that brings nothing above k, and a loss.

@@ -15,7 +15,7 @@ use Rattle.lt_arch.proofs.Facts.{clear, ends-of, in_time-chan, IsRested, rested}
 use Rattle.lt_lossy.specs.declared.event.LossyEvent.{LossyEvent}
 use Rattle.lt_lossy.specs.declared.event.LossyEvent.TheVariants.{Plain, Lose}
 use Rattle.lt_lossy.specs.State.{Message, LinkState, LossyState, lossy_start, plain_of}
-use Rattle.lt_lossy.specs.Step.{lossy_offence, lossy_after, with_message, link_delivered, link_lost}
+use Rattle.lt_lossy.specs.Step.{lossy_offence, lossy_after, link_with_message, link_delivered, link_lost}
 use Rattle.lt_lossy.specs.Schedule.{lossy_after_all, HasNoLossyOffence}
 use Rattle.lt_lossy.specs.Window.{HasWindow, room}
 use Rattle.lt_lossy.specs.Laws.{KeepsRoom}
@@ -45,7 +45,7 @@ spaced-append gap (m ∷ later) last number at h le =
     (rw len (omega (arith, h.0)), spaced-append gap later last number at h.1 le)
 
 -- an activation that follows the last one after its least period
-spaced-sent : (b : Bool) (gap : ℕ) (link : LinkState) (last : Option ℕ) (number at : ℕ) → IsSpaced gap link.transit last → IsRested at gap last → IsSpacedBy gap (with_message b number at link).transit at
+spaced-sent : (b : Bool) (gap : ℕ) (link : LinkState) (last : Option ℕ) (number at : ℕ) → IsSpaced gap link.transit last → IsRested at gap last → IsSpacedBy gap (link_with_message b number at link).transit at
 spaced-sent true gap link None number at h r = rw h (omega arith, tt)
 spaced-sent false gap link None number at h r = rw h tt
 spaced-sent true gap link (Some last) number at h r = spaced-append gap link.transit last number at h r
@@ -88,7 +88,7 @@ abbrev IsInTimeBy : (at d : ℕ) → List Message → Type 0
 IsInTimeBy at d [] = Unit {0}
 IsInTimeBy at d (m ∷ later) = at ≤ m.sent_at + d
 
-few-sent : (b : Bool) (gap d number at : ℕ) (link : LinkState) (xs : List Message) → link.transit ≡ xs → IsSpacedBy gap (with_message b number at link).transit at → IsInTimeBy at d xs → d < room * gap → length (with_message b number at link).transit ≤ room
+few-sent : (b : Bool) (gap d number at : ℕ) (link : LinkState) (xs : List Message) → link.transit ≡ xs → IsSpacedBy gap (link_with_message b number at link).transit at → IsInTimeBy at d xs → d < room * gap → length (link_with_message b number at link).transit ≤ room
 few-sent true gap d number at link [] e h due lt = rw e (omega arith)
 few-sent false gap d number at link [] e h due lt = rw e (omega arith)
 few-sent true gap d number at link (m ∷ later) e h due lt = rw e (fewer_behind gap d at m _ (rw e at h) due lt)
@@ -110,7 +110,7 @@ module _ (s : Shape) (t : Timing) (rows : ℕ) (same : HaveSameNodes s t) (wide 
     rest : (c : ℕ) → from_of s c ≡ n → IsRested at (tmin_of t (from_of s c)) (st.node (from_of s c)).last
     rest c e = rw e (rested n (tmin_of t n) at (st.node n).last (clear s t (plain_of st) (Act n at) clean).own)
 
-    spaced-new : (c : ℕ) (b : Bool) (number : ℕ) → c < chan_count s → from_of s c ≡ n → IsSpacedBy (tmin_of t (from_of s c)) (with_message b number at (st.link c)).transit at
+    spaced-new : (c : ℕ) (b : Bool) (number : ℕ) → c < chan_count s → from_of s c ≡ n → IsSpacedBy (tmin_of t (from_of s c)) (link_with_message b number at (st.link c)).transit at
     spaced-new c b number lc e = spaced-sent b (tmin_of t (from_of s c)) (st.link c) (st.node (from_of s c)).last number at (inv.spaced c lc) (rest c e)
 
     room-act : HasRoom s t (lossy_after s t rows st (Plain (Act n at)))

@@ -10,11 +10,11 @@ use Rattle.lt_arch.specs.Readers.{node_count, chan_count, from_of, to_of, carrie
 use Rattle.lt_arch.specs.Deadline.{first_due}
 use Rattle.lt_arch.specs.Deeds.{deed_at}
 use Rattle.lt_arch.specs.Shapes.{IsBackPressureShape, HaveSameNodes}
-use Rattle.lt_arch.specs.Step.{or_else, where_true, is_backwards, overdue_by}
+use Rattle.lt_arch.specs.Step.{offence_or_else, where_true, is_backwards, overdue_by}
 use Rattle.lt_timing.specs.Bounds.{instants_by}
 use Rattle.lt_lossy.specs.declared.event.LossyEvent.{LossyEvent}
 use Rattle.lt_lossy.specs.declared.event.LossyEvent.TheVariants.{Lose}
-use Rattle.lt_lossy.specs.State.{Message, LossyState, plain_of, sent_by, number_on}
+use Rattle.lt_lossy.specs.State.{Message, LossyState, plain_of, sent_count, number_on}
 use Rattle.lt_lossy.specs.Step.{lossy_offence, common_or, too_many_lost}
 use Rattle.lt_lossy.specs.Schedule.{lossy_reached, IsLossyOffenceFree, IsLossyAdmissible, LossyEndsAt}
 use Rattle.lt_lossy.specs.Window.{HasWindow, room}
@@ -28,9 +28,9 @@ nothing_sent c (m ∷ later) = None
 
 abbrev pub loss_offence : Shape → Timing → LossyState → (c at : ℕ) → Option Offence
 loss_offence s t st c at =
-    or_else (where_true (is_some st.horizon) AfterEnd)
-    (or_else (where_true (is_backwards at st.latest) Backwards)
-    (or_else (overdue_by s (Del c at) (first_due s t (plain_of st))) (nothing_sent c (st.link c).transit)))
+    offence_or_else (where_true (is_some st.horizon) AfterEnd)
+    (offence_or_else (where_true (is_backwards at st.latest) Backwards)
+    (offence_or_else (overdue_by s (Del c at) (first_due s t (plain_of st))) (nothing_sent c (st.link c).transit)))
 
 abbrev pub IsLossJudged : Shape → Timing → (limit : ℕ) → LossyState → (c at : ℕ) → Type 0
 IsLossJudged s t limit st c at = lossy_offence s t limit st (Lose c at) ≡ common_or (loss_offence s t st c at) (too_many_lost limit c (st.link c).losses)
@@ -55,12 +55,12 @@ pub record IsOneAhead (s : Shape) (st : LossyState) : Type 0 where
   pub data_low : (c : ℕ) → c < chan_count s → carries_data s c ≡ true → (st.node (to_of s c)).executed ≤ (st.link c).newest + 1
   pub data_high : (c : ℕ) → c < chan_count s → carries_data s c ≡ true → (st.link c).newest ≤ (st.node (to_of s c)).executed
   -- on an acknowledgement channel the receiver's sent count or one more
-  pub ack_low : (c : ℕ) → c < chan_count s → carries_data s c ≡ false → sent_by (st.node (to_of s c)) ≤ (st.link c).newest
-  pub ack_high : (c : ℕ) → c < chan_count s → carries_data s c ≡ false → (st.link c).newest ≤ sent_by (st.node (to_of s c)) + 1
+  pub ack_low : (c : ℕ) → c < chan_count s → carries_data s c ≡ false → sent_count (st.node (to_of s c)) ≤ (st.link c).newest
+  pub ack_high : (c : ℕ) → c < chan_count s → carries_data s c ≡ false → (st.link c).newest ≤ sent_count (st.node (to_of s c)) + 1
 
 -- Node n, where it executes instant k at its next activation, has message k as the newest on each data channel to it; where it sends
 -- message k, it has the acknowledgement of k executed instants on each acknowledgement channel to it.
-pub record HasNumbers (s : Shape) (rows : ℕ) (st : LossyState) (n : ℕ) : Type 0 where
+pub record HasMessageNumbers (s : Shape) (rows : ℕ) (st : LossyState) (n : ℕ) : Type 0 where
   pub executes : deed_at s rows (plain_of st) n ≡ Execute → (c : ℕ) → c < chan_count s → to_of s c ≡ n → carries_data s c ≡ true → (st.link c).newest ≡ (st.node n).executed
   pub sends : deed_at s rows (plain_of st) n ≡ Send → (c : ℕ) → c < chan_count s → to_of s c ≡ n → carries_data s c ≡ false → (st.link c).newest ≡ (st.node n).executed
 
@@ -75,7 +75,7 @@ KeepsOneAhead =
 
 abbrev pub ReadsItsNumber : Type 0
 ReadsItsNumber =
-    (s : Shape) (t : Timing) (limit rows : ℕ) (es : List LossyEvent) (n : ℕ) → IsBackPressureShape s → IsLossyOffenceFree s t limit rows es → HasNumbers s rows (lossy_reached s t rows es) n
+    (s : Shape) (t : Timing) (limit rows : ℕ) (es : List LossyEvent) (n : ℕ) → IsBackPressureShape s → IsLossyOffenceFree s t limit rows es → HasMessageNumbers s rows (lossy_reached s t rows es) n
 
 -- no channel has more messages in transit than there is room for
 abbrev pub KeepsRoom : Type 0

@@ -89,3 +89,7 @@ pub record LossyEndsOnce (es : List LossyEvent) (h : ℕ) : Type 0 where
   pub front : List LossyEvent
   pub list_is : es ≡ front ++ Plain (End h) ∷ []
   pub no_end_before : AllPass (λ e. not (is_lossy_end e)) front
+
+-- a list that ends, with its only end
+abbrev pub HasOnlyLossyEnd : Shape → Timing → (rows : ℕ) → List LossyEvent → Type 0
+HasOnlyLossyEnd s t rows es = (h : ℕ) × LossyEndsAt s t rows es h × LossyEndsOnce es h

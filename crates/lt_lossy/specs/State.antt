@@ -43,9 +43,9 @@ abbrev pub plain_of : LossyState → State
 plain_of st = record { node = st.node; chan = λ c. plain_link (st.link c); latest = st.latest; horizon = st.horizon }
 
 -- how many instants a node has sent
-abbrev pub sent_by : NodeState → ℕ
-sent_by v = v.executed - unsent v.phase
+abbrev pub sent_count : NodeState → ℕ
+sent_count v = v.executed - unsent v.phase
 
 -- what a node counts on channel c: on one that carries data the instants that it has sent, on one that carries acknowledgements those that it has executed
 abbrev pub number_on : Shape → NodeState → (c : ℕ) → ℕ
-number_on s v c = if carries_data s c then sent_by v else v.executed
+number_on s v c = if carries_data s c then sent_count v else v.executed

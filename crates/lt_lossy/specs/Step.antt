@@ -44,16 +44,16 @@ lossy_offence s t limit st (Lose c at) = common_or (at_any_time (offence_of s t 
 -- The next state.
 
 -- a channel on which a message was sent, or not
-abbrev pub with_message : (sends : Bool) (number at : ℕ) → LinkState → LinkState
-with_message true number at link = record link { transit = link.transit ++ record { number = number; sent_at = at } ∷ [] }
-with_message false number at link = link
+abbrev pub link_with_message : (sends : Bool) (number at : ℕ) → LinkState → LinkState
+link_with_message true number at link = record link { transit = link.transit ++ record { number = number; sent_at = at } ∷ [] }
+link_with_message false number at link = link
 
 -- node n, which is v after its activation, sends on each channel from it the number that it counts there, but never 0
 abbrev pub sends_number : Shape → (n : ℕ) → (v : NodeState) → (c : ℕ) → Bool
 sends_number s n v c = (from_of s c == n) && nat_lt 0 (number_on s v c)
 
 abbrev pub link_woken : Shape → (n at : ℕ) → (v : NodeState) → (c : ℕ) → LinkState → LinkState
-link_woken s n at v c link = with_message (sends_number s n v c) (number_on s v c) at link
+link_woken s n at v c link = link_with_message (sends_number s n v c) (number_on s v c) at link
 
 -- a channel that delivered the oldest message of its transit
 abbrev pub link_delivered : LinkState → (transit : List Message) → LinkState

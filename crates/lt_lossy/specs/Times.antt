@@ -53,6 +53,10 @@ pub record HasLossyTimes (w : LossyTimes) (s : Shape) (t : Timing) (allowed : �
   pub latest : w.latest ≡ st.latest
   pub horizon : w.horizon ≡ st.horizon
 
+-- so it is for all states that have these times
+abbrev pub WhereverHasTimes : LossyTimes → (Shape → Timing → (allowed : ℕ) → LossyState → Type 0) → Type 0
+WhereverHasTimes w P = (s : Shape) (t : Timing) (allowed : ℕ) (st : LossyState) → HasLossyTimes w s t allowed st → P s t allowed st
+
 -- the event's node or channel exists
 abbrev pub IsLossyPlaced : LossyTimes → LossyEvent → Type 0
 IsLossyPlaced w (Plain (Act n at)) = n < length w.lasts

@@ -4,8 +4,8 @@ ghost use Rattle.lt_arch.specs.declared.shape.Shape.{Shape};
 ghost use Rattle.lt_arch.specs.declared.timing.Timing.{Timing};
 ghost use Rattle.lt_lossy.specs.declared.event.LossyEvent.{LossyEvent};
 ghost use Rattle.lt_lossy.specs.State.{LossyState};
-ghost use Rattle.lt_lossy.specs.Times.{LossyTimes, HasLossyTimes, FollowsLossyEvents};
-ghost use Rattle.lt_lossy.specs.Schedule.{IsFirstLossyOffence, IsLossyAdmissible, LossyEndsAt, LossyEndsOnce, first_lossy_offence};
+ghost use Rattle.lt_lossy.specs.Times.{LossyTimes, WhereverHasTimes, FollowsLossyEvents};
+ghost use Rattle.lt_lossy.specs.Schedule.{IsFirstLossyOffence, IsLossyAdmissible, HasOnlyLossyEnd, first_lossy_offence};
 ghost use Rattle.lt_lossy.specs.Laws.{IsLossJudged, KeepsOrder, KeepsOneAhead, ReadsItsNumber, KeepsRoom, ReachesLossyBound};
 
 /// The first offence of a list is that of the first event that has one, or a missing end one past the last event.
@@ -15,7 +15,7 @@ pub fn first_of_list()
 
 /// An admissible list ends with its only end.
 pub fn only_end()
-    ensures { (s : Shape) (t : Timing) (limit rows : ℕ) (es : List LossyEvent) → IsLossyAdmissible s t limit rows es → (h : ℕ) × LossyEndsAt s t rows es h × LossyEndsOnce es h }
+    ensures { (s : Shape) (t : Timing) (limit rows : ℕ) (es : List LossyEvent) → IsLossyAdmissible s t limit rows es → HasOnlyLossyEnd s t rows es }
 {}
 
 /// A loss is judged in this order: after the end, backwards, overdue, nothing sent, too many lost.
@@ -25,7 +25,7 @@ pub fn loss_in_order()
 
 /// What a watch records of an event without an offence leaves the times of the next state.
 pub fn times_follow()
-    ensures { (w : LossyTimes) (s : Shape) (t : Timing) (allowed rows : ℕ) (st : LossyState) → HasLossyTimes w s t allowed st → FollowsLossyEvents w s t allowed rows st }
+    ensures { (w : LossyTimes) (rows : ℕ) → WhereverHasTimes w (λ s t allowed st. FollowsLossyEvents w s t allowed rows st) }
 {}
 
 /// The numbers in transit on a channel go up, from the newest that was delivered to what the sender counts, and no

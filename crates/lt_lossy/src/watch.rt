@@ -6,7 +6,7 @@ ghost use Rattle.lt_arch.specs.declared.timing.Timing.{Timing};
 ghost use Rattle.lt_arch.specs.Shapes.{HaveSameNodes};
 ghost use Rattle.lt_lossy.specs.State.{LossyState, lossy_start};
 ghost use Rattle.lt_lossy.specs.Step.{lossy_offence, too_many_lost, at_any_time};
-ghost use Rattle.lt_lossy.specs.Times.{HasLossyTimes, IsLossyPlaced, lossy_time_of, queue_at, losses_at, with_last, with_sent_on, without_oldest, with_losses, with_end};
+ghost use Rattle.lt_lossy.specs.Times.{HasLossyTimes, WhereverHasTimes, IsLossyPlaced, lossy_time_of, queue_at, losses_at, with_last, with_sent_on, without_oldest, with_losses, with_end};
 ghost use Rattle.lt_lossy.specs.Window.{room};
 
 use crate::queue::Queue;
@@ -74,7 +74,7 @@ impl LossyWatch {
     pub fn judge<L: Ledger>(&self, e: &LossyEvent, steps: &mut Steps<L>) -> Option<LossyOffence>
         requires place { IsLossyPlaced self.now e.now }
         requires time { lossy_time_of e.now ≤ GREATEST_TIME }
-        ensures offence { (s : Shape) (t : Timing) (allowed : ℕ) (st : LossyState) → HasLossyTimes self.now s t allowed st → result ≡ lossy_offence s t allowed st e.now }
+        ensures offence { WhereverHasTimes self.now (λ s t allowed st. result ≡ lossy_offence s t allowed st e.now) }
         ensures cost { steps.new ≤ steps.old + 4 }
     {
         match e {
@@ -134,7 +134,7 @@ impl LossyWatch {
         ensures times { self.new ≡ with_losses (without_oldest self.old ch time) ch 0 }
         ensures cost { (d : ℕ) → length self.old.lasts + length self.old.queues ≤ 2 ^ d → steps.new ≤ steps.old + (16 * d + 16) }
     {
-        self.taken(ch, time, steps);
+        self.take_oldest(ch, time, steps);
         self.losses[ch as usize] = 0;
     }
 
@@ -147,12 +147,12 @@ impl LossyWatch {
         ensures cost { (d : ℕ) → length self.old.lasts + length self.old.queues ≤ 2 ^ d → steps.new ≤ steps.old + (16 * d + 16) }
     {
         let losses = self.losses[ch as usize] + 1;
-        self.taken(ch, time, steps);
+        self.take_oldest(ch, time, steps);
         self.losses[ch as usize] = losses;
     }
 
     // The oldest message in transit on a channel left it, and the next one is the oldest.
-    fn taken<L: Ledger>(&mut self, ch: u32, time: u64, steps: &mut Steps<L>)
+    fn take_oldest<L: Ledger>(&mut self, ch: u32, time: u64, steps: &mut Steps<L>)
         requires channel { ch < length self.old.queues }
         requires time { time ≤ GREATEST_TIME }
         ensures times { self.new ≡ without_oldest self.old ch time }

@@ -17,10 +17,10 @@ use Rattle.lt_meaning.specs.declared.plan.Plan.{Plan}
 use Rattle.lt_meaning.specs.declared.plan.Delay.{Delay}
 use Rattle.lt_meaning.specs.declared.state.State.{State, out-State}
 use Rattle.lt_meaning.specs.declared.state.State.TheOpen.{State-F}
-use Rattle.lt_meaning.specs.Plan.{delay_form, inputs_of, inputs_at}
+use Rattle.lt_meaning.specs.Plan.{delay_form, plan_inputs, inputs_at}
 use Rattle.lt_meaning.specs.Lift.{Wait, Item}
-use Rattle.lt_meaning.specs.Planned.{In, Lifted, Answering, PlanAt, Planned}
-use Rattle.lt_meaning.specs.Stands.{cells_of, ChildStands, StandsOver, Stands, Advances, CanRun, Holds, row_in}
+use Rattle.lt_meaning.specs.Planned.{IsElement, Lifted, Answering, PlanAt, Planned}
+use Rattle.lt_meaning.specs.Stands.{cells_of, ChildStands, StandsOver, StateStands, StateAdvances, CanRun, StepHolds, row_in}
 use Rattle.lt_meaning.proofs.Keeping.{next_of}
 use Rattle.lt_meaning.proofs.Running.{kept_next}
 use Rattle.lt_meaning.proofs.Instant.{Partly, PartlyBy, Deeper, Along, plan_is, inputs_are, steps_number, some_at, map_at}
@@ -49,7 +49,7 @@ module _ (plans : List Plan) (g : ℕ) (s : State) (plan : Plan) (here : plan �
     abbrev row : Row
     row = row_in plans g s
 
-    holds : (x : Item) → In pa.plan_of.items x → Holds C es env x
+    holds : (x : Item) → IsElement pa.plan_of.items x → StepHolds C es env x
     holds x m =
         let l = slice_get_within pa.plan_of.items m.0 x m.1 in
         let number = steps_number plans k g f st.is plan here in
@@ -96,15 +96,15 @@ module _ (plans : List Plan) (g : ℕ) (s : State) (plan : Plan) (here : plan �
               subst (λ c. ChildStands C (Deeper plans k n) x.source x.clock (slice_get c j) (env ∷ es)) (sym same_children) (p.progress.ran j x (omega (arith, l, number)) h);
         }
 
-  instant_by : (t : State) → out-State t ≡ w → (k : Planned plans) (n : ℕ) (rows : List Row) (es : List Environment) (st : Stands plans k n s g rows es) → PartlyBy plans k n s g rows es st v i
-      → Stands plans k n t g (row_in plans g s ∷ rows) (entry (cells_of t) ∷ es)
+  instant_by : (t : State) → out-State t ≡ w → (k : Planned plans) (n : ℕ) (rows : List Row) (es : List Environment) (st : StateStands plans k n s g rows es) → PartlyBy plans k n s g rows es st v i
+      → StateStands plans k n t g (row_in plans g s ∷ rows) (entry (cells_of t) ∷ es)
   instant_by t e k zero rows es st p = elim st [ ]
   instant_by t e k (suc n) rows es st p =
       subst (λ u. StandsOver plans k (Deeper plans k n) u g (row_in plans g s ∷ rows) (entry u.cells.items ∷ es)) (sym e)
       (subst (λ c. StandsOver plans k (Deeper plans k n) w g (row_in plans g s ∷ rows) (entry c ∷ es)) (sym same_cells) (stands k n rows es st p))
 
   -- the state has come one instant further
-  pub instant : Along plans g s v i → (t : State) → out-State t ≡ w → Advances plans g s t
+  pub instant : Along plans g s v i → (t : State) → out-State t ≡ w → StateAdvances plans g s t
   instant along t e k n rows es st = instant_by t e k n rows es st (along k n rows es st)
 
 -- ---- what a call answers
@@ -112,7 +112,7 @@ module _ (plans : List Plan) (g : ℕ) (s : State) (plan : Plan) (here : plan �
 module _ (plans : List Plan) (g : ℕ) where
   -- what the cells hold does not matter between instants
   pub refilled : (k : Planned plans) (n : ℕ) (rows : List Row) (es : List Environment) (s t : State) (v : State-F State) → out-State t ≡ v → length v.cells.items ≡ length (cells_of s)
-      → v.kept ≡ (out-State s).kept → v.next ≡ (out-State s).next → v.children ≡ (out-State s).children → Stands plans k n s g rows es → Stands plans k n t g rows es
+      → v.kept ≡ (out-State s).kept → v.next ≡ (out-State s).next → v.children ≡ (out-State s).children → StateStands plans k n s g rows es → StateStands plans k n t g rows es
   refilled k zero rows es s t v e size kept next children st = st
   refilled k (suc n) rows es s t v e size kept next children st =
       let of = (k.plan g st.function st.is).plan_of in
@@ -129,14 +129,14 @@ module _ (plans : List Plan) (g : ℕ) where
       } in
       subst (λ u. StandsOver plans k (Deeper plans k n) u g rows es) (sym e) there
 
-  there_by : (k : Planned plans) (n : ℕ) (rows : List Row) (es : List Environment) (s : State) → Stands plans k n s g rows es → g < length plans
+  there_by : (k : Planned plans) (n : ℕ) (rows : List Row) (es : List Environment) (s : State) → StateStands plans k n s g rows es → g < length plans
   there_by k zero rows es s st = elim st [ ]
   there_by k (suc n) rows es s st = slice_get_within plans g (k.plan g st.function st.is).plan (k.plan g st.function st.is).is
 
   pub can_run_there : (n : ℕ) (s : State) → CanRun plans g n s → g < length plans
   can_run_there n s r = there_by r.planned r.nested r.rows r.past s r.stands
 
-  fill_by : (k : Planned plans) (n m : ℕ) (rows : List Row) (es : List Environment) (s : State) → Stands plans k n s g rows es → Answering k.program.funcs g m → m ≤ length (cells_of s)
+  fill_by : (k : Planned plans) (n m : ℕ) (rows : List Row) (es : List Environment) (s : State) → StateStands plans k n s g rows es → Answering k.program.funcs g m → m ≤ length (cells_of s)
   fill_by k zero m rows es s st a = elim st [ ]
   fill_by k (suc n) m rows es s st a =
       let of = (k.plan g st.function st.is).plan_of in
@@ -152,16 +152,16 @@ module _ (plans : List Plan) (g : ℕ) where
   can_fill n s r = fill_by r.planned r.nested n r.rows r.past s r.stands r.answering
 
   -- the arguments are the inputs
-  pub row_number : (k : Planned plans) (n m : ℕ) (rows : List Row) (es : List Environment) (s : State) → Stands plans k n s g rows es → Answering k.program.funcs g m → inputs_at plans g ≡ m
+  pub row_number : (k : Planned plans) (n m : ℕ) (rows : List Row) (es : List Environment) (s : State) → StateStands plans k n s g rows es → Answering k.program.funcs g m → inputs_at plans g ≡ m
   row_number k zero m rows es s st a = elim st [ ]
   row_number k (suc n) m rows es s st a =
       let pa = k.plan g st.function st.is in
       let same : a.function ≡ st.function = cc (a.is, st.is) in
-      ap inputs_of pa.is ∙ pa.plan_of.inputs ∙ ap (λ (f : Function). f.n_in) (sym same) ∙ a.inputs
+      ap plan_inputs pa.is ∙ pa.plan_of.inputs ∙ ap (λ (f : Function). f.n_in) (sym same) ∙ a.inputs
 
 module _ (plans : List Plan) (g : ℕ) (plan : Plan) (here : plan ≡ get_or plans g plan) where
   -- there is an output
-  pub output_room : (k : Planned plans) (n m : ℕ) (rows : List Row) (es : List Environment) (s : State) → Stands plans k n s g rows es → Answering k.program.funcs g m → plan.output < length (cells_of s)
+  pub output_room : (k : Planned plans) (n m : ℕ) (rows : List Row) (es : List Environment) (s : State) → StateStands plans k n s g rows es → Answering k.program.funcs g m → plan.output < length (cells_of s)
   output_room k zero m rows es s st a = elim st [ ]
   output_room k (suc n) m rows es s st a =
       let f = st.function in
@@ -174,7 +174,7 @@ module _ (plans : List Plan) (g : ℕ) (plan : Plan) (here : plan ≡ get_or pla
       let size = st.cells in
       omega (arith, declared, output, low, size)
 
-  pub answered_by : (k : Planned plans) (n : ℕ) (row : Row) (rows : List Row) (env : Environment) (past : List Environment) (t : State) → Stands plans k n t g (row ∷ rows) (env ∷ past) → Answering k.program.funcs g (length row)
+  pub answered_by : (k : Planned plans) (n : ℕ) (row : Row) (rows : List Row) (env : Environment) (past : List Environment) (t : State) → StateStands plans k n t g (row ∷ rows) (env ∷ past) → Answering k.program.funcs g (length row)
       → env plan.output ≡ calls_of k.program.funcs g (row ∷ rows)
   answered_by k zero row rows env past t st a = elim st [ ]
   answered_by k (suc n) row rows env past t st a =

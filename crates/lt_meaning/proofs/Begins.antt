@@ -15,7 +15,7 @@ use Rattle.lt_meaning.specs.declared.state.State.{State, out-State}
 use Rattle.lt_meaning.specs.Plan.{StepForm, action_form, DelayForm, delay_form}
 use Rattle.lt_meaning.specs.Lift.{Source, whole, part, Item, form_of, action_of}
 use Rattle.lt_meaning.specs.Planned.{IfCall, Answering, Planned}
-use Rattle.lt_meaning.specs.Stands.{ChildStands, StandsOver, Stands, CanStart, Starts, CanStartChild, ChildStarts}
+use Rattle.lt_meaning.specs.Stands.{ChildStands, StandsOver, StateStands, CanStart, StateStarts, CanStartChild, ChildStarts}
 use Rattle.lt_meaning.proofs.Standing.{get_either}
 use Rattle.lt_meaning.proofs.Instant.{Deeper, plan_is, steps_number, some_at, map_at, item_at}
 
@@ -109,10 +109,10 @@ module _ (plans : List Plan) (g left : ℕ) (plan : Plan) (here : plan ≡ get_o
               (child_starts k m x.source x.delays_before x.cells_before x.clock o.0 (of.answering x (i, h)) (of.lower x (i, h)) (omega (arith, low, e)) begun);
         }
 
-    starts_by : (n : ℕ) → left ≡ n → (k : Planned plans) (f : Function) → function_of k.program.funcs g ≡ Some f → k.height g < left → (s : State) → out-State s ≡ record { cells = cells; kept = kept; next = next; children = children } → Stands plans k n s g [] []
+    starts_by : (n : ℕ) → left ≡ n → (k : Planned plans) (f : Function) → function_of k.program.funcs g ≡ Some f → k.height g < left → (s : State) → out-State s ≡ record { cells = cells; kept = kept; next = next; children = children } → StateStands plans k n s g [] []
     starts_by zero e k f is low s o = absurd (omega (arith, e, low))
     starts_by (suc m) e k f is low s o = subst (λ v. StandsOver plans k (Deeper plans k m) v g [] []) (sym o) (stands k f is m e low)
 
     -- the state stands before the first instant
-    pub starts : (s : State) → out-State s ≡ record { cells = cells; kept = kept; next = next; children = children } → Starts plans g left s
+    pub starts : (s : State) → out-State s ≡ record { cells = cells; kept = kept; next = next; children = children } → StateStarts plans g left s
     starts s o k f is low = starts_by left refl k f is low s o

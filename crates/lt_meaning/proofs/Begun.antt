@@ -8,13 +8,13 @@ use Rattle.lt_base.specs.Program.{Function, GoodFunction}
 use Rattle.lt_base.specs.Meaning.{ClockPairs, clock_of}
 use Rattle.lt_base.specs.Order.{EachRead, EachClockVar, Ordered}
 use Rattle.lt_base.proofs.Reading.{each_map, each_clock_map, each_at, each_from, each_clock_at, each_clock_from}
-use Rattle.lt_cause.specs.Orders.{IsOrder, place_in}
+use Rattle.lt_cause.specs.Orders.{IsOrder, order_place}
 use Rattle.lt_meaning.specs.declared.plan.Plan.{Plan}
 use Rattle.lt_meaning.specs.Plan.{step_form, DelayForm, delay_form}
 use Rattle.lt_meaning.specs.Lift.{call_count, form_of, Wait, delays_in, Source, whole, part, Item, step_of, calls_in}
-use Rattle.lt_meaning.specs.Taken.{Taken, after, with_step}
-use Rattle.lt_meaning.specs.Fine.{Fine, Passes}
-use Rattle.lt_meaning.specs.Planned.{In, Within, StandsFrom, expression_of, PlanOf, inner_delays, Lifted, IfCall, Answering}
+use Rattle.lt_meaning.specs.Taken.{Taken, taken_after, with_step}
+use Rattle.lt_meaning.specs.Fine.{Fine, FunctionPasses}
+use Rattle.lt_meaning.specs.Planned.{IsElement, AreElements, StandsFrom, expression_of, PlanOf, inner_delays, Lifted, IfCall, Answering}
 use Rattle.lt_meaning.proofs.Standing.{get_left, get_right, in_left, in_right, in_either}
 use Rattle.lt_meaning.proofs.Sites.{in_one, Called, Declared, reads_declared, clock_declared, calls_answer, waits_fine, calls_need}
 use Rattle.lt_meaning.proofs.Running.{nat_same}
@@ -26,12 +26,12 @@ use Rattle.lt_meaning.proofs.Known.{Known, Good, good_none, good_push, lifted_go
 pub record Begun (fs : List Function) (height : ℕ → ℕ) (top : ℕ) (f : Function) (order : List ℕ) (i : ℕ) (items : List Item) (x : Taken) : Type 0 where
   pub steps : x.steps ≡ map step_of items
   pub room : length f.decls ≤ x.cells
-  pub good : Good (length f.decls) f.n_in (place_in f order) items i x.cells
-  pub needs : (y : Item) → In items y → StandsFrom y.delays_before (inner_delays y.source y.clock) x.waits
-  pub answering : (y : Item) → In items y → IfCall (Called fs height top f.decls) y.source
-  pub fine : (w : Wait) → In x.waits w → Fine fs height top f.decls w.right w.clock
+  pub good : Good (length f.decls) f.n_in (order_place f order) items i x.cells
+  pub needs : (y : Item) → IsElement items y → StandsFrom y.delays_before (inner_delays y.source y.clock) x.waits
+  pub answering : (y : Item) → IsElement items y → IfCall (Called fs height top f.decls) y.source
+  pub fine : (w : Wait) → IsElement x.waits w → Fine fs height top f.decls w.right w.clock
   pub done : (j k : ℕ) (q : ℕ × Expression) → j < i → slice_get order j ≡ Some k → slice_get f.eqs k ≡ Some q
-      → (d : ℕ) × (c : ℕ) × In items (record { cell = q.0; clock = clock_of f.decls q.0; delays_before = d; cells_before = c; source = whole q.1 })
+      → (d : ℕ) × (c : ℕ) × IsElement items (record { cell = q.0; clock = clock_of f.decls q.0; delays_before = d; cells_before = c; source = whole q.1 })
 
 stands_more : {A : Type 0} (k : ℕ) (xs ys zs : List A) → StandsFrom k xs ys → StandsFrom k xs (ys ++ zs)
 stands_more k xs ys zs s i x h = get_left ys zs (k + i) x (s i x h)
@@ -41,13 +41,13 @@ stands_last xs ys i x h = get_right xs ys i (length xs + i) refl ∙ h
 
 module _ (fs : List Function) (height : ℕ → ℕ) (top : ℕ) (f : Function) (good : GoodFunction f) (order : List ℕ) where
   abbrev K : ℕ → ℕ → ℕ → Type 0
-  K = Known (length f.decls) f.n_in (place_in f order)
+  K = Known (length f.decls) f.n_in (order_place f order)
 
   pub begun_none : (x : Taken) → x ≡ record { cells = length f.decls; steps = []; waits = [] } → Begun fs height top f order 0 [] x
   begun_none x e = subst (Begun fs height top f order 0 []) (sym e) (record {
     steps = refl;
     room = omega arith;
-    good = good_none (length f.decls) f.n_in (place_in f order) 0 (length f.decls);
+    good = good_none (length f.decls) f.n_in (order_place f order) 0 (length f.decls);
     needs = λ y m. let h = m.1 in absurd (cc);
     answering = λ y m. let h = m.1 in absurd (cc);
     fine = λ w m. let h = m.1 in absurd (cc);
@@ -56,7 +56,7 @@ module _ (fs : List Function) (height : ℕ → ℕ) (top : ℕ) (f : Function) 
 
   -- an expression is lifted
   pub begun_lift : (i : ℕ) (items : List Item) (x : Taken) (e : Expression) (ck : ClockPairs) → Begun fs height top f order i items x → Fine fs height top f.decls e ck → EachRead (K i x.cells) e → EachClockVar (K i x.cells) ck
-      → Begun fs height top f order i (items ++ calls_in (length x.waits) x.cells e ck) (after x e ck)
+      → Begun fs height top f order i (items ++ calls_in (length x.waits) x.cells e ck) (taken_after x e ck)
   begun_lift i items x e ck b fine reads clocks =
       let k = length x.waits in
       let more = calls_in k x.cells e ck in
@@ -64,7 +64,7 @@ module _ (fs : List Function) (height : ℕ → ℕ) (top : ℕ) (f : Function) 
       record {
         steps = ap (λ l. l ++ map step_of more) b.steps ∙ sym (map-append step_of items more);
         room = omega (arith, room);
-        good = lifted_good (length f.decls) f.n_in (place_in f order) i good.inputs e k x.cells ck items b.room b.good reads clocks;
+        good = lifted_good (length f.decls) f.n_in (order_place f order) i good.inputs e k x.cells ck items b.room b.good reads clocks;
         needs = λ y m. ⊎_elim
             (λ j. stands_more y.delays_before (inner_delays y.source y.clock) x.waits (delays_in e ck) (b.needs y j))
             (λ j. calls_need e k x.cells ck (x.waits ++ delays_in e ck) (stands_last x.waits (delays_in e ck)) y j)
@@ -75,8 +75,8 @@ module _ (fs : List Function) (height : ℕ → ℕ) (top : ℕ) (f : Function) 
       }
 
   -- an equation gets its step
-  pub begun_set : (i : ℕ) (items : List Item) (x : Taken) (k d c : ℕ) (q : ℕ × Expression) → Begun fs height top f order i items x → slice_get order i ≡ Some k → slice_get f.eqs k ≡ Some q → place_in f order q.0 ≡ suc i
-      → EachRead (K i x.cells) q.1 → EachClockVar (K i x.cells) (clock_of f.decls q.0) → Within (calls_in d c q.1 (clock_of f.decls q.0)) items → StandsFrom d (delays_in q.1 (clock_of f.decls q.0)) x.waits → f.n_in ≤ q.0 → q.0 < length f.decls
+  pub begun_set : (i : ℕ) (items : List Item) (x : Taken) (k d c : ℕ) (q : ℕ × Expression) → Begun fs height top f order i items x → slice_get order i ≡ Some k → slice_get f.eqs k ≡ Some q → order_place f order q.0 ≡ suc i
+      → EachRead (K i x.cells) q.1 → EachClockVar (K i x.cells) (clock_of f.decls q.0) → AreElements (calls_in d c q.1 (clock_of f.decls q.0)) items → StandsFrom d (delays_in q.1 (clock_of f.decls q.0)) x.waits → f.n_in ≤ q.0 → q.0 < length f.decls
       → let u : Item = record { cell = q.0; clock = clock_of f.decls q.0; delays_before = d; cells_before = c; source = whole q.1 } in
       Begun fs height top f order (i + 1) (items ++ u ∷ []) (with_step x (step_of u))
   begun_set i items x k d c q b at_i at_k place reads clocks runs waits low declared =
@@ -85,8 +85,8 @@ module _ (fs : List Function) (height : ℕ → ℕ) (top : ℕ) (f : Function) 
       record {
         steps = ap (λ l. l ++ step_of u ∷ []) b.steps ∙ sym (map-append step_of items (u ∷ []));
         room = b.room;
-        good = good_push (length f.decls) f.n_in (place_in f order) items u i (i + 1) x.cells x.cells b.good (reads, clocks) runs
-            (λ s h e. let p = h.1 (subst (λ n. n < length f.decls) (sym e) declared) in let same = ap (place_in f order) e in absurd (omega (arith, p, same, place)))
+        good = good_push (length f.decls) f.n_in (order_place f order) items u i (i + 1) x.cells x.cells b.good (reads, clocks) runs
+            (λ s h e. let p = h.1 (subst (λ n. n < length f.decls) (sym e) declared) in let same = ap (order_place f order) e in absurd (omega (arith, p, same, place)))
             (λ s h. (h.0, λ l. let p = h.1 l in omega (arith, p)))
             (omega (arith, declared, room), λ l. omega (arith, place))
             low;
@@ -94,12 +94,12 @@ module _ (fs : List Function) (height : ℕ → ℕ) (top : ℕ) (f : Function) 
         answering = λ y m. ⊎_elim (b.answering y) (λ j. subst (λ (y : Item). IfCall (Called fs height top f.decls) y.source) (in_one u y j) tt) (in_either items (u ∷ []) y m);
         fine = b.fine;
         done = λ j m p l o h.
-            let go : (t : (j ≡ i) ⊎ (j ≢ i)) → (d : ℕ) × (c : ℕ) × In (items ++ u ∷ []) (record { cell = p.0; clock = clock_of f.decls p.0; delays_before = d; cells_before = c; source = whole p.1 }) =
+            let go : (t : (j ≡ i) ⊎ (j ≢ i)) → (d : ℕ) × (c : ℕ) × IsElement (items ++ u ∷ []) (record { cell = p.0; clock = clock_of f.decls p.0; delays_before = d; cells_before = c; source = whole p.1 }) =
             elim [
               | inl e ↦
                   let number : k ≡ m = cc (at_i, o, ap (slice_get order) e) in
                   let same : q ≡ p = cc (at_k, h, ap (slice_get f.eqs) number) in
-                  (d, c, subst (λ (p : ℕ × Expression). In (items ++ u ∷ []) (record { cell = p.0; clock = clock_of f.decls p.0; delays_before = d; cells_before = c; source = whole p.1 })) same (in_right items (u ∷ []) u (0, refl)))
+                  (d, c, subst (λ (p : ℕ × Expression). IsElement (items ++ u ∷ []) (record { cell = p.0; clock = clock_of f.decls p.0; delays_before = d; cells_before = c; source = whole p.1 })) same (in_right items (u ∷ []) u (0, refl)))
               | inr n ↦ let r = b.done j m p (omega (arith, l, n)) o h in (r.0, r.1, in_left items (u ∷ []) _ r.2)
             ] in
             go (nat_same j i);
@@ -113,13 +113,13 @@ each_both P Q e a b = each_from (λ y. P y × Q y) e (λ y m. (each_at P e a y m
 clock_both : (P Q : ℕ → Type 0) (ck : ClockPairs) → EachClockVar P ck → EachClockVar Q ck → EachClockVar (λ y. P y × Q y) ck
 clock_both P Q ck a b = each_clock_from (λ y. P y × Q y) ck (λ y m. (each_clock_at P ck a y m, each_clock_at Q ck b y m))
 
-module _ (fs : List Function) (height : ℕ → ℕ) (top : ℕ) (f : Function) (good : GoodFunction f) (passes : Passes fs height top f) (order : List ℕ) (is : IsOrder f order) (ordered : Ordered f (place_in f order)) where
+module _ (fs : List Function) (height : ℕ → ℕ) (top : ℕ) (f : Function) (good : GoodFunction f) (passes : FunctionPasses fs height top f) (order : List ℕ) (is : IsOrder f order) (ordered : Ordered f (order_place f order)) where
   abbrev Taking : ℕ → ℕ → ℕ → Type 0
-  Taking = Known (length f.decls) f.n_in (place_in f order)
+  Taking = Known (length f.decls) f.n_in (order_place f order)
 
   -- the equation at a place of the order
   pub equation_next : (i k : ℕ) (q : ℕ × Expression) (items : List Item) (x x' : Taken) → slice_get order i ≡ Some k → slice_get f.eqs k ≡ Some q → Begun fs height top f order i items x
-      → x' ≡ with_step (after x q.1 (clock_of f.decls q.0)) (step_of (record { cell = q.0; clock = clock_of f.decls q.0; delays_before = length x.waits; cells_before = x.cells; source = whole q.1 }))
+      → x' ≡ with_step (taken_after x q.1 (clock_of f.decls q.0)) (step_of (record { cell = q.0; clock = clock_of f.decls q.0; delays_before = length x.waits; cells_before = x.cells; source = whole q.1 }))
       → (items' : List Item) × Begun fs height top f order (i + 1) items' x'
   equation_next i k q items x x' at_i at_k b made =
       let ck = clock_of f.decls q.0 in
@@ -127,7 +127,7 @@ module _ (fs : List Function) (height : ℕ → ℕ) (top : ℕ) (f : Function) 
       let place = place_at f good order is ordered i k q at_i at_k in
       let fine : Fine fs height top f.decls q.1 ck = record { clocked = passes.clocked.rights q.0 q.1 right; formed = passes.clocked.clocks q.0; uses = passes.uses q.0 q.1 right } in
       let room = b.room in
-      let Earlier : ℕ → Type 0 = λ y. place_in f order y < place_in f order q.0 in
+      let Earlier : ℕ → Type 0 = λ y. order_place f order y < order_place f order q.0 in
       let known : (cells y : ℕ) → x.cells ≤ cells → (y < length f.decls) × Earlier y → Taking i cells y = λ cells y l h. let a = h.0 in let m = h.1 in (omega (arith, a, room, l), λ _. omega (arith, m, place)) in
       let reads_both = each_both (Declared fs height top f.decls) Earlier q.1 (reads_declared fs height top f.decls q.1 ck fine.clocked) (ordered.ranked.reads_before q.0 q.1 right) in
       let clocks_both = clock_both (Declared fs height top f.decls) Earlier ck (clock_declared fs height top f.decls ck fine.formed) (ordered.ranked.clocks_before q.0 q.1 right) in
@@ -136,7 +136,7 @@ module _ (fs : List Function) (height : ℕ → ℕ) (top : ℕ) (f : Function) 
       let lifted = begun_lift fs height top f good order i items x q.1 ck b fine (reads x.cells (omega arith)) (clocks x.cells (omega arith)) in
       let more = calls_in (length x.waits) x.cells q.1 ck in
       let u : Item = record { cell = q.0; clock = ck; delays_before = length x.waits; cells_before = x.cells; source = whole q.1 } in
-      let pushed = begun_set fs height top f good order i (items ++ more) (after x q.1 ck) k (length x.waits) x.cells q lifted at_i at_k place
+      let pushed = begun_set fs height top f good order i (items ++ more) (taken_after x q.1 ck) k (length x.waits) x.cells q lifted at_i at_k place
       (reads (x.cells + call_count q.1) (omega arith)) (clocks (x.cells + call_count q.1) (omega arith)) (λ y m. in_right items more y m) (stands_last x.waits (delays_in q.1 ck))
       (left_low f good order is ordered k q at_k) (left_declared f good order is ordered k q at_k) in
       ((items ++ more) ++ u ∷ [], subst (Begun fs height top f order (i + 1) ((items ++ more) ++ u ∷ [])) (sym made) pushed)
@@ -180,7 +180,7 @@ module _ (fs : List Function) (height : ℕ → ℕ) (top : ℕ) (f : Function) 
   }
 
   pub settling_next : (items : List Item) (x x' : Taken) (ds : List DelayForm) (w : Wait) (d : DelayForm) → Settling items x ds → slice_get x.waits (length ds) ≡ Some w
-      → d ≡ record { clock = w.clock; first = w.first; right = form_of (length x.waits) x.cells w.right } → x' ≡ after x w.right w.clock
+      → d ≡ record { clock = w.clock; first = w.first; right = form_of (length x.waits) x.cells w.right } → x' ≡ taken_after x w.right w.clock
       → (items' : List Item) × Settling items' x' (ds ++ d ∷ [])
   settling_next items x x' ds w d s at_w is_d made =
       let M = length order + length f.eqs in
@@ -191,7 +191,7 @@ module _ (fs : List Function) (height : ℕ → ℕ) (top : ℕ) (f : Function) 
       let clocks = each_clock_map (Declared fs height top f.decls) (Taking M x.cells) known w.clock (clock_declared fs height top f.decls w.clock fine.formed) in
       let more = calls_in (length x.waits) x.cells w.right w.clock in
       let begun = begun_lift fs height top f good order M items x w.right w.clock s.begun fine reads clocks in
-      let lifted : (j : ℕ) (v : Wait) → j < length (ds ++ d ∷ []) → slice_get (after x w.right w.clock).waits j ≡ Some v → Lifted (items ++ more) (x.waits ++ delays_in w.right w.clock) v (slice_get (ds ++ d ∷ []) j) =
+      let lifted : (j : ℕ) (v : Wait) → j < length (ds ++ d ∷ []) → slice_get (taken_after x w.right w.clock).waits j ≡ Some v → Lifted (items ++ more) (x.waits ++ delays_in w.right w.clock) v (slice_get (ds ++ d ∷ []) j) =
       λ j v l h.
       let go : (j ≡ length ds) ⊎ (j ≢ length ds) → Lifted (items ++ more) (x.waits ++ delays_in w.right w.clock) v (slice_get (ds ++ d ∷ []) j) =
       elim [

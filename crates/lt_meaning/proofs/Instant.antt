@@ -11,16 +11,16 @@ use Rattle.lt_base.specs.Expression.{Arguments, no_arguments, argument}
 use Rattle.lt_base.specs.Program.{Function}
 use Rattle.lt_base.specs.Meaning.{ClockPairs, Environment, Row, rows_at, values_of, entry, function_of, present}
 use Rattle.lt_base.specs.Behaviour.{calls_of}
-use Rattle.lt_base.specs.Checked.{count}
+use Rattle.lt_base.specs.Checked.{argument_count}
 use Rattle.lt_meaning.specs.declared.plan.Plan.{Plan}
 use Rattle.lt_meaning.specs.declared.plan.Step.{Step}
 use Rattle.lt_meaning.specs.declared.state.State.{State, out-State}
 use Rattle.lt_meaning.specs.declared.state.State.TheOpen.{State-F}
 use Rattle.lt_meaning.specs.Form.{value_in}
-use Rattle.lt_meaning.specs.Plan.{StepForm, action_form, step_form, inputs_of, inputs_at}
+use Rattle.lt_meaning.specs.Plan.{StepForm, action_form, step_form, plan_inputs, inputs_at}
 use Rattle.lt_meaning.specs.Lift.{delay_count, call_count, forms_of, Source, whole, part, Item, action_of, step_of}
 use Rattle.lt_meaning.specs.Planned.{IfCall, Answering, PlanAt, Planned}
-use Rattle.lt_meaning.specs.Stands.{ChildStands, StandsOver, Stands, IsReady, CanAct, Acts}
+use Rattle.lt_meaning.specs.Stands.{ChildStands, StandsOver, StateStands, StandsSomewhere, StepCanAct, StepActs}
 use Rattle.lt_meaning.proofs.Running.{Gives, Progress, progress_none, progress_next}
 
 -- so far in an instant
@@ -34,15 +34,15 @@ pub record Partly (plans : List Plan) (k : Planned plans) (P : State → ℕ →
 
 -- where the calls within a state have come, with that many nested calls
 abbrev pub Deeper : (plans : List Plan) → Planned plans → ℕ → State → ℕ → List Row → Type 0
-Deeper plans k n u h more = (past : List Environment) × Stands plans k n u h more past
+Deeper plans k n u h more = (past : List Environment) × StateStands plans k n u h more past
 
-abbrev pub PartlyBy : (plans : List Plan) (k : Planned plans) (n : ℕ) (s : State) (g : ℕ) (rows : List Row) (es : List Environment) → Stands plans k n s g rows es → State-F State → ℕ → Type 0
+abbrev pub PartlyBy : (plans : List Plan) (k : Planned plans) (n : ℕ) (s : State) (g : ℕ) (rows : List Row) (es : List Environment) → StateStands plans k n s g rows es → State-F State → ℕ → Type 0
 PartlyBy plans k zero s g rows es st t i = Unit {0}
 PartlyBy plans k (suc n) s g rows es st t i = Partly plans k (Deeper plans k n) (out-State s) g rows es st t i
 
 -- wherever the state stood
 abbrev pub Along : List Plan → ℕ → State → State-F State → ℕ → Type 0
-Along plans g s t i = (k : Planned plans) (n : ℕ) (rows : List Row) (es : List Environment) (st : Stands plans k n s g rows es) → PartlyBy plans k n s g rows es st t i
+Along plans g s t i = (k : Planned plans) (n : ℕ) (rows : List Row) (es : List Environment) (st : StateStands plans k n s g rows es) → PartlyBy plans k n s g rows es st t i
 
 pub along_none : (plans : List Plan) (g : ℕ) (s : State) → Along plans g s (out-State s) 0
 along_none plans g s k zero rows es st = tt
@@ -78,7 +78,7 @@ module _ (plans : List Plan) (k : Planned plans) (g : ℕ) (f : Function) (is : 
   plan_is = sym (here ∙ get_or_from_slice_get plans g planned.plan plan planned.is)
 
   pub inputs_are : inputs_at plans g ≡ f.n_in
-  inputs_are = ap inputs_of planned.is ∙ planned.plan_of.inputs
+  inputs_are = ap plan_inputs planned.is ∙ planned.plan_of.inputs
 
   pub steps_number : length plan.steps.items ≡ length planned.plan_of.items
   steps_number =
@@ -98,13 +98,13 @@ module _ (plans : List Plan) (k : Planned plans) (g : ℕ) (f : Function) (is : 
       sym (map_at step_form planned.plan.steps.items i t there) ∙ ap (λ l. slice_get l i) planned.plan_of.steps ∙ map_at step_of planned.plan_of.items i x.0 x.1 in
       (x.0, x.1, cc (two))
 
-forms_number : (args : Arguments) (k c : ℕ) → length (forms_of k c args) ≡ count args
+forms_number : (args : Arguments) (k c : ℕ) → length (forms_of k c args) ≡ argument_count args
 forms_number no_arguments k c = refl
 forms_number (argument e args) k c = let n = forms_number args (k + delay_count e) (c + call_count e) in omega (arith, n)
 
 -- a step that was taken gives its cell what it stands for
 gives : (plans : List Plan) (k : Planned plans) (n : ℕ) (s : Source) (d c : ℕ) (env old : Environment) (o o' : Option (Box State)) (v : Option Value) → IfCall (Answering k.program.funcs) s
-    → Acts plans (action_of d c s) env old o o' v → Gives (calls_of k.program.funcs) (Deeper plans k n) d c s env old o o' v
+    → StepActs plans (action_of d c s) env old o o' v → Gives (calls_of k.program.funcs) (Deeper plans k n) d c s env old o o' v
 gives plans k n (whole e) d c env old o o' v a h = h
 gives plans k n (part g args) d c env old None o' v a h = λ rows r. elim r [ ]
 gives plans k n (part g args) d c env old (Some b) None v a h = elim h [ ]
@@ -114,7 +114,7 @@ gives plans k n (part g args) d c env old (Some b) (Some b') v a h =
 
 -- it can be taken
 can_act : (plans : List Plan) (k : Planned plans) (n : ℕ) (s : Source) (d c : ℕ) (ck : ClockPairs) (o : Option (Box State)) (es : List Environment) → IfCall (Answering k.program.funcs) s
-    → ChildStands (calls_of k.program.funcs) (Deeper plans k n) s ck (Some o) es → CanAct plans (action_of d c s) o
+    → ChildStands (calls_of k.program.funcs) (Deeper plans k n) s ck (Some o) es → StepCanAct plans (action_of d c s) o
 can_act plans k n (whole e) d c ck o es a h = tt
 can_act plans k n (part g args) d c ck None es a h = elim h [ ]
 can_act plans k n (part g args) d c ck (Some b) es a h = record {
@@ -127,16 +127,16 @@ can_act plans k n (part g args) d c ck (Some b) es a h = record {
 }
 
 module _ (plans : List Plan) (g : ℕ) (s : State) (plan : Plan) (here : plan ≡ get_or plans g plan) where
-  children_by : (k : Planned plans) (n : ℕ) (rows : List Row) (es : List Environment) (st : Stands plans k n s g rows es) (v : State-F State) (i : ℕ) → PartlyBy plans k n s g rows es st v i
+  children_by : (k : Planned plans) (n : ℕ) (rows : List Row) (es : List Environment) (st : StateStands plans k n s g rows es) (v : State-F State) (i : ℕ) → PartlyBy plans k n s g rows es st v i
       → length v.children.items ≡ length plan.steps.items
   children_by k zero rows es st v i p = elim st [ ]
   children_by k (suc n) rows es st v i p = p.children ∙ st.children_number ∙ ap (λ (q : Plan). length q.steps.items) (plan_is plans k g st.function st.is plan here)
 
   -- there is room for the calls
-  pub children_are : IsReady plans g s → (v : State-F State) (i : ℕ) → Along plans g s v i → length v.children.items ≡ length plan.steps.items
+  pub children_are : StandsSomewhere plans g s → (v : State-F State) (i : ℕ) → Along plans g s v i → length v.children.items ≡ length plan.steps.items
   children_are r v i along = children_by r.0 r.1 r.2 r.3 r.4 v i (along r.0 r.1 r.2 r.3 r.4)
 
-  delays_by : (k : Planned plans) (n : ℕ) (rows : List Row) (es : List Environment) (st : Stands plans k n s g rows es) (v : State-F State) (i : ℕ) → PartlyBy plans k n s g rows es st v i
+  delays_by : (k : Planned plans) (n : ℕ) (rows : List Row) (es : List Environment) (st : StateStands plans k n s g rows es) (v : State-F State) (i : ℕ) → PartlyBy plans k n s g rows es st v i
       → (length v.kept.items ≡ length plan.delays.items) × (length v.next.items ≡ length plan.delays.items)
   delays_by k zero rows es st v i p = elim st [ ]
   delays_by k (suc n) rows es st v i p =
@@ -144,19 +144,19 @@ module _ (plans : List Plan) (g : ℕ) (s : State) (plan : Plan) (here : plan �
       (ap length p.kept ∙ st.kept_number ∙ same, p.next ∙ st.next_number ∙ same)
 
   -- and for what the delays keep
-  pub delays_are : IsReady plans g s → (v : State-F State) (i : ℕ) → Along plans g s v i → (length v.kept.items ≡ length plan.delays.items) × (length v.next.items ≡ length plan.delays.items)
+  pub delays_are : StandsSomewhere plans g s → (v : State-F State) (i : ℕ) → Along plans g s v i → (length v.kept.items ≡ length plan.delays.items) × (length v.next.items ≡ length plan.delays.items)
   delays_are r v i along = delays_by r.0 r.1 r.2 r.3 r.4 v i (along r.0 r.1 r.2 r.3 r.4)
 
-  plan_by : (k : Planned plans) (n : ℕ) (rows : List Row) (es : List Environment) → Stands plans k n s g rows es → g < length plans
+  plan_by : (k : Planned plans) (n : ℕ) (rows : List Row) (es : List Environment) → StateStands plans k n s g rows es → g < length plans
   plan_by k zero rows es st = elim st [ ]
   plan_by k (suc n) rows es st = slice_get_within plans g (k.plan g st.function st.is).plan (k.plan g st.function st.is).is
 
-  pub plan_there : IsReady plans g s → g < length plans
+  pub plan_there : StandsSomewhere plans g s → g < length plans
   plan_there r = plan_by r.0 r.1 r.2 r.3 r.4
 
-  step_by : (k : Planned plans) (n : ℕ) (rows : List Row) (es : List Environment) (st : Stands plans k n s g rows es) (v : State-F State) (i : ℕ) (t : Step) → slice_get plan.steps.items i ≡ Some t
+  step_by : (k : Planned plans) (n : ℕ) (rows : List Row) (es : List Environment) (st : StateStands plans k n s g rows es) (v : State-F State) (i : ℕ) (t : Step) → slice_get plan.steps.items i ≡ Some t
       → (o : Option (Box State)) → slice_get v.children.items i ≡ Some o → PartlyBy plans k n s g rows es st v i
-      → (t.cell < length v.cells.items) × CanAct plans (action_form t.action) o
+      → (t.cell < length v.cells.items) × StepCanAct plans (action_form t.action) o
   step_by k zero rows es st v i t at o child p = elim st [ ]
   step_by k (suc n) rows es st v i t at o child p =
       let pa = k.plan g st.function st.is in
@@ -168,11 +168,11 @@ module _ (plans : List Plan) (g : ℕ) (s : State) (plan : Plan) (here : plan �
       let size : length v.cells.items ≡ pa.plan.cells = p.cells ∙ st.cells in
       let rest = subst (λ q. ChildStands (calls_of k.program.funcs) (Deeper plans k n) x.source x.clock q es) child (p.progress.rest i x (omega arith) item.1) in
       let can = can_act plans k n x.source x.delays_before x.cells_before x.clock o es (pa.plan_of.answering x (i, item.1)) rest in
-      (omega (arith, inside, cell, size), subst (λ a. CanAct plans a o) (sym (ap (λ (f : StepForm). f.action) m)) can)
+      (omega (arith, inside, cell, size), subst (λ a. StepCanAct plans a o) (sym (ap (λ (f : StepForm). f.action) m)) can)
 
   -- the step can be taken
-  pub step_can : IsReady plans g s → (v : State-F State) (i : ℕ) → Along plans g s v i → (t : Step) → slice_get plan.steps.items i ≡ Some t → (o : Option (Box State)) → slice_get v.children.items i ≡ Some o
-      → (t.cell < length v.cells.items) × CanAct plans (action_form t.action) o
+  pub step_can : StandsSomewhere plans g s → (v : State-F State) (i : ℕ) → Along plans g s v i → (t : Step) → slice_get plan.steps.items i ≡ Some t → (o : Option (Box State)) → slice_get v.children.items i ≡ Some o
+      → (t.cell < length v.cells.items) × StepCanAct plans (action_form t.action) o
   step_can r v i along t at o child = step_by r.0 r.1 r.2 r.3 r.4 v i t at o child (along r.0 r.1 r.2 r.3 r.4)
 
 below : (j n : ℕ) → (j < n) ⊎ (n ≤ j)
@@ -196,7 +196,7 @@ pub record Took (plans : List Plan) (t : StepForm) (old : Environment) (cells ce
   pub size : length cells' ≡ length cells
   pub others : (s : ℕ) → s ≢ t.cell → entry cells' s ≡ entry cells s
   pub absent : present (entry cells) t.clock ≡ false → (cells' ≡ cells) × (o' ≡ o)
-  pub acts : present (entry cells) t.clock ≡ true → Acts plans t.action (entry cells) old o o' (entry cells' t.cell)
+  pub acts : present (entry cells) t.clock ≡ true → StepActs plans t.action (entry cells) old o o' (entry cells' t.cell)
 
 module _ (plans : List Plan) (g : ℕ) (s : State) (plan : Plan) (here : plan ≡ get_or plans g plan) (v : State-F State) (i : ℕ) (t : Step) (at : slice_get plan.steps.items i ≡ Some t)
     (o o' : Option (Box State)) (child : slice_get v.children.items i ≡ Some o) (cells' : Vec (Option Value))
@@ -204,7 +204,7 @@ module _ (plans : List Plan) (g : ℕ) (s : State) (plan : Plan) (here : plan �
   abbrev after : State-F State
   after = record { cells = cells'; kept = v.kept; next = v.next; children = with_item v.children i o' }
 
-  next_by : (k : Planned plans) (n : ℕ) (rows : List Row) (es : List Environment) (st : Stands plans k n s g rows es) → PartlyBy plans k n s g rows es st v i → PartlyBy plans k n s g rows es st after (i + 1)
+  next_by : (k : Planned plans) (n : ℕ) (rows : List Row) (es : List Environment) (st : StateStands plans k n s g rows es) → PartlyBy plans k n s g rows es st v i → PartlyBy plans k n s g rows es st after (i + 1)
   next_by k zero rows es st p = tt
   next_by k (suc n) rows es st p =
       let pa = k.plan g st.function st.is in

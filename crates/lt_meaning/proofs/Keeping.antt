@@ -5,12 +5,12 @@ use Rattle.std.proofs.lemmas.Option.{slice_get-get_or}
 use Rattle.lt_base.specs.declared.value.Value.{Value}
 use Rattle.lt_base.specs.Meaning.{Environment, entry, present}
 use Rattle.lt_meaning.specs.declared.plan.Delay.{Delay}
-use Rattle.lt_meaning.specs.Form.{form, value_in}
+use Rattle.lt_meaning.specs.Form.{node_form, value_in}
 use Rattle.lt_meaning.proofs.Running.{nat_same}
 
 -- what a delay keeps next
 abbrev pub next_of : Environment → Environment → Delay → ℕ → Option Value
-next_of env old d j = if present env d.clock then value_in env old (form d.right) else old j
+next_of env old d j = if present env d.clock then value_in env old (node_form d.right) else old j
 
 pub keeps_next : (delays : List Delay) (env old : Environment) (next : List (Option Value)) (i : ℕ) (delay : Delay) (v : Option Value)
     → i < length delays → delay ≡ get_or delays i delay → i < length next

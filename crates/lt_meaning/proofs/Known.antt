@@ -7,7 +7,7 @@ use Rattle.lt_base.specs.Meaning.{ClockPairs, outer}
 use Rattle.lt_base.specs.Order.{EachRead, EachArgumentRead, EachClockVar}
 use Rattle.lt_base.proofs.Reading.{each_map, each_argument_map, each_clock_map}
 use Rattle.lt_meaning.specs.Lift.{delay_count, call_count, call_counts, part, Item, calls_in, arguments_calls}
-use Rattle.lt_meaning.specs.Planned.{In, Within, EachCell, expression_of, inner_calls, MayFollow, InOrder}
+use Rattle.lt_meaning.specs.Planned.{IsElement, AreElements, EachCell, expression_of, inner_calls, MayFollow, InOrder}
 use Rattle.lt_meaning.proofs.Standing.{get_either, in_right, in_either}
 use Rattle.lt_meaning.proofs.Sites.{in_one}
 
@@ -34,9 +34,9 @@ module _ (n n_in : ℕ) (place : ℕ → ℕ) where
   -- steps in order, which touch known cells
   pub record Good (items : List Item) (i cells : ℕ) : Type 0 where
     pub in_order : InOrder items
-    pub reads : (x : Item) → In items x → EachCell (Known i cells) x
-    pub writes : (x : Item) → In items x → Known i cells x.cell
-    pub apart : (x : Item) → In items x → n_in ≤ x.cell
+    pub reads : (x : Item) → IsElement items x → EachCell (Known i cells) x
+    pub writes : (x : Item) → IsElement items x → Known i cells x.cell
+    pub apart : (x : Item) → IsElement items x → n_in ≤ x.cell
 
   pub good_none : (i cells : ℕ) → Good [] i cells
   good_none i cells = record {
@@ -47,7 +47,7 @@ module _ (n n_in : ℕ) (place : ℕ → ℕ) where
   }
 
   pub good_push : (items : List Item) (u : Item) (i i' cells cells' : ℕ) → Good items i cells → EachCell (Known i cells) u
-      → Within (inner_calls u.delays_before u.cells_before u.source u.clock) items → ((s : ℕ) → Known i cells s → s ≢ u.cell) → ((s : ℕ) → Known i cells s → Known i' cells' s) → Known i' cells' u.cell → n_in ≤ u.cell
+      → AreElements (inner_calls u.delays_before u.cells_before u.source u.clock) items → ((s : ℕ) → Known i cells s → s ≢ u.cell) → ((s : ℕ) → Known i cells s → Known i' cells' s) → Known i' cells' u.cell → n_in ≤ u.cell
       → Good (items ++ u ∷ []) i' cells'
   good_push items u i i' cells cells' g reads needs other more own low = record {
     in_order = push_order items u g.in_order (record {

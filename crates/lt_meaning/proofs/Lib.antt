@@ -1,8 +1,6 @@
-pub mod Presence
 pub mod Begins
 pub mod Standing
 pub mod Lifting
-pub mod Outer
 pub mod Growing
 pub mod Sites
 pub mod Known

@@ -11,8 +11,8 @@ use Rattle.lt_base.proofs.Solution.{and_left, and_both, pick_same}
 use Rattle.lt_base.proofs.First.{first_flag, arrow_by_flag, follow_by_arrow}
 use Rattle.lt_meaning.specs.Form.{value_in}
 use Rattle.lt_meaning.specs.Lift.{delay_count, delay_counts, call_count, call_counts, form_of, forms_of, Wait, first_wait, delays_in, arguments_delays, part, Item, calls_in, arguments_calls}
-use Rattle.lt_meaning.specs.Planned.{In, StandsFrom}
-use Rattle.lt_meaning.specs.Stands.{Holds}
+use Rattle.lt_meaning.specs.Planned.{IsElement, StandsFrom}
+use Rattle.lt_meaning.specs.Stands.{StepHolds}
 use Rattle.lt_meaning.proofs.Standing.{in_left, in_right, from_left, from_right}
 
 -- ---- how many delays an expression has
@@ -49,7 +49,7 @@ present_outer env ((c, b) ∷ ck) h = and_left _ _ h
 
 module _ (C : Callee) (past : List Environment) (env old : Environment) (waits : List Wait) (kept : (j : ℕ) (w : Wait) → slice_get waits j ≡ Some w → old j ≡ latest w.clock (Some w.first) (value_of C w.right w.clock) past) where
   abbrev Runs : List Item → Type 0
-  Runs items = (x : Item) → In items x → Holds C past env x
+  Runs items = (x : Item) → IsElement items x → StepHolds C past env x
 
   left_run : (xs ys : List Item) → Runs (xs ++ ys) → Runs xs
   left_run xs ys h x i = h x (in_left xs ys x i)

@@ -10,8 +10,8 @@ use Rattle.lt_base.specs.Meaning.{right_of}
 use Rattle.lt_base.specs.Order.{Ordered}
 use Rattle.lt_base.specs.Equations.{EquationsIn}
 use Rattle.lt_base.proofs.Lookups.{same_self, all_found, left_below, input_none, inside_most}
-use Rattle.lt_cause.specs.Tables.{count}
-use Rattle.lt_cause.specs.Orders.{IsOrder, is_left, place_by, place_in}
+use Rattle.lt_cause.specs.Tables.{occurrences}
+use Rattle.lt_cause.specs.Orders.{IsOrder, is_left, place_by, order_place}
 
 -- ---- elements that pass a test
 
@@ -57,7 +57,7 @@ right_at ((y, a) ∷ eqs) x e h =
     ] in
     go (nat_eq x y) refl h
 
-module _ (f : Function) (good : GoodFunction f) (order : List ℕ) (is : IsOrder f order) (ordered : Ordered f (place_in f order)) where
+module _ (f : Function) (good : GoodFunction f) (order : List ℕ) (is : IsOrder f order) (ordered : Ordered f (order_place f order)) where
   pub right_is : (k : ℕ) (q : ℕ × Expression) → slice_get f.eqs k ≡ Some q → right_of f.eqs q.0 ≡ Some q.1
   right_is k q h = in_equations f f.eqs (all_found f good) k q h
 
@@ -81,7 +81,7 @@ module _ (f : Function) (good : GoodFunction f) (order : List ℕ) (is : IsOrder
       (subst (λ n. n ≤ 1) (sym (good.lefts q.0)) (inside_most f.n_in (length f.decls) q.0))
       h g (same_self q.0) (ap (nat_eq q.0) e ∙ same_self q.0)
 
-  once_most : (k : ℕ) → count k order ≤ 1
+  once_most : (k : ℕ) → occurrences k order ≤ 1
   once_most k = let go : (b : Bool) → (if◌then◌else◌ {A = ℕ} b 1 0) ≤ 1 = elim [ true ↦ omega arith | false ↦ omega arith ] in subst (λ n. n ≤ 1) (sym (is.once k)) (go (nat_lt k (length f.eqs)))
 
   -- what stands in the order is the number of an equation
@@ -91,12 +91,12 @@ module _ (f : Function) (good : GoodFunction f) (order : List ℕ) (is : IsOrder
       let go : (b : Bool) → nat_lt k (length f.eqs) ≡ b → k < length f.eqs =
       elim [
         | true ↦ λ t. ltb-true k (length f.eqs) t
-        | false ↦ λ t. let none : count k order ≡ 0 = is.once k ∙ ap (λ b. if◌then◌else◌ {A = ℕ} b 1 0) t in absurd (omega (arith, c, none))
+        | false ↦ λ t. let none : occurrences k order ≡ 0 = is.once k ∙ ap (λ b. if◌then◌else◌ {A = ℕ} b 1 0) t in absurd (omega (arith, c, none))
       ] in
       go (nat_lt k (length f.eqs)) refl
 
   -- the place of an equation's variable
-  pub place_at : (i k : ℕ) (q : ℕ × Expression) → slice_get order i ≡ Some k → slice_get f.eqs k ≡ Some q → place_in f order q.0 ≡ suc i
+  pub place_at : (i k : ℕ) (q : ℕ × Expression) → slice_get order i ≡ Some k → slice_get f.eqs k ≡ Some q → order_place f order q.0 ≡ suc i
   place_at i k q h g =
       let l = slice_get_within order i k h in
       let passes : ℕ → Bool = λ n. is_left (slice_get f.eqs n) q.0 in
@@ -125,13 +125,13 @@ module _ (f : Function) (good : GoodFunction f) (order : List ℕ) (is : IsOrder
   covered x e r =
       let k = right_at f.eqs x e r in
       let w = slice_get_within f.eqs k.0 (x, e) k.1 in
-      let c : count k.0 order ≡ 1 = is.once k.0 ∙ ap (λ b. if◌then◌else◌ {A = ℕ} b 1 0) (lt-ltb k.0 (length f.eqs) w) in
+      let c : occurrences k.0 order ≡ 1 = is.once k.0 ∙ ap (λ b. if◌then◌else◌ {A = ℕ} b 1 0) (lt-ltb k.0 (length f.eqs) w) in
       let p = passing (nat_eq k.0) order (omega (arith, c)) in
       (p.0, k.0, p.2 ∙ ap Some (sym (eqb-true k.0 p.1 p.3)), k.1)
 
-  pub place_most : (x : ℕ) → place_in f order x ≤ length f.eqs
+  pub place_most : (x : ℕ) → order_place f order x ≤ length f.eqs
   place_most x = by (right_of f.eqs x) refl
     where
-      by : (o : Option Expression) → right_of f.eqs x ≡ o → place_in f order x ≤ length f.eqs
-      by None e = let p : place_in f order x ≡ 0 = ap (λ o. place_by o (position_or_len (λ n. is_left (slice_get f.eqs n) x) order)) e in omega (arith, p)
+      by : (o : Option Expression) → right_of f.eqs x ≡ o → order_place f order x ≤ length f.eqs
+      by None e = let p : order_place f order x ≡ 0 = ap (λ o. place_by o (position_or_len (λ n. is_left (slice_get f.eqs n) x) order)) e in omega (arith, p)
       by (Some a) e = ordered.within x a e

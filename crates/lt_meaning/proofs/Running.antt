@@ -12,8 +12,8 @@ use Rattle.lt_meaning.specs.declared.state.State.{State}
 use Rattle.lt_meaning.specs.Form.{value_in}
 use Rattle.lt_meaning.specs.Plan.{DelayForm}
 use Rattle.lt_meaning.specs.Lift.{form_of, forms_of, Wait, Source, whole, part, Item}
-use Rattle.lt_meaning.specs.Planned.{In, StandsFrom, EachCell, expression_of, inner_calls, inner_delays, MayFollow, InOrder, Lifted}
-use Rattle.lt_meaning.specs.Stands.{ChildStands, Holds}
+use Rattle.lt_meaning.specs.Planned.{IsElement, StandsFrom, EachCell, expression_of, inner_calls, inner_delays, MayFollow, InOrder, Lifted}
+use Rattle.lt_meaning.specs.Stands.{ChildStands, StepHolds}
 use Rattle.lt_meaning.proofs.Standing.{get_take, take_get}
 use Rattle.lt_meaning.proofs.Lifting.{means, values_mean}
 
@@ -41,7 +41,7 @@ module _ (C : Callee) (es : List Environment) (env env' : Environment) where
   pub value_as : (x : Item) → EachCell Agrees x → value_of C (expression_of x.source) x.clock es env ≡ value_of C (expression_of x.source) x.clock es env'
   value_as x e = value_local C (expression_of x.source) x.clock es env env' e.0
 
-  pub holds_as : (x : Item) → EachCell Agrees x → env x.cell ≡ env' x.cell → Holds C es env x → Holds C es env' x
+  pub holds_as : (x : Item) → EachCell Agrees x → env x.cell ≡ env' x.cell → StepHolds C es env x → StepHolds C es env' x
   holds_as x e c h p = sym c ∙ h (present_as x e ∙ p) ∙ value_as x e
 
   rows_as : (g : ℕ) (args : Arguments) (ck : ClockPairs) → EachArgumentRead Agrees args → present env ck ≡ present env' ck
@@ -85,12 +85,12 @@ Gives C P k c (part g args) env old o o' v =
     let row = map (value_in env old) (forms_of k c args) in (rows : List Row) → RanOn P o g rows → RanOn P o' g (row ∷ rows) × (v ≡ C g (row ∷ rows))
 
 module _ (C : Callee) (P : State → ℕ → List Row → Type 0) (items : List Item) (waits : List Wait) (in_order : InOrder items)
-    (needs : (x : Item) → In items x → StandsFrom x.delays_before (inner_delays x.source x.clock) waits)
+    (needs : (x : Item) → IsElement items x → StandsFrom x.delays_before (inner_delays x.source x.clock) waits)
     (es : List Environment) (old : Environment)
     (kept : (j : ℕ) (w : Wait) → slice_get waits j ≡ Some w → old j ≡ latest w.clock (Some w.first) (value_of C w.right w.clock) es) where
   -- the first i steps are taken
   pub record Progress (cells : List (Option Value)) (children : List (Option (Box State))) (i : ℕ) : Type 0 where
-    pub done : (j : ℕ) (x : Item) → j < i → slice_get items j ≡ Some x → Holds C es (entry cells) x
+    pub done : (j : ℕ) (x : Item) → j < i → slice_get items j ≡ Some x → StepHolds C es (entry cells) x
     pub ran : (j : ℕ) (x : Item) → j < i → slice_get items j ≡ Some x → ChildStands C P x.source x.clock (slice_get children j) (entry cells ∷ es)
     pub rest : (j : ℕ) (x : Item) → i ≤ j → slice_get items j ≡ Some x → ChildStands C P x.source x.clock (slice_get children j) es
 
@@ -113,7 +113,7 @@ module _ (C : Callee) (P : State → ℕ → List Row → Type 0) (items : List 
     own : EachCell (Agrees C es env env') x
     own = agree_off C es env env' x.cell others x follows.own
 
-    before : (j : ℕ) (t : Item) → j < i → slice_get items j ≡ Some t → In (take i items) t
+    before : (j : ℕ) (t : Item) → j < i → slice_get items j ≡ Some t → IsElement (take i items) t
     before j t l e = (j, get_take items i j t l e)
 
     earlier : (j : ℕ) (t : Item) → j < i → slice_get items j ≡ Some t → EachCell (Agrees C es env env') t × (env t.cell ≡ env' t.cell)
@@ -121,7 +121,7 @@ module _ (C : Callee) (P : State → ℕ → List Row → Type 0) (items : List 
         let a = follows.apart t (before j t l e) in
         (agree_off C es env env' x.cell others t a.0, sym (others t.cell a.1))
 
-    runs : (t : Item) → In (inner_calls x.delays_before x.cells_before x.source x.clock) t → Holds C es env t
+    runs : (t : Item) → IsElement (inner_calls x.delays_before x.cells_before x.source x.clock) t → StepHolds C es env t
     runs t m =
         let n = follows.needs t m in
         let q = take_get items i n.0 t n.1 in
@@ -136,7 +136,7 @@ module _ (C : Callee) (P : State → ℕ → List Row → Type 0) (items : List 
         (subst (λ p. RanOn P p g (rows_at ck (values_of C args ck) es)) (sym q) (ran_from C P g args ck o es h)))
 
     -- where it is present, the cell gets the value, and a call its row
-    present_value : (s : Source) (k c : ℕ) (ck : ClockPairs) → StandsFrom k (inner_delays s ck) waits → ((t : Item) → In (inner_calls k c s ck) t → Holds C es env t) → present env ck ≡ true
+    present_value : (s : Source) (k c : ℕ) (ck : ClockPairs) → StandsFrom k (inner_delays s ck) waits → ((t : Item) → IsElement (inner_calls k c s ck) t → StepHolds C es env t) → present env ck ≡ true
         → ChildStands C P s ck (Some o) es → (v : Option Value) → Gives C P k c s env old o o' v
         → (v ≡ value_of C (expression_of s) ck es env) × ChildStands C P s ck (Some o') (env ∷ es)
     present_value (whole e) k c ck d r p h v gives = (gives ∙ means C es env old waits kept e k c ck d r p, tt)
@@ -151,7 +151,7 @@ module _ (C : Callee) (P : State → ℕ → List Row → Type 0) (items : List 
 
     at_step : (t : Bool) → present env x.clock ≡ t → (t ≡ false → (cells' ≡ cells) × (o' ≡ o))
         → (t ≡ true → Gives C P x.delays_before x.cells_before x.source env old o o' (env' x.cell))
-        → Holds C es env' x × ChildStands C P x.source x.clock (Some o') (env' ∷ es)
+        → StepHolds C es env' x × ChildStands C P x.source x.clock (Some o') (env' ∷ es)
     at_step false p absent gives =
         let a = absent refl in
         let no : present env' x.clock ≡ false = sym (present_as C es env env' x own) ∙ p in (
@@ -173,8 +173,8 @@ module _ (C : Callee) (P : State → ℕ → List Row → Type 0) (items : List 
           rest = λ j t l e. subst (λ q. ChildStands C P t.source t.clock q es) (sym (siblings j (λ h. absurd (omega (arith, h))))) (progress.rest j t (omega arith) e);
         }
       where
-        done_by : (j : ℕ) (t : Item) → (j ≡ i) ⊎ (j ≢ i) → j < i + 1 → slice_get items j ≡ Some t → Holds C es env' x → Holds C es env' t
-        done_by j t (inl h) l e s = let same : x ≡ t = cc (at_i, ap (slice_get items) h) in subst (Holds C es env') same s
+        done_by : (j : ℕ) (t : Item) → (j ≡ i) ⊎ (j ≢ i) → j < i + 1 → slice_get items j ≡ Some t → StepHolds C es env' x → StepHolds C es env' t
+        done_by j t (inl h) l e s = let same : x ≡ t = cc (at_i, ap (slice_get items) h) in subst (StepHolds C es env') same s
         done_by j t (inr h) l e s =
             let lower : j < i = omega (arith, h) in
             let a = earlier j t lower e in
@@ -191,7 +191,7 @@ module _ (C : Callee) (P : State → ℕ → List Row → Type 0) (items : List 
             subst (λ q. ChildStands C P t.source t.clock q (env' ∷ es)) (sym (siblings j h)) (child_as C es env env' P t a.0 (slice_get children j) (progress.ran j t lower e))
 
   -- what the delays keep next
-  pub kept_next : (cells : List (Option Value)) (w : Wait) (d : DelayForm) (j : ℕ) (v : Option Value) → ((x : Item) → In items x → Holds C es (entry cells) x)
+  pub kept_next : (cells : List (Option Value)) (w : Wait) (d : DelayForm) (j : ℕ) (v : Option Value) → ((x : Item) → IsElement items x → StepHolds C es (entry cells) x)
       → Lifted items waits w (Some d) → slice_get waits j ≡ Some w
       → v ≡ (if present (entry cells) d.clock then value_in (entry cells) old d.right else old j)
       → v ≡ latest w.clock (Some w.first) (value_of C w.right w.clock) (entry cells ∷ es)

@@ -8,21 +8,21 @@ use Rattle.lt_base.specs.Program.{Function}
 use Rattle.lt_base.specs.Meaning.{ClockPairs, outer, function_of, clock_of}
 use Rattle.lt_base.specs.Clocking.{WellFormed, Clocked, ArgumentsClocked, FirstOnBase, AnswersOnBase}
 use Rattle.lt_base.specs.Order.{EachRead, EachArgumentRead, EachClockVar}
-use Rattle.lt_base.specs.Checked.{EachUse, EachArgumentUse, Answers, count}
+use Rattle.lt_base.specs.Checked.{EachUse, EachArgumentUse, AnswersCall, argument_count}
 use Rattle.lt_meaning.specs.Lift.{delay_count, call_count, call_counts, Wait, first_wait, delays_in, arguments_delays, part, Item, calls_in, arguments_calls}
-use Rattle.lt_meaning.specs.Fine.{Site, Fine}
-use Rattle.lt_meaning.specs.Planned.{In, StandsFrom, inner_delays, IfCall, Answering}
+use Rattle.lt_meaning.specs.Fine.{CallFits, Fine}
+use Rattle.lt_meaning.specs.Planned.{IsElement, StandsFrom, inner_delays, IfCall, Answering}
 use Rattle.lt_meaning.proofs.Standing.{in_either, from_left, from_right}
 use Rattle.lt_meaning.proofs.Lifting.{delays_number, two_lengths}
 
-pub in_one : {A : Type 0} (y x : A) → In (y ∷ []) x → y ≡ x
+pub in_one : {A : Type 0} (y x : A) → IsElement (y ∷ []) x → y ≡ x
 in_one y x i = by i.0 i.1
   where
     by : (n : ℕ) → slice_get (y ∷ []) n ≡ Some x → y ≡ x
     by zero h = cc
     by (suc n) h = absurd (cc)
 
-in_none : {A : Type 0} (x : A) → In [] x → ⊥
+in_none : {A : Type 0} (x : A) → IsElement [] x → ⊥
 in_none x i = by i.0 i.1
   where
     by : (n : ℕ) → slice_get [] n ≡ Some x → ⊥
@@ -65,7 +65,7 @@ module _ (fs : List Function) (height : ℕ → ℕ) (top : ℕ) (ds : List Decl
   only_output ds (y ∷ []) n b = (y, refl, b.0, b.1)
   only_output ds (y ∷ z ∷ ys) n b = absurd (omega (arith, n))
 
-  answering_by : (g n : ℕ) (o : Option Function) → function_of fs g ≡ o → Answers o n → AnswersOnBase o → Answering fs g n
+  answering_by : (g n : ℕ) (o : Option Function) → function_of fs g ≡ o → AnswersCall o n → AnswersOnBase o → Answering fs g n
   answering_by g n None e a b = elim a [ ]
   answering_by g n (Some f) e a b =
       let y = only_output f.decls f.outs a.1 b in
@@ -76,7 +76,7 @@ module _ (fs : List Function) (height : ℕ → ℕ) (top : ℕ) (ds : List Decl
   Called g n = Answering fs g n × (height g < top)
 
   mutual
-    pub calls_answer : (e : Expression) (k c : ℕ) (ck : ClockPairs) → Clocked fs ds e ck → EachUse (Site fs height top) e → (x : Item) → In (calls_in k c e ck) x → IfCall Called x.source
+    pub calls_answer : (e : Expression) (k c : ℕ) (ck : ClockPairs) → Clocked fs ds e ck → EachUse (CallFits fs height top) e → (x : Item) → IsElement (calls_in k c e ck) x → IfCall Called x.source
     calls_answer (literal v) k c ck h u x i = absurd (in_none x i)
     calls_answer (variable y) k c ck h u x i = absurd (in_none x i)
     calls_answer (unary o a) k c ck h u x i = calls_answer a k c ck h u x i
@@ -100,10 +100,10 @@ module _ (fs : List Function) (height : ℕ → ℕ) (top : ℕ) (ds : List Decl
     calls_answer (call g args) k c ck h u x i =
         ⊎_elim
         (arguments_answer args k c ck h.1 u.1 x)
-        (λ j. subst (λ (y : Item). IfCall Called y.source) (in_one _ x j) (answering_by g (count args) (function_of fs g) refl u.0.0 h.0, u.0.1))
+        (λ j. subst (λ (y : Item). IfCall Called y.source) (in_one _ x j) (answering_by g (argument_count args) (function_of fs g) refl u.0.0 h.0, u.0.1))
         (in_either (arguments_calls k c args ck) _ x i)
 
-    arguments_answer : (args : Arguments) (k c : ℕ) (ck : ClockPairs) → ArgumentsClocked fs ds args ck → EachArgumentUse (Site fs height top) args → (x : Item) → In (arguments_calls k c args ck) x → IfCall Called x.source
+    arguments_answer : (args : Arguments) (k c : ℕ) (ck : ClockPairs) → ArgumentsClocked fs ds args ck → EachArgumentUse (CallFits fs height top) args → (x : Item) → IsElement (arguments_calls k c args ck) x → IfCall Called x.source
     arguments_answer no_arguments k c ck h u x i = absurd (in_none x i)
     arguments_answer (argument e args) k c ck h u x i =
         ⊎_elim (calls_answer e k c ck h.0 u.0 x) (arguments_answer args (k + delay_count e) (c + call_count e) ck h.1 u.1 x) (in_either (calls_in k c e ck) _ x i)
@@ -118,7 +118,7 @@ module _ (fs : List Function) (height : ℕ → ℕ) (top : ℕ) (ds : List Decl
   first_fine ck w = record { clocked = tt; formed = w; uses = tt }
 
   mutual
-    pub waits_fine : (e : Expression) (ck : ClockPairs) → Clocked fs ds e ck → WellFormed ds ck → EachUse (Site fs height top) e → (w : Wait) → In (delays_in e ck) w → Fine fs height top ds w.right w.clock
+    pub waits_fine : (e : Expression) (ck : ClockPairs) → Clocked fs ds e ck → WellFormed ds ck → EachUse (CallFits fs height top) e → (w : Wait) → IsElement (delays_in e ck) w → Fine fs height top ds w.right w.clock
     waits_fine (literal v) ck h f u w i = absurd (in_none w i)
     waits_fine (variable x) ck h f u w i = absurd (in_none w i)
     waits_fine (unary o a) ck h f u w i = waits_fine a ck h f u w i
@@ -148,14 +148,14 @@ module _ (fs : List Function) (height : ℕ → ℕ) (top : ℕ) (ds : List Decl
         (in_either (delays_in a ck ++ delays_in b ck) _ w i)
     waits_fine (call g args) ck h f u w i = arguments_wait args ck h.1 f u.1 w i
 
-    arguments_wait : (args : Arguments) (ck : ClockPairs) → ArgumentsClocked fs ds args ck → WellFormed ds ck → EachArgumentUse (Site fs height top) args → (w : Wait) → In (arguments_delays args ck) w → Fine fs height top ds w.right w.clock
+    arguments_wait : (args : Arguments) (ck : ClockPairs) → ArgumentsClocked fs ds args ck → WellFormed ds ck → EachArgumentUse (CallFits fs height top) args → (w : Wait) → IsElement (arguments_delays args ck) w → Fine fs height top ds w.right w.clock
     arguments_wait no_arguments ck h f u w i = absurd (in_none w i)
     arguments_wait (argument e args) ck h f u w i = ⊎_elim (waits_fine e ck h.0 f u.0 w) (arguments_wait args ck h.1 f u.1 w) (in_either (delays_in e ck) _ w i)
 
 -- ---- the delays that its calls need are there
 
 mutual
-  pub calls_need : (e : Expression) (k c : ℕ) (ck : ClockPairs) (ws : List Wait) → StandsFrom k (delays_in e ck) ws → (x : Item) → In (calls_in k c e ck) x → StandsFrom x.delays_before (inner_delays x.source x.clock) ws
+  pub calls_need : (e : Expression) (k c : ℕ) (ck : ClockPairs) (ws : List Wait) → StandsFrom k (delays_in e ck) ws → (x : Item) → IsElement (calls_in k c e ck) x → StandsFrom x.delays_before (inner_delays x.source x.clock) ws
   calls_need (literal v) k c ck ws d x i = absurd (in_none x i)
   calls_need (variable y) k c ck ws d x i = absurd (in_none x i)
   calls_need (unary o a) k c ck ws d x i = calls_need a k c ck ws d x i
@@ -193,7 +193,7 @@ mutual
       (λ j. subst (λ (x : Item). StandsFrom x.delays_before (inner_delays x.source x.clock) ws) (in_one item x j) d)
       (in_either (arguments_calls k c args ck) _ x i)
 
-  arguments_need : (args : Arguments) (k c : ℕ) (ck : ClockPairs) (ws : List Wait) → StandsFrom k (arguments_delays args ck) ws → (x : Item) → In (arguments_calls k c args ck) x → StandsFrom x.delays_before (inner_delays x.source x.clock) ws
+  arguments_need : (args : Arguments) (k c : ℕ) (ck : ClockPairs) (ws : List Wait) → StandsFrom k (arguments_delays args ck) ws → (x : Item) → IsElement (arguments_calls k c args ck) x → StandsFrom x.delays_before (inner_delays x.source x.clock) ws
   arguments_need no_arguments k c ck ws d x i = absurd (in_none x i)
   arguments_need (argument e args) k c ck ws d x i =
       ⊎_elim

@@ -1,7 +1,7 @@
 -- Elements of lists by their places.
 use Rattle.std.proofs.Common.{◌≡◌, ℕ, zero, suc, ◌+◌, ◌<◌, ◌⊎◌, inl, inr, List, [], ◌∷◌, ◌++◌, length, take, Some, refl, ap, ◌∙◌, arith}
 use Rattle.std.specs.Prelude.{slice_get}
-use Rattle.lt_meaning.specs.Planned.{In, StandsFrom}
+use Rattle.lt_meaning.specs.Planned.{IsElement, StandsFrom}
 
 pub get_left : {A : Type 0} (xs ys : List A) (i : ℕ) (x : A) → slice_get xs i ≡ Some x → slice_get (xs ++ ys) i ≡ Some x
 get_left [] ys i x h = absurd (cc)
@@ -35,13 +35,13 @@ take_get [] (suc n) i x h = absurd (cc)
 take_get (y ∷ xs) (suc n) zero x h = (omega arith, h)
 take_get (y ∷ xs) (suc n) (suc i) x h = let r = take_get xs n i x h in let l = r.0 in (omega (arith, l), r.1)
 
-pub in_left : {A : Type 0} (xs ys : List A) (x : A) → In xs x → In (xs ++ ys) x
+pub in_left : {A : Type 0} (xs ys : List A) (x : A) → IsElement xs x → IsElement (xs ++ ys) x
 in_left xs ys x i = (i.0, get_left xs ys i.0 x i.1)
 
-pub in_right : {A : Type 0} (xs ys : List A) (x : A) → In ys x → In (xs ++ ys) x
+pub in_right : {A : Type 0} (xs ys : List A) (x : A) → IsElement ys x → IsElement (xs ++ ys) x
 in_right xs ys x i = (length xs + i.0, get_right xs ys i.0 (length xs + i.0) refl ∙ i.1)
 
-pub in_either : {A : Type 0} (xs ys : List A) (x : A) → In (xs ++ ys) x → In xs x ⊎ In ys x
+pub in_either : {A : Type 0} (xs ys : List A) (x : A) → IsElement (xs ++ ys) x → IsElement xs x ⊎ IsElement ys x
 in_either xs ys x i = elim (get_either xs ys i.0 x i.1) [ inl e ↦ inl (i.0, e) | inr r ↦ inr (r.0, r.2) ]
 
 pub from_left : {A : Type 0} (k : ℕ) (xs ys zs : List A) → StandsFrom k (xs ++ ys) zs → StandsFrom k xs zs

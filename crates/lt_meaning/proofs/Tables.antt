@@ -19,7 +19,7 @@ use Rattle.lt_base.specs.Typing.{RowFits, AllFit, input_types, ty_at}
 use Rattle.lt_base.specs.Calls.{EachCall, EachArgumentCall}
 use Rattle.lt_base.specs.Solution.{Solves}
 use Rattle.lt_base.specs.Behaviour.{calls_of, newest_first, CellFits}
-use Rattle.lt_base.specs.Checked.{CheckedProgram, EachUse, EachArgumentUse, Answers}
+use Rattle.lt_base.specs.Checked.{CheckedProgram, EachUse, EachArgumentUse, AnswersCall}
 use Rattle.lt_base.proofs.Lookups.{function_all, function_below, function_there, right_all}
 use Rattle.lt_base.proofs.Behaviour.{one_behaviour}
 use Rattle.lt_base.proofs.Heights.{height_of, height_low, layered}
@@ -27,12 +27,13 @@ use Rattle.lt_base.proofs.Defined.{good_function, clocked_function, causal_funct
 use Rattle.lt_base.proofs.Streams.{stream_is}
 use Rattle.lt_meaning.specs.declared.plan.Plan.{Plan}
 use Rattle.lt_meaning.specs.declared.state.State.{State}
-use Rattle.lt_meaning.specs.Plan.{inputs_of, inputs_at}
-use Rattle.lt_meaning.specs.Fine.{Passes}
+use Rattle.lt_meaning.specs.Plan.{plan_inputs, inputs_at}
+use Rattle.lt_meaning.specs.Fine.{FunctionPasses}
 use Rattle.lt_meaning.specs.Planned.{PlanOf, PlanAt, Planned}
-use Rattle.lt_meaning.specs.Stands.{cells_of, Stands}
+use Rattle.lt_meaning.specs.Stands.{cells_of, StateStands}
 use Rattle.lt_meaning.specs.Ready.{ArePlans, AreOfMain}
-use Rattle.lt_meaning.specs.Streams.{main_of, streams_at, HasStreams, HasMainStreams, HasStreamsOf, HasOutputStreams, HasTypes, HasMainTypes, InputsFit, InputsFitMain}
+use Rattle.lt_base.specs.Main.{main_of, streams_at, HasOutputStreams, InputsFit, InputsFitMain}
+use Rattle.lt_meaning.specs.Streams.{HasStreams, HasMainStreams, HasStreamsOf, HasTypes, HasMainTypes}
 use Rattle.lt_meaning.proofs.Standing.{get_left, get_right}
 use Rattle.lt_meaning.proofs.Running.{nat_same}
 use Rattle.lt_meaning.proofs.Columns.{row_filled, columns_by_place}
@@ -63,11 +64,11 @@ module _ (p : WholeProgram) (good : GoodProgram p) (checked : CheckedProgram p) 
   abbrev pub height : ℕ → ℕ
   height = height_of p.funcs checked.named.not_recursive
 
-  pub passes_of : (g : ℕ) (f : Function) → function_of p.funcs g ≡ Some f → Passes p.funcs height (height g) f
+  pub passes_of : (g : ℕ) (f : Function) → function_of p.funcs g ≡ Some f → FunctionPasses p.funcs height (height g) f
   passes_of g f is = record {
     clocked = clocked_function p good checked g f is;
-    uses = λ x e r. use_both (λ g n. Answers (function_of p.funcs g) n) (λ h. height h < height g) e
-        (right_all (λ q. EachUse (λ g n. Answers (function_of p.funcs g) n) q.1) f.eqs (function_all (λ f. All (λ e. EachUse (λ g n. Answers (function_of p.funcs g) n) e.1) f.eqs) p.funcs checked.named.uses g f is) x e r)
+    uses = λ x e r. use_both (λ g n. AnswersCall (function_of p.funcs g) n) (λ h. height h < height g) e
+        (right_all (λ q. EachUse (λ g n. AnswersCall (function_of p.funcs g) n) q.1) f.eqs (function_all (λ f. All (λ e. EachUse (λ g n. AnswersCall (function_of p.funcs g) n) e.1) f.eqs) p.funcs checked.named.uses g f is) x e r)
         ((layered p.funcs checked.named.not_recursive good.calls).lower g f is x e r);
   }
 
@@ -80,7 +81,7 @@ module _ (p : WholeProgram) (good : GoodProgram p) (checked : CheckedProgram p) 
   far_none plans e = record { number = ap length e; plans_are = λ g f l. absurd (omega arith) }
 
   pub far_next : (plans plans' : List Plan) (i : ℕ) (f : Function) (plan : Plan) → Far plans i → function_of p.funcs i ≡ Some f
-      → ((fs : List Function) (height : ℕ → ℕ) (top : ℕ) → Passes fs height top f → PlanOf fs height top f plan) → plans' ≡ plans ++ plan ∷ [] → Far plans' (i + 1)
+      → ((fs : List Function) (height : ℕ → ℕ) (top : ℕ) → FunctionPasses fs height top f → PlanOf fs height top f plan) → plans' ≡ plans ++ plan ∷ [] → Far plans' (i + 1)
   far_next plans plans' i f plan far is made e = record {
     number = let n = far.number in let l = ap length e in let t = length-append plans (plan ∷ []) in omega (arith, n, l, t);
     plans_are = λ g h l k.
@@ -150,11 +151,11 @@ filled_is rows k row cells width h n filled =
 
 -- ---- the table
 
-pub solves_of : (plans : List Plan) (k : Planned plans) (n : ℕ) (s : State) (g : ℕ) (rows : List Row) (es : List Environment) (f : Function) → Stands plans k n s g rows es → function_of k.program.funcs g ≡ Some f → Solves (calls_of k.program.funcs) f es rows
+pub solves_of : (plans : List Plan) (k : Planned plans) (n : ℕ) (s : State) (g : ℕ) (rows : List Row) (es : List Environment) (f : Function) → StateStands plans k n s g rows es → function_of k.program.funcs g ≡ Some f → Solves (calls_of k.program.funcs) f es rows
 solves_of plans k zero s g rows es f st is = elim st [ ]
 solves_of plans k (suc n) s g rows es f st is = let same : st.function ≡ f = cc (is, st.is) in subst (λ (f : Function). Solves (calls_of k.program.funcs) f es rows) same st.solves
 
-pub room_of : (plans : List Plan) (k : Planned plans) (n : ℕ) (s : State) (g : ℕ) (rows : List Row) (es : List Environment) (f : Function) → Stands plans k n s g rows es → function_of k.program.funcs g ≡ Some f → (f.n_in ≤ length (cells_of s)) × (inputs_at plans g ≡ f.n_in)
+pub room_of : (plans : List Plan) (k : Planned plans) (n : ℕ) (s : State) (g : ℕ) (rows : List Row) (es : List Environment) (f : Function) → StateStands plans k n s g rows es → function_of k.program.funcs g ≡ Some f → (f.n_in ≤ length (cells_of s)) × (inputs_at plans g ≡ f.n_in)
 room_of plans k zero s g rows es f st is = elim st [ ]
 room_of plans k (suc n) s g rows es f st is =
     let same : st.function ≡ f = cc (is, st.is) in
@@ -163,7 +164,7 @@ room_of plans k (suc n) s g rows es f st is =
     let low = pa.plan_of.variables in
     let size = st.cells in
     let inputs = ap (λ (f : Function). f.n_in) same in
-    (omega (arith, good, low, size, inputs), ap inputs_of pa.is ∙ pa.plan_of.inputs ∙ inputs)
+    (omega (arith, good, low, size, inputs), ap plan_inputs pa.is ∙ pa.plan_of.inputs ∙ inputs)
 
 -- what the columns hold after these instants
 abbrev pub shown_by : Function → ℕ → List Environment → List Cell
@@ -176,7 +177,7 @@ shown_more f x env es =
 
 -- how far the columns of these variables have come
 pub record Shown (p : WholeProgram) (plans : List Plan) (a : ArePlans p plans) (rows : List (List Value)) (k : ℕ) (state : State) (columns : List (List Cell)) (xs : List ℕ) (f : Function) (es : List Environment) : Type 0 where
-  pub stands : Stands plans a.planned (length plans) state p.main (newest_first (take k rows)) es
+  pub stands : StateStands plans a.planned (length plans) state p.main (newest_first (take k rows)) es
   pub number : length columns ≡ length xs
   pub columns_are : (i : ℕ) → i < length xs → get_or columns i [] ≡ shown_by f (get_or xs i 0) es
 

@@ -10,28 +10,28 @@ use Rattle.lt_base.specs.Meaning.{Environment, both, pick}
 use Rattle.lt_meaning.specs.declared.node.Node.{Node, Literal, Cell, Kept, Unary', Binary', Imported', Choose', Merge'}
 
 -- a node without pointers
-pub data Form : Type 0 where
-  constant : Value → Form
-  at : ℕ → Form
-  kept : ℕ → Form
-  one : Un → Form → Form
-  two : Bin → Form → Form → Form
-  named : Imp → Form → Form → Form
-  either : Form → Form → Form → Form
-  joined : ℕ → Form → Form → Form
+pub data NodeForm : Type 0 where
+  constant : Value → NodeForm
+  at : ℕ → NodeForm
+  kept : ℕ → NodeForm
+  one : Un → NodeForm → NodeForm
+  two : Bin → NodeForm → NodeForm → NodeForm
+  named : Imp → NodeForm → NodeForm → NodeForm
+  either : NodeForm → NodeForm → NodeForm → NodeForm
+  joined : ℕ → NodeForm → NodeForm → NodeForm
 
-abbrev pub form : Node → Form
-form (Literal v) = constant v
-form (Cell x) = at x
-form (Kept k) = kept k
-form (Unary' o p a) = one o (form a)
-form (Binary' o p a q b) = two o (form a) (form b)
-form (Imported' o p a q b) = named o (form a) (form b)
-form (Choose' p c q a r b) = either (form c) (form a) (form b)
-form (Merge' c p a q b) = joined c (form a) (form b)
+abbrev pub node_form : Node → NodeForm
+node_form (Literal v) = constant v
+node_form (Cell x) = at x
+node_form (Kept k) = kept k
+node_form (Unary' o p a) = one o (node_form a)
+node_form (Binary' o p a q b) = two o (node_form a) (node_form b)
+node_form (Imported' o p a q b) = named o (node_form a) (node_form b)
+node_form (Choose' p c q a r b) = either (node_form c) (node_form a) (node_form b)
+node_form (Merge' c p a q b) = joined c (node_form a) (node_form b)
 
 -- its value over the cells and over what the delays kept
-abbrev pub value_in : Environment → Environment → Form → Option Value
+abbrev pub value_in : Environment → Environment → NodeForm → Option Value
 value_in env old (constant v) = Some v
 value_in env old (at x) = env x
 value_in env old (kept k) = old k

@@ -4,7 +4,7 @@ use Rattle.lt_base.specs.declared.value.Value.{Value}
 use Rattle.lt_base.specs.declared.value.Value.TheVariants.{Bool as Truth}
 use Rattle.lt_base.specs.Expression.{Expression, literal, variable, unary, binary, imported, choose, sampled, merged, delayed, follow, arrow, call, Arguments, no_arguments, argument}
 use Rattle.lt_base.specs.Meaning.{ClockPairs, outer}
-use Rattle.lt_meaning.specs.Form.{Form, constant, at, kept, one, two, named, either, joined}
+use Rattle.lt_meaning.specs.Form.{NodeForm, constant, at, kept, one, two, named, either, joined}
 use Rattle.lt_meaning.specs.Plan.{ActionForm, sets, runs, StepForm}
 
 -- the number of delays outside other delays; a delay with an expression on its left and an arrow have one more, which tells whether it is the first instant
@@ -49,7 +49,7 @@ abbrev mutual
 
 -- the expression over cells, where k delays and c cells are taken
 abbrev mutual
-  pub form_of : ℕ → ℕ → Expression → Form
+  pub form_of : ℕ → ℕ → Expression → NodeForm
   form_of k c (literal v) = constant v
   form_of k c (variable x) = at x
   form_of k c (unary o a) = one o (form_of k c a)
@@ -64,7 +64,7 @@ abbrev mutual
   form_of k c (arrow a b) = either (kept (k + delay_count a + delay_count b)) (form_of k c a) (form_of (k + delay_count a) (c + call_count a) b)
   form_of k c (call g args) = at (c + call_counts args)
 
-  pub forms_of : ℕ → ℕ → Arguments → List Form
+  pub forms_of : ℕ → ℕ → Arguments → List NodeForm
   forms_of k c no_arguments = []
   forms_of k c (argument e args) = form_of k c e ∷ forms_of (k + delay_count e) (c + call_count e) args
 

@@ -7,12 +7,12 @@ use Rattle.lt_meaning.specs.declared.plan.Step.{Step}
 use Rattle.lt_meaning.specs.declared.plan.Action.{Action}
 use Rattle.lt_meaning.specs.declared.plan.Action.TheVariants.{Set, Run}
 use Rattle.lt_meaning.specs.declared.plan.Delay.{Delay}
-use Rattle.lt_meaning.specs.Form.{Form, form}
+use Rattle.lt_meaning.specs.Form.{NodeForm, node_form}
 
 -- where a cell's value comes from: a node, or a call of a function with these arguments
 pub data ActionForm : Type 0 where
-  sets : Form → ActionForm
-  runs : ℕ → List Form → ActionForm
+  sets : NodeForm → ActionForm
+  runs : ℕ → List NodeForm → ActionForm
 
 pub record StepForm : Type 0 where
   pub cell : ℕ
@@ -22,23 +22,23 @@ pub record StepForm : Type 0 where
 pub record DelayForm : Type 0 where
   pub clock : ClockPairs
   pub first : Value
-  pub right : Form
+  pub right : NodeForm
 
 abbrev pub action_form : Action → ActionForm
-action_form (Set node) = sets (form node)
-action_form (Run g args) = runs g (map form args.items)
+action_form (Set node) = sets (node_form node)
+action_form (Run g args) = runs g (map node_form args.items)
 
 abbrev pub step_form : Step → StepForm
 step_form t = record { cell = t.cell; clock = t.clock; action = action_form t.action }
 
 abbrev pub delay_form : Delay → DelayForm
-delay_form d = record { clock = d.clock; first = d.first; right = form d.right }
+delay_form d = record { clock = d.clock; first = d.first; right = node_form d.right }
 
 -- the number of inputs of a plan, if there is one
-abbrev pub inputs_of : Option Plan → ℕ
-inputs_of None = 0
-inputs_of (Some p) = p.inputs
+abbrev pub plan_inputs : Option Plan → ℕ
+plan_inputs None = 0
+plan_inputs (Some p) = p.inputs
 
 -- of the function of this number
 abbrev pub inputs_at : List Plan → ℕ → ℕ
-inputs_at plans g = inputs_of (slice_get plans g)
+inputs_at plans g = plan_inputs (slice_get plans g)

@@ -4,18 +4,18 @@ use Rattle.lt_base.specs.Expression.{Expression, call}
 use Rattle.lt_base.specs.Program.{Function, WholeProgram, GoodProgram}
 use Rattle.lt_base.specs.Meaning.{ClockPairs, clock_of, right_of, function_of}
 use Rattle.lt_base.specs.Order.{EachRead, EachClockVar}
-use Rattle.lt_base.specs.Checked.{CheckedProgram, count}
+use Rattle.lt_base.specs.Checked.{CheckedProgram, argument_count}
 use Rattle.lt_meaning.specs.declared.plan.Plan.{Plan}
 use Rattle.lt_meaning.specs.Plan.{step_form, DelayForm, delay_form}
 use Rattle.lt_meaning.specs.Lift.{form_of, Wait, delays_in, arguments_delays, Source, whole, part, Item, step_of, calls_in, arguments_calls}
 
 -- an element of a list
-abbrev pub In : {A : Type 0} → List A → A → Type 0
-In {A} xs x = (i : ℕ) × (slice_get xs i ≡ Some x)
+abbrev pub IsElement : {A : Type 0} → List A → A → Type 0
+IsElement {A} xs x = (i : ℕ) × (slice_get xs i ≡ Some x)
 
 -- each element of one list is in the other
-abbrev pub Within : {A : Type 0} → List A → List A → Type 0
-Within {A} xs ys = (x : A) → In xs x → In ys x
+abbrev pub AreElements : {A : Type 0} → List A → List A → Type 0
+AreElements {A} xs ys = (x : A) → IsElement xs x → IsElement ys x
 
 -- one list stands in the other from this place on
 abbrev pub StandsFrom : {A : Type 0} → ℕ → List A → List A → Type 0
@@ -42,9 +42,9 @@ EachCell P x = EachRead P (expression_of x.source) × EachClockVar P x.clock
 
 -- a step may follow these: they run all calls that it needs, and it writes a cell that none of them reads or writes
 pub record MayFollow (before : List Item) (x : Item) : Type 0 where
-  pub needs : Within (inner_calls x.delays_before x.cells_before x.source x.clock) before
+  pub needs : AreElements (inner_calls x.delays_before x.cells_before x.source x.clock) before
   pub own : EachCell (λ s. s ≢ x.cell) x
-  pub apart : (t : Item) → In before t → EachCell (λ s. s ≢ x.cell) t × (t.cell ≢ x.cell)
+  pub apart : (t : Item) → IsElement before t → EachCell (λ s. s ≢ x.cell) t × (t.cell ≢ x.cell)
 
 -- each step may follow those before it
 abbrev pub InOrder : List Item → Type 0
@@ -55,7 +55,7 @@ pub record Lifted (items : List Item) (waits : List Wait) (w : Wait) (d : Option
   pub delays_before : ℕ
   pub cells_before : ℕ
   pub is : d ≡ Some (record { clock = w.clock; first = w.first; right = form_of delays_before cells_before w.right })
-  pub calls : Within (calls_in delays_before cells_before w.right w.clock) items
+  pub calls : AreElements (calls_in delays_before cells_before w.right w.clock) items
   pub delays : StandsFrom delays_before (delays_in w.right w.clock) waits
 
 -- a call of a function with this number of arguments can be answered: it has so many inputs, and one output, on the base clock
@@ -71,7 +71,7 @@ pub record Answering (fs : List Function) (g : ℕ) (n : ℕ) : Type 0 where
 -- a fact of a step that is a call
 abbrev pub IfCall : (ℕ → ℕ → Type 0) → Source → Type 0
 IfCall P (whole e) = Unit {0}
-IfCall P (part g args) = P g (count args)
+IfCall P (part g args) = P g (argument_count args)
 
 -- what a plan does is what the function's equations say
 pub record PlanOf (fs : List Function) (height : ℕ → ℕ) (top : ℕ) (f : Function) (plan : Plan) : Type 0 where
@@ -84,13 +84,13 @@ pub record PlanOf (fs : List Function) (height : ℕ → ℕ) (top : ℕ) (f : F
   pub inputs : plan.inputs ≡ f.n_in
   pub output : (y : ℕ) (ys : List ℕ) → f.outs ≡ y ∷ ys → plan.output ≡ y
   pub variables : length f.decls ≤ plan.cells
-  pub cells : (x : Item) → In items x → (f.n_in ≤ x.cell) × (x.cell < plan.cells)
+  pub cells : (x : Item) → IsElement items x → (f.n_in ≤ x.cell) × (x.cell < plan.cells)
   pub in_order : InOrder items
-  pub needs : (x : Item) → In items x → StandsFrom x.delays_before (inner_delays x.source x.clock) waits
-  pub answering : (x : Item) → In items x → IfCall (Answering fs) x.source
-  pub lower : (x : Item) → In items x → IfCall (λ g n. height g < top) x.source
+  pub needs : (x : Item) → IsElement items x → StandsFrom x.delays_before (inner_delays x.source x.clock) waits
+  pub answering : (x : Item) → IsElement items x → IfCall (Answering fs) x.source
+  pub lower : (x : Item) → IsElement items x → IfCall (λ g n. height g < top) x.source
   pub equations : (x : ℕ) (e : Expression) → right_of f.eqs x ≡ Some e
-      → (k : ℕ) × (c : ℕ) × In items (record { cell = x; clock = clock_of f.decls x; delays_before = k; cells_before = c; source = whole e })
+      → (k : ℕ) × (c : ℕ) × IsElement items (record { cell = x; clock = clock_of f.decls x; delays_before = k; cells_before = c; source = whole e })
 
 -- a plan of that function stands at this number
 pub record PlanAt (fs : List Function) (height : ℕ → ℕ) (f : Function) (plans : List Plan) (g : ℕ) : Type 0 where

@@ -7,7 +7,7 @@ use Rattle.lt_base.specs.Program.{WholeProgram}
 use Rattle.lt_base.specs.Meaning.{Environment, clock_of, cell}
 use Rattle.lt_meaning.specs.declared.plan.Plan.{Plan}
 use Rattle.lt_meaning.specs.Planned.{Planned}
-use Rattle.lt_meaning.specs.Streams.{main_of}
+use Rattle.lt_base.specs.Main.{main_of}
 
 -- a plan for each function of this program, in which fewer calls nest than there are functions
 pub record ArePlans (p : WholeProgram) (plans : List Plan) : Type 0 where

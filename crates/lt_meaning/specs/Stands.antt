@@ -42,23 +42,23 @@ pub record StandsOver (plans : List Plan) (k : Planned plans) (P : State → ℕ
       → ChildStands (calls_of k.program.funcs) P x.source x.clock (slice_get s.children.items i) es
 
 -- with at most that many nested calls
-abbrev pub Stands : (plans : List Plan) → Planned plans → ℕ → State → ℕ → List Row → List Environment → Type 0
-Stands plans k zero s g rows es = ⊥
-Stands plans k (suc n) s g rows es = StandsOver plans k (λ t h more. (past : List Environment) × Stands plans k n t h more past) (out-State s) g rows es
+abbrev pub StateStands : (plans : List Plan) → Planned plans → ℕ → State → ℕ → List Row → List Environment → Type 0
+StateStands plans k zero s g rows es = ⊥
+StateStands plans k (suc n) s g rows es = StandsOver plans k (λ t h more. (past : List Environment) × StateStands plans k n t h more past) (out-State s) g rows es
 
 -- the values of the inputs
 abbrev pub row_in : List Plan → ℕ → State → Row
 row_in plans g s = take (inputs_at plans g) (cells_of s)
 
 -- some function stands somewhere
-abbrev pub IsReady : List Plan → ℕ → State → Type 0
-IsReady plans g s = (k : Planned plans) × (n : ℕ) × (rows : List Row) × (es : List Environment) × Stands plans k n s g rows es
+abbrev pub StandsSomewhere : List Plan → ℕ → State → Type 0
+StandsSomewhere plans g s = (k : Planned plans) × (n : ℕ) × (rows : List Row) × (es : List Environment) × StateStands plans k n s g rows es
 
 -- it has come one instant further, with the cells' values as that instant's
-abbrev pub Advances : List Plan → ℕ → State → State → Type 0
-Advances plans g s t =
-    (k : Planned plans) (n : ℕ) (rows : List Row) (es : List Environment) → Stands plans k n s g rows es
-    → Stands plans k n t g (row_in plans g s ∷ rows) (entry (cells_of t) ∷ es)
+abbrev pub StateAdvances : List Plan → ℕ → State → State → Type 0
+StateAdvances plans g s t =
+    (k : Planned plans) (n : ℕ) (rows : List Row) (es : List Environment) → StateStands plans k n s g rows es
+    → StateStands plans k n t g (row_in plans g s ∷ rows) (entry (cells_of t) ∷ es)
 
 -- the function of this number stands somewhere, and can answer with so many arguments
 pub record CanRun (plans : List Plan) (g n : ℕ) (s : State) : Type 0 where
@@ -66,14 +66,14 @@ pub record CanRun (plans : List Plan) (g n : ℕ) (s : State) : Type 0 where
   pub nested : ℕ
   pub rows : List Row
   pub past : List Environment
-  pub stands : Stands plans planned nested s g rows past
+  pub stands : StateStands plans planned nested s g rows past
   pub answering : Answering planned.program.funcs g n
 
 -- wherever it stood it has come one instant further, on these arguments, and this is what the function means
-abbrev pub Runs : List Plan → ℕ → Row → State → State → Option Value → Type 0
-Runs plans g row s t v =
-    (k : Planned plans) (n : ℕ) (rows : List Row) (past : List Environment) → Stands plans k n s g rows past → Answering k.program.funcs g (length row)
-    → ((past' : List Environment) × Stands plans k n t g (row ∷ rows) past') × (v ≡ calls_of k.program.funcs g (row ∷ rows))
+abbrev pub CallRuns : List Plan → ℕ → Row → State → State → Option Value → Type 0
+CallRuns plans g row s t v =
+    (k : Planned plans) (n : ℕ) (rows : List Row) (past : List Environment) → StateStands plans k n s g rows past → Answering k.program.funcs g (length row)
+    → ((past' : List Environment) × StateStands plans k n t g (row ∷ rows) past') × (v ≡ calls_of k.program.funcs g (row ∷ rows))
 
 -- there is such a state
 abbrev pub CanAnswer : List Plan → ℕ → ℕ → Option (Box State) → Type 0
@@ -81,24 +81,24 @@ CanAnswer plans g n None = ⊥
 CanAnswer plans g n (Some b) = CanRun plans g n b.value
 
 -- it has come one instant further
-abbrev pub Answers : List Plan → ℕ → Row → Option (Box State) → Option (Box State) → Option Value → Type 0
-Answers plans g row None o' v = Unit {0}
-Answers plans g row (Some b) None v = ⊥
-Answers plans g row (Some b) (Some b') v = Runs plans g row b.value b'.value v
+abbrev pub CallAnswers : List Plan → ℕ → Row → Option (Box State) → Option (Box State) → Option Value → Type 0
+CallAnswers plans g row None o' v = Unit {0}
+CallAnswers plans g row (Some b) None v = ⊥
+CallAnswers plans g row (Some b) (Some b') v = CallRuns plans g row b.value b'.value v
 
 -- the step can be taken
-abbrev pub CanAct : List Plan → ActionForm → Option (Box State) → Type 0
-CanAct plans (sets f) o = Unit {0}
-CanAct plans (runs g fs) o = CanAnswer plans g (length fs) o
+abbrev pub StepCanAct : List Plan → ActionForm → Option (Box State) → Type 0
+StepCanAct plans (sets f) o = Unit {0}
+StepCanAct plans (runs g fs) o = CanAnswer plans g (length fs) o
 
 -- what the step gives its cell where its clock is present
-abbrev pub Acts : List Plan → ActionForm → Environment → Environment → Option (Box State) → Option (Box State) → Option Value → Type 0
-Acts plans (sets f) env old o o' v = v ≡ value_in env old f
-Acts plans (runs g fs) env old o o' v = Answers plans g (map (value_in env old) fs) o o' v
+abbrev pub StepActs : List Plan → ActionForm → Environment → Environment → Option (Box State) → Option (Box State) → Option Value → Type 0
+StepActs plans (sets f) env old o o' v = v ≡ value_in env old f
+StepActs plans (runs g fs) env old o o' v = CallAnswers plans g (map (value_in env old) fs) o o' v
 
 -- a step's cell has what the step stands for, where the clock is present
-abbrev pub Holds : Callee → List Environment → Environment → Item → Type 0
-Holds C past env x = present env x.clock ≡ true → env x.cell ≡ value_of C (expression_of x.source) x.clock past env
+abbrev pub StepHolds : Callee → List Environment → Environment → Item → Type 0
+StepHolds C past env x = present env x.clock ≡ true → env x.cell ≡ value_of C (expression_of x.source) x.clock past env
 
 -- the function of this number has a plan, and fewer calls nest in it than this
 pub record CanStart (plans : List Plan) (g left : ℕ) : Type 0 where
@@ -108,8 +108,8 @@ pub record CanStart (plans : List Plan) (g left : ℕ) : Type 0 where
   pub low : planned.height g < left
 
 -- it stands before the first instant
-abbrev pub Starts : List Plan → ℕ → ℕ → State → Type 0
-Starts plans g left s = (k : Planned plans) (f : Function) → function_of k.program.funcs g ≡ Some f → k.height g < left → Stands plans k left s g [] []
+abbrev pub StateStarts : List Plan → ℕ → ℕ → State → Type 0
+StateStarts plans g left s = (k : Planned plans) (f : Function) → function_of k.program.funcs g ≡ Some f → k.height g < left → StateStands plans k left s g [] []
 
 -- a step's call can begin
 abbrev pub CanStartChild : List Plan → ActionForm → ℕ → Type 0
@@ -120,4 +120,4 @@ CanStartChild plans (runs h fs) left = CanStart plans h left
 abbrev pub ChildStarts : List Plan → ActionForm → ℕ → Option (Box State) → Type 0
 ChildStarts plans (sets f) left o = Unit {0}
 ChildStarts plans (runs h fs) left None = ⊥
-ChildStarts plans (runs h fs) left (Some b) = Starts plans h left b.value
+ChildStarts plans (runs h fs) left (Some b) = StateStarts plans h left b.value

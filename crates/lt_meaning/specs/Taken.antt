@@ -28,8 +28,8 @@ abbrev pub taken : Lifter → Taken
 taken l = record { cells = length l.cells.items; steps = map step_form l.steps.items; waits = map wait_form l.waiting.items }
 
 -- an expression at a clock was lifted
-abbrev pub after : Taken → Expression → ClockPairs → Taken
-after x e ck = record {
+abbrev pub taken_after : Taken → Expression → ClockPairs → Taken
+taken_after x e ck = record {
   cells = x.cells + call_count e;
   steps = x.steps ++ map step_of (calls_in (length x.waits) x.cells e ck);
   waits = x.waits ++ delays_in e ck;

@@ -6,22 +6,22 @@ ghost use Rattle.lt_base.specs.declared.expression.Expr.{Expr as Tree};
 ghost use Rattle.lt_base.specs.declared.value.Value.TheVariants.{Bool as Truth};
 ghost use Rattle.lt_base.specs.Expression.{shape, unary, binary, imported, choose, merged, follow, arrow, call as called, arguments_of};
 ghost use Rattle.lt_base.specs.Meaning.{outer as outer_pairs};
-ghost use Rattle.lt_meaning.specs.Form.{form, at as at_cell, kept as at_delay, one, two, named, either, joined};
+ghost use Rattle.lt_meaning.specs.Form.{node_form, at as at_cell, kept as at_delay, one, two, named, either, joined};
 ghost use Rattle.lt_meaning.specs.Plan.{runs};
 ghost use Rattle.lt_meaning.specs.Lift.{form_of, forms_of, first_wait};
-ghost use Rattle.lt_meaning.specs.Taken.{taken, after, after_arguments, with_wait, with_step, with_call, right_form};
+ghost use Rattle.lt_meaning.specs.Taken.{taken, taken_after, after_arguments, with_wait, with_step, with_call, right_form};
 
 use crate::lifter::{Lifter, Waiting};
 use crate::node::Node;
 use crate::plan::{Action, Step};
-use lt_base::{Bin, Clock, Expr, Imp, List, Memory, Un, Value};
+use lt_base::{Bin, Clock, Expr, Imp, Memory, Un, Value};
 use std::alloc::Global;
 
 /// Lifts an expression at a clock: each delay gets a number, and each call a cell and a step.
 #[cycle(lifting)]
 pub fn lift<'a>(to: &mut Lifter<'a>, e: &'a Expr, clock: &Clock) -> Result<Node, Memory>
-    ensures form { IfOk result (λ node. form node ≡ form_of (length (taken to.old).waits) (taken to.old).cells (shape e.now)) }
-    ensures grown { OnOk result (taken to.new ≡ after (taken to.old) (shape e.now) clock.now) }
+    ensures form { IfOk result (λ node. node_form node ≡ form_of (length (taken to.old).waits) (taken to.old).cells (shape e.now)) }
+    ensures grown { OnOk result (taken to.new ≡ taken_after (taken to.old) (shape e.now) clock.now) }
 {
     match e {
         Expr::Lit(v) => Ok(Node::Literal(*v)),
@@ -42,8 +42,8 @@ pub fn lift<'a>(to: &mut Lifter<'a>, e: &'a Expr, clock: &Clock) -> Result<Node,
 // Lifts an operator's operand, and the operator.
 #[cycle(lifting)]
 fn lift_unary<'a>(to: &mut Lifter<'a>, o: Un, a: &'a Expr, clock: &Clock) -> Result<Node, Memory>
-    ensures form { IfOk result (λ node. form node ≡ form_of (length (taken to.old).waits) (taken to.old).cells (unary o (shape a.now))) }
-    ensures grown { OnOk result (taken to.new ≡ after (taken to.old) (unary o (shape a.now)) clock.now) }
+    ensures form { IfOk result (λ node. node_form node ≡ form_of (length (taken to.old).waits) (taken to.old).cells (unary o (shape a.now))) }
+    ensures grown { OnOk result (taken to.new ≡ taken_after (taken to.old) (unary o (shape a.now)) clock.now) }
 {
     let a = lift(to, a, clock)?;
     one_of(to.alloc, o, a)
@@ -52,10 +52,10 @@ fn lift_unary<'a>(to: &mut Lifter<'a>, o: Un, a: &'a Expr, clock: &Clock) -> Res
 // Lifts an expression at the clock before the innermost pair.
 #[cycle(lifting)]
 fn lift_outside<'a>(to: &mut Lifter<'a>, e: &'a Expr, clock: &Clock) -> Result<Node, Memory>
-    ensures form { IfOk result (λ node. form node ≡ form_of (length (taken to.old).waits) (taken to.old).cells (shape e.now)) }
-    ensures grown { OnOk result (taken to.new ≡ after (taken to.old) (shape e.now) (outer_pairs clock.now)) }
+    ensures form { IfOk result (λ node. node_form node ≡ form_of (length (taken to.old).waits) (taken to.old).cells (shape e.now)) }
+    ensures grown { OnOk result (taken to.new ≡ taken_after (taken to.old) (shape e.now) (outer_pairs clock.now)) }
 {
-    let before = outer(to.alloc, clock)?;
+    let before = clock.outer()?;
     lift(to, e, &before)
 }
 
@@ -67,9 +67,9 @@ fn lift_two<'a>(
     b: &'a Expr,
     clock: &Clock,
 ) -> Result<(Node, Node), Memory>
-    ensures first { IfOk result (λ nodes. form nodes.0 ≡ form_of (length (taken to.old).waits) (taken to.old).cells (shape a.now)) }
-    ensures second { IfOk result (λ nodes. form nodes.1 ≡ form_of (length (after (taken to.old) (shape a.now) clock.now).waits) (after (taken to.old) (shape a.now) clock.now).cells (shape b.now)) }
-    ensures grown { OnOk result (taken to.new ≡ after (after (taken to.old) (shape a.now) clock.now) (shape b.now) clock.now) }
+    ensures first { IfOk result (λ nodes. node_form nodes.0 ≡ form_of (length (taken to.old).waits) (taken to.old).cells (shape a.now)) }
+    ensures second { IfOk result (λ nodes. node_form nodes.1 ≡ form_of (length (taken_after (taken to.old) (shape a.now) clock.now).waits) (taken_after (taken to.old) (shape a.now) clock.now).cells (shape b.now)) }
+    ensures grown { OnOk result (taken to.new ≡ taken_after (taken_after (taken to.old) (shape a.now) clock.now) (shape b.now) clock.now) }
 {
     let first = lift(to, a, clock)?;
     match lift(to, b, clock) {
@@ -90,8 +90,8 @@ fn lift_binary<'a>(
     b: &'a Expr,
     clock: &Clock,
 ) -> Result<Node, Memory>
-    ensures form { IfOk result (λ node. form node ≡ form_of (length (taken to.old).waits) (taken to.old).cells (binary o (shape a.now) (shape b.now))) }
-    ensures grown { OnOk result (taken to.new ≡ after (taken to.old) (binary o (shape a.now) (shape b.now)) clock.now) }
+    ensures form { IfOk result (λ node. node_form node ≡ form_of (length (taken to.old).waits) (taken to.old).cells (binary o (shape a.now) (shape b.now))) }
+    ensures grown { OnOk result (taken to.new ≡ taken_after (taken to.old) (binary o (shape a.now) (shape b.now)) clock.now) }
 {
     let (a, b) = lift_two(to, a, b, clock)?;
     two_of(to.alloc, o, a, b)
@@ -106,8 +106,8 @@ fn lift_imported<'a>(
     b: &'a Expr,
     clock: &Clock,
 ) -> Result<Node, Memory>
-    ensures form { IfOk result (λ node. form node ≡ form_of (length (taken to.old).waits) (taken to.old).cells (imported o (shape a.now) (shape b.now))) }
-    ensures grown { OnOk result (taken to.new ≡ after (taken to.old) (imported o (shape a.now) (shape b.now)) clock.now) }
+    ensures form { IfOk result (λ node. node_form node ≡ form_of (length (taken to.old).waits) (taken to.old).cells (imported o (shape a.now) (shape b.now))) }
+    ensures grown { OnOk result (taken to.new ≡ taken_after (taken to.old) (imported o (shape a.now) (shape b.now)) clock.now) }
 {
     let (a, b) = lift_two(to, a, b, clock)?;
     named_of(to.alloc, o, a, b)
@@ -122,8 +122,8 @@ fn lift_choice<'a>(
     b: &'a Expr,
     clock: &Clock,
 ) -> Result<Node, Memory>
-    ensures form { IfOk result (λ node. form node ≡ form_of (length (taken to.old).waits) (taken to.old).cells (choose (shape c.now) (shape a.now) (shape b.now))) }
-    ensures grown { OnOk result (taken to.new ≡ after (taken to.old) (choose (shape c.now) (shape a.now) (shape b.now)) clock.now) }
+    ensures form { IfOk result (λ node. node_form node ≡ form_of (length (taken to.old).waits) (taken to.old).cells (choose (shape c.now) (shape a.now) (shape b.now))) }
+    ensures grown { OnOk result (taken to.new ≡ taken_after (taken to.old) (choose (shape c.now) (shape a.now) (shape b.now)) clock.now) }
 {
     let c = lift(to, c, clock)?;
     match lift_two(to, a, b, clock) {
@@ -144,8 +144,8 @@ fn lift_merge<'a>(
     b: &'a Expr,
     clock: &Clock,
 ) -> Result<Node, Memory>
-    ensures form { IfOk result (λ node. form node ≡ form_of (length (taken to.old).waits) (taken to.old).cells (merged c (shape a.now) (shape b.now))) }
-    ensures grown { OnOk result (taken to.new ≡ after (taken to.old) (merged c (shape a.now) (shape b.now)) clock.now) }
+    ensures form { IfOk result (λ node. node_form node ≡ form_of (length (taken to.old).waits) (taken to.old).cells (merged c (shape a.now) (shape b.now))) }
+    ensures grown { OnOk result (taken to.new ≡ taken_after (taken to.old) (merged c (shape a.now) (shape b.now)) clock.now) }
 {
     let a = lift_branch(to, c, true, a, clock)?;
     let b = lift_branch(to, c, false, b, clock)?;
@@ -161,10 +161,10 @@ fn lift_branch<'a>(
     e: &'a Expr,
     clock: &Clock,
 ) -> Result<Node, Memory>
-    ensures form { IfOk result (λ node. form node ≡ form_of (length (taken to.old).waits) (taken to.old).cells (shape e.now)) }
-    ensures grown { OnOk result (taken to.new ≡ after (taken to.old) (shape e.now) ((c, polarity) ∷ clock.now)) }
+    ensures form { IfOk result (λ node. node_form node ≡ form_of (length (taken to.old).waits) (taken to.old).cells (shape e.now)) }
+    ensures grown { OnOk result (taken to.new ≡ taken_after (taken to.old) (shape e.now) ((c, polarity) ∷ clock.now)) }
 {
-    let at = branch(clock, c, polarity)?;
+    let at = clock.inner(c, polarity)?;
     lift(to, e, &at)
 }
 
@@ -176,8 +176,8 @@ fn lift_follow<'a>(
     b: &'a Expr,
     clock: &Clock,
 ) -> Result<Node, Memory>
-    ensures form { IfOk result (λ node. form node ≡ form_of (length (taken to.old).waits) (taken to.old).cells (follow (shape a.now) (shape b.now))) }
-    ensures grown { OnOk result (taken to.new ≡ after (taken to.old) (follow (shape a.now) (shape b.now)) clock.now) }
+    ensures form { IfOk result (λ node. node_form node ≡ form_of (length (taken to.old).waits) (taken to.old).cells (follow (shape a.now) (shape b.now))) }
+    ensures grown { OnOk result (taken to.new ≡ taken_after (taken to.old) (follow (shape a.now) (shape b.now)) clock.now) }
 {
     let a = lift(to, a, clock)?;
     match wait_twice(to, b, clock) {
@@ -197,8 +197,8 @@ fn lift_arrow<'a>(
     b: &'a Expr,
     clock: &Clock,
 ) -> Result<Node, Memory>
-    ensures form { IfOk result (λ node. form node ≡ form_of (length (taken to.old).waits) (taken to.old).cells (arrow (shape a.now) (shape b.now))) }
-    ensures grown { OnOk result (taken to.new ≡ after (taken to.old) (arrow (shape a.now) (shape b.now)) clock.now) }
+    ensures form { IfOk result (λ node. node_form node ≡ form_of (length (taken to.old).waits) (taken to.old).cells (arrow (shape a.now) (shape b.now))) }
+    ensures grown { OnOk result (taken to.new ≡ taken_after (taken to.old) (arrow (shape a.now) (shape b.now)) clock.now) }
 {
     let (a, b) = lift_two(to, a, b, clock)?;
     match wait(to, clock, Value::Bool(true), None) {
@@ -219,8 +219,8 @@ fn lift_call<'a>(
     args: &'a Vec<Expr>,
     clock: &Clock,
 ) -> Result<Node, Memory>
-    ensures form { IfOk result (λ node. form node ≡ form_of (length (taken to.old).waits) (taken to.old).cells (called g (arguments_of (map shape args.now.items)))) }
-    ensures grown { OnOk result (taken to.new ≡ after (taken to.old) (called g (arguments_of (map shape args.now.items))) clock.now) }
+    ensures form { IfOk result (λ node. node_form node ≡ form_of (length (taken to.old).waits) (taken to.old).cells (called g (arguments_of (map shape args.now.items)))) }
+    ensures grown { OnOk result (taken to.new ≡ taken_after (taken to.old) (called g (arguments_of (map shape args.now.items))) clock.now) }
 {
     let lifted = lift_all(to, args, clock)?;
     call(to, clock, g as usize, lifted)
@@ -233,7 +233,7 @@ fn lift_all<'a>(
     args: &'a Vec<Expr>,
     clock: &Clock,
 ) -> Result<Vec<Node>, Memory>
-    ensures forms { IfOk result (λ nodes. map form nodes.items ≡ forms_of (length (taken to.old).waits) (taken to.old).cells (arguments_of (map shape args.now.items))) }
+    ensures forms { IfOk result (λ nodes. map node_form nodes.items ≡ forms_of (length (taken to.old).waits) (taken to.old).cells (arguments_of (map shape args.now.items))) }
     ensures grown { OnOk result (taken to.new ≡ after_arguments (taken to.old) (arguments_of (map shape args.now.items)) clock.now) }
 {
     let mut nodes = Vec::with_capacity(to.alloc, args.len())?;
@@ -250,7 +250,7 @@ fn wait<'a>(
     first: Value,
     right: Option<&'a Expr>,
 ) -> Result<Node, Memory>
-    ensures form { IfOk result (λ node. form node ≡ at_delay (length (taken to.old).waits)) }
+    ensures form { IfOk result (λ node. node_form node ≡ at_delay (length (taken to.old).waits)) }
     ensures grown { OnOk result (taken to.new ≡ with_wait (taken to.old) (record { clock = clock.now; first = first; right = right_form right.entry })) }
 {
     let number = to.waiting.len();
@@ -269,8 +269,8 @@ fn wait_twice<'a>(
     right: &'a Expr,
     clock: &Clock,
 ) -> Result<(Node, Node), Memory>
-    ensures flag { IfOk result (λ nodes. form nodes.0 ≡ at_delay (length (taken to.old).waits)) }
-    ensures delay { IfOk result (λ nodes. form nodes.1 ≡ at_delay (length (with_wait (taken to.old) (first_wait clock.now)).waits)) }
+    ensures flag { IfOk result (λ nodes. node_form nodes.0 ≡ at_delay (length (taken to.old).waits)) }
+    ensures delay { IfOk result (λ nodes. node_form nodes.1 ≡ at_delay (length (with_wait (taken to.old) (first_wait clock.now)).waits)) }
     ensures grown { OnOk result (taken to.new ≡ with_wait (with_wait (taken to.old) (first_wait clock.now)) (record { clock = clock.now; first = Truth true; right = shape right.now })) }
 {
     let begins = wait(to, clock, Value::Bool(true), None)?;
@@ -298,7 +298,7 @@ fn push_call(
     function: usize,
     args: Vec<Node>,
 ) -> Result<(), Memory>
-    ensures { OnOk result (taken to.new ≡ with_step (taken to.old) (record { cell = cell; clock = clock.now; action = runs function (map form args.items) })) }
+    ensures { OnOk result (taken to.new ≡ with_step (taken to.old) (record { cell = cell; clock = clock.now; action = runs function (map node_form args.items) })) }
 {
     let copied = clock.copy();
     match copied {
@@ -324,8 +324,8 @@ fn call(
     function: usize,
     args: Vec<Node>,
 ) -> Result<Node, Memory>
-    ensures form { IfOk result (λ node. form node ≡ at_cell (taken to.old).cells) }
-    ensures grown { OnOk result (taken to.new ≡ with_call (taken to.old) (record { cell = (taken to.old).cells; clock = clock.now; action = runs function (map form args.items) })) }
+    ensures form { IfOk result (λ node. node_form node ≡ at_cell (taken to.old).cells) }
+    ensures grown { OnOk result (taken to.new ≡ with_call (taken to.old) (record { cell = (taken to.old).cells; clock = clock.now; action = runs function (map node_form args.items) })) }
 {
     let cell = next_cell(to);
     push_call(to, cell, clock, function, args)?;
@@ -333,27 +333,8 @@ fn call(
     Ok(Node::Cell(cell))
 }
 
-// The clock of a branch of a merge, where the variable has that truth value.
-fn branch(clock: &Clock, c: u32, polarity: bool) -> Result<Clock, Memory>
-    ensures { IfOk result (λ r. r ≡ (c, polarity) ∷ clock.now) }
-{
-    clock.copy()?.deeper(c, polarity)
-}
-
-// The clock before the innermost pair.
-fn outer(alloc: Global, clock: &Clock) -> Result<Clock, Memory>
-    ensures { IfOk result (λ before. before ≡ outer_pairs clock.now) }
-{
-    let steps = clock.steps.as_slice();
-    if steps.is_empty() {
-        return Ok(Clock::base(alloc));
-    }
-    let front = List::from_slice(alloc, &steps[..steps.len() - 1])?;
-    Ok(Clock { steps: front })
-}
-
 // A node in a box of its own.
-fn boxed(alloc: Global, node: Node) -> Result<Box<Node>, Memory>
+fn box_node(alloc: Global, node: Node) -> Result<Box<Node>, Memory>
     ensures { IfOk result (λ made. made.value ≡ node) }
 {
     Ok(Box::new(alloc, node)?)
@@ -371,36 +352,36 @@ fn both(
 }
 
 fn one_of(alloc: Global, o: Un, a: Node) -> Result<Node, Memory>
-    ensures { IfOk result (λ node. form node ≡ one o (form a)) }
+    ensures { IfOk result (λ node. node_form node ≡ one o (node_form a)) }
 {
-    Ok(Node::Unary(o, boxed(alloc, a)?))
+    Ok(Node::Unary(o, box_node(alloc, a)?))
 }
 
 fn two_of(alloc: Global, o: Bin, a: Node, b: Node) -> Result<Node, Memory>
-    ensures { IfOk result (λ node. form node ≡ two o (form a) (form b)) }
+    ensures { IfOk result (λ node. node_form node ≡ two o (node_form a) (node_form b)) }
 {
-    let (a, b) = both(boxed(alloc, a), boxed(alloc, b))?;
+    let (a, b) = both(box_node(alloc, a), box_node(alloc, b))?;
     Ok(Node::Binary(o, a, b))
 }
 
 fn named_of(alloc: Global, o: Imp, a: Node, b: Node) -> Result<Node, Memory>
-    ensures { IfOk result (λ node. form node ≡ named o (form a) (form b)) }
+    ensures { IfOk result (λ node. node_form node ≡ named o (node_form a) (node_form b)) }
 {
-    let (a, b) = both(boxed(alloc, a), boxed(alloc, b))?;
+    let (a, b) = both(box_node(alloc, a), box_node(alloc, b))?;
     Ok(Node::Imported(o, a, b))
 }
 
 fn either_of(alloc: Global, c: Node, a: Node, b: Node) -> Result<Node, Memory>
-    ensures { IfOk result (λ node. form node ≡ either (form c) (form a) (form b)) }
+    ensures { IfOk result (λ node. node_form node ≡ either (node_form c) (node_form a) (node_form b)) }
 {
-    let c = boxed(alloc, c);
-    let (a, b) = both(boxed(alloc, a), boxed(alloc, b))?;
+    let c = box_node(alloc, c);
+    let (a, b) = both(box_node(alloc, a), box_node(alloc, b))?;
     Ok(Node::Choose(c?, a, b))
 }
 
 fn joined_of(alloc: Global, c: u32, a: Node, b: Node) -> Result<Node, Memory>
-    ensures { IfOk result (λ node. form node ≡ joined c (form a) (form b)) }
+    ensures { IfOk result (λ node. node_form node ≡ joined c (node_form a) (node_form b)) }
 {
-    let (a, b) = both(boxed(alloc, a), boxed(alloc, b))?;
+    let (a, b) = both(box_node(alloc, a), box_node(alloc, b))?;
     Ok(Node::Merge(c as usize, a, b))
 }

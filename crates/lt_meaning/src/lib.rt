@@ -12,5 +12,6 @@ mod starting;
 mod state;
 mod table;
 
-pub use program::{GREATEST_CELLS, StreamsFault, output_streams, streams};
+pub use lt_base::limits::GREATEST_CELLS;
+pub use program::{StreamsFault, output_streams, streams};
 pub use table::Table;

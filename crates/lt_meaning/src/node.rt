@@ -2,7 +2,7 @@
 
 ghost use Rattle.std.specs.Prelude.{◌≡◌};
 ghost use Rattle.lt_base.specs.Meaning.{entry, present};
-ghost use Rattle.lt_meaning.specs.Form.{form, value_in};
+ghost use Rattle.lt_meaning.specs.Form.{node_form, value_in};
 
 use lt_base::{Bin, Clock, Imp, Slot, Un, Value};
 
@@ -26,7 +26,7 @@ impl Node {
     /// Its value over these cells and over what the delays kept.
     #[cycle(value)]
     pub fn value(&self, cells: &[Slot], kept: &[Slot]) -> Slot
-        ensures { result ≡ value_in (entry cells.now) (entry kept.now) (form self.now) }
+        ensures { result ≡ value_in (entry cells.now) (entry kept.now) (node_form self.now) }
     {
         match self {
             Node::Literal(v) => Slot::full(*v),
@@ -35,7 +35,7 @@ impl Node {
             Node::Unary(o, a) => Slot::unary(*o, a.value(cells, kept)),
             Node::Binary(o, a, b) => Slot::binary(*o, a.part(cells, kept), b.part(cells, kept)),
             Node::Imported(o, a, b) => {
-                Slot::imported(*o, a.part(cells, kept), b.part(cells, kept))
+                Slot::of_import(*o, a.part(cells, kept), b.part(cells, kept))
             }
             Node::Choose(c, a, b) => match c.value(cells, kept).truth() {
                 Some(true) => a.part(cells, kept),
@@ -54,7 +54,7 @@ impl Node {
     #[cycle(value)]
     #[inline(always)]
     fn part(&self, cells: &[Slot], kept: &[Slot]) -> Slot
-        ensures { result ≡ value_in (entry cells.now) (entry kept.now) (form self.now) }
+        ensures { result ≡ value_in (entry cells.now) (entry kept.now) (node_form self.now) }
     {
         match self {
             Node::Cell(x) => at(cells, *x),

@@ -1,18 +1,15 @@
 // The plan of a function.
 
 ghost use Rattle.std.specs.Prelude.{◌≡◌, ℕ, ◌<◌, ◌++◌, ◌∷◌, [], List as Items, Some, IfOk, OnOk, length, map, slice_get};
-ghost use Rattle.lt_base.specs.declared.memory.Or.TheVariants.{Memory as OrMemory};
 ghost use Rattle.lt_base.specs.Expression.{Expression};
 ghost use Rattle.lt_base.specs.Program.{Function};
 ghost use Rattle.lt_base.specs.Meaning.{clock_of};
 ghost use Rattle.lt_base.specs.Dependence.{Causal};
-ghost use Rattle.lt_base.specs.Order.{Ordered};
-ghost use Rattle.lt_cause.specs.Orders.{IsOrder, place_in};
-ghost use Rattle.lt_meaning.specs.Form.{form};
+ghost use Rattle.lt_meaning.specs.Form.{node_form};
 ghost use Rattle.lt_meaning.specs.Plan.{sets, delay_form};
 ghost use Rattle.lt_meaning.specs.Lift.{Wait, form_of, whole, step_of};
-ghost use Rattle.lt_meaning.specs.Taken.{taken, after, with_step, right_form};
-ghost use Rattle.lt_meaning.specs.Fine.{Passes};
+ghost use Rattle.lt_meaning.specs.Taken.{taken, taken_after, with_step, right_form};
+ghost use Rattle.lt_meaning.specs.Fine.{FunctionPasses};
 ghost use Rattle.lt_meaning.specs.Planned.{PlanOf};
 ghost use Rattle.lt_meaning.specs.Streams.{NumbersFit};
 
@@ -20,8 +17,8 @@ use crate::expressions::lift;
 use crate::lifter::Lifter;
 use crate::node::Node;
 use crate::plan::{Action, Delay, Plan, Step};
-use lt_base::{Clock, Decl, Equation, Expr, Func, List, Memory, Or, Value};
-use lt_cause::{Order, causal};
+use lt_base::{Clock, Decl, Equation, Expr, Func, List, Memory, Value};
+use lt_cause::order_of;
 use std::alloc::Global;
 
 /// The plan of a function. Its steps are those of the equations, in their order, each after the calls in it, and then
@@ -29,9 +26,9 @@ use std::alloc::Global;
 pub fn plan_of(alloc: Global, f: &Func) -> Result<Plan, Memory>
     requires causal { Causal f.now }
     requires numbers { NumbersFit f.now }
-    ensures { (fs : Items Function) (height : ℕ → ℕ) (top : ℕ) → Passes fs height top f.now → IfOk result (λ plan. PlanOf fs height top f.now plan) }
+    ensures { (fs : Items Function) (height : ℕ → ℕ) (top : ℕ) → FunctionPasses fs height top f.now → IfOk result (λ plan. PlanOf fs height top f.now plan) }
 {
-    f.kept();
+    f.invariant_holds();
     let order = order_of(alloc, f)?;
     let mut to = start(alloc, f)?;
     for k in order.eqs.as_slice() {
@@ -42,21 +39,7 @@ pub fn plan_of(alloc: Global, f: &Func) -> Result<Plan, Memory>
     while delays.len() < to.waiting.len() {
         push_delay(&mut to, &mut delays)?;
     }
-    Ok(finished(f, to, delays))
-}
-
-// The order of the equations.
-fn order_of(alloc: Global, f: &Func) -> Result<Order, Memory>
-    requires causal { Causal f.now }
-    requires numbers { NumbersFit f.now }
-    ensures order { IfOk result (λ order. IsOrder f.now order.eqs) }
-    ensures places { IfOk result (λ order. Ordered f.now (place_in f.now order.eqs)) }
-{
-    match causal(alloc, f) {
-        Ok(order) => Ok(order),
-        Err(Or::Memory) => Err(Memory),
-        Err(Or::Fault(_)) => unreachable!(),
-    }
+    Ok(finish_plan(f, to, delays))
 }
 
 // The cells of the variables.
@@ -78,7 +61,7 @@ fn start<'a>(alloc: Global, f: &Func) -> Result<Lifter<'a>, Memory>
 // The step of an equation, after those of the calls in it.
 fn set<'a>(to: &mut Lifter<'a>, decls: &List<Decl>, equation: &'a Equation) -> Result<(), Memory>
     requires { equation.now.0 < length decls.now }
-    ensures { OnOk result (taken to.new ≡ with_step (after (taken to.old) equation.now.1 (clock_of decls.now equation.now.0))
+    ensures { OnOk result (taken to.new ≡ with_step (taken_after (taken to.old) equation.now.1 (clock_of decls.now equation.now.0))
         (step_of (record { cell = equation.now.0; clock = clock_of decls.now equation.now.0; delays_before = length (taken to.old).waits; cells_before = (taken to.old).cells; source = whole equation.now.1 }))) }
 {
     let clock = &decls.as_slice()[equation.left() as usize].clock;
@@ -87,7 +70,7 @@ fn set<'a>(to: &mut Lifter<'a>, decls: &List<Decl>, equation: &'a Equation) -> R
 }
 
 fn push_step(to: &mut Lifter<'_>, cell: usize, clock: &Clock, node: Node) -> Result<(), Memory>
-    ensures { OnOk result (taken to.new ≡ with_step (taken to.old) (record { cell = cell; clock = clock.now; action = sets (form node) })) }
+    ensures { OnOk result (taken to.new ≡ with_step (taken to.old) (record { cell = cell; clock = clock.now; action = sets (node_form node) })) }
 {
     let clock = clock.copy()?;
     to.steps.push(Step {
@@ -103,7 +86,7 @@ fn next_delay(to: &mut Lifter<'_>, number: usize) -> Result<Delay, Memory>
     requires { number < length (taken to.old).waits }
     ensures delay { (w : Wait) → slice_get (taken to.old).waits number ≡ Some w
         → IfOk result (λ d. delay_form d ≡ record { clock = w.clock; first = w.first; right = form_of (length (taken to.old).waits) (taken to.old).cells w.right }) }
-    ensures grown { (w : Wait) → slice_get (taken to.old).waits number ≡ Some w → OnOk result (taken to.new ≡ after (taken to.old) w.right w.clock) }
+    ensures grown { (w : Wait) → slice_get (taken to.old).waits number ≡ Some w → OnOk result (taken to.new ≡ taken_after (taken to.old) w.right w.clock) }
 {
     let waiting = &to.waiting[number];
     let first = waiting.first;
@@ -122,7 +105,7 @@ fn push_delay(to: &mut Lifter<'_>, delays: &mut Vec<Delay>) -> Result<(), Memory
     requires { length delays.old.items < length (taken to.old).waits }
     ensures delay { (w : Wait) → slice_get (taken to.old).waits (length delays.old.items) ≡ Some w
         → OnOk result (map delay_form delays.new.items ≡ map delay_form delays.old.items ++ record { clock = w.clock; first = w.first; right = form_of (length (taken to.old).waits) (taken to.old).cells w.right } ∷ []) }
-    ensures grown { (w : Wait) → slice_get (taken to.old).waits (length delays.old.items) ≡ Some w → OnOk result (taken to.new ≡ after (taken to.old) w.right w.clock) }
+    ensures grown { (w : Wait) → slice_get (taken to.old).waits (length delays.old.items) ≡ Some w → OnOk result (taken to.new ≡ taken_after (taken to.old) w.right w.clock) }
 {
     let delay = next_delay(to, delays.len())?;
     delays.push(delay)?;
@@ -134,8 +117,8 @@ fn lift_right<'a>(
     right: Option<&'a Expr>,
     clock: &Clock,
 ) -> Result<Node, Memory>
-    ensures form { IfOk result (λ node. form node ≡ form_of (length (taken to.old).waits) (taken to.old).cells (right_form right.entry)) }
-    ensures grown { OnOk result (taken to.new ≡ after (taken to.old) (right_form right.entry) clock.now) }
+    ensures form { IfOk result (λ node. node_form node ≡ form_of (length (taken to.old).waits) (taken to.old).cells (right_form right.entry)) }
+    ensures grown { OnOk result (taken to.new ≡ taken_after (taken to.old) (right_form right.entry) clock.now) }
 {
     match right {
         Some(e) => lift(to, e, clock),
@@ -144,7 +127,7 @@ fn lift_right<'a>(
 }
 
 // The plan with these delays and with the steps so far.
-fn finished(f: &Func, to: Lifter<'_>, delays: Vec<Delay>) -> Plan
+fn finish_plan(f: &Func, to: Lifter<'_>, delays: Vec<Delay>) -> Plan
     ensures inputs { result.inputs ≡ f.now.n_in }
     ensures cells { result.cells ≡ length to.entry.cells.items }
     ensures output { (y : ℕ) (ys : Items ℕ) → f.now.outs ≡ y ∷ ys → result.output ≡ y }

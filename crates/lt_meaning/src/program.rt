@@ -5,7 +5,8 @@ ghost use Rattle.lt_base.specs.Or.{ForFault};
 ghost use Rattle.lt_base.specs.Inputs.{entry_at};
 ghost use Rattle.lt_base.specs.Checked.{CheckedProgram};
 ghost use Rattle.lt_meaning.specs.Ready.{ArePlans, AreOfMain};
-ghost use Rattle.lt_meaning.specs.Streams.{main_of, HasMainStreams, HasMainTypes, HasStreamsOf, HasOutputStreams, cell_count, most_cells, InputsFitMain, HasRoom};
+ghost use Rattle.lt_base.specs.Main.{main_of, HasOutputStreams, cell_count, most_cells, InputsFitMain};
+ghost use Rattle.lt_meaning.specs.Streams.{HasMainStreams, HasMainTypes, HasStreamsOf, ProgramNumbersFit};
 
 use crate::Table;
 use crate::plan::Plan;
@@ -13,11 +14,9 @@ use crate::planning::plan_of;
 use crate::showing::show;
 use crate::starting::start;
 use crate::state::run;
+use lt_base::limits::GREATEST_CELLS;
 use lt_base::{Cell, Func, Inputs, List, Memory, Or, Program, Slot, sizes};
 use std::alloc::Global;
-
-/// The greatest number of cells: the weight of `main` for each row of inputs.
-pub const GREATEST_CELLS: u64 = 16_000_000;
 
 /// Why the streams of a program are refused.
 #[derive(Clone, Copy, Debug, PartialEq, Eq, Drop)]
@@ -30,14 +29,14 @@ pub enum StreamsFault {
 pub fn streams(alloc: Global, p: &Program, inputs: &Inputs) -> Result<Table, Or<StreamsFault>>
     requires checked { CheckedProgram p.now }
     requires fit { InputsFitMain p.now inputs.now }
-    requires room { HasRoom p.now }
+    requires room { ProgramNumbersFit p.now }
     ensures value { IfOk result (λ table. HasMainStreams p.now inputs.now.rows table) }
     ensures types { IfOk result (λ table. HasMainTypes p.now table) }
     ensures limit { MatchResult result
         (λ _. cell_count p.now inputs.now.rows ≤ most_cells)
         (λ e. ForFault e (λ _. most_cells < cell_count p.now inputs.now.rows)) }
 {
-    p.kept();
+    p.invariant_holds();
     let variables = variables_of(alloc, main_function(p))?;
     match chosen_streams(alloc, p, inputs, variables.as_slice()) {
         Ok(columns) => Ok(Table::of(columns)),
@@ -53,14 +52,14 @@ pub fn output_streams(
 ) -> Result<List<List<Cell>>, Or<StreamsFault>>
     requires checked { CheckedProgram p.now }
     requires fit { InputsFitMain p.now inputs.now }
-    requires room { HasRoom p.now }
+    requires room { ProgramNumbersFit p.now }
     ensures value { IfOk result (λ streams. HasOutputStreams p.now inputs.now.rows streams) }
     ensures limit { MatchResult result
         (λ _. cell_count p.now inputs.now.rows ≤ most_cells)
         (λ e. ForFault e (λ _. most_cells < cell_count p.now inputs.now.rows)) }
 {
     let main = main_function(p);
-    main.kept();
+    main.invariant_holds();
     chosen_streams(alloc, p, inputs, main.outs.as_slice())
 }
 
@@ -73,7 +72,7 @@ fn chosen_streams(
 ) -> Result<List<List<Cell>>, Or<StreamsFault>>
     requires checked { CheckedProgram p.now }
     requires fit { InputsFitMain p.now inputs.now }
-    requires room { HasRoom p.now }
+    requires room { ProgramNumbersFit p.now }
     requires variables { AreOfMain p.now variables.now }
     ensures value { IfOk result (λ streams. HasStreamsOf p.now inputs.now.rows variables.now streams) }
     ensures limit { MatchResult result
@@ -93,7 +92,7 @@ fn chosen_streams(
 fn main_function(p: &Program) -> &Func
     ensures { main_of p.now ≡ Some result.now }
 {
-    p.kept();
+    p.invariant_holds();
     let number = p.main as usize;
     &p.funcs.as_slice()[number]
 }
@@ -125,10 +124,10 @@ fn is_too_many(alloc: Global, p: &Program, inputs: &Inputs) -> Result<bool, Memo
 // A plan for each function.
 fn plans_of(alloc: Global, p: &Program) -> Result<Vec<Plan>, Memory>
     requires checked { CheckedProgram p.now }
-    requires room { HasRoom p.now }
+    requires room { ProgramNumbersFit p.now }
     ensures { IfOk result (λ plans. ArePlans p.now plans.items) }
 {
-    p.kept();
+    p.invariant_holds();
     let mut plans = Vec::with_capacity(alloc, p.funcs.len())?;
     for f in p.funcs.as_slice() {
         plans.push(plan_of(alloc, f)?)?;

@@ -2,7 +2,7 @@
 
 ghost use Rattle.std.specs.Prelude.{◌≡◌, ◌<◌, ◌-◌, None, Some, IfOk, length, map, replicate};
 ghost use Rattle.lt_meaning.specs.Plan.{action_form};
-ghost use Rattle.lt_meaning.specs.Stands.{CanStart, Starts, CanStartChild, ChildStarts};
+ghost use Rattle.lt_meaning.specs.Stands.{CanStart, StateStarts, CanStartChild, ChildStarts};
 
 use crate::plan::{Action, Delay, Plan};
 use crate::state::State;
@@ -13,7 +13,7 @@ use std::alloc::Global;
 #[cycle(start)]
 pub fn start(alloc: Global, plans: &[Plan], g: usize, left: usize) -> Result<State, Memory>
     requires { CanStart plans.now g left }
-    ensures { IfOk result (Starts plans.now g left) }
+    ensures { IfOk result (StateStarts plans.now g left) }
 {
     let plan = &plans[g];
     let cells = absent(alloc, plan.cells)?;

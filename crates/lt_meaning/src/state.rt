@@ -3,9 +3,9 @@
 ghost use Rattle.std.specs.Prelude.{◌≡◌, ◌≢◌, ◌<◌, ◌≤◌, ℕ, true, false, Some, length, map, take, slice_get, if◌then◌else◌};
 ghost use Rattle.lt_base.specs.Meaning.{entry, present};
 ghost use Rattle.lt_meaning.specs.declared.plan.Delay.{Delay as DelayAt};
-ghost use Rattle.lt_meaning.specs.Form.{form, value_in};
+ghost use Rattle.lt_meaning.specs.Form.{node_form, value_in};
 ghost use Rattle.lt_meaning.specs.Plan.{action_form};
-ghost use Rattle.lt_meaning.specs.Stands.{IsReady, Advances, CanAct, Acts, CanAnswer, Answers, CanRun, Runs};
+ghost use Rattle.lt_meaning.specs.Stands.{StandsSomewhere, StateAdvances, StepCanAct, StepActs, CanAnswer, CallAnswers, CanRun, CallRuns};
 
 use crate::node::{Node, at, is_present};
 use crate::plan::{Action, Delay, Plan, Step};
@@ -26,8 +26,8 @@ pub struct State {
 /// One instant of the function of this number, whose inputs are in its first cells.
 #[cycle(run)]
 pub fn run(plans: &[Plan], g: usize, state: &mut State)
-    requires { IsReady plans.now g state.old }
-    ensures { Advances plans.now g state.old state.new }
+    requires { StandsSomewhere plans.now g state.old }
+    ensures { StateAdvances plans.now g state.old state.new }
 {
     let plan = &plans[g];
     for i in 0..plan.steps.len() {
@@ -51,7 +51,7 @@ pub fn run(plans: &[Plan], g: usize, state: &mut State)
 // What a delay keeps next: its right side's value where its clock is present, and else what it kept.
 #[inline(always)]
 fn newest(delay: &Delay, j: usize, cells: &[Slot], kept: &[Slot]) -> Slot
-    ensures { result ≡ (if present (entry cells.now) delay.now.clock then value_in (entry cells.now) (entry kept.now) (form delay.now.right) else entry kept.now j) }
+    ensures { result ≡ (if present (entry cells.now) delay.now.clock then value_in (entry cells.now) (entry kept.now) (node_form delay.now.right) else entry kept.now j) }
 {
     if is_present(&delay.clock, cells) {
         delay.right.value(cells, kept)
@@ -65,7 +65,7 @@ fn advance(delays: &[Delay], cells: &[Slot], kept: &[Slot], next: &mut Vec<Slot>
     requires kept { length kept.now ≡ length delays.now }
     requires next { length next.old.items ≡ length delays.now }
     ensures size { length next.new.items ≡ length next.old.items }
-    ensures next { (j : ℕ) (d : DelayAt) → slice_get delays.now j ≡ Some d → entry next.new.items j ≡ (if present (entry cells.now) d.clock then value_in (entry cells.now) (entry kept.now) (form d.right) else entry kept.now j) }
+    ensures next { (j : ℕ) (d : DelayAt) → slice_get delays.now j ≡ Some d → entry next.new.items j ≡ (if present (entry cells.now) d.clock then value_in (entry cells.now) (entry kept.now) (node_form d.right) else entry kept.now j) }
 {
     for j in 0..delays.len() {
         next[j] = newest(&delays[j], j, cells, kept);
@@ -82,12 +82,12 @@ fn take(
     child: &mut Option<Box<State>>,
 )
     requires cell { step.now.cell < length cells.old.items }
-    requires child { CanAct plans.now (action_form step.now.action) child.old }
+    requires child { StepCanAct plans.now (action_form step.now.action) child.old }
     ensures size { length cells.new.items ≡ length cells.old.items }
     ensures others { (s : ℕ) → s ≢ step.now.cell → entry cells.new.items s ≡ entry cells.old.items s }
     ensures absent { present (entry cells.old.items) step.now.clock ≡ false → (cells.new.items ≡ cells.old.items) × (child.new ≡ child.old) }
     ensures acts { present (entry cells.old.items) step.now.clock ≡ true
-        → Acts plans.now (action_form step.now.action) (entry cells.old.items) (entry kept.now) child.old child.new (entry cells.new.items step.now.cell) }
+        → StepActs plans.now (action_form step.now.action) (entry cells.old.items) (entry kept.now) child.old child.new (entry cells.new.items step.now.cell) }
 {
     if !is_present(&step.clock, cells.as_slice()) {
         return;
@@ -105,18 +105,18 @@ fn action(
     kept: &[Slot],
     child: &mut Option<Box<State>>,
 ) -> Slot
-    requires { CanAct plans.now (action_form action.now) child.old }
-    ensures { Acts plans.now (action_form action.now) (entry cells.now) (entry kept.now) child.old child.new result }
+    requires { StepCanAct plans.now (action_form action.now) child.old }
+    ensures { StepActs plans.now (action_form action.now) (entry cells.now) (entry kept.now) child.old child.new result }
 {
     match action {
         Action::Set(node) => node.value(cells, kept),
-        Action::Run(function, args) => called(plans, *function, args, cells, kept, child),
+        Action::Run(function, args) => call_value(plans, *function, args, cells, kept, child),
     }
 }
 
 // A call at an instant.
 #[cycle(run)]
-fn called(
+fn call_value(
     plans: &[Plan],
     function: usize,
     args: &Vec<Node>,
@@ -125,7 +125,7 @@ fn called(
     child: &mut Option<Box<State>>,
 ) -> Slot
     requires { CanAnswer plans.now function (length args.now.items) child.old }
-    ensures { Answers plans.now function (map (value_in (entry cells.now) (entry kept.now)) (map form args.now.items)) child.old child.new result }
+    ensures { CallAnswers plans.now function (map (value_in (entry cells.now) (entry kept.now)) (map node_form args.now.items)) child.old child.new result }
 {
     match child {
         None => unreachable!(),
@@ -143,7 +143,7 @@ fn answer(
     state: &mut State,
 ) -> Slot
     requires { CanRun plans.now function (length args.now.items) state.old }
-    ensures { Runs plans.now function (map (value_in (entry cells.now) (entry kept.now)) (map form args.now.items)) state.old state.new result }
+    ensures { CallRuns plans.now function (map (value_in (entry cells.now) (entry kept.now)) (map node_form args.now.items)) state.old state.new result }
 {
     let plan = &plans[function];
     fill(args, cells, kept, &mut state.cells);
@@ -155,7 +155,7 @@ fn answer(
 fn fill(args: &Vec<Node>, cells: &[Slot], kept: &[Slot], to: &mut Vec<Slot>)
     requires { length args.now.items ≤ length to.old.items }
     ensures size { length to.new.items ≡ length to.old.items }
-    ensures filled { take (length args.now.items) to.new.items ≡ map (value_in (entry cells.now) (entry kept.now)) (map form args.now.items) }
+    ensures filled { take (length args.now.items) to.new.items ≡ map (value_in (entry cells.now) (entry kept.now)) (map node_form args.now.items) }
 {
     for i in 0..args.len() {
         to[i] = args[i].value(cells, kept);

@@ -9,19 +9,19 @@ use Rattle.lt_arch.specs.Schedule.{OnePlace}
 use Rattle.lt_norm.specs.Flat.{Originated}
 use Rattle.lt_place.specs.declared.layout.Layout.{Layout}
 use Rattle.lt_place.specs.Layout.{IsPlaced}
-use Rattle.lt_node.specs.Layout.{IsLaidOut}
-use Rattle.lt_node.specs.Payloads.{row_at}
-use Rattle.lt_net.specs.Net.{NetState}
-use Rattle.lt_node.specs.Channels.{HasChannels, FitsLayout}
-use Rattle.lt_plant.specs.Given.{FitsPart}
-use Rattle.lt_net.specs.Loop.{Given}
+use Rattle.lt_net_node.specs.Layout.{IsLaidOut}
+use Rattle.lt_net_node.specs.Payloads.{row_at}
+use Rattle.lt_net.specs.Net.{TimedBenchState}
+use Rattle.lt_net_node.specs.Channels.{HasChannels, FitsLayout}
+use Rattle.lt_net_bench.specs.Given.{FitsPart}
+use Rattle.lt_net.specs.Loop.{ReplayIsGiven}
 use Rattle.lt_net.specs.Starts.{IsMadeOf}
-use Rattle.lt_plant.proofs.LaidOut.{laid_out}
-use Rattle.lt_plant.proofs.Fitting.{rows_fit_parts}
+use Rattle.lt_net_bench.proofs.LaidOut.{laid_out}
+use Rattle.lt_net_bench.proofs.Fitting.{rows_fit_parts}
 
 module _ (f : Originated) (l : Layout) (placed : IsPlaced f l) where
   -- all that a replay of such rows needs is known
-  given_of : {C M : Type 0} (rows : List (List Value)) → RowsFit f.func rows → (net : NetState C M) → net.layout ≡ l → FitsLayout l net.timing.protocol net.shape → OnePlace net.shape net.timing net.rows → net.rows ≡ length rows → length net.executed ≡ node_count net.shape → Given net rows
+  given_of : {C M : Type 0} (rows : List (List Value)) → RowsFit f.func rows → (net : TimedBenchState C M) → net.layout ≡ l → FitsLayout l net.timing.protocol net.shape → OnePlace net.shape net.timing net.rows → net.rows ≡ length rows → length net.executed ≡ node_count net.shape → ReplayIsGiven net rows
   given_of rows fit net same fits one count executed = record {
     whole = f.func;
     placed = subst (λ z. IsLaidOut f.func z) (sym same) (laid_out f l placed);
@@ -33,8 +33,8 @@ module _ (f : Originated) (l : Layout) (placed : IsPlaced f l) where
   }
 
   -- the same of a net that was started
-  pub given_by : {C M : Type 0} (inputs : List (List Value)) → RowsFit f.func inputs → (s : Shape) (t : Timing) (rows : ℕ) (ms : List M) (cs : List C) (net : NetState C M) →
-      IsMadeOf l s t rows ms cs net → FitsLayout l t.protocol s → OnePlace s t rows → rows ≡ length inputs → length net.executed ≡ node_count net.shape → Given net inputs
+  pub given_by : {C M : Type 0} (inputs : List (List Value)) → RowsFit f.func inputs → (s : Shape) (t : Timing) (rows : ℕ) (ms : List M) (cs : List C) (net : TimedBenchState C M) →
+      IsMadeOf l s t rows ms cs net → FitsLayout l t.protocol s → OnePlace s t rows → rows ≡ length inputs → length net.executed ≡ node_count net.shape → ReplayIsGiven net inputs
   given_by inputs fit s t rows ms cs net is fits one count executed =
       given_of inputs fit net is.layout
       (subst (λ (z : Timing). FitsLayout l z.protocol net.shape) (sym is.timing) (subst (λ z. FitsLayout l t.protocol z) (sym is.shape) fits))

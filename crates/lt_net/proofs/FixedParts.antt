@@ -10,8 +10,8 @@ use Rattle.lt_norm.specs.Flat.{Originated}
 use Rattle.lt_place.specs.declared.layout.Layout.{Layout}
 use Rattle.lt_place.specs.Layout.{IsPlaced}
 use Rattle.lt_net.specs.Kept.{IsFixed}
-use Rattle.lt_node.specs.Channels.{FitsLayout}
-use Rattle.lt_plant.proofs.LaidOut.{laid_out}
+use Rattle.lt_net_node.specs.Channels.{FitsLayout}
+use Rattle.lt_net_bench.proofs.LaidOut.{laid_out}
 
 is_time_based : (p : Protocol) → is_back_pressure p ≡ false → p ≡ TimeBased
 is_time_based BackPressure h = absurd (cc)

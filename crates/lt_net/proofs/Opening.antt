@@ -3,23 +3,23 @@ use Rattle.std.proofs.Common.{◌≡◌, ℕ, ◌<◌, List, [], length, map, Op
 use Rattle.std.specs.Prelude.{slice_index_or}
 use Rattle.std.proofs.lemmas.List.{length-map}
 use Rattle.lt_base.specs.declared.value.Value.{Value}
-use Rattle.lt_base.specs.Program.{Function}
-use Rattle.lt_arch.specs.State.{Phase}
 use Rattle.lt_arch.specs.Times.{in_transit}
 use Rattle.lt_io.specs.declared.message.Message.{Message}
 use Rattle.lt_io.specs.FabricState.{FabricState, KeepsPromises, OpensFabric}
 use Rattle.lt_link.specs.Inbox.{no_inbox}
-use Rattle.lt_net.specs.Net.{NetState}
-use Rattle.lt_net.specs.Event.{HeldBy, Holds, HasKinds}
-use Rattle.lt_net.specs.Stands.{Stands}
-use Rattle.lt_net.specs.Replay.{Keeps}
+use Rattle.lt_net.specs.Net.{TimedBenchState}
+use Rattle.lt_net.specs.Event.{HeldBy, FabricHolds, HasKinds}
+use Rattle.lt_net.specs.Stands.{NetStands}
+use Rattle.lt_net.specs.Replay.{ReplayKeeps}
 use Rattle.lt_arch.specs.declared.shape.Shape.{Shape}
 use Rattle.lt_arch.specs.declared.timing.Timing.{Timing}
 use Rattle.lt_place.specs.declared.layout.Layout.{Layout}
-use Rattle.lt_plant.specs.Starts.{types_on, kinds_for}
+use Rattle.lt_net_bench.specs.Starts.{types_on, kinds_for}
 use Rattle.lt_net.specs.Starts.{no_lists, IsMadeOf, IsFresh}
-use Rattle.lt_plant.proofs.FirstTables.{types_are, on_channel}
-use Rattle.lt_plant.proofs.Begun.{none_sent}
+use Rattle.lt_net_bench.proofs.FirstTables.{types_are, on_channel}
+use Rattle.lt_net_bench.proofs.Begun.{none_sent}
+use Rattle.lt_machine.specs.declared.machine.Machine.{Ghosts as Machines}
+use Rattle.lt_arch.specs.declared.controller.Controller.{Ghosts as Controls}
 
 nothing_held : (v : Option ℕ) (last : Rattle.std.specs.Prelude.Bool) → [] ≡ in_transit v → HeldBy v last []
 nothing_held None last h = refl
@@ -28,9 +28,9 @@ nothing_held (Some at) last h = absurd (cc)
 no_entry : {A : Type 0} (xs : List A) (k : ℕ) → xs ≡ [] → k < length xs → ⊥
 no_entry xs k is lt = absurd (let e = ap length is in omega (arith, e, lt))
 
-module _ {C M : Type 0} (phase : C → Phase) (stands : M → Function → List (List Value) → Type 0) (made left : M → ℕ) (net : NetState C M) (s : Stands phase stands made left net no_lists)
+module _ {C M : Type 0} (ctl : Controls C) (mch : Machines M) (net : TimedBenchState C M) (s : NetStands ctl mch net no_lists)
     (old new : FabricState) (keeps : KeepsPromises old new) (opens : OpensFabric old new (kinds_for net.layout net.shape)) where
-  holds : Holds net new
+  holds : FabricHolds net new
   holds = record {
     transit = λ c lt. subst (λ ms. HeldBy (slice_index_or net.watch.sends c None) (slice_index_or net.inboxes c no_inbox).bit ms) (sym (opens.transit c))
         (nothing_held (slice_index_or net.watch.sends c None) (slice_index_or net.inboxes c no_inbox).bit (s.times.transit c lt));
@@ -43,7 +43,7 @@ module _ {C M : Type 0} (phase : C → Phase) (stands : M → Function → List 
   }
 
   -- it keeps what a replay keeps, for the empty list of events
-  pub opened : (inputs : List (List Value)) → Keeps phase stands made left inputs [] net new no_lists
+  pub opened : (inputs : List (List Value)) → ReplayKeeps ctl mch inputs [] net new no_lists
   opened inputs = record {
     stands_for = s;
     events = refl;
@@ -64,7 +64,7 @@ module _ {C M : Type 0} (phase : C → Phase) (stands : M → Function → List 
   }
 
 -- the same of a net that was started
-pub opened_by : {C M : Type 0} (phase : C → Phase) (stands : M → Function → List (List Value) → Type 0) (made left : M → ℕ) (l : Layout) (s : Shape) (t : Timing) (rows : ℕ) (ms : List M) (cs : List C) (net : NetState C M) →
-    IsMadeOf l s t rows ms cs net → IsFresh phase stands made left net → (inputs : List (List Value)) (old new : FabricState) → KeepsPromises old new → OpensFabric old new (kinds_for l s) → Keeps phase stands made left inputs [] net new no_lists
-opened_by phase stands made left l s t rows ms cs net is fresh inputs old new keeps opens =
-    opened phase stands made left net fresh.stands_for old new keeps (subst (λ ks. OpensFabric old new ks) (λ i. kinds_for (sym is.layout i) (sym is.shape i)) opens) inputs
+pub opened_by : {C M : Type 0} (ctl : Controls C) (mch : Machines M) (l : Layout) (s : Shape) (t : Timing) (rows : ℕ) (ms : List M) (cs : List C) (net : TimedBenchState C M) →
+    IsMadeOf l s t rows ms cs net → IsFresh ctl mch net → (inputs : List (List Value)) (old new : FabricState) → KeepsPromises old new → OpensFabric old new (kinds_for l s) → ReplayKeeps ctl mch inputs [] net new no_lists
+opened_by ctl mch l s t rows ms cs net is fresh inputs old new keeps opens =
+    opened ctl mch net fresh.stands_for old new keeps (subst (λ ks. OpensFabric old new ks) (λ i. kinds_for (sym is.layout i) (sym is.shape i)) opens) inputs

@@ -2,15 +2,15 @@
 use Rattle.std.proofs.Common.{◌≡◌, ℕ, ◌<◌, List, length}
 use Rattle.lt_base.specs.declared.value.Value.{Value}
 use Rattle.lt_arch.specs.Readers.{node_count}
-use Rattle.lt_node.specs.Payloads.{row_at}
-use Rattle.lt_plant.proofs.OutputFronts.{output_front, same_rows_of as same_rows_at}
-use Rattle.lt_net.specs.Net.{NetState, Lists, plant_of, state_of}
+use Rattle.lt_net_node.specs.Payloads.{row_at}
+use Rattle.lt_net_bench.proofs.OutputFronts.{output_front, same_rows_of as same_rows_at}
+use Rattle.lt_net.specs.Net.{TimedBenchState, Lists, bench_of, reached_state}
 use Rattle.lt_net.specs.Chain.{SameInputs, CellsAreFronts}
 use Rattle.lt_net.proofs.Activations.{ahead_of}
 
-pub same_rows_of : {C M : Type 0} (net : NetState C M) (ls : Lists) (rows : List (List Value)) → SameInputs net ls rows → (n k : ℕ) → n < node_count net.shape → k < length (ls.inputs n) → row_at (ls.inputs n) k ≡ row_at rows k
+pub same_rows_of : {C M : Type 0} (net : TimedBenchState C M) (ls : Lists) (rows : List (List Value)) → SameInputs net ls rows → (n k : ℕ) → n < node_count net.shape → k < length (ls.inputs n) → row_at (ls.inputs n) k ≡ row_at rows k
 same_rows_of net ls rows inputs = same_rows_at net.shape ls.inputs rows inputs
 
 pub cells_are_fronts : CellsAreFronts
-cells_are_fronts C M phase stands made left net ls f placed channels one_place s owns rows fit inputs =
-    output_front phase stands made left (plant_of net) (state_of net ls) ls.inputs ls.got f placed channels (ahead_of net.shape (state_of net ls) (one_place ls.events s.timely s.clean)) s.plant owns rows fit inputs
+cells_are_fronts C M ctl mch net ls f placed channels one_place s owns rows fit inputs =
+    output_front ctl mch (bench_of net) (reached_state net ls) ls.inputs ls.got f placed channels (ahead_of net.shape (reached_state net ls) (one_place ls.events s.timely s.clean)) s.bench owns rows fit inputs

@@ -8,12 +8,12 @@ use Rattle.lt_base.specs.declared.value.Value.{Value}
 use Rattle.lt_arch.specs.Readers.{chan_count, from_of, to_of, carries_data}
 use Rattle.lt_io.specs.declared.message.Message.{Message}
 use Rattle.lt_io.specs.FabricState.{FabricState}
-use Rattle.lt_net.specs.Net.{NetState, Lists}
+use Rattle.lt_net.specs.Net.{TimedBenchState, Lists}
 use Rattle.lt_net.specs.Owns.{OwnPayload, Owns, OwnsTransit}
-use Rattle.lt_plant.specs.Standing.{HasOwnValues}
-use Rattle.lt_plant.proofs.OwnValues.{own_stays as values_stay}
+use Rattle.lt_net_bench.specs.Standing.{HasOwnValues}
+use Rattle.lt_net_bench.proofs.OwnValues.{own_stays as values_stay}
 
-module _ {C M : Type 0} (net : NetState C M) (ls next : Lists) (got : (c : ℕ) → next.got c ≡ ls.got c) (more : ℕ → List (List Value)) (inputs : (n : ℕ) → next.inputs n ≡ ls.inputs n ++ more n) where
+module _ {C M : Type 0} (net : TimedBenchState C M) (ls next : Lists) (got : (c : ℕ) → next.got c ≡ ls.got c) (more : ℕ → List (List Value)) (inputs : (n : ℕ) → next.inputs n ≡ ls.inputs n ++ more n) where
   got_is : next.got ≡ ls.got
   got_is = λ i c. got c i
 

@@ -4,11 +4,11 @@ use Rattle.std.specs.Prelude.{slice_index_or}
 use Rattle.lt_arch.specs.Times.{Times}
 use Rattle.lt_io.specs.declared.message.Message.{Message}
 use Rattle.lt_io.specs.FabricState.{FabricState}
-use Rattle.lt_wiring.specs.Ports.{numbers}
+use Rattle.lt_link.specs.Ports.{numbers}
 use Rattle.lt_net.specs.Sends.{SendsUpTo}
 use Rattle.lt_net.proofs.SendLoop.{up_to_none, up_to_skip}
 use Rattle.lt_net.proofs.SendCosts.{CostsUpTo, costs_none, costs_skip}
-use Rattle.lt_wiring.proofs.Listed.{from_start, onward, here, at_end}
+use Rattle.lt_link.proofs.Listed.{from_start, onward, here, at_end}
 
 -- The channels of a node send.
 module _ (on : ℕ → Bool) (n : ℕ) (xs : List ℕ) (is : xs ≡ numbers on n) (message : ℕ → Message) (at : ℕ) (old : FabricState) (w : Times) (places before : ℕ) where

@@ -7,11 +7,11 @@ use Rattle.lt_arch.specs.declared.event.Event.{Event}
 use Rattle.lt_arch.specs.declared.event.Event.TheVariants.{Act, Del, End}
 use Rattle.lt_arch.specs.Readers.{chan_count}
 use Rattle.lt_arch.specs.Step.{is_execute}
-use Rattle.lt_net.specs.Net.{NetState, Lists}
+use Rattle.lt_net.specs.Net.{TimedBenchState, Lists}
 use Rattle.lt_net.specs.Event.{SameStatic, deed_by, sends_by}
-use Rattle.lt_net.specs.Sends.{how_many}
+use Rattle.lt_base.specs.Truths.{how_many}
 use Rattle.lt_net.specs.Ticks.{change_cost, size_at, work_by, cost_by, event_cost}
-use Rattle.lt_plant.proofs.FedRows.{map_entry}
+use Rattle.lt_net_bench.proofs.FedRows.{map_entry}
 
 at_most_all : (p : ℕ → Bool) (n : ℕ) → how_many p n ≤ n
 at_most_all p zero = omega arith
@@ -26,7 +26,7 @@ map_there f [] n x h = absurd (cc)
 map_there f (y ∷ xs) zero x h = let e : y ≡ x = cc in ap (λ z. Some (f z)) e
 map_there f (y ∷ xs) (suc n) x h = map_there f xs n x h
 
-module _ {C M : Type 0} (size : M → ℕ) (start net : NetState C M) (fixed : SameStatic start net) (sizes : map size net.machines ≡ map size start.machines)
+module _ {C M : Type 0} (size : M → ℕ) (start net : TimedBenchState C M) (fixed : SameStatic start net) (sizes : map size net.machines ≡ map size start.machines)
     (d most : ℕ) (all : All (λ m. size m ≤ most) start.machines) where
   machine_most : (n : ℕ) (o : Option M) → slice_get net.machines n ≡ o → size_at size o ≤ most
   machine_most n None h = omega arith
@@ -63,10 +63,3 @@ module _ {C M : Type 0} (size : M → ℕ) (start net : NetState C M) (fixed : S
 
       sums : (a x z c : ℕ) → c ≤ x → z ≡ a + x → mid ≤ before + a → new ≤ mid + c → new ≤ before + z
       sums a x z c l m h k = omega (arith, l, m, h, k)
-
--- a front of the events costs no more than all
-pub pays_all : (before now i n cost : ℕ) → i ≤ n → now ≤ before + i * cost → now ≤ before + n * cost
-pays_all before now i n cost le h = sums (i * cost) (n * cost) (mul-le-mul_right cost le) h
-  where
-    sums : (x y : ℕ) → x ≤ y → now ≤ before + x → now ≤ before + y
-    sums x y k l = omega (arith, k, l)

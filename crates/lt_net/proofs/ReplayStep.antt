@@ -13,24 +13,26 @@ use Rattle.lt_arch.specs.State.{State, NodeState, Phase, Wait, Ready, First, Sen
 use Rattle.lt_arch.specs.Readers.{node_count, chan_count, to_of, from_of}
 use Rattle.lt_arch.specs.Deeds.{deed_at, deed_of, more, all_in, any_in, all_ack}
 use Rattle.lt_arch.specs.Schedule.{after_all, OnePlace}
-use Rattle.lt_plant.proofs.Bits.{leb-le}
+use Rattle.lt_net_bench.proofs.Bits.{leb-le}
 use Rattle.lt_io.specs.declared.message.Message.{Message}
 use Rattle.lt_place.specs.Layout.{crossing_of}
 use Rattle.lt_io.specs.FabricState.{FabricState, KeepsFabric, Delivers, SameLists}
-use Rattle.lt_node.specs.Payloads.{row_at, channel_between}
-use Rattle.lt_net.specs.Net.{NetState, Lists, state_of}
-use Rattle.lt_net.specs.Stands.{Stands}
+use Rattle.lt_net_node.specs.Payloads.{row_at, channel_between}
+use Rattle.lt_net.specs.Net.{TimedBenchState, Lists, reached_state}
+use Rattle.lt_net.specs.Stands.{NetStands}
 use Rattle.lt_net.specs.Owns.{OwnPayload, Owns, OwnsTransit, Enough}
-use Rattle.lt_net.specs.Event.{Holds, HeldBy, HasKinds, SameStatic, GoesOn, InputsGo, SendsOwn, sends_by}
-use Rattle.lt_node.specs.Layout.{IsLaidOut}
-use Rattle.lt_node.specs.Channels.{HasChannels}
+use Rattle.lt_net.specs.Event.{FabricHolds, HeldBy, HasKinds, SameStatic, ListsGoOn, InputsGo, SendsOwn, sends_by}
+use Rattle.lt_net_node.specs.Layout.{IsLaidOut}
+use Rattle.lt_net_node.specs.Channels.{HasChannels}
 use Rattle.lt_net.specs.Chain.{SameInputs}
-use Rattle.lt_net.specs.Replay.{Tells, Keeps, KeepsOn}
+use Rattle.lt_net.specs.Replay.{FabricTells, ReplayKeeps, KeepsOn}
 use Rattle.lt_net.proofs.OwnAfterDelivery.{owns_delivery, transit_delivery, own_payload_same}
 use Rattle.lt_net.proofs.OwnAfterActivation.{owns_longer, transit_longer, own_stays}
 use Rattle.lt_net.proofs.EndStands.{after_all-more, end-node}
 use Rattle.lt_net.proofs.SentMessages.{own_sent}
 use Rattle.lt_net.proofs.ToldLists.{tells_delivery, tells_act}
+use Rattle.lt_machine.specs.declared.machine.Machine.{Ghosts as Machines}
+use Rattle.lt_arch.specs.declared.controller.Controller.{Ghosts as Controls}
 
 held_append : (v : Option ℕ) (last : Bool) (ms : List Message) (m : Message) → HeldBy v last (ms ++ m ∷ []) → ms ≡ []
 held_append v last [] m h = refl
@@ -99,9 +101,9 @@ act_fronts n at inputs Execute (Some r) old new go h i f = elim (eqb_tells i n) 
   | inr e ↦ subst (Front inputs) (sym (go.elsewhere i e.1)) f
 ]
 
-module _ {C M : Type 0} (net next_net : NetState C M) (fixed : SameStatic net next_net) where
+module _ {C M : Type 0} (net next_net : TimedBenchState C M) (fixed : SameStatic net next_net) where
   -- what depends on the static part alone
-  pub static_of : (P : NetState C M → Type 0) → P (record next_net { layout = net.layout; shape = net.shape; timing = net.timing; rows = net.rows }) → P next_net
+  pub static_of : (P : TimedBenchState C M → Type 0) → P (record next_net { layout = net.layout; shape = net.shape; timing = net.timing; rows = net.rows }) → P next_net
   static_of P p =
       subst (λ l. P (record next_net { layout = l })) (sym fixed.layout)
       (subst (λ s. P (record next_net { layout = net.layout; shape = s })) (sym fixed.shape)
@@ -114,17 +116,17 @@ module _ {C M : Type 0} (net next_net : NetState C M) (fixed : SameStatic net ne
   pub transit_of : (ls : Lists) (fabric : FabricState) → OwnsTransit net ls fabric → OwnsTransit next_net ls fabric
   transit_of ls fabric o = static_of (λ z. OwnsTransit z ls fabric) (record { before = o.before; own = o.own })
 
-  pub tells_of : (ls : Lists) (fabric : FabricState) → Tells net ls fabric → Tells next_net ls fabric
-  tells_of ls fabric t = static_of (λ z. Tells z ls fabric) (record { delivered = t.delivered; total = t.total; sent_count = t.sent_count; sent_bits = t.sent_bits; sent_own = t.sent_own })
+  pub tells_of : (ls : Lists) (fabric : FabricState) → FabricTells net ls fabric → FabricTells next_net ls fabric
+  tells_of ls fabric t = static_of (λ z. FabricTells z ls fabric) (record { delivered = t.delivered; total = t.total; sent_count = t.sent_count; sent_bits = t.sent_bits; sent_own = t.sent_own })
 
   pub inputs_of : (ls : Lists) (inputs : List (List Value)) → SameInputs net ls inputs → SameInputs next_net ls inputs
   inputs_of ls inputs i = static_of (λ z. SameInputs z ls inputs) (record { fronts = i.fronts; within = i.within })
 
-module _ {C M : Type 0} (phase : C → Phase) (stands : M → Function → List (List Value) → Type 0) (made left : M → ℕ) (inputs : List (List Value)) (read : List Event)
-    (net next_net : NetState C M) (old new : FabricState) (ls next : Lists) (row : Option (List Value)) (f : Function) (placed : IsLaidOut f net.layout) (channels : HasChannels net.layout net.shape) (one_place : OnePlace net.shape net.timing net.rows)
-    (rows_is : net.rows ≡ length inputs) (k : Keeps phase stands made left inputs read net old ls) (fabric_keeps : KeepsFabric old new) (fixed : SameStatic net next_net)
-    (stands_next : Stands phase stands made left next_net next) (holds_next : Holds next_net new) (kinds_next : HasKinds next_net new) where
-  s : Stands phase stands made left net ls
+module _ {C M : Type 0} (ctl : Controls C) (mch : Machines M) (inputs : List (List Value)) (read : List Event)
+    (net next_net : TimedBenchState C M) (old new : FabricState) (ls next : Lists) (row : Option (List Value)) (f : Function) (placed : IsLaidOut f net.layout) (channels : HasChannels net.layout net.shape) (one_place : OnePlace net.shape net.timing net.rows)
+    (rows_is : net.rows ≡ length inputs) (k : ReplayKeeps ctl mch inputs read net old ls) (fabric_keeps : KeepsFabric old new) (fixed : SameStatic net next_net)
+    (stands_next : NetStands ctl mch next_net next) (holds_next : FabricHolds next_net new) (kinds_next : HasKinds next_net new) where
+  s : NetStands ctl mch net ls
   s = k.stands_for
 
   ends : (c : ℕ) → c < chan_count net.shape → from_of net.shape c < node_count net.shape
@@ -137,9 +139,9 @@ module _ {C M : Type 0} (phase : C → Phase) (stands : M → Function → List 
   was_told t = subst IsTrue fabric_keeps.told t
 
   module _ (n at : ℕ) (b : n < node_count net.shape) (row_is : (r : List Value) → row ≡ Some r → length (ls.inputs n) < net.rows → r ≡ row_at inputs (length (ls.inputs n)))
-      (goes : GoesOn net ls next (Act n at) row []) (sends : SendsOwn net ls next (Act n at) old new) where
+      (goes : ListsGoOn net ls next (Act n at) row []) (sends : SendsOwn net ls next (Act n at) old new) where
     extra : (more : ℕ → List (List Value)) × ((i : ℕ) → next.inputs i ≡ ls.inputs i ++ more i)
-    extra = act_more n at (deed_at net.shape net.rows (state_of net ls) n) row ls.inputs next.inputs goes.inputs
+    extra = act_more n at (deed_at net.shape net.rows (reached_state net ls) n) row ls.inputs next.inputs goes.inputs
 
     longer : (i : ℕ) → length (ls.inputs i) ≤ length (next.inputs i)
     longer i = let e = ap length (extra.1 i) in let m = length-append (ls.inputs i) (extra.0 i) in omega (arith, e, m)
@@ -148,12 +150,12 @@ module _ {C M : Type 0} (phase : C → Phase) (stands : M → Function → List 
     empty c h on = held_append _ _ (old.transit c) (sends.message c) (subst (λ ms. HeldBy (slice_index_or next_net.watch.sends c None) (slice_index_or next_net.inboxes c Rattle.lt_link.specs.Inbox.no_inbox).bit ms) (sends.sent c h on) (holds_next.transit c (subst (λ z. c < chan_count z) (sym fixed.shape) h)))
 
     fronts : (i : ℕ) → i < node_count net.shape → Front inputs (next.inputs i)
-    fronts i ib = act_fronts n at inputs (deed_at net.shape net.rows (state_of net ls) n) row ls.inputs next.inputs goes.inputs (λ d r is.
-        let left_over : executed_of (state_of net ls) n < net.rows = leb-le _ _ (deed_more ((state_of net ls).node n).phase (all_in net.shape (state_of net ls) n) (any_in net.shape (state_of net ls) n) (all_ack net.shape (state_of net ls) n) (more net.rows (state_of net ls) n) d) in
-        let lt : length (ls.inputs n) < net.rows = let e = s.plant.rows n b in omega (arith, e, left_over) in
+    fronts i ib = act_fronts n at inputs (deed_at net.shape net.rows (reached_state net ls) n) row ls.inputs next.inputs goes.inputs (λ d r is.
+        let left_over : executed_of (reached_state net ls) n < net.rows = leb-le _ _ (deed_more ((reached_state net ls).node n).phase (all_in net.shape (reached_state net ls) n) (any_in net.shape (reached_state net ls) n) (all_ack net.shape (reached_state net ls) n) (more net.rows (reached_state net ls) n) d) in
+        let lt : length (ls.inputs n) < net.rows = let e = s.bench.rows n b in omega (arith, e, left_over) in
         (row_is r is lt, omega (arith, lt, rows_is))) i (k.same_inputs.fronts i ib, k.same_inputs.within i ib)
 
-    pub keeps_act : Keeps phase stands made left inputs (read ++ Act n at ∷ []) next_net new next
+    pub keeps_act : ReplayKeeps ctl mch inputs (read ++ Act n at ∷ []) next_net new next
     keeps_act = record {
       stands_for = stands_next;
       events = goes.events ∙ ap (λ es. es ++ Act n at ∷ []) k.events;
@@ -161,8 +163,8 @@ module _ {C M : Type 0} (phase : C → Phase) (stands : M → Function → List 
       holds = holds_next;
       kinds = kinds_next;
       owns = λ t. owns_of net next_net fixed next (owns_longer net ls next goes.got extra.0 extra.1 (k.owns (was_faithful t)));
-      owns_transit = λ t. transit_of net next_net fixed next new (transit_longer net ls next goes.got extra.0 extra.1 old new (k.owns_transit (was_faithful t)) (own_sent phase stands made left net ls s old k.holds n at next new b longer sends));
-      tells = λ t. tells_of net next_net fixed next new (tells_act phase stands made left net ls next (Act n at) s old new k.holds (k.tells (was_told t)) goes.events n at refl b sends goes.got (was_told t) ends empty
+      owns_transit = λ t. transit_of net next_net fixed next new (transit_longer net ls next goes.got extra.0 extra.1 old new (k.owns_transit (was_faithful t)) (own_sent ctl mch net ls s old k.holds n at next new b longer sends));
+      tells = λ t. tells_of net next_net fixed next new (tells_act ctl mch net ls next (Act n at) s old new k.holds (k.tells (was_told t)) goes.events n at refl b sends goes.got (was_told t) ends empty
           (λ c j p h own. own_stays net ls next goes.got extra.0 extra.1 (from_of net.shape c) (to_of net.shape c) j p h own));
     }
 
@@ -171,9 +173,9 @@ module _ {C M : Type 0} (phase : C → Phase) (stands : M → Function → List 
       let j = channel_between net.shape (crossing_of net.layout c).from (crossing_of net.layout c).to in
       let there = channels.there c h in
       let low = (one_place ls.events s.timely s.clean).data_low j there (channels.carries c h) in
-      let got = s.plant.messages j there in
+      let got = s.bench.messages j there in
       let to = channels.to c h in
-      let executed = s.plant.rows (to_of net.shape j) (omega (arith, to, channels.nodes, placed.receivers c h)) in
+      let executed = s.bench.rows (to_of net.shape j) (omega (arith, to, channels.nodes, placed.receivers c h)) in
       let same : length (ls.inputs (to_of net.shape j)) ≡ length (ls.inputs (crossing_of net.layout c).to) = ap (λ i. length (ls.inputs i)) to in
       omega (arith, low, got, executed, same)
 
@@ -183,8 +185,8 @@ module _ {C M : Type 0} (phase : C → Phase) (stands : M → Function → List 
     within = λ i ib. subst (λ xs. length xs ≤ length inputs) (sym (same i)) (k.same_inputs.within i ib);
   }
 
-  module _ (ch at : ℕ) (cb : ch < chan_count net.shape) (payload : List Value) (goes : GoesOn net ls next (Del ch at) row payload) (m : Message) (is : m.payload ≡ payload) (delivers : Delivers old new ch m) where
-    pub keeps_del : Keeps phase stands made left inputs (read ++ Del ch at ∷ []) next_net new next
+  module _ (ch at : ℕ) (cb : ch < chan_count net.shape) (payload : List Value) (goes : ListsGoOn net ls next (Del ch at) row payload) (m : Message) (is : m.payload ≡ payload) (delivers : Delivers old new ch m) where
+    pub keeps_del : ReplayKeeps ctl mch inputs (read ++ Del ch at ∷ []) next_net new next
     keeps_del = record {
       stands_for = stands_next;
       events = goes.events ∙ ap (λ es. es ++ Del ch at ∷ []) k.events;
@@ -193,11 +195,11 @@ module _ {C M : Type 0} (phase : C → Phase) (stands : M → Function → List 
       kinds = kinds_next;
       owns = λ t. owns_of net next_net fixed next (owns_delivery net ls next f placed enough channels.ends ch payload goes.got goes.inputs old new m (was_faithful t) delivers (sym is) (k.owns (was_faithful t)) (k.owns_transit (was_faithful t)));
       owns_transit = λ t. transit_of net next_net fixed next new (transit_delivery net ls next f placed enough channels.ends ch payload goes.got goes.inputs old new m (was_faithful t) delivers (sym is) (k.owns (was_faithful t)) (k.owns_transit (was_faithful t)));
-      tells = λ t. tells_of net next_net fixed next new (tells_delivery phase stands made left net ls next (Del ch at) s old new k.holds (k.tells (was_told t)) goes.events ch at refl payload goes.got m is delivers (was_told t) ends
+      tells = λ t. tells_of net next_net fixed next new (tells_delivery ctl mch net ls next (Del ch at) s old new k.holds (k.tells (was_told t)) goes.events ch at refl payload goes.got m is delivers (was_told t) ends
           (λ c j p h lt own. own_payload_same net ls next f placed enough channels.ends ch payload goes.got goes.inputs (from_of net.shape c) (to_of net.shape c) j p (channels.ends c h) lt own) cb);
     }
 
-  module _ (at : ℕ) (payload : List Value) (goes : GoesOn net ls next (End at) row payload) (same : SameLists old new) where
+  module _ (at : ℕ) (payload : List Value) (goes : ListsGoOn net ls next (End at) row payload) (same : SameLists old new) where
     none : (xs : List (List Value)) → xs ≡ xs ++ []
     none [] = refl
     none (x ∷ xs) = ap (λ r. x ∷ r) (none xs)
@@ -205,13 +207,13 @@ module _ {C M : Type 0} (phase : C → Phase) (stands : M → Function → List 
     nothing_more : (i : ℕ) → next.inputs i ≡ ls.inputs i ++ []
     nothing_more i = goes.inputs i ∙ none (ls.inputs i)
 
-    node_same : (i : ℕ) → (state_of net next).node i ≡ (state_of net ls).node i
-    node_same i = ap (λ (z : State). z.node i) (ap (after_all net.shape net.timing net.rows (start net.timing.protocol)) goes.events ∙ after_all-more net.shape net.timing net.rows (start net.timing.protocol) ls.events (End at)) ∙ end-node net.shape net.timing net.rows (state_of net ls) at i
+    node_same : (i : ℕ) → (reached_state net next).node i ≡ (reached_state net ls).node i
+    node_same i = ap (λ (z : State). z.node i) (ap (after_all net.shape net.timing net.rows (start net.timing.protocol)) goes.events ∙ after_all-more net.shape net.timing net.rows (start net.timing.protocol) ls.events (End at)) ∙ end-node net.shape net.timing net.rows (reached_state net ls) at i
 
     low : (c x u : ℕ) (j : ℕ) → length (old.sent c) ≡ x - u → length (ls.inputs (from_of net.shape c)) ≡ x → j < length (old.sent c) → j < length (ls.inputs (from_of net.shape c))
     low c x u j a b h = omega (arith, a, b, h)
 
-    tells_end : IsTrue old.told → Tells net ls old → Tells net next new
+    tells_end : IsTrue old.told → FabricTells net ls old → FabricTells net next new
     tells_end told t = record {
       delivered = λ c h. ap (map (λ (m : Message). m.payload)) (same.delivered told c) ∙ t.delivered c h ∙ sym (goes.got c);
       total = λ c h. ap length (same.sent told c) ∙ t.total c h ∙ (λ i. length (sym (goes.got c) i) + length (sym (same.transit c) i));
@@ -221,10 +223,10 @@ module _ {C M : Type 0} (phase : C → Phase) (stands : M → Function → List 
           let jb' = subst (λ ms. j < length ms) (same.sent told c) jb in
           subst (λ ms. OwnPayload net.layout net.shape next (from_of net.shape c) (to_of net.shape c) j (slice_index_or {A = Message} ms j (record { payload = []; bit = false })).payload) (sym (same.sent told c))
           (own_stays net ls next goes.got (λ i. []) nothing_more (from_of net.shape c) (to_of net.shape c) j _
-          (low c (((state_of net ls).node (from_of net.shape c)).executed) (unsent ((state_of net ls).node (from_of net.shape c)).phase) j (t.sent_count c h carries) (s.plant.rows (from_of net.shape c) (ends c h)) jb') (t.sent_own c j h carries jb'));
+          (low c (((reached_state net ls).node (from_of net.shape c)).executed) (unsent ((reached_state net ls).node (from_of net.shape c)).phase) j (t.sent_count c h carries) (s.bench.rows (from_of net.shape c) (ends c h)) jb') (t.sent_own c j h carries jb'));
     }
 
-    pub keeps_end : Keeps phase stands made left inputs (read ++ End at ∷ []) next_net new next
+    pub keeps_end : ReplayKeeps ctl mch inputs (read ++ End at ∷ []) next_net new next
     keeps_end = record {
       stands_for = stands_next;
       events = goes.events ∙ ap (λ es. es ++ End at ∷ []) k.events;
@@ -237,10 +239,10 @@ module _ {C M : Type 0} (phase : C → Phase) (stands : M → Function → List 
     }
 
 pub keeps_on : KeepsOn
-keeps_on C M phase stands made left inputs read net next_net old new ls next (Act n at) row payload f placed channels one_place rows_is k there row_is goes carried fabric_keeps st holds kinds fixed =
-    keeps_act phase stands made left inputs read net next_net old new ls next row f placed channels one_place rows_is k fabric_keeps fixed st holds kinds n at there (λ r is lt. row_is n at r refl is lt)
+keeps_on C M ctl mch inputs read net next_net old new ls next (Act n at) row payload f placed channels one_place rows_is k there row_is goes carried fabric_keeps st holds kinds fixed =
+    keeps_act ctl mch inputs read net next_net old new ls next row f placed channels one_place rows_is k fabric_keeps fixed st holds kinds n at there (λ r is lt. row_is n at r refl is lt)
     (record { events = goes.events; inputs = goes.inputs; got = goes.got }) carried
-keeps_on C M phase stands made left inputs read net next_net old new ls next (Del ch at) row payload f placed channels one_place rows_is k there row_is goes carried fabric_keeps st holds kinds fixed =
-    keeps_del phase stands made left inputs read net next_net old new ls next row f placed channels one_place rows_is k fabric_keeps fixed st holds kinds ch at there payload goes (carried.0) (carried.1) (carried.2)
-keeps_on C M phase stands made left inputs read net next_net old new ls next (End at) row payload f placed channels one_place rows_is k there row_is goes carried fabric_keeps st holds kinds fixed =
-    keeps_end phase stands made left inputs read net next_net old new ls next row f placed channels one_place rows_is k fabric_keeps fixed st holds kinds at payload goes carried
+keeps_on C M ctl mch inputs read net next_net old new ls next (Del ch at) row payload f placed channels one_place rows_is k there row_is goes carried fabric_keeps st holds kinds fixed =
+    keeps_del ctl mch inputs read net next_net old new ls next row f placed channels one_place rows_is k fabric_keeps fixed st holds kinds ch at there payload goes (carried.0) (carried.1) (carried.2)
+keeps_on C M ctl mch inputs read net next_net old new ls next (End at) row payload f placed channels one_place rows_is k there row_is goes carried fabric_keeps st holds kinds fixed =
+    keeps_end ctl mch inputs read net next_net old new ls next row f placed channels one_place rows_is k fabric_keeps fixed st holds kinds at payload goes carried

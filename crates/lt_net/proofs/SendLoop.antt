@@ -6,8 +6,8 @@ use Rattle.std.proofs.lemmas.List.{get_or-set_same, get_or-set_other}
 use Rattle.lt_arch.specs.Times.{Times}
 use Rattle.lt_io.specs.declared.message.Message.{Message}
 use Rattle.lt_io.specs.FabricState.{FabricState, Grows, Sends, KeepsFabric}
-use Rattle.lt_net.specs.Sends.{SendsOn, with_message, SendsUpTo}
-use Rattle.lt_node.proofs.Below.{lt_none, lt_here, lt_self, lt_other}
+use Rattle.lt_net.specs.Sends.{SendsOn, messages_with, SendsUpTo}
+use Rattle.lt_net_node.proofs.Below.{lt_none, lt_here, lt_self, lt_other}
 
 pub keeps_refl : (s : FabricState) → KeepsFabric s s
 keeps_refl s = record { faithful = refl; sound = refl; told = refl; prompt = λ t. t; opens = refl; kinds = refl }
@@ -17,28 +17,28 @@ keeps_trans a b c x y = record { faithful = y.faithful ∙ x.faithful; sound = y
 
 pub sends_none : (p : ℕ → Bool) (m : ℕ → Message) (s : FabricState) → SendsOn (λ c. nat_lt c 0 && p c) m s s
 sends_none p m s =
-    let same : (ms : ℕ → List Message) (c : ℕ) → ms c ≡ with_message (nat_lt c 0 && p c) (ms c) (m c) =
-    λ ms c. ap (λ b. with_message (b && p c) (ms c) (m c)) (sym (lt_none c)) in
+    let same : (ms : ℕ → List Message) (c : ℕ) → ms c ≡ messages_with (nat_lt c 0 && p c) (ms c) (m c) =
+    λ ms c. ap (λ b. messages_with (b && p c) (ms c) (m c)) (sym (lt_none c)) in
     record { kinds = refl; told = refl; transit = same s.transit; sent = λ _. same s.sent; delivered = λ _ c. refl }
 
 module _ (p : ℕ → Bool) (m : ℕ → Message) (i : ℕ) where
-  grown : (old mid new : ℕ → List Message) → ((c : ℕ) → mid c ≡ with_message (nat_lt c i && p c) (old c) (m c)) → p i ≡ true → Grows mid new i (m i) → (c : ℕ) → new c ≡ with_message (nat_lt c (i + 1) && p c) (old c) (m c)
+  grown : (old mid new : ℕ → List Message) → ((c : ℕ) → mid c ≡ messages_with (nat_lt c i && p c) (old c) (m c)) → p i ≡ true → Grows mid new i (m i) → (c : ℕ) → new c ≡ messages_with (nat_lt c (i + 1) && p c) (old c) (m c)
   grown old mid new is yes_here grows c = elim (eqb_tells c i) [
     | inl h ↦
-        let before : mid i ≡ old i = is i ∙ ap (λ b. with_message (b && p i) (old i) (m i)) (lt_self i) in
-        let here : new i ≡ with_message (nat_lt i (i + 1) && p i) (old i) (m i) =
-        grows.there ∙ ap (λ ms. ms ++ m i ∷ []) before ∙ sym (ap (λ b. with_message (b && p i) (old i) (m i)) (lt_here i) ∙ ap (λ b. with_message b (old i) (m i)) yes_here) in
-        subst (λ c. new c ≡ with_message (nat_lt c (i + 1) && p c) (old c) (m c)) (sym h.1) here
-    | inr h ↦ grows.elsewhere c h.1 ∙ is c ∙ ap (λ b. with_message (b && p c) (old c) (m c)) (sym (lt_other c i h.1))
+        let before : mid i ≡ old i = is i ∙ ap (λ b. messages_with (b && p i) (old i) (m i)) (lt_self i) in
+        let here : new i ≡ messages_with (nat_lt i (i + 1) && p i) (old i) (m i) =
+        grows.there ∙ ap (λ ms. ms ++ m i ∷ []) before ∙ sym (ap (λ b. messages_with (b && p i) (old i) (m i)) (lt_here i) ∙ ap (λ b. messages_with b (old i) (m i)) yes_here) in
+        subst (λ c. new c ≡ messages_with (nat_lt c (i + 1) && p c) (old c) (m c)) (sym h.1) here
+    | inr h ↦ grows.elsewhere c h.1 ∙ is c ∙ ap (λ b. messages_with (b && p c) (old c) (m c)) (sym (lt_other c i h.1))
   ]
 
-  kept : (old mid : ℕ → List Message) → ((c : ℕ) → mid c ≡ with_message (nat_lt c i && p c) (old c) (m c)) → p i ≡ false → (c : ℕ) → mid c ≡ with_message (nat_lt c (i + 1) && p c) (old c) (m c)
+  kept : (old mid : ℕ → List Message) → ((c : ℕ) → mid c ≡ messages_with (nat_lt c i && p c) (old c) (m c)) → p i ≡ false → (c : ℕ) → mid c ≡ messages_with (nat_lt c (i + 1) && p c) (old c) (m c)
   kept old mid is no_here c = elim (eqb_tells c i) [
     | inl h ↦
-        let here : mid i ≡ with_message (nat_lt i (i + 1) && p i) (old i) (m i) =
-        is i ∙ ap (λ b. with_message (b && p i) (old i) (m i)) (lt_self i) ∙ sym (ap (λ b. with_message (b && p i) (old i) (m i)) (lt_here i) ∙ ap (λ b. with_message b (old i) (m i)) no_here) in
-        subst (λ c. mid c ≡ with_message (nat_lt c (i + 1) && p c) (old c) (m c)) (sym h.1) here
-    | inr h ↦ is c ∙ ap (λ b. with_message (b && p c) (old c) (m c)) (sym (lt_other c i h.1))
+        let here : mid i ≡ messages_with (nat_lt i (i + 1) && p i) (old i) (m i) =
+        is i ∙ ap (λ b. messages_with (b && p i) (old i) (m i)) (lt_self i) ∙ sym (ap (λ b. messages_with (b && p i) (old i) (m i)) (lt_here i) ∙ ap (λ b. messages_with b (old i) (m i)) no_here) in
+        subst (λ c. mid c ≡ messages_with (nat_lt c (i + 1) && p c) (old c) (m c)) (sym h.1) here
+    | inr h ↦ is c ∙ ap (λ b. messages_with (b && p c) (old c) (m c)) (sym (lt_other c i h.1))
   ]
 
   pub sends_more : (old mid new : FabricState) → SendsOn (λ c. nat_lt c i && p c) m old mid → p i ≡ true → Sends mid new i (m i) → new.told ≡ mid.told → SendsOn (λ c. nat_lt c (i + 1) && p c) m old new

@@ -1,13 +1,13 @@
-// A plant after its last event.
+// A bench after its last event.
 ghost use Rattle.std.specs.Prelude.{◌≡◌};
 
-use crate::plant::Plant;
+use crate::bench::TimedBench;
 use lt_arch::Controller;
 use lt_machine::Machine;
+use lt_net_bench::Track;
 use lt_place::Layout;
-use lt_plant::Track;
 
-impl<C: Controller, M: Machine> Plant<C, M> {
+impl<C: Controller, M: Machine> TimedBench<C, M> {
     /// Its machines, the cells of its outputs, and its layout. The rest is dropped.
     pub fn into_ends(self) -> (Vec<M>, Vec<Track>, Layout)
         ensures machines { result.0.items ≡ self.machines }
@@ -15,6 +15,6 @@ impl<C: Controller, M: Machine> Plant<C, M> {
         ensures layout { result.2 ≡ self.layout }
     {
         drop((self.timing, self.watch));
-        self.bench.into_ends()
+        self.inner.into_ends()
     }
 }

@@ -1,4 +1,4 @@
-// A plant before the first event.
+// A bench before the first event.
 ghost use Rattle.std.specs.Prelude.{◌≡◌, ◌<◌, ◌+◌, ◌*◌, ◌^◌, IfOk};
 ghost use Rattle.lt_arch.specs.Readers.{node_count, chan_count};
 ghost use Rattle.lt_arch.specs.Schedule.{OnePlace};
@@ -7,20 +7,20 @@ ghost use Rattle.lt_arch.specs.State.{start};
 ghost use Rattle.lt_arch.specs.Times.{HasTimes};
 ghost use Rattle.lt_norm.specs.Flat.{Originated};
 ghost use Rattle.lt_place.specs.Layout.{IsPlaced};
-ghost use Rattle.lt_node.specs.Channels.{FitsLayout};
-ghost use Rattle.lt_plant.specs.Initial.{IsInitial};
-ghost use Rattle.lt_net.specs.Kept.{Kept, HasRoom};
-ghost use Rattle.lt_node.specs.Wakes.{AreConfigured};
-ghost use Rattle.lt_plant.specs.Starts.{AreReady, AreAtStart};
+ghost use Rattle.lt_net_node.specs.Channels.{FitsLayout};
+ghost use Rattle.lt_net_bench.specs.Initial.{IsInitial};
+ghost use Rattle.lt_net.specs.Kept.{Kept, NetHasRoom};
+ghost use Rattle.lt_net_node.specs.Wakes.{AreConfigured};
+ghost use Rattle.lt_net_bench.specs.Starts.{AreReady, ControllersAreAtStart};
 ghost use Rattle.lt_net.specs.Starts.{IsMadeOf, IsFresh};
 
-use crate::plant::Plant;
+use crate::bench::TimedBench;
 use lt_arch::{Controller, Shape, Timing, Watch};
 use lt_base::Memory;
 use lt_machine::Machine;
+use lt_net_bench::Bench;
+use lt_net_bench::initial::Initial;
 use lt_place::Layout;
-use lt_plant::Bench;
-use lt_plant::initial::Initial;
 use std::alloc::Global;
 
 // The watch, and what nodes and channels have.
@@ -42,7 +42,7 @@ fn at_start(
     Ok((watch, initial))
 }
 
-impl<C: Controller, M: Machine> Plant<C, M> {
+impl<C: Controller, M: Machine> TimedBench<C, M> {
     /// Nothing has happened. Room for all that an event needs is taken here.
     pub fn start(
         alloc: Global,
@@ -52,24 +52,24 @@ impl<C: Controller, M: Machine> Plant<C, M> {
         rows: u32,
         machines: Vec<M>,
         controllers: Vec<C>,
-    ) -> Result<Plant<C, M>, Memory>
+    ) -> Result<TimedBench<C, M>, Memory>
         requires placed { (f : Originated) × IsPlaced f layout }
         requires shape { FitsLayout layout timing.protocol shape }
         requires nodes { HaveSameNodes shape timing }
         requires numbered { 2 * (node_count shape + chan_count shape) < 2 ^ 32 }
         requires one_place { OnePlace shape timing rows }
-        requires machines { AreReady M.stands M.made M.left layout rows machines.items }
-        requires controllers { AreAtStart C.phase shape timing controllers.items }
-        requires configured { AreConfigured C.protocol C.send C.execute timing controllers.items }
+        requires machines { AreReady M.Machine layout rows machines.items }
+        requires controllers { ControllersAreAtStart C.Controller shape timing controllers.items }
+        requires configured { AreConfigured C.Controller timing controllers.items }
         ensures made { IfOk result (IsMadeOf layout shape timing rows machines.items controllers.items) }
-        ensures fresh { IfOk result (IsFresh C.phase M.stands M.made M.left) }
-        ensures kept { IfOk result (Kept C.phase M.stands M.made M.left) }
-        ensures room { IfOk result HasRoom }
-        ensures configured { IfOk result (λ plant. AreConfigured C.protocol C.send C.execute plant.timing plant.controllers) }
+        ensures fresh { IfOk result (IsFresh C.Controller M.Machine) }
+        ensures kept { IfOk result (Kept C.Controller M.Machine) }
+        ensures room { IfOk result NetHasRoom }
+        ensures configured { IfOk result (λ bench. AreConfigured C.Controller bench.timing bench.controllers) }
     {
         match at_start(alloc, &layout, &shape, &timing, rows) {
             Ok((watch, initial)) => {
-                let plant = Plant::assembled(
+                let bench = TimedBench::assemble(
                     layout,
                     shape,
                     timing,
@@ -79,7 +79,7 @@ impl<C: Controller, M: Machine> Plant<C, M> {
                     watch,
                     initial,
                 );
-                Ok(plant)
+                Ok(bench)
             }
             Err(memory) => {
                 drop((layout, shape, timing));
@@ -89,8 +89,8 @@ impl<C: Controller, M: Machine> Plant<C, M> {
         }
     }
 
-    // A plant of what nodes and channels have at the start.
-    fn assembled(
+    // A bench of what nodes and channels have at the start.
+    fn assemble(
         layout: Layout,
         shape: Shape,
         timing: Timing,
@@ -99,21 +99,21 @@ impl<C: Controller, M: Machine> Plant<C, M> {
         controllers: Vec<C>,
         watch: Watch,
         initial: Initial,
-    ) -> Plant<C, M>
+    ) -> TimedBench<C, M>
         requires placed { (f : Originated) × IsPlaced f layout }
         requires shape { FitsLayout layout timing.protocol shape }
         requires numbered { 2 * (node_count shape + chan_count shape) < 2 ^ 32 }
         requires one_place { OnePlace shape timing rows }
-        requires machines { AreReady M.stands M.made M.left layout rows machines.items }
-        requires controllers { AreAtStart C.phase shape timing controllers.items }
-        requires configured { AreConfigured C.protocol C.send C.execute timing controllers.items }
+        requires machines { AreReady M.Machine layout rows machines.items }
+        requires controllers { ControllersAreAtStart C.Controller shape timing controllers.items }
+        requires configured { AreConfigured C.Controller timing controllers.items }
         requires watch { HasTimes watch shape timing (start timing.protocol) }
         requires initial { IsInitial layout shape rows initial }
         ensures made { IsMadeOf layout shape timing rows machines.items controllers.items result }
-        ensures fresh { IsFresh C.phase M.stands M.made M.left result }
-        ensures kept { Kept C.phase M.stands M.made M.left result }
-        ensures room { HasRoom result }
-        ensures configured { AreConfigured C.protocol C.send C.execute result.timing result.controllers }
+        ensures fresh { IsFresh C.Controller M.Machine result }
+        ensures kept { Kept C.Controller M.Machine result }
+        ensures room { NetHasRoom result }
+        ensures configured { AreConfigured C.Controller result.timing result.controllers }
     {
         let Initial {
             executed,
@@ -137,8 +137,8 @@ impl<C: Controller, M: Machine> Plant<C, M> {
             values: space.values,
             outs: space.outs,
         };
-        Plant {
-            bench,
+        TimedBench {
+            inner: bench,
             timing,
             watch,
         }

@@ -7,7 +7,7 @@ use Rattle.lt_base.specs.Program.{Function}
 use Rattle.lt_base.specs.Meaning.{ClockPairs, clock_of, outer}
 use Rattle.lt_base.specs.Clocking.{WellFormed, Clocked}
 use Rattle.lt_norm.specs.Plain.{Simple}
-use Rattle.lt_norm.specs.Lift.{delays, lifted, Delay, fresh, right_delays, right_lifted, right_fresh, equations_fresh, Stand}
+use Rattle.lt_norm.specs.Lift.{delays, lifted, Delay, lifted_delays, right_delays, right_lifted, right_fresh, equations_fresh, Stand}
 use Rattle.lt_norm.specs.Flat.{Direct, FlatRight}
 use Rattle.lt_norm.proofs.Told.{stand_left, stand_right, stand_next}
 use Rattle.lt_norm.proofs.Stands.{right_length, Rows, rows_append}
@@ -54,28 +54,28 @@ pub record Inherited (At : ClockPairs → Expression → Type 0) : Type 0 where
   pub down : (ck : ClockPairs) (c : ℕ) (a b : Expression) → At ck (merged c a b) → At ((c, true) ∷ ck) a × At ((c, false) ∷ ck) b
   pub late : (ck : ClockPairs) (v : Value) (e : Expression) → At ck (delayed v e) → At ck e
 
-module _ (F : Function) (At : ClockPairs → Expression → Type 0) (inherited : Inherited At) (P : Delay → Type 0) (row : (ck : ClockPairs) (v : Value) (e : Expression) (n : ℕ) → At ck (delayed v e) → Stand F n (fresh n ck e) → P (ck, v, lifted n e)) where
-  pub each_row : (e : Expression) (n : ℕ) (ck : ClockPairs) → At ck e → Stand F n (fresh n ck e) → Rows P (fresh n ck e)
+module _ (F : Function) (At : ClockPairs → Expression → Type 0) (inherited : Inherited At) (P : Delay → Type 0) (row : (ck : ClockPairs) (v : Value) (e : Expression) (n : ℕ) → At ck (delayed v e) → Stand F n (lifted_delays n ck e) → P (ck, v, lifted n e)) where
+  pub each_row : (e : Expression) (n : ℕ) (ck : ClockPairs) → At ck e → Stand F n (lifted_delays n ck e) → Rows P (lifted_delays n ck e)
   each_row (literal v) n ck h s = tt
   each_row (variable x) n ck h s = tt
   each_row (unary o a) n ck h s = each_row a n ck (inherited.one o ck a h) s
   each_row (binary o a b) n ck h s =
       let k = inherited.two o ck a b h in
-      rows_append P (fresh n ck a) _ (each_row a n ck k.0 (stand_left F n (fresh n ck a) _ s)) (each_row b (n + delays a) ck k.1 (stand_next F n ck a _ s))
+      rows_append P (lifted_delays n ck a) _ (each_row a n ck k.0 (stand_left F n (lifted_delays n ck a) _ s)) (each_row b (n + delays a) ck k.1 (stand_next F n ck a _ s))
   each_row (imported o a b) n ck h s =
       let k = inherited.outside o ck a b h in
-      rows_append P (fresh n ck a) _ (each_row a n ck k.0 (stand_left F n (fresh n ck a) _ s)) (each_row b (n + delays a) ck k.1 (stand_next F n ck a _ s))
+      rows_append P (lifted_delays n ck a) _ (each_row a n ck k.0 (stand_left F n (lifted_delays n ck a) _ s)) (each_row b (n + delays a) ck k.1 (stand_next F n ck a _ s))
   each_row (choose c a b) n ck h s =
       let k = inherited.three ck c a b h in
-      let s' = stand_next F n ck c (fresh (n + delays c) ck a ++ fresh ((n + delays c) + delays a) ck b) s in
-      rows_append P (fresh n ck c) (fresh (n + delays c) ck a ++ fresh ((n + delays c) + delays a) ck b) (each_row c n ck k.0 (stand_left F n (fresh n ck c) (fresh (n + delays c) ck a ++ fresh ((n + delays c) + delays a) ck b) s)) (rows_append P (fresh (n + delays c) ck a) (fresh ((n + delays c) + delays a) ck b) (each_row a (n + delays c) ck k.1 (stand_left F (n + delays c) (fresh (n + delays c) ck a) (fresh ((n + delays c) + delays a) ck b) s')) (each_row b ((n + delays c) + delays a) ck k.2 (stand_next F (n + delays c) ck a (fresh ((n + delays c) + delays a) ck b) s')))
+      let s' = stand_next F n ck c (lifted_delays (n + delays c) ck a ++ lifted_delays ((n + delays c) + delays a) ck b) s in
+      rows_append P (lifted_delays n ck c) (lifted_delays (n + delays c) ck a ++ lifted_delays ((n + delays c) + delays a) ck b) (each_row c n ck k.0 (stand_left F n (lifted_delays n ck c) (lifted_delays (n + delays c) ck a ++ lifted_delays ((n + delays c) + delays a) ck b) s)) (rows_append P (lifted_delays (n + delays c) ck a) (lifted_delays ((n + delays c) + delays a) ck b) (each_row a (n + delays c) ck k.1 (stand_left F (n + delays c) (lifted_delays (n + delays c) ck a) (lifted_delays ((n + delays c) + delays a) ck b) s')) (each_row b ((n + delays c) + delays a) ck k.2 (stand_next F (n + delays c) ck a (lifted_delays ((n + delays c) + delays a) ck b) s')))
   each_row (sampled e c b) n ck h s = each_row e n (outer ck) (inherited.up ck e c b h) s
   each_row (merged c a b) n ck h s =
       let k = inherited.down ck c a b h in
-      rows_append P (fresh n ((c, true) ∷ ck) a) _ (each_row a n ((c, true) ∷ ck) k.0 (stand_left F n (fresh n ((c, true) ∷ ck) a) _ s)) (each_row b (n + delays a) ((c, false) ∷ ck) k.1 (stand_next F n ((c, true) ∷ ck) a _ s))
+      rows_append P (lifted_delays n ((c, true) ∷ ck) a) _ (each_row a n ((c, true) ∷ ck) k.0 (stand_left F n (lifted_delays n ((c, true) ∷ ck) a) _ s)) (each_row b (n + delays a) ((c, false) ∷ ck) k.1 (stand_next F n ((c, true) ∷ ck) a _ s))
   each_row (delayed v e) n ck h s =
-      let s' = stand_left F n (fresh n ck e) _ s in
-      rows_append P (fresh n ck e) _ (each_row e n ck (inherited.late ck v e h) s') (row ck v e n h s', tt)
+      let s' = stand_left F n (lifted_delays n ck e) _ s in
+      rows_append P (lifted_delays n ck e) _ (each_row e n ck (inherited.late ck v e h) s') (row ck v e n h s', tt)
   each_row (follow a b) n ck h s = tt
   each_row (arrow a b) n ck h s = tt
   each_row (call g args) n ck h s = tt
@@ -120,26 +120,26 @@ module _ (f : Function) (F : Function) (low : length f.decls ≤ length F.decls)
   well_more [] w = tt
   well_more ((c, b) ∷ ck) w = (omega (arith, w.0, low), kept c w.0 ∙ w.1, well_more ck w.2)
 
-  pub lifted_clocked : (e : Expression) (n : ℕ) (ck : ClockPairs) → Simple e → Clocked [] f.decls e ck → Stand F n (fresh n ck e) → Clocked [] F.decls (lifted n e) ck
+  pub lifted_clocked : (e : Expression) (n : ℕ) (ck : ClockPairs) → Simple e → Clocked [] f.decls e ck → Stand F n (lifted_delays n ck e) → Clocked [] F.decls (lifted n e) ck
   lifted_clocked (literal v) n ck z k s = tt
   lifted_clocked (variable x) n ck z k s = (omega (arith, k.0, low), kept x k.0 ∙ k.1)
   lifted_clocked (unary o a) n ck z k s = lifted_clocked a n ck z k s
   lifted_clocked (binary o a b) n ck z k s =
-      (lifted_clocked a n ck z.0 k.0 (stand_left F n (fresh n ck a) _ s), lifted_clocked b (n + delays a) ck z.1 k.1 (stand_next F n ck a _ s))
+      (lifted_clocked a n ck z.0 k.0 (stand_left F n (lifted_delays n ck a) _ s), lifted_clocked b (n + delays a) ck z.1 k.1 (stand_next F n ck a _ s))
   lifted_clocked (imported o a b) n ck z k s =
-      (lifted_clocked a n ck z.0 k.0 (stand_left F n (fresh n ck a) _ s), lifted_clocked b (n + delays a) ck z.1 k.1 (stand_next F n ck a _ s))
+      (lifted_clocked a n ck z.0 k.0 (stand_left F n (lifted_delays n ck a) _ s), lifted_clocked b (n + delays a) ck z.1 k.1 (stand_next F n ck a _ s))
   lifted_clocked (choose c a b) n ck z k s =
-      let s' = stand_next F n ck c (fresh (n + delays c) ck a ++ fresh ((n + delays c) + delays a) ck b) s in (
-        lifted_clocked c n ck z.0 k.0 (stand_left F n (fresh n ck c) (fresh (n + delays c) ck a ++ fresh ((n + delays c) + delays a) ck b) s),
-        lifted_clocked a (n + delays c) ck z.1 k.1 (stand_left F (n + delays c) (fresh (n + delays c) ck a) (fresh ((n + delays c) + delays a) ck b) s'),
-        lifted_clocked b ((n + delays c) + delays a) ck z.2 k.2 (stand_next F (n + delays c) ck a (fresh ((n + delays c) + delays a) ck b) s'),
+      let s' = stand_next F n ck c (lifted_delays (n + delays c) ck a ++ lifted_delays ((n + delays c) + delays a) ck b) s in (
+        lifted_clocked c n ck z.0 k.0 (stand_left F n (lifted_delays n ck c) (lifted_delays (n + delays c) ck a ++ lifted_delays ((n + delays c) + delays a) ck b) s),
+        lifted_clocked a (n + delays c) ck z.1 k.1 (stand_left F (n + delays c) (lifted_delays (n + delays c) ck a) (lifted_delays ((n + delays c) + delays a) ck b) s'),
+        lifted_clocked b ((n + delays c) + delays a) ck z.2 k.2 (stand_next F (n + delays c) ck a (lifted_delays ((n + delays c) + delays a) ck b) s'),
       )
   lifted_clocked (sampled e c b) n [] z k s = elim k [ ]
   lifted_clocked (sampled e c b) n ((d, a) ∷ ck) z k s = (k.0, k.1, (omega (arith, k.2.0, low), kept c k.2.0 ∙ k.2.1, lifted_clocked e n ck z k.2.2 s))
   lifted_clocked (merged c a b) n ck z k s = (
     omega (arith, k.0, low),
     kept c k.0 ∙ k.1,
-    lifted_clocked a n ((c, true) ∷ ck) z.0 k.2 (stand_left F n (fresh n ((c, true) ∷ ck) a) _ s),
+    lifted_clocked a n ((c, true) ∷ ck) z.0 k.2 (stand_left F n (lifted_delays n ((c, true) ∷ ck) a) _ s),
     lifted_clocked b (n + delays a) ((c, false) ∷ ck) z.1 k.3 (stand_next F n ((c, true) ∷ ck) a _ s),
   )
   lifted_clocked (delayed v e) n ck z k s = let r = stand_next F n ck e _ s in (r.0, r.1)

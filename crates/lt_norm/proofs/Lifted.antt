@@ -11,14 +11,14 @@ use Rattle.lt_base.specs.Value.{ty_of}
 use Rattle.lt_base.specs.Expression.{Expression, literal, variable, unary, binary, imported, choose, sampled, merged, delayed, follow, arrow, call}
 use Rattle.lt_base.specs.Program.{Function, GoodFunction, VarsBelow}
 use Rattle.lt_base.specs.Meaning.{ClockPairs, clock_of, right_of, outer}
-use Rattle.lt_base.specs.Equations.{lefts, inside, EquationsIn}
+use Rattle.lt_base.specs.Equations.{left_count, inside, EquationsIn}
 use Rattle.lt_base.specs.Typing.{ty_at, un_type, bin_type, imported_type, shared_type, both_types, under_bool, type_of, TypedFunction}
 use Rattle.lt_base.specs.Clocking.{WellFormed, Clocked, ClockedFunction}
 use Rattle.lt_base.specs.Dependence.{Causal}
 use Rattle.lt_base.specs.Order.{EachClockVar}
 use Rattle.lt_base.proofs.Lookups.{clock_right, left_below, all_found, found, lefts_cons, lefts_two, inside_none, inside_one, inside_most, more_good}
 use Rattle.lt_norm.specs.Plain.{Simple}
-use Rattle.lt_norm.specs.Lift.{lifted, Delay, fresh, right_delays, right_lifted, equations_lifted, new_decl, new_equations, lift_function, Stand}
+use Rattle.lt_norm.specs.Lift.{lifted, Delay, lifted_delays, right_delays, right_lifted, equations_lifted, new_decl, new_equations, lift_function, Stand}
 use Rattle.lt_norm.specs.Flat.{Direct, FlatRight, FlatFunction}
 use Rattle.lt_norm.proofs.Stands.{Rows, rows, lift_more, lift_stands, lift_clocks, lift_types, each_equation}
 use Rattle.lt_norm.proofs.Clocks.{lifted_direct, right_flat, Inherited, each_equation_row, well_more, lifted_clocked, right_clocked, AtClock, clock_inherited}
@@ -125,14 +125,14 @@ type_inherited ds = record {
 
 -- ---- counting
 
-lifted_lefts : (n : ℕ) (qs : List (ℕ × Expression)) (x : ℕ) → lefts x (equations_lifted n qs) ≡ lefts x qs
+lifted_lefts : (n : ℕ) (qs : List (ℕ × Expression)) (x : ℕ) → left_count x (equations_lifted n qs) ≡ left_count x qs
 lifted_lefts n [] x = refl
 lifted_lefts n (q ∷ qs) x =
     lefts_cons x (q.0, right_lifted n q.1) (equations_lifted (n + right_delays q.1) qs)
     ∙ ap (λ k. cond (nat_eq x q.0) 1 0 + k) (lifted_lefts (n + right_delays q.1) qs x)
     ∙ sym (lefts_cons x q qs)
 
-new_lefts : (n k : ℕ) (rs : List Delay) (x : ℕ) → length rs ≡ k → lefts x (new_equations n rs) ≡ inside n (n + k) x
+new_lefts : (n k : ℕ) (rs : List Delay) (x : ℕ) → length rs ≡ k → left_count x (new_equations n rs) ≡ inside n (n + k) x
 new_lefts n k [] x e = sym (inside_none n x) ∙ ap (λ m. inside n (n + m) x) e
 new_lefts n zero (r ∷ rs) x e = absurd (omega (arith, e))
 new_lefts n (suc k) (r ∷ rs) x e =
@@ -224,7 +224,7 @@ module _ (f : Function) (good : GoodFunction f) (typed : TypedFunction [] f) (cl
   abbrev RowTyped : Delay → Type 0
   RowTyped r = (type_of [] F.decls (delayed r.1 r.2) ≡ Some (ty_of r.1)) × EachClockVar IsBool r.0
 
-  row_typed : (ck : ClockPairs) (v : Value) (e : Expression) (n : ℕ) → AtType f.decls ck (delayed v e) → Stand F n (fresh n ck e) → RowTyped (ck, v, lifted n e)
+  row_typed : (ck : ClockPairs) (v : Value) (e : Expression) (n : ℕ) → AtType f.decls ck (delayed v e) → Stand F n (lifted_delays n ck e) → RowTyped (ck, v, lifted n e)
   row_typed ck v e n h s =
       let t = h.2 in
       (right_typed f F (lift_types f good) (delayed v e) n ck h.0 h.1 s t.0 t.1 ∙ sym (shared_left (ty_of v) (type_of [] f.decls e) t.0 t.1), h.3)
@@ -242,7 +242,7 @@ module _ (f : Function) (good : GoodFunction f) (typed : TypedFunction [] f) (cl
   }
 
   -- good
-  lift_lefts : (x : ℕ) → lefts x F.eqs ≡ inside f.n_in (length F.decls) x
+  lift_lefts : (x : ℕ) → left_count x F.eqs ≡ inside f.n_in (length F.decls) x
   lift_lefts x =
       let m = lift_more f good in
       let i = good.inputs in

@@ -13,7 +13,7 @@ use Rattle.lt_base.specs.Sizes.{cost}
 use Rattle.lt_base.proofs.Lookups.{all_found, left_below}
 use Rattle.lt_norm.specs.Plain.{plain, plain_equations}
 use Rattle.lt_norm.specs.Lift.{delays, right_delays, right_lifted, right_fresh, equations_delays, equations_lifted, equations_fresh, new_decl, new_equations, normal_form}
-use Rattle.lt_norm.specs.NormalForm.{right_places, new_origins}
+use Rattle.lt_norm.specs.NormalForm.{right_places, lifted_origins}
 use Rattle.lt_norm.specs.Walk.{LiftedTo, RightTo, AllLifted, is_delay}
 use Rattle.lt_norm.proofs.Stands.{right_length, equations_length}
 use Rattle.lt_norm.proofs.Lifted.{all_equations}
@@ -87,21 +87,21 @@ fresh_more ds n (p ∷ qs) q =
 plain_more : (ds : Decls) (qs : Eqs) (q : ℕ × Expression) → plain_equations ds (qs ++ q ∷ []) ≡ plain_equations ds qs ++ (q.0, plain ds q.1) ∷ []
 plain_more ds qs q = map-append (λ (q : ℕ × Expression). (q.0, plain ds q.1)) qs (q ∷ [])
 
-origins_more : (origin : List ℕ) (ds : Decls) (qs : Eqs) (q : ℕ × Expression) → new_origins origin ds (qs ++ q ∷ []) ≡ new_origins origin ds qs ++ replicate (length (right_places (clock_of ds q.0) q.1)) (get_or origin q.0 0)
+origins_more : (origin : List ℕ) (ds : Decls) (qs : Eqs) (q : ℕ × Expression) → lifted_origins origin ds (qs ++ q ∷ []) ≡ lifted_origins origin ds qs ++ replicate (length (right_places (clock_of ds q.0) q.1)) (get_or origin q.0 0)
 origins_more origin ds [] q = append-nil (replicate (length (right_places (clock_of ds q.0) q.1)) (get_or origin q.0 0))
 origins_more origin ds (p ∷ qs) q =
     let r = replicate (length (right_places (clock_of ds p.0) p.1)) (get_or origin p.0 0) in
     ap (λ l. r ++ l) (origins_more origin ds qs q)
-    ∙ sym (append_assoc r (new_origins origin ds qs) (replicate (length (right_places (clock_of ds q.0) q.1)) (get_or origin q.0 0)))
+    ∙ sym (append_assoc r (lifted_origins origin ds qs) (replicate (length (right_places (clock_of ds q.0) q.1)) (get_or origin q.0 0)))
 
 module _ (known : Decls) (origin : List ℕ) where
   abbrev N : ℕ
   N = length known
 
-  new_length : (rs : Eqs) → equations_delays (plain_equations known rs) ≡ length (new_origins origin known rs)
+  new_length : (rs : Eqs) → equations_delays (plain_equations known rs) ≡ length (lifted_origins origin known rs)
   new_length [] = refl
   new_length (q ∷ rs) =
-      let l = length-append (replicate (length (right_places (clock_of known q.0) q.1)) (get_or origin q.0 0)) (new_origins origin known rs) in
+      let l = length-append (replicate (length (right_places (clock_of known q.0) q.1)) (get_or origin q.0 0)) (lifted_origins origin known rs) in
       let m = length-replicate (length (right_places (clock_of known q.0) q.1)) (get_or origin q.0 0) in
       let k = right_count known q.1 (clock_of known q.0) in
       let h = new_length rs in
@@ -129,7 +129,7 @@ module _ (known : Decls) (origin : List ℕ) where
     -- a variable has one origin
     origins_length : length origin ≡ N → length origins ≡ length ds
     origins_length e =
-        let o = ap length a.origins_are ∙ length-append origin (new_origins origin known qs) in
+        let o = ap length a.origins_are ∙ length-append origin (lifted_origins origin known qs) in
         let h = new_length qs in
         omega (arith, o, h, all_length, e)
 
@@ -157,7 +157,7 @@ module _ (known : Decls) (origin : List ℕ) where
               ∙ (λ i. a.new_are i ++ new_equations ((all_length ∙ ap (λ k. N + k) (sym (equations_length known N before))) i) (right_fresh (length ds) ck q'.1))
               ∙ sym (new_equations-append N (length old) old (right_fresh (length ds) ck q'.1) refl)
               ∙ ap (new_equations N) (sym fresh_is);
-          origins_are = o ∙ ap (λ l. l ++ owned q) a.origins_are ∙ append_assoc origin (new_origins origin known qs) (owned q) ∙ ap (λ l. origin ++ l) (sym (origins_more origin known qs q));
+          origins_are = o ∙ ap (λ l. l ++ owned q) a.origins_are ∙ append_assoc origin (lifted_origins origin known qs) (owned q) ∙ ap (λ l. origin ++ l) (sym (origins_more origin known qs q));
         }
 
     -- the origins after one equation more, as resizing gives them

@@ -14,9 +14,9 @@ use Rattle.lt_base.specs.Dependence.{Causal}
 use Rattle.lt_base.specs.Sizes.{cost}
 use Rattle.lt_base.proofs.Kept.{kept_streams}
 use Rattle.lt_norm.specs.Plain.{plain, plain_equations, plain_function}
-use Rattle.lt_norm.specs.Lift.{delays, Delay, fresh, right_delays, right_fresh, equations_fresh, new_decl, normal_form, Stand}
+use Rattle.lt_norm.specs.Lift.{delays, Delay, lifted_delays, right_delays, right_fresh, equations_fresh, new_decl, normal_form, Stand}
 use Rattle.lt_norm.specs.Flat.{Direct, FlatFunction}
-use Rattle.lt_norm.specs.NormalForm.{places, right_places, equations_places, new_origins, DelaysAlone, NormalFormOf}
+use Rattle.lt_norm.specs.NormalForm.{places, right_places, equations_places, lifted_origins, DelaysAlone, NormalFormOf}
 use Rattle.lt_norm.proofs.Stands.{right_length, Rows, rows, lift_more, lift_stands, lift_keeps}
 use Rattle.lt_norm.proofs.Lifted.{lift_good, lift_typed, lift_clocked, lift_flat, causal_again, direct_rows}
 use Rattle.lt_norm.proofs.Plains.{plain_is_good, plain_is_clocked, plain_is_simple, plain_is_typed, plain_is_causal, plain_keeps}
@@ -29,7 +29,7 @@ place_of_delay r = r.0
 two_places : (xs ys : List Delay) (ps qs : List ClockPairs) → map place_of_delay xs ≡ ps → map place_of_delay ys ≡ qs → map place_of_delay (xs ++ ys) ≡ ps ++ qs
 two_places xs ys ps qs p q = map-append place_of_delay xs ys ∙ (λ i. p i ++ q i)
 
-pub fresh_places : (ds : List Decl) (e : Expression) (n : ℕ) (ck : ClockPairs) → map place_of_delay (fresh n ck (plain ds e)) ≡ places ck e
+pub fresh_places : (ds : List Decl) (e : Expression) (n : ℕ) (ck : ClockPairs) → map place_of_delay (lifted_delays n ck (plain ds e)) ≡ places ck e
 fresh_places ds (literal v) n ck = refl
 fresh_places ds (variable x) n ck = refl
 fresh_places ds (unary o a) n ck = fresh_places ds a n ck
@@ -41,14 +41,14 @@ fresh_places ds (choose c a b) n ck =
 fresh_places ds (sampled e c b) n ck = fresh_places ds e n (outer ck)
 fresh_places ds (merged c a b) n ck =
     two_places _ _ _ _ (fresh_places ds a n ((c, true) ∷ ck)) (fresh_places ds b (n + delays (plain ds a)) ((c, false) ∷ ck))
-fresh_places ds (delayed v e) n ck = two_places (fresh n ck (plain ds e)) _ _ (ck ∷ []) (fresh_places ds e n ck) refl
+fresh_places ds (delayed v e) n ck = two_places (lifted_delays n ck (plain ds e)) _ _ (ck ∷ []) (fresh_places ds e n ck) refl
 fresh_places ds (follow a b) n ck =
     let m = n + 1 in
     let k = m + delays (plain ds a) in
-    ap (λ l. ck ∷ l) (two_places (fresh m ck (plain ds a)) _ _ _ (fresh_places ds a m ck) (two_places (fresh k ck (plain ds b)) _ _ (ck ∷ []) (fresh_places ds b k ck) refl))
+    ap (λ l. ck ∷ l) (two_places (lifted_delays m ck (plain ds a)) _ _ _ (fresh_places ds a m ck) (two_places (lifted_delays k ck (plain ds b)) _ _ (ck ∷ []) (fresh_places ds b k ck) refl))
 fresh_places ds (arrow a b) n ck =
     let m = n + 1 in
-    ap (λ l. ck ∷ l) (two_places (fresh m ck (plain ds a)) _ _ _ (fresh_places ds a m ck) (fresh_places ds b (m + delays (plain ds a)) ck))
+    ap (λ l. ck ∷ l) (two_places (lifted_delays m ck (plain ds a)) _ _ _ (fresh_places ds a m ck) (fresh_places ds b (m + delays (plain ds a)) ck))
 fresh_places ds (call g args) n ck = refl
 
 pub right_fresh_places : (ds : List Decl) (e : Expression) (n : ℕ) (ck : ClockPairs) → map place_of_delay (right_fresh n ck (plain ds e)) ≡ right_places ck e
@@ -127,12 +127,12 @@ equations_cost ds (q ∷ qs) =
     let s = sum_by-cons (λ (e : ℕ × Expression). cost 1 (λ _. 0) e.1) q qs in
     omega (arith, l, s, right_cost q.1 (clock_of ds q.0), equations_cost ds qs)
 
-new_origins_length : (origin : List ℕ) (ds : List Decl) (qs : List (ℕ × Expression)) → length (new_origins origin ds qs) ≡ length (equations_places ds qs)
+new_origins_length : (origin : List ℕ) (ds : List Decl) (qs : List (ℕ × Expression)) → length (lifted_origins origin ds qs) ≡ length (equations_places ds qs)
 new_origins_length origin ds [] = refl
 new_origins_length origin ds (q ∷ qs) =
     let ps = right_places (clock_of ds q.0) q.1 in
     let o = slice_index_or origin q.0 0 in
-    let l = length-append (replicate (length ps) o) (new_origins origin ds qs) in
+    let l = length-append (replicate (length ps) o) (lifted_origins origin ds qs) in
     let m = length-append ps (equations_places ds qs) in
     let k = length-replicate (length ps) o in
     let h = new_origins_length origin ds qs in
@@ -185,7 +185,7 @@ module _ (f : Function) (good : GoodFunction f) (typed : TypedFunction [] f) (cl
   grown : length F.decls ≡ length f.decls + length (equations_places f.decls f.eqs)
   grown = lift_more p p_good ∙ ap (λ k. length f.decls + k) count
 
-  pub normal_is : (origin : List ℕ) → NormalFormOf f origin F (origin ++ new_origins origin f.decls f.eqs)
+  pub normal_is : (origin : List ℕ) → NormalFormOf f origin F (origin ++ lifted_origins origin f.decls f.eqs)
   normal_is origin = record {
     name = refl;
     inputs = refl;
@@ -200,7 +200,7 @@ module _ (f : Function) (good : GoodFunction f) (typed : TypedFunction [] f) (cl
     causal = normal_causal;
     flat = normal_flat;
     origins = refl;
-    each = λ e. let l = length-append origin (new_origins origin f.decls f.eqs) in let k = new_origins_length origin f.decls f.eqs in omega (arith, l, k, e, grown);
+    each = λ e. let l = length-append origin (lifted_origins origin f.decls f.eqs) in let k = new_origins_length origin f.decls f.eqs in omega (arith, l, k, e, grown);
     size = grown;
     within = let c = equations_cost f.decls f.eqs in omega (arith, grown, c);
   }

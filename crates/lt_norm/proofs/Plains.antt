@@ -18,7 +18,7 @@ use Rattle.lt_base.specs.Typing.{ty_at, un_type, bin_type, ints_type, truths_typ
 use Rattle.lt_base.specs.Clocking.{Clocked, ClockedFunction}
 use Rattle.lt_base.specs.Dependence.{Causal}
 use Rattle.lt_base.specs.Order.{EachRead, EachClockVar}
-use Rattle.lt_base.specs.Equations.{lefts}
+use Rattle.lt_base.specs.Equations.{left_count}
 use Rattle.lt_base.specs.Kept.{Keeps}
 use Rattle.lt_base.specs.Tells.{Tells}
 use Rattle.lt_base.proofs.Solution.{and_left}
@@ -256,7 +256,7 @@ plain_right ds ((y, e) ∷ qs) x =
     elim [ true ↦ refl | false ↦ plain_right ds qs x ] in
     go (nat_eq x y)
 
-plain_lefts : (ds : List Decl) (qs : List (ℕ × Expression)) (x : ℕ) → lefts x (plain_equations ds qs) ≡ lefts x qs
+plain_lefts : (ds : List Decl) (qs : List (ℕ × Expression)) (x : ℕ) → left_count x (plain_equations ds qs) ≡ left_count x qs
 plain_lefts ds [] x = refl
 plain_lefts ds (q ∷ qs) x =
     lefts_cons x (q.0, plain ds q.1) (plain_equations ds qs)

@@ -13,7 +13,7 @@ use Rattle.lt_base.proofs.Reading.{each_clock_map}
 use Rattle.lt_base.proofs.Order.{place_of, ordered, causal_from_ranks}
 use Rattle.lt_base.proofs.Lookups.{right_all}
 use Rattle.lt_norm.specs.Plain.{Simple}
-use Rattle.lt_norm.specs.Lift.{delays, lifted, Delay, fresh, right_lifted, right_fresh, lift_function, Stand}
+use Rattle.lt_norm.specs.Lift.{delays, lifted, Delay, lifted_delays, right_lifted, right_fresh, lift_function, Stand}
 use Rattle.lt_norm.proofs.Told.{stand_left, stand_next}
 use Rattle.lt_norm.proofs.Stands.{Rows, rows, each_equation, lift_clocks}
 
@@ -85,24 +85,24 @@ outer_each P ((c, b) ∷ ck) k = k.1
 -- ---- what a lifted form reads
 
 module _ (F : Function) (N : ℕ) (Old P : ℕ → Type 0) (hold : (y : ℕ) → Old y → P y) (new : (z : ℕ) (ck : ClockPairs) → N ≤ z → clock_of F.decls z ≡ ck → EachClockVar Old ck → P z) where
-  reads_lifted : (e : Expression) (n : ℕ) (ck : ClockPairs) → N ≤ n → Simple e → Stand F n (fresh n ck e) → EachRead Old e → EachClockVar Old ck → EachRead P (lifted n e)
+  reads_lifted : (e : Expression) (n : ℕ) (ck : ClockPairs) → N ≤ n → Simple e → Stand F n (lifted_delays n ck e) → EachRead Old e → EachClockVar Old ck → EachRead P (lifted n e)
   reads_lifted (literal v) n ck l w s r k = tt
   reads_lifted (variable x) n ck l w s r k = hold x r
   reads_lifted (unary o a) n ck l w s r k = reads_lifted a n ck l w s r k
   reads_lifted (binary o a b) n ck l w s r k =
-      (reads_lifted a n ck l w.0 (stand_left F n (fresh n ck a) _ s) r.0 k, reads_lifted b (n + delays a) ck (omega arith) w.1 (stand_next F n ck a _ s) r.1 k)
+      (reads_lifted a n ck l w.0 (stand_left F n (lifted_delays n ck a) _ s) r.0 k, reads_lifted b (n + delays a) ck (omega arith) w.1 (stand_next F n ck a _ s) r.1 k)
   reads_lifted (imported o a b) n ck l w s r k =
-      (reads_lifted a n ck l w.0 (stand_left F n (fresh n ck a) _ s) r.0 k, reads_lifted b (n + delays a) ck (omega arith) w.1 (stand_next F n ck a _ s) r.1 k)
+      (reads_lifted a n ck l w.0 (stand_left F n (lifted_delays n ck a) _ s) r.0 k, reads_lifted b (n + delays a) ck (omega arith) w.1 (stand_next F n ck a _ s) r.1 k)
   reads_lifted (choose c a b) n ck l w s r k =
-      let s' = stand_next F n ck c (fresh (n + delays c) ck a ++ fresh ((n + delays c) + delays a) ck b) s in (
-        reads_lifted c n ck l w.0 (stand_left F n (fresh n ck c) (fresh (n + delays c) ck a ++ fresh ((n + delays c) + delays a) ck b) s) r.0 k,
-        reads_lifted a (n + delays c) ck (omega arith) w.1 (stand_left F (n + delays c) (fresh (n + delays c) ck a) (fresh ((n + delays c) + delays a) ck b) s') r.1 k,
-        reads_lifted b ((n + delays c) + delays a) ck (omega arith) w.2 (stand_next F (n + delays c) ck a (fresh ((n + delays c) + delays a) ck b) s') r.2 k,
+      let s' = stand_next F n ck c (lifted_delays (n + delays c) ck a ++ lifted_delays ((n + delays c) + delays a) ck b) s in (
+        reads_lifted c n ck l w.0 (stand_left F n (lifted_delays n ck c) (lifted_delays (n + delays c) ck a ++ lifted_delays ((n + delays c) + delays a) ck b) s) r.0 k,
+        reads_lifted a (n + delays c) ck (omega arith) w.1 (stand_left F (n + delays c) (lifted_delays (n + delays c) ck a) (lifted_delays ((n + delays c) + delays a) ck b) s') r.1 k,
+        reads_lifted b ((n + delays c) + delays a) ck (omega arith) w.2 (stand_next F (n + delays c) ck a (lifted_delays ((n + delays c) + delays a) ck b) s') r.2 k,
       )
   reads_lifted (sampled e c b) n ck l w s r k = (reads_lifted e n (outer ck) l w s r.0 (outer_each Old ck k), hold c r.1)
   reads_lifted (merged c a b) n ck l w s r k = (
     hold c r.0,
-    reads_lifted a n ((c, true) ∷ ck) l w.0 (stand_left F n (fresh n ((c, true) ∷ ck) a) _ s) r.1 (r.0, k),
+    reads_lifted a n ((c, true) ∷ ck) l w.0 (stand_left F n (lifted_delays n ((c, true) ∷ ck) a) _ s) r.1 (r.0, k),
     reads_lifted b (n + delays a) ((c, false) ∷ ck) (omega arith) w.1 (stand_next F n ((c, true) ∷ ck) a _ s) r.2 (r.0, k),
   )
   reads_lifted (delayed v e) n ck l w s r k =

@@ -10,8 +10,8 @@ use Rattle.lt_base.specs.declared.function.Decl.{Decl}
 use Rattle.lt_base.specs.Expression.{Expression, literal, variable, unary, binary, imported, choose, sampled, merged, delayed, call, Arguments}
 use Rattle.lt_base.specs.Value.{ty_of}
 use Rattle.lt_base.specs.Meaning.{ClockPairs, outer}
-use Rattle.lt_norm.specs.Lift.{delays, Delay, lifted, fresh, new_decl, new_equations}
-use Rattle.lt_norm.specs.Walk.{Adds, LiftedTo}
+use Rattle.lt_norm.specs.Lift.{delays, Delay, lifted, lifted_delays, new_decl, new_equations}
+use Rattle.lt_norm.specs.Walk.{AddsDelays, LiftedTo}
 use Rattle.lt_norm.proofs.Told.{fresh_length}
 
 abbrev Decls : Type 0
@@ -26,13 +26,13 @@ new_equations-append n zero (x ∷ xs) ys e = absurd (omega (arith, e))
 new_equations-append n (suc k) (x ∷ xs) ys e =
     ap (λ l. (n, delayed x.1 x.2) ∷ l) (new_equations-append (suc n) k xs ys (omega (arith, e)) ∙ ap (λ m. new_equations (suc n) xs ++ new_equations m ys) (omega arith))
 
-pub grown_by : (rs : List Delay) (ds : Decls) (es : Eqs) (ds' : Decls) (es' : Eqs) → Adds rs ds es ds' es' → length ds' ≡ length ds + length rs
+pub grown_by : (rs : List Delay) (ds : Decls) (es : Eqs) (ds' : Decls) (es' : Eqs) → AddsDelays rs ds es ds' es' → length ds' ≡ length ds + length rs
 grown_by rs ds es ds' es' a = ap length a.decls ∙ length-append ds (map new_decl rs) ∙ ap (λ k. length ds + k) (length-map rs new_decl)
 
-pub adds_none : (ds : Decls) (es : Eqs) → Adds [] ds es ds es
+pub adds_none : (ds : Decls) (es : Eqs) → AddsDelays [] ds es ds es
 adds_none ds es = record { decls = sym (append-nil ds); eqs = sym (append-nil es) }
 
-pub adds_two : (xs ys : List Delay) (ds ds1 ds2 : Decls) (es es1 es2 : Eqs) → Adds xs ds es ds1 es1 → Adds ys ds1 es1 ds2 es2 → Adds (xs ++ ys) ds es ds2 es2
+pub adds_two : (xs ys : List Delay) (ds ds1 ds2 : Decls) (es es1 es2 : Eqs) → AddsDelays xs ds es ds1 es1 → AddsDelays ys ds1 es1 ds2 es2 → AddsDelays (xs ++ ys) ds es ds2 es2
 adds_two xs ys ds ds1 ds2 es es1 es2 a b = record {
   decls = b.decls
       ∙ ap (λ l. l ++ map new_decl ys) a.decls
@@ -63,9 +63,9 @@ pub lift_sampled : (ck : ClockPairs) (c : ℕ) (b : Bool) (a a' : Expression) (d
 lift_sampled ck c b a a' ds ds' es es' l = record { form = ap (λ z. sampled z c b) l.form; rows = l.rows }
 
 -- two operands, perhaps at two clocks
-rows_two : (ck ck' : ClockPairs) (a a' b b' : Expression) (ds ds1 ds2 : Decls) (es es1 es2 : Eqs) → LiftedTo ck a ds es ds1 es1 a' → LiftedTo ck' b ds1 es1 ds2 es2 b' → Adds (fresh (length ds) ck a ++ fresh (length ds + delays a) ck' b) ds es ds2 es2
+rows_two : (ck ck' : ClockPairs) (a a' b b' : Expression) (ds ds1 ds2 : Decls) (es es1 es2 : Eqs) → LiftedTo ck a ds es ds1 es1 a' → LiftedTo ck' b ds1 es1 ds2 es2 b' → AddsDelays (lifted_delays (length ds) ck a ++ lifted_delays (length ds + delays a) ck' b) ds es ds2 es2
 rows_two ck ck' a a' b b' ds ds1 ds2 es es1 es2 l m =
-    adds_two (fresh (length ds) ck a) _ ds ds1 ds2 es es1 es2 l.rows (subst (λ n. Adds (fresh n ck' b) ds1 es1 ds2 es2) (lift_length ck a ds es ds1 es1 a' l) m.rows)
+    adds_two (lifted_delays (length ds) ck a) _ ds ds1 ds2 es es1 es2 l.rows (subst (λ n. AddsDelays (lifted_delays n ck' b) ds1 es1 ds2 es2) (lift_length ck a ds es ds1 es1 a' l) m.rows)
 
 form_two : (ck ck' : ClockPairs) (a a' b b' : Expression) (ds ds1 ds2 : Decls) (es es1 es2 : Eqs) → LiftedTo ck a ds es ds1 es1 a' → LiftedTo ck' b ds1 es1 ds2 es2 b' → b' ≡ lifted (length ds + delays a) b
 form_two ck ck' a a' b b' ds ds1 ds2 es es1 es2 l m = m.form ∙ ap (λ n. lifted n b) (lift_length ck a ds es ds1 es1 a' l)
@@ -99,13 +99,13 @@ lift_choose ck c c' a a' b b' ds ds1 ds2 ds3 es es1 es2 es3 k l m =
     let g : b' ≡ lifted ((length ds + delays c) + delays a) b = m.form ∙ ap (λ n. lifted n b) (lift_length ck a ds1 es1 ds2 es2 a' l ∙ ap (λ n. n + delays a) n1) in
     record {
       form = λ i. choose (k.form i) (f i) (g i);
-      rows = adds_two (fresh (length ds) ck c) _ ds ds1 ds3 es es1 es3 k.rows (subst (λ n. Adds (fresh n ck a ++ fresh (n + delays a) ck b) ds1 es1 ds3 es3) n1 (rows_two ck ck a a' b b' ds1 ds2 ds3 es1 es2 es3 l m));
+      rows = adds_two (lifted_delays (length ds) ck c) _ ds ds1 ds3 es es1 es3 k.rows (subst (λ n. AddsDelays (lifted_delays n ck a ++ lifted_delays (n + delays a) ck b) ds1 es1 ds3 es3) n1 (rows_two ck ck a a' b b' ds1 ds2 ds3 es1 es2 es3 l m));
     }
 
-pub lift_delayed : (ck : ClockPairs) (v : Value) (a a' : Expression) (z : ℕ) (ds ds1 ds2 : Decls) (es es1 es2 : Eqs) → LiftedTo ck a ds es ds1 es1 a' → z ≡ length ds1 → Adds ((ck, v, a') ∷ []) ds1 es1 ds2 es2 → LiftedTo ck (delayed v a) ds es ds2 es2 (variable z)
+pub lift_delayed : (ck : ClockPairs) (v : Value) (a a' : Expression) (z : ℕ) (ds ds1 ds2 : Decls) (es es1 es2 : Eqs) → LiftedTo ck a ds es ds1 es1 a' → z ≡ length ds1 → AddsDelays ((ck, v, a') ∷ []) ds1 es1 ds2 es2 → LiftedTo ck (delayed v a) ds es ds2 es2 (variable z)
 lift_delayed ck v a a' z ds ds1 ds2 es es1 es2 l q r = record {
   form = ap variable (q ∙ lift_length ck a ds es ds1 es1 a' l);
-  rows = adds_two (fresh (length ds) ck a) _ ds ds1 ds2 es es1 es2 l.rows (subst (λ e. Adds ((ck, v, e) ∷ []) ds1 es1 ds2 es2) l.form r);
+  rows = adds_two (lifted_delays (length ds) ck a) _ ds ds1 ds2 es es1 es2 l.rows (subst (λ e. AddsDelays ((ck, v, e) ∷ []) ds1 es1 ds2 es2) l.form r);
 }
 
 -- the same where the delay itself became the equation of a new variable

@@ -7,7 +7,7 @@ use Rattle.lt_base.specs.Solution.{Solves}
 use Rattle.lt_base.specs.Tells.{Tells}
 use Rattle.lt_base.proofs.Solution.{and_left}
 use Rattle.lt_base.proofs.Tells.{at_each_map, TellsAt, tells_same, tells_unary, tells_binary, tells_imported, tells_choose, tells_merged, tells_delayed, tells_lifted}
-use Rattle.lt_norm.specs.Lift.{delays, lifted, Delay, fresh, right_lifted, right_fresh, Stand}
+use Rattle.lt_norm.specs.Lift.{delays, lifted, Delay, lifted_delays, right_lifted, right_fresh, Stand}
 
 -- ---- as many variables as delays
 
@@ -20,7 +20,7 @@ three xs ys zs a b c p q r =
 pub two : {A : Type 0} (xs ys : List A) (a b : ℕ) → length xs ≡ a → length ys ≡ b → length (xs ++ ys) ≡ a + b
 two xs ys a b p q = let l = length-append xs ys in omega (arith, l, p, q)
 
-pub fresh_length : (n : ℕ) (ck : ClockPairs) (e : Expression) → length (fresh n ck e) ≡ delays e
+pub fresh_length : (n : ℕ) (ck : ClockPairs) (e : Expression) → length (lifted_delays n ck e) ≡ delays e
 fresh_length n ck (literal v) = refl
 fresh_length n ck (variable x) = refl
 fresh_length n ck (unary o a) = fresh_length n ck a
@@ -49,28 +49,28 @@ module _ (F : Function) where
       go n (x ∷ xs) s = subst (λ m. Stand F m ys) (omega arith) (go (suc n) xs s.4)
 
   -- where the second of two parts stands
-  pub stand_next : (n : ℕ) (ck : ClockPairs) (a : Expression) (ys : List Delay) → Stand F n (fresh n ck a ++ ys) → Stand F (n + delays a) ys
-  stand_next n ck a ys s = stand_right n (delays a) (fresh n ck a) ys (fresh_length n ck a) s
+  pub stand_next : (n : ℕ) (ck : ClockPairs) (a : Expression) (ys : List Delay) → Stand F n (lifted_delays n ck a ++ ys) → Stand F (n + delays a) ys
+  stand_next n ck a ys s = stand_right n (delays a) (lifted_delays n ck a) ys (fresh_length n ck a) s
 
 module _ (callee : Callee) (F : Function) (es : List Environment) (rows : List Row) (solves : Solves callee F es rows) where
   -- along a solution the lifted form has the value of the expression
-  pub told : (e : Expression) (n : ℕ) (ck : ClockPairs) → Stand F n (fresh n ck e) → Tells callee es ck e (lifted n e)
+  pub told : (e : Expression) (n : ℕ) (ck : ClockPairs) → Stand F n (lifted_delays n ck e) → Tells callee es ck e (lifted n e)
   told (literal v) n ck s = tells_same callee ck (literal v) es
   told (variable x) n ck s = tells_same callee ck (variable x) es
   told (unary o a) n ck s = tells_unary callee ck o a (lifted n a) es (told a n ck s)
   told (binary o a b) n ck s =
-      let x = told a n ck (stand_left F n (fresh n ck a) (fresh (n + delays a) ck b) s) in
-      let y = told b (n + delays a) ck (stand_next F n ck a (fresh (n + delays a) ck b) s) in
+      let x = told a n ck (stand_left F n (lifted_delays n ck a) (lifted_delays (n + delays a) ck b) s) in
+      let y = told b (n + delays a) ck (stand_next F n ck a (lifted_delays (n + delays a) ck b) s) in
       tells_binary callee ck o a (lifted n a) b (lifted (n + delays a) b) es x y
   told (imported o a b) n ck s =
-      let x = told a n ck (stand_left F n (fresh n ck a) (fresh (n + delays a) ck b) s) in
-      let y = told b (n + delays a) ck (stand_next F n ck a (fresh (n + delays a) ck b) s) in
+      let x = told a n ck (stand_left F n (lifted_delays n ck a) (lifted_delays (n + delays a) ck b) s) in
+      let y = told b (n + delays a) ck (stand_next F n ck a (lifted_delays (n + delays a) ck b) s) in
       tells_imported callee ck o a (lifted n a) b (lifted (n + delays a) b) es x y
   told (choose c a b) n ck s =
-      let x = told c n ck (stand_left F n (fresh n ck c) (fresh (n + delays c) ck a ++ fresh ((n + delays c) + delays a) ck b) s) in
-      let s' = stand_next F n ck c (fresh (n + delays c) ck a ++ fresh ((n + delays c) + delays a) ck b) s in
-      let y = told a (n + delays c) ck (stand_left F (n + delays c) (fresh (n + delays c) ck a) (fresh ((n + delays c) + delays a) ck b) s') in
-      let z = told b ((n + delays c) + delays a) ck (stand_next F (n + delays c) ck a (fresh ((n + delays c) + delays a) ck b) s') in
+      let x = told c n ck (stand_left F n (lifted_delays n ck c) (lifted_delays (n + delays c) ck a ++ lifted_delays ((n + delays c) + delays a) ck b) s) in
+      let s' = stand_next F n ck c (lifted_delays (n + delays c) ck a ++ lifted_delays ((n + delays c) + delays a) ck b) s in
+      let y = told a (n + delays c) ck (stand_left F (n + delays c) (lifted_delays (n + delays c) ck a) (lifted_delays ((n + delays c) + delays a) ck b) s') in
+      let z = told b ((n + delays c) + delays a) ck (stand_next F (n + delays c) ck a (lifted_delays ((n + delays c) + delays a) ck b) s') in
       tells_choose callee ck c (lifted n c) a (lifted (n + delays c) a) b (lifted ((n + delays c) + delays a) b) es x y z
   told (sampled e c b) n ck s =
       let x = told e n (outer ck) s in
@@ -80,11 +80,11 @@ module _ (callee : Callee) (F : Function) (es : List Environment) (rows : List R
       outer_present env [] p = p
       outer_present env (q ∷ ck) p = and_left _ _ p
   told (merged c a b) n ck s =
-      let x = told a n ((c, true) ∷ ck) (stand_left F n (fresh n ((c, true) ∷ ck) a) (fresh (n + delays a) ((c, false) ∷ ck) b) s) in
-      let y = told b (n + delays a) ((c, false) ∷ ck) (stand_next F n ((c, true) ∷ ck) a (fresh (n + delays a) ((c, false) ∷ ck) b) s) in
+      let x = told a n ((c, true) ∷ ck) (stand_left F n (lifted_delays n ((c, true) ∷ ck) a) (lifted_delays (n + delays a) ((c, false) ∷ ck) b) s) in
+      let y = told b (n + delays a) ((c, false) ∷ ck) (stand_next F n ((c, true) ∷ ck) a (lifted_delays (n + delays a) ((c, false) ∷ ck) b) s) in
       tells_merged callee ck c a (lifted n a) b (lifted (n + delays a) b) es x y
   told (delayed v e) n ck s =
-      let x = told e n ck (stand_left F n (fresh n ck e) ((ck, v, lifted n e) ∷ []) s) in
+      let x = told e n ck (stand_left F n (lifted_delays n ck e) ((ck, v, lifted n e) ∷ []) s) in
       let r = stand_next F n ck e ((ck, v, lifted n e) ∷ []) s in
       tells_lifted callee F (n + delays e) (delayed v e) (delayed v (lifted n e)) ck r.3 r.1 r.0 es rows solves (tells_delayed callee ck v e (lifted n e) es x)
   told (follow a b) n ck s = tells_same callee ck (follow a b) es

@@ -9,7 +9,7 @@ use Rattle.lt_base.specs.Program.{Function, VarsBelow}
 use Rattle.lt_base.specs.Meaning.{ClockPairs, outer}
 use Rattle.lt_base.specs.Typing.{ty_at, un_type, bin_type, imported_type, shared_type, both_types, under_bool, type_of}
 use Rattle.lt_norm.specs.Plain.{Simple}
-use Rattle.lt_norm.specs.Lift.{delays, lifted, fresh, right_lifted, right_fresh, Stand}
+use Rattle.lt_norm.specs.Lift.{delays, lifted, lifted_delays, right_lifted, right_fresh, Stand}
 use Rattle.lt_norm.proofs.Told.{stand_left, stand_next}
 
 -- u' has u's type, where u has one
@@ -54,20 +54,20 @@ module _ (f F : Function) (kept : (x : ℕ) → x < length f.decls → ty_at F.d
   var_has : (x : ℕ) → x < length f.decls → Has (ty_at f.decls x) (ty_at F.decls x)
   var_has x l t h = kept x l ∙ h
 
-  pub lifted_typed : (e : Expression) (n : ℕ) (ck : ClockPairs) → Simple e → VarsBelow (length f.decls) e → Stand F n (fresh n ck e) → Has (type_of [] f.decls e) (type_of [] F.decls (lifted n e))
+  pub lifted_typed : (e : Expression) (n : ℕ) (ck : ClockPairs) → Simple e → VarsBelow (length f.decls) e → Stand F n (lifted_delays n ck e) → Has (type_of [] f.decls e) (type_of [] F.decls (lifted n e))
   lifted_typed (literal v) n ck c b s t h = h
   lifted_typed (variable x) n ck c b s t h = var_has x b t h
   lifted_typed (unary o a) n ck c b s t h = un_has (un_type o) (type_of [] f.decls a) (type_of [] F.decls (lifted n a)) (lifted_typed a n ck c b s) t h
   lifted_typed (binary o x y) n ck c b s t h =
-      both_has (bin_type o) (type_of [] f.decls x) (type_of [] F.decls (lifted n x)) (type_of [] f.decls y) (type_of [] F.decls (lifted (n + delays x) y)) (lifted_typed x n ck c.0 b.0 (stand_left F n (fresh n ck x) _ s)) (lifted_typed y (n + delays x) ck c.1 b.1 (stand_next F n ck x _ s)) t h
+      both_has (bin_type o) (type_of [] f.decls x) (type_of [] F.decls (lifted n x)) (type_of [] f.decls y) (type_of [] F.decls (lifted (n + delays x) y)) (lifted_typed x n ck c.0 b.0 (stand_left F n (lifted_delays n ck x) _ s)) (lifted_typed y (n + delays x) ck c.1 b.1 (stand_next F n ck x _ s)) t h
   lifted_typed (imported o x y) n ck c b s t h =
-      both_has imported_type (type_of [] f.decls x) (type_of [] F.decls (lifted n x)) (type_of [] f.decls y) (type_of [] F.decls (lifted (n + delays x) y)) (lifted_typed x n ck c.0 b.0 (stand_left F n (fresh n ck x) _ s)) (lifted_typed y (n + delays x) ck c.1 b.1 (stand_next F n ck x _ s)) t h
+      both_has imported_type (type_of [] f.decls x) (type_of [] F.decls (lifted n x)) (type_of [] f.decls y) (type_of [] F.decls (lifted (n + delays x) y)) (lifted_typed x n ck c.0 b.0 (stand_left F n (lifted_delays n ck x) _ s)) (lifted_typed y (n + delays x) ck c.1 b.1 (stand_next F n ck x _ s)) t h
   lifted_typed (choose d x y) n ck c b s t h =
-      let s' = stand_next F n ck d (fresh (n + delays d) ck x ++ fresh ((n + delays d) + delays x) ck y) s in
-      under_has (type_of [] f.decls d) (type_of [] F.decls (lifted n d)) (both_types shared_type (type_of [] f.decls x) (type_of [] f.decls y)) (both_types shared_type (type_of [] F.decls (lifted (n + delays d) x)) (type_of [] F.decls (lifted ((n + delays d) + delays x) y))) (lifted_typed d n ck c.0 b.0 (stand_left F n (fresh n ck d) (fresh (n + delays d) ck x ++ fresh ((n + delays d) + delays x) ck y) s)) (both_has shared_type (type_of [] f.decls x) (type_of [] F.decls (lifted (n + delays d) x)) (type_of [] f.decls y) (type_of [] F.decls (lifted ((n + delays d) + delays x) y)) (lifted_typed x (n + delays d) ck c.1 b.1 (stand_left F (n + delays d) (fresh (n + delays d) ck x) (fresh ((n + delays d) + delays x) ck y) s')) (lifted_typed y ((n + delays d) + delays x) ck c.2 b.2 (stand_next F (n + delays d) ck x (fresh ((n + delays d) + delays x) ck y) s'))) t h
+      let s' = stand_next F n ck d (lifted_delays (n + delays d) ck x ++ lifted_delays ((n + delays d) + delays x) ck y) s in
+      under_has (type_of [] f.decls d) (type_of [] F.decls (lifted n d)) (both_types shared_type (type_of [] f.decls x) (type_of [] f.decls y)) (both_types shared_type (type_of [] F.decls (lifted (n + delays d) x)) (type_of [] F.decls (lifted ((n + delays d) + delays x) y))) (lifted_typed d n ck c.0 b.0 (stand_left F n (lifted_delays n ck d) (lifted_delays (n + delays d) ck x ++ lifted_delays ((n + delays d) + delays x) ck y) s)) (both_has shared_type (type_of [] f.decls x) (type_of [] F.decls (lifted (n + delays d) x)) (type_of [] f.decls y) (type_of [] F.decls (lifted ((n + delays d) + delays x) y)) (lifted_typed x (n + delays d) ck c.1 b.1 (stand_left F (n + delays d) (lifted_delays (n + delays d) ck x) (lifted_delays ((n + delays d) + delays x) ck y) s')) (lifted_typed y ((n + delays d) + delays x) ck c.2 b.2 (stand_next F (n + delays d) ck x (lifted_delays ((n + delays d) + delays x) ck y) s'))) t h
   lifted_typed (sampled e x p) n ck c b s t h = under_has (ty_at f.decls x) (ty_at F.decls x) (type_of [] f.decls e) (type_of [] F.decls (lifted n e)) (var_has x b.1) (lifted_typed e n (outer ck) c b.0 s) t h
   lifted_typed (merged d x y) n ck c b s t h =
-      under_has (ty_at f.decls d) (ty_at F.decls d) (both_types shared_type (type_of [] f.decls x) (type_of [] f.decls y)) (both_types shared_type (type_of [] F.decls (lifted n x)) (type_of [] F.decls (lifted (n + delays x) y))) (var_has d b.0) (both_has shared_type (type_of [] f.decls x) (type_of [] F.decls (lifted n x)) (type_of [] f.decls y) (type_of [] F.decls (lifted (n + delays x) y)) (lifted_typed x n ((d, true) ∷ ck) c.0 b.1 (stand_left F n (fresh n ((d, true) ∷ ck) x) _ s)) (lifted_typed y (n + delays x) ((d, false) ∷ ck) c.1 b.2 (stand_next F n ((d, true) ∷ ck) x _ s))) t h
+      under_has (ty_at f.decls d) (ty_at F.decls d) (both_types shared_type (type_of [] f.decls x) (type_of [] f.decls y)) (both_types shared_type (type_of [] F.decls (lifted n x)) (type_of [] F.decls (lifted (n + delays x) y))) (var_has d b.0) (both_has shared_type (type_of [] f.decls x) (type_of [] F.decls (lifted n x)) (type_of [] f.decls y) (type_of [] F.decls (lifted (n + delays x) y)) (lifted_typed x n ((d, true) ∷ ck) c.0 b.1 (stand_left F n (lifted_delays n ((d, true) ∷ ck) x) _ s)) (lifted_typed y (n + delays x) ((d, false) ∷ ck) c.1 b.2 (stand_next F n ((d, true) ∷ ck) x _ s))) t h
   lifted_typed (delayed v e) n ck c b s t h =
       let r = stand_next F n ck e _ s in
       r.2 ∙ shared_left (ty_of v) (type_of [] f.decls e) t h

@@ -44,19 +44,19 @@ abbrev pub Delay : Type 0
 Delay = ClockPairs × Value × Expression
 
 -- the lifted delays of an expression at a clock, in order of their numbers
-abbrev pub fresh : ℕ → ClockPairs → Expression → List Delay
-fresh n ck (literal v) = []
-fresh n ck (variable x) = []
-fresh n ck (unary o a) = fresh n ck a
-fresh n ck (binary o a b) = fresh n ck a ++ fresh (n + delays a) ck b
-fresh n ck (imported o a b) = fresh n ck a ++ fresh (n + delays a) ck b
-fresh n ck (choose c a b) = fresh n ck c ++ (fresh (n + delays c) ck a ++ fresh ((n + delays c) + delays a) ck b)
-fresh n ck (sampled e c b) = fresh n (outer ck) e
-fresh n ck (merged c a b) = fresh n ((c, true) ∷ ck) a ++ fresh (n + delays a) ((c, false) ∷ ck) b
-fresh n ck (delayed v e) = fresh n ck e ++ (ck, v, lifted n e) ∷ []
-fresh n ck (follow a b) = []
-fresh n ck (arrow a b) = []
-fresh n ck (call g args) = []
+abbrev pub lifted_delays : ℕ → ClockPairs → Expression → List Delay
+lifted_delays n ck (literal v) = []
+lifted_delays n ck (variable x) = []
+lifted_delays n ck (unary o a) = lifted_delays n ck a
+lifted_delays n ck (binary o a b) = lifted_delays n ck a ++ lifted_delays (n + delays a) ck b
+lifted_delays n ck (imported o a b) = lifted_delays n ck a ++ lifted_delays (n + delays a) ck b
+lifted_delays n ck (choose c a b) = lifted_delays n ck c ++ (lifted_delays (n + delays c) ck a ++ lifted_delays ((n + delays c) + delays a) ck b)
+lifted_delays n ck (sampled e c b) = lifted_delays n (outer ck) e
+lifted_delays n ck (merged c a b) = lifted_delays n ((c, true) ∷ ck) a ++ lifted_delays (n + delays a) ((c, false) ∷ ck) b
+lifted_delays n ck (delayed v e) = lifted_delays n ck e ++ (ck, v, lifted n e) ∷ []
+lifted_delays n ck (follow a b) = []
+lifted_delays n ck (arrow a b) = []
+lifted_delays n ck (call g args) = []
 
 -- a right side: a delay with a literal at its top stays there
 abbrev pub on_right : {A : Type 0} → Expression → (Value → Expression → A) → A → A
@@ -73,7 +73,7 @@ right_lifted n e = on_right e (λ v a. delayed v (lifted n a)) (lifted n e)
 
 -- these delays
 abbrev pub right_fresh : ℕ → ClockPairs → Expression → List Delay
-right_fresh n ck e = on_right e (λ v a. fresh n ck a) (fresh n ck e)
+right_fresh n ck e = on_right e (λ v a. lifted_delays n ck a) (lifted_delays n ck e)
 
 -- the delays that are lifted out of these equations
 abbrev pub equations_delays : List (ℕ × Expression) → ℕ

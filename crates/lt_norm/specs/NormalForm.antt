@@ -38,9 +38,9 @@ equations_places ds [] = []
 equations_places ds (q ∷ qs) = right_places (clock_of ds q.0) q.1 ++ equations_places ds qs
 
 -- the origins of the lifted variables: those of the variables in whose equations they stood
-abbrev pub new_origins : List ℕ → List Decl → List (ℕ × Expression) → List ℕ
-new_origins origin ds [] = []
-new_origins origin ds (q ∷ qs) = replicate (length (right_places (clock_of ds q.0) q.1)) (slice_index_or origin q.0 0) ++ new_origins origin ds qs
+abbrev pub lifted_origins : List ℕ → List Decl → List (ℕ × Expression) → List ℕ
+lifted_origins origin ds [] = []
+lifted_origins origin ds (q ∷ qs) = replicate (length (right_places (clock_of ds q.0) q.1)) (slice_index_or origin q.0 0) ++ lifted_origins origin ds qs
 
 -- the equation of a variable is a delay with a literal, alone
 pub record DelaysAlone (F : Function) (x : ℕ) : Type 0 where
@@ -71,7 +71,7 @@ pub record NormalFormOf (f : Function) (origin : List ℕ) (F : Function) (origi
   -- nothing is left to lift
   pub flat : FlatFunction F
   -- a variable of f keeps its origin, and a lifted one has that of the variable in whose equation it stood
-  pub origins : origin' ≡ origin ++ new_origins origin f.decls f.eqs
+  pub origins : origin' ≡ origin ++ lifted_origins origin f.decls f.eqs
   pub each : length origin ≡ length f.decls → length origin' ≡ length F.decls
   -- one variable is added for each lifted delay, no more than the delays of the weight
   pub size : length F.decls ≡ length f.decls + length (equations_places f.decls f.eqs)

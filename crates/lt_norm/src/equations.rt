@@ -55,7 +55,7 @@ fn owner_of(origin: &List<u32>, variable: u32) -> u32
     requires { variable < length origin.now }
     ensures { result ≡ get_or origin.now variable 0 }
 {
-    origin.as_slice()[variable as usize]
+    origin[variable as usize]
 }
 
 // Lifts the delays out of one equation more.

@@ -35,7 +35,7 @@ impl Flat {
     }
 
     /// What the type keeps, for callers.
-    pub fn kept(&self)
+    pub fn invariant_holds(&self)
         ensures { FlatFunction self.now.func }
     {
         let _ = &self.origin;

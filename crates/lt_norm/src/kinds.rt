@@ -21,7 +21,7 @@ pub(crate) fn type_of_value(v: Value) -> Ty
 fn declared_type(known: &List<Decl>, variable: u32) -> Ty
     ensures { result ≡ declared_type known.now variable }
 {
-    match known.as_slice().get(variable as usize) {
+    match known.get(variable as usize) {
         Some(decl) => decl.ty,
         None => Ty::Int,
     }

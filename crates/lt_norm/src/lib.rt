@@ -1,7 +1,6 @@
 //! The normal form of a function: each delay stands alone on a right side.
 #![tactic(auto)]
 
-mod clocking;
 mod equations;
 mod flat;
 mod kinds;

@@ -8,7 +8,6 @@ ghost use Rattle.lt_base.specs.Value.{ty_of};
 ghost use Rattle.lt_norm.specs.Lift.{delays};
 ghost use Rattle.lt_norm.specs.Walk.{LiftedTo};
 
-use crate::clocking::{deeper, outer};
 use crate::kinds::type_of_value;
 use lt_base::{Clock, Decl, Equation, Expr, Memory, Name, Value};
 use std::alloc::Global;
@@ -131,7 +130,7 @@ fn lift_outside(
     ensures room { OnOk result (length into.new.decls.items ≡ length into.old.decls.items + delays (shape e.old)) }
     ensures all { OnOk result (LiftedTo (outer_pairs clock.now) (shape e.old) into.old.decls.items into.old.delays.items into.new.decls.items into.new.delays.items (shape e.new)) }
 {
-    let before = outer(clock)?;
+    let before = clock.outer()?;
     let lifted = lift(alloc, into, &before, e);
     drop(before);
     lifted
@@ -151,7 +150,7 @@ fn lift_branch(
     ensures room { OnOk result (length into.new.decls.items ≡ length into.old.decls.items + delays (shape e.old)) }
     ensures all { OnOk result (LiftedTo ((variable, polarity) ∷ clock.now) (shape e.old) into.old.decls.items into.old.delays.items into.new.decls.items into.new.delays.items (shape e.new)) }
 {
-    let at = deeper(clock, variable, polarity)?;
+    let at = clock.inner(variable, polarity)?;
     let lifted = lift(alloc, into, &at, e);
     drop(at);
     lifted

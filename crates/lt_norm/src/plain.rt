@@ -33,7 +33,7 @@ fn late(alloc: Global, ty: Ty, e: Box<Expr>) -> Result<Box<Expr>, Memory>
 }
 
 // The first side at the first instant, and afterwards the second, late by one.
-fn followed(alloc: Global, ty: Ty, a: Box<Expr>, b: Box<Expr>) -> Result<Expr, Memory>
+fn follow_form(alloc: Global, ty: Ty, a: Box<Expr>, b: Box<Expr>) -> Result<Expr, Memory>
     ensures { IfOk result (λ r. shape r ≡ choose first_flag (shape a.value) (delayed (blank ty) (shape b.value))) }
 {
     match late(alloc, ty, b) {
@@ -46,11 +46,11 @@ fn followed(alloc: Global, ty: Ty, a: Box<Expr>, b: Box<Expr>) -> Result<Expr, M
 }
 
 // The form of a `->`, or of a `fby` whose left side is no literal and has this type.
-fn begun(alloc: Global, ty: Ty, e: Expr) -> Result<Expr, Memory>
+fn begin_form(alloc: Global, ty: Ty, e: Expr) -> Result<Expr, Memory>
     ensures { IfOk result (λ r. shape r ≡ begun ty (shape e)) }
 {
     match e {
-        Expr::Follow(a, b) => followed(alloc, ty, a, b),
+        Expr::Follow(a, b) => follow_form(alloc, ty, a, b),
         Expr::Arrow(a, b) => first(alloc, a, b),
         other => Ok(other),
     }
@@ -61,7 +61,7 @@ fn begin(alloc: Global, ty: Ty, e: &mut Expr) -> Result<(), Memory>
     ensures { OnOk result (shape e.new ≡ begun ty (shape e.old)) }
 {
     let whole = replace(e, Expr::Var(0));
-    let form = begun(alloc, ty, whole)?;
+    let form = begin_form(alloc, ty, whole)?;
     drop(replace(e, form));
     Ok(())
 }

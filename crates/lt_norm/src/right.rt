@@ -64,6 +64,6 @@ pub(crate) fn lift_side(
     ensures { OnOk result (RightTo (clock_of known.now variable) (plain known.now (shape side.old)) into.old.decls.items into.old.delays.items into.new.decls.items into.new.delays.items (shape side.new)) }
 {
     make_plain(alloc, known, side)?;
-    let decl = &known.as_slice()[variable as usize];
+    let decl = &known[variable as usize];
     lift_right(alloc, into, &decl.clock, side)
 }

@@ -4,7 +4,7 @@ use Rattle.std.specs.Prelude.{slice_index_or}
 use Rattle.lt_past.specs.declared.monitor.Part.{Part}
 use Rattle.lt_past.specs.declared.monitor.Part.TheVariants as part
 use Rattle.lt_past.specs.Formula.{Formula, constant, signal, unary, binary, SignalsBelow}
-use Rattle.lt_past.specs.Parts.{count, parts_of, FitsAt, Fit}
+use Rattle.lt_past.specs.Parts.{part_count, parts_of, FitsAt, Fit}
 use Rattle.lt_past.proofs.Rows.{length_parts}
 use Rattle.lt_past.proofs.Stepping.{some_parts}
 
@@ -20,11 +20,11 @@ row_append w n m (p ∷ ps) qs e r s = let k : m ≡ n + 1 + length ps = omega (
 row_of : (w n : ℕ) (f : Formula) → SignalsBelow w f → Row w n (parts_of n f)
 row_of w n (constant b) h = (tt, tt)
 row_of w n (signal k) h = (h, tt)
-row_of w n (unary p f) h = row_append w n (n + count f) (parts_of n f) (part.Before p ∷ []) (ap (λ m. n + m) (sym (length_parts n f))) (row_of w n f h) (tt, tt)
+row_of w n (unary p f) h = row_append w n (n + part_count f) (parts_of n f) (part.Before p ∷ []) (ap (λ m. n + m) (sym (length_parts n f))) (row_of w n f h) (tt, tt)
 row_of w n (binary o f g) h =
-    let k = n + count f in
-    let low : k - 1 < k + count g = omega (arith, some_parts f) in
-    let gs = row_append w k (k + count g) (parts_of k g) (part.Between o (k - 1) ∷ []) (ap (λ m. k + m) (sym (length_parts k g))) (row_of w k g h.1) (low, tt) in
+    let k = n + part_count f in
+    let low : k - 1 < k + part_count g = omega (arith, some_parts f) in
+    let gs = row_append w k (k + part_count g) (parts_of k g) (part.Between o (k - 1) ∷ []) (ap (λ m. k + m) (sym (length_parts k g))) (row_of w k g h.1) (low, tt) in
     row_append w n k (parts_of n f) (parts_of k g ++ part.Between o (k - 1) ∷ []) (ap (λ m. n + m) (sym (length_parts n f))) (row_of w n f h.0) gs
 
 row_at : (w n : ℕ) (ps : List Part) → Row w n ps → (k : ℕ) → k < length ps → FitsAt w (n + k) (slice_index_or ps k (part.Lit false))

@@ -6,9 +6,9 @@ use Rattle.lt_base.specs.Program.{Function}
 use Rattle.lt_tokens.specs.Text.{skip}
 use Rattle.lt_past.specs.declared.words.Sign.TheVariants as word
 use Rattle.lt_past.specs.declared.fault.ObserverKind.{ObserverKind}
-use Rattle.lt_past.specs.Tokens.{Token, name, sign, Begins as Next, front}
+use Rattle.lt_past.specs.Tokens.{Token, name, sign, Begins as Next, observer_front}
 use Rattle.lt_past.specs.Grammar as form
-use Rattle.lt_past.specs.Grammar.{Form, tokens, names, meaning}
+use Rattle.lt_past.specs.Grammar.{ObserverForm, tokens, names, meaning}
 use Rattle.lt_past.specs.Naming.{output_of, is_at, is_named, AreOutputs}
 use Rattle.lt_past.specs.Faults.{names_in, IsBadName}
 use Rattle.lt_past.specs.Marking.{IsMarkedTo}
@@ -21,7 +21,7 @@ names_append [] us = refl
 names_append (name x ∷ ts) us = ap (λ z. x ∷ z) (names_append ts us)
 names_append (sign s ∷ ts) us = names_append ts us
 
-pub names_tokens : (a : Form) (ts : List Token) → names_in (tokens a ts) ≡ names a ++ names_in ts
+pub names_tokens : (a : ObserverForm) (ts : List Token) → names_in (tokens a ts) ≡ names a ++ names_in ts
 names_tokens (form.truth b) ts = refl
 names_tokens (form.named x) ts = refl
 names_tokens (form.paren a) ts = names_tokens a (sign word.Close ∷ ts)
@@ -55,7 +55,7 @@ module _ (main : Function) where
 
   module _ (bytes rest : List ℕ) (olds vs : List Bool) (g : IsMarkedTo main bytes rest olds vs) where
     -- one more name
-    pub name_more : (x after : List ℕ) (place : ℕ) → front (skip rest) ≡ Next (name x) after → output_of main x ≡ Ok place → place < length vs → IsMarkedTo main bytes after olds (slice_set vs place true)
+    pub name_more : (x after : List ℕ) (place : ℕ) → observer_front (skip rest) ≡ Next (name x) after → output_of main x ≡ Ok place → place < length vs → IsMarkedTo main bytes after olds (slice_set vs place true)
     name_more x after place f is low = record {
       tokens = g.tokens ++ name x ∷ [];
       cut = cuts_more g.tokens bytes rest (name x) after g.cut f;
@@ -88,7 +88,7 @@ module _ (main : Function) where
             ] refl
 
     -- another token
-    pub sign_more : (s : _) (after : List ℕ) → front (skip rest) ≡ Next (sign s) after → IsMarkedTo main bytes after olds vs
+    pub sign_more : (s : _) (after : List ℕ) → observer_front (skip rest) ≡ Next (sign s) after → IsMarkedTo main bytes after olds vs
     sign_more s after f =
         let e : names_in (g.tokens ++ sign s ∷ []) ≡ names_in g.tokens = names_append g.tokens (sign s ∷ []) ∙ append_nil_names (names_in g.tokens) in
         record {
@@ -103,7 +103,7 @@ module _ (main : Function) where
         append_nil_names (x ∷ xs) = ap (λ z. x ∷ z) (append_nil_names xs)
 
     -- a name that is none of an output
-    pub bad_name : (at : ℕ) (x after : List ℕ) (k : ObserverKind) → front (skip rest) ≡ Next (name x) after → output_of main x ≡ Err k → at + length (skip rest) ≡ length bytes → IsBadName main bytes (record { at = at; kind = k })
+    pub bad_name : (at : ℕ) (x after : List ℕ) (k : ObserverKind) → observer_front (skip rest) ≡ Next (name x) after → output_of main x ≡ Err k → at + length (skip rest) ≡ length bytes → IsBadName main bytes (record { at = at; kind = k })
     bad_name at x after k f is p = record { tokens = g.tokens; rest = rest; cut = g.cut; place = p; wrong_name = x; after = after; stands = f; earlier = g.good; wrong = is }
 
 -- nothing is read yet

@@ -6,7 +6,7 @@ use Rattle.std.proofs.Common.{ltb-true, ltb-false, length-append}
 use Rattle.std.proofs.lemmas.Bool.{lt-ltb}
 use Rattle.std.proofs.lemmas.List.Elements.{filter-append}
 use Rattle.lt_past.specs.Observer.{Increases}
-use Rattle.lt_past.specs.Naming.{below, or_zero}
+use Rattle.lt_past.specs.Naming.{numbers_below, or_zero}
 
 -- the numbers go up from low on, and stay below high
 abbrev Goes : (low high : ℕ) → List ℕ → Type 0
@@ -33,15 +33,15 @@ goes_up low high (x ∷ xs) g zero (suc j) lt h = let k = goes_at (x + 1) high x
 goes_up low high (x ∷ xs) g (suc i) (suc j) lt h = goes_up (x + 1) high xs g.1 i j (omega (arith, lt)) (omega (arith, h))
 
 module _ (p : ℕ → Bool) where
-  chosen_goes : (n : ℕ) → Goes 0 n (filter p (below n))
+  chosen_goes : (n : ℕ) → Goes 0 n (filter p (numbers_below n))
   chosen_goes zero = omega arith
   chosen_goes (suc n) =
       let h = chosen_goes n in
       let e : n + 1 ≡ suc n = omega arith in
-      subst (Goes 0 (suc n)) (sym (filter-append p (below n) (n ∷ [])))
-      (elim (p n) as (λ b. Goes 0 (suc n) (filter p (below n) ++ cond b (n ∷ []) [])) [
-        | true ↦ subst (λ m. Goes 0 m (filter p (below n) ++ n ∷ [])) e (goes_snoc 0 n n (filter p (below n)) h (omega arith))
-        | false ↦ subst (Goes 0 (suc n)) (sym (nil_end (filter p (below n)))) (goes_higher 0 n (suc n) (filter p (below n)) h (omega arith))
+      subst (Goes 0 (suc n)) (sym (filter-append p (numbers_below n) (n ∷ [])))
+      (elim (p n) as (λ b. Goes 0 (suc n) (filter p (numbers_below n) ++ cond b (n ∷ []) [])) [
+        | true ↦ subst (λ m. Goes 0 m (filter p (numbers_below n) ++ n ∷ [])) e (goes_snoc 0 n n (filter p (numbers_below n)) h (omega arith))
+        | false ↦ subst (Goes 0 (suc n)) (sym (nil_end (filter p (numbers_below n)))) (goes_higher 0 n (suc n) (filter p (numbers_below n)) h (omega arith))
       ])
     where
       nil_end : (xs : List ℕ) → xs ++ [] ≡ xs
@@ -49,8 +49,8 @@ module _ (p : ℕ → Bool) where
       nil_end (x ∷ xs) = ap (λ z. x ∷ z) (nil_end xs)
 
   -- they stand in order, each once
-  pub chosen_increase : (n : ℕ) → Increases (filter p (below n))
-  chosen_increase n = goes_up 0 n (filter p (below n)) (chosen_goes n)
+  pub chosen_increase : (n : ℕ) → Increases (filter p (numbers_below n))
+  chosen_increase n = goes_up 0 n (filter p (numbers_below n)) (chosen_goes n)
 
 abbrev pub Has : List ℕ → ℕ → Type 0
 Has [] y = ⊥
@@ -66,17 +66,17 @@ has_right [] ys y h = h
 has_right (x ∷ xs) ys y h = inr (has_right xs ys y h)
 
 -- each number that is chosen is among them
-pub chosen_has : (p : ℕ → Bool) (n y : ℕ) → y < n → p y ≡ true → Has (filter p (below n)) y
+pub chosen_has : (p : ℕ → Bool) (n y : ℕ) → y < n → p y ≡ true → Has (filter p (numbers_below n)) y
 chosen_has p zero y h is = absurd (omega (arith, h))
 chosen_has p (suc n) y h is =
-    subst (λ z. Has z y) (sym (filter-append p (below n) (n ∷ [])))
-    (elim (nat_lt y n) as (λ t. nat_lt y n ≡ t → Has (filter p (below n) ++ filter p (n ∷ [])) y) [
-      | true ↦ λ lt. let l : y < n = ltb-true y n lt in has_left (filter p (below n)) (filter p (n ∷ [])) y (chosen_has p n y l is)
+    subst (λ z. Has z y) (sym (filter-append p (numbers_below n) (n ∷ [])))
+    (elim (nat_lt y n) as (λ t. nat_lt y n ≡ t → Has (filter p (numbers_below n) ++ filter p (n ∷ [])) y) [
+      | true ↦ λ lt. let l : y < n = ltb-true y n lt in has_left (filter p (numbers_below n)) (filter p (n ∷ [])) y (chosen_has p n y l is)
       | false ↦ λ ge.
           let l : n ≤ y = ltb-false y n ge in
           let e : n ≡ y = omega (arith, h, l) in
           let yes : p n ≡ true = ap p e ∙ is in
-          has_right (filter p (below n)) (filter p (n ∷ [])) y (subst (λ b. Has (cond b (n ∷ []) []) y) (sym yes) (inl e))
+          has_right (filter p (numbers_below n)) (filter p (n ∷ [])) y (subst (λ b. Has (cond b (n ∷ []) []) y) (sym yes) (inl e))
     ] refl)
 
 -- the place of a number in a list that has it
@@ -102,12 +102,12 @@ filter_same p q h [] = refl
 filter_same p q h (x ∷ xs) = ap₂ (λ b ys. cond b (x ∷ ys) ys) (h x) (filter_same p q h xs)
 
 -- no more than there are
-pub filter_short : (p : ℕ → Bool) (n : ℕ) → length (filter p (below n)) ≤ n
+pub filter_short : (p : ℕ → Bool) (n : ℕ) → length (filter p (numbers_below n)) ≤ n
 filter_short p zero = omega arith
 filter_short p (suc n) =
     let h = filter_short p n in
-    let e = ap length (filter-append p (below n) (n ∷ [])) in
-    let l = length-append (filter p (below n)) (filter p (n ∷ [])) in
+    let e = ap length (filter-append p (numbers_below n) (n ∷ [])) in
+    let l = length-append (filter p (numbers_below n)) (filter p (n ∷ [])) in
     let k : length (filter p (n ∷ [])) ≤ 1 = one (p n) in
     omega (arith, h, e, l, k)
   where

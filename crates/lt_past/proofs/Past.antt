@@ -7,7 +7,7 @@ use Rattle.lt_past.specs.declared.words.Prefix.TheVariants.{Not, Previous, Once,
 use Rattle.lt_past.specs.declared.words.Infix.{Infix}
 use Rattle.lt_past.specs.declared.words.Infix.TheVariants.{And, Or, Since, Implies}
 use Rattle.lt_past.specs.Satisfaction.{Property, Past, Both}
-use Rattle.lt_past.specs.Turn.{past, both}
+use Rattle.lt_past.specs.Turn.{past, infix_value}
 
 -- truth values
 
@@ -85,7 +85,7 @@ module _ (F G : Property) (i : ℕ) where
         | false ↦ λ is. let ge : i ≤ 0 = ltb-false 0 i is in omega arith
       ] refl
 
-  pub both_right : (o : Infix) (last first second : Bool) → (IsTrue last ↔ Past Previous (Both o F G) i) → (IsTrue first ↔ F i) → (IsTrue second ↔ G i) → IsTrue (both o last first second) ↔ Both o F G i
+  pub both_right : (o : Infix) (last first second : Bool) → (IsTrue last ↔ Past Previous (Both o F G) i) → (IsTrue first ↔ F i) → (IsTrue second ↔ G i) → IsTrue (infix_value o last first second) ↔ Both o F G i
   both_right And last first second l f s = let k = yes_and first second in (λ h. let two = k.0 h in (f.0 two.0, s.0 two.1), λ h. k.1 (f.1 h.0, s.1 h.1))
   both_right Or last first second l f s =
       let k = yes_or first second in (λ h. elim (k.0 h) [ inl x ↦ inl (f.0 x) | inr y ↦ inr (s.0 y) ], λ h. k.1 (elim h [ inl x ↦ inl (f.1 x) | inr y ↦ inr (s.1 y) ]))

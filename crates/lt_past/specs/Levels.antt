@@ -6,22 +6,22 @@ use Rattle.lt_past.specs.declared.words.Infix.TheVariants.{And, Or, Since, Impli
 -- Levels: 1 obs, 2 since, 3 disj, 4 conj, 5 unary, 6 atom.
 
 -- the level of the whole
-abbrev pub level : Infix → ℕ
-level Implies = 1
-level Since = 2
-level Or = 3
-level And = 4
+abbrev pub observer_level : Infix → ℕ
+observer_level Implies = 1
+observer_level Since = 2
+observer_level Or = 3
+observer_level And = 4
 
 -- the level of what stands to the left of it
-abbrev pub left : Infix → ℕ
-left Implies = 2
-left Since = 2
-left Or = 3
-left And = 4
+abbrev pub observer_left_level : Infix → ℕ
+observer_left_level Implies = 2
+observer_left_level Since = 2
+observer_left_level Or = 3
+observer_left_level And = 4
 
 -- the level of what stands to the right of it
-abbrev pub right : Infix → ℕ
-right Implies = 1
-right Since = 3
-right Or = 4
-right And = 5
+abbrev pub observer_right_level : Infix → ℕ
+observer_right_level Implies = 1
+observer_right_level Since = 3
+observer_right_level Or = 4
+observer_right_level And = 5

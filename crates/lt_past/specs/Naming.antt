@@ -46,26 +46,26 @@ is_named main [] place = false
 is_named main (x ∷ xs) place = if is_at place (output_of main x) then true else is_named main xs place
 
 -- the numbers below n, in order
-abbrev pub below : ℕ → List ℕ
-below zero = []
-below (suc n) = below n ++ n ∷ []
+abbrev pub numbers_below : ℕ → List ℕ
+numbers_below zero = []
+numbers_below (suc n) = numbers_below n ++ n ∷ []
 
 -- the places of the outputs that are named, in order and each once
 abbrev pub named_outs : Function → List (List ℕ) → List ℕ
-named_outs main xs = filter (is_named main xs) (below (length main.outs))
+named_outs main xs = filter (is_named main xs) (numbers_below (length main.outs))
 
 -- the place of an output in a list of places; 0 where it is not in the list
 abbrev pub or_zero : Option ℕ → ℕ
 or_zero None = 0
 or_zero (Some k) = k
 
-abbrev pub place_in : List ℕ → Result ℕ ObserverKind → ℕ
-place_in outs (Ok place) = or_zero (position (λ z. z == place) outs)
-place_in outs (Err k) = 0
+abbrev pub output_place : List ℕ → Result ℕ ObserverKind → ℕ
+output_place outs (Ok place) = or_zero (position (λ z. z == place) outs)
+output_place outs (Err k) = 0
 
 -- a name's number among the outputs that are named
-abbrev pub number_of : Function → List ℕ → List ℕ → ℕ
-number_of main outs x = place_in outs (output_of main x)
+abbrev pub output_number : Function → List ℕ → List ℕ → ℕ
+output_number main outs x = output_place outs (output_of main x)
 
 -- each name is that of a bool output on the base clock
 abbrev pub IsOutput : Function → List ℕ → Type 0

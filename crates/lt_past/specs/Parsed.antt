@@ -12,69 +12,63 @@ use Rattle.lt_past.specs.declared.parser.Parser.{Parser}
 use Rattle.lt_past.specs.declared.parser.Frame.{Frame}
 use Rattle.lt_past.specs.declared.parser.Frame.TheVariants as frame
 use Rattle.lt_past.specs.Formula.{Formula}
-use Rattle.lt_past.specs.Grammar.{Form, meaning}
-use Rattle.lt_past.specs.Spelled.{Spells}
+use Rattle.lt_past.specs.Grammar.{ObserverForm, meaning}
+use Rattle.lt_past.specs.Spelled.{SpellsObserver}
 use Rattle.lt_past.specs.Faults.{IsSyntaxFault}
 use Rattle.lt_past.specs.Views.{formula_of}
 use Rattle.lt_past.specs.Machine as machine
 
-abbrev pub operand_of : code.Operand → machine.Operand
-operand_of a = record { formula = formula_of a.formula; height = a.height }
+abbrev pub observer_operand_of : code.Operand → machine.ObserverOperand
+observer_operand_of a = record { formula = formula_of a.formula; height = a.height }
 
-abbrev pub frame_of : Frame → machine.Frame
-frame_of frame.Opened = machine.opened
-frame_of (frame.Prefixed p) = machine.prefixed p
-frame_of (frame.Joined o a) = machine.joined o (operand_of a)
+abbrev pub observer_frame_of : Frame → machine.ObserverFrame
+observer_frame_of frame.Opened = machine.opened
+observer_frame_of (frame.Prefixed p) = machine.prefixed p
+observer_frame_of (frame.Joined o a) = machine.joined o (observer_operand_of a)
 
 -- the begun forms, the newest first; in memory it is the last
-abbrev pub stack_of : List Frame → List machine.Frame
-stack_of fs = map frame_of (reverse fs)
+abbrev pub observer_stack_of : List Frame → List machine.ObserverFrame
+observer_stack_of fs = map observer_frame_of (reverse fs)
 
-abbrev pub whole_of : Option code.Operand → Option machine.Operand
-whole_of None = None
-whole_of (Some a) = Some (operand_of a)
+abbrev pub observer_whole_of : Option code.Operand → Option machine.ObserverOperand
+observer_whole_of None = None
+observer_whole_of (Some a) = Some (observer_operand_of a)
 
-abbrev pub state_of : Parser → machine.State
-state_of p = record { frames = stack_of p.frames.items; whole = whole_of p.whole }
+abbrev pub observer_state_of : Parser → machine.ObserverState
+observer_state_of p = record { frames = observer_stack_of p.frames.items; whole = observer_whole_of p.whole }
 
-abbrev pub top_ends : List machine.Frame → ℕ
-top_ends [] = 0
-top_ends (f ∷ fs) = machine.ends f
+abbrev pub observer_top_ends : List machine.ObserverFrame → ℕ
+observer_top_ends [] = 0
+observer_top_ends (f ∷ fs) = machine.observer_ends f
 
 -- the next state, unless memory ran out
-abbrev pub Steps : Result Parser (Or ObserverKind) → Result machine.State ObserverKind → Type 0
-Steps (Ok p) r = r ≡ Ok (state_of p)
-Steps (Err (or.Fault k)) r = r ≡ Err k
-Steps (Err or.Memory) r = Unit {0}
-
--- the answer never is that memory ran out
-abbrev pub NeedsNoMemory : {T E : Type 0} → Result T (Or E) → Type 0
-NeedsNoMemory (Ok x) = Unit {0}
-NeedsNoMemory (Err (or.Fault k)) = Unit {0}
-NeedsNoMemory (Err or.Memory) = ⊥
+abbrev pub ObserverSteps : Result Parser (Or ObserverKind) → Result machine.ObserverState ObserverKind → Type 0
+ObserverSteps (Ok p) r = r ≡ Ok (observer_state_of p)
+ObserverSteps (Err (or.Fault k)) r = r ≡ Err k
+ObserverSteps (Err or.Memory) r = Unit {0}
 
 -- the formula of the whole text, where it may end
-abbrev pub Finds : Result (Option Obs) Memory → Option Formula → Type 0
-Finds (Ok None) r = r ≡ None
-Finds (Ok (Some f)) r = r ≡ Some (formula_of f)
-Finds (Err m) r = Unit {0}
+abbrev pub FindsFormula : Result (Option Obs) Memory → Option Formula → Type 0
+FindsFormula (Ok None) r = r ≡ None
+FindsFormula (Ok (Some f)) r = r ≡ Some (formula_of f)
+FindsFormula (Err m) r = Unit {0}
 
 -- the same at a place
-abbrev pub StepsAt : ℕ → Result Parser (Or ObserverKind) → Result Parser (Or ObserverFault) → Type 0
-StepsAt at (Ok p) r = r ≡ Ok p
-StepsAt at (Err (or.Fault k)) r = r ≡ Err (or.Fault (record { at = at; kind = k }))
-StepsAt at (Err or.Memory) r = r ≡ Err or.Memory
+abbrev pub ObserverStepsAt : ℕ → Result Parser (Or ObserverKind) → Result Parser (Or ObserverFault) → Type 0
+ObserverStepsAt at (Ok p) r = r ≡ Ok p
+ObserverStepsAt at (Err (or.Fault k)) r = r ≡ Err (or.Fault (record { at = at; kind = k }))
+ObserverStepsAt at (Err or.Memory) r = r ≡ Err or.Memory
 
 -- the formula of the whole text, or that it may not end at this place
-abbrev pub EndsAt : ℕ → Result Obs (Or ObserverFault) → Option Formula → Type 0
-EndsAt at (Ok f) r = r ≡ Some (formula_of f)
-EndsAt at (Err (or.Fault f)) r = (r ≡ None) × (f ≡ record { at = at; kind = Unexpected })
-EndsAt at (Err or.Memory) r = Unit {0}
+abbrev pub ObserverEndsAt : ℕ → Result Obs (Or ObserverFault) → Option Formula → Type 0
+ObserverEndsAt at (Ok f) r = r ≡ Some (formula_of f)
+ObserverEndsAt at (Err (or.Fault f)) r = (r ≡ None) × (f ≡ record { at = at; kind = Unexpected })
+ObserverEndsAt at (Err or.Memory) r = Unit {0}
 
 -- the formula that the bytes spell
 pub record IsFormulaOf (limit : ℕ) (number : List ℕ → ℕ) (bytes : List ℕ) (f : Formula) : Type 0 where
-  pub form : Form
-  pub spelled : Spells limit bytes form
+  pub form : ObserverForm
+  pub spelled : SpellsObserver limit bytes form
   pub meant : f ≡ meaning number form
 
 -- it, or the first offending place

@@ -24,33 +24,33 @@ keyword s =
     (if bytes_eq s (codes "or") then Some (Between Or) else
     (if bytes_eq s (codes "since") then Some (Between Since) else None))))))))
 
-abbrev pub keyword_or : Option Sign → List ℕ → Token
-keyword_or (Some s) w = sign s
-keyword_or None w = name w
+abbrev pub observer_keyword_or : Option Sign → List ℕ → Token
+observer_keyword_or (Some s) w = sign s
+observer_keyword_or None w = name w
 
 -- what stands at the front of a text that does not begin with a blank or a comment:
 -- its end, a token with the text behind it, or none
-pub data Front : Type 0 where
-  Over : Front
-  Begins : Token → List ℕ → Front
-  BadByte : Front
+pub data ObserverFront : Type 0 where
+  Over : ObserverFront
+  Begins : Token → List ℕ → ObserverFront
+  BadByte : ObserverFront
 
 -- the symbols ( ) =>
-abbrev pub symbol : ℕ → List ℕ → Front
-symbol b bs =
+abbrev pub observer_symbol : ℕ → List ℕ → ObserverFront
+observer_symbol b bs =
     if b == 40 then Begins (sign Open) bs else
     (if b == 41 then Begins (sign Close) bs else
     (if b == 61 && starts_with 62 bs then Begins (sign (Between Implies)) (drop 1 bs) else BadByte))
 
 -- the longest front of letters, digits and _
-abbrev pub word : List ℕ → Front
-word bytes = let w = take_while is_word bytes in Begins (keyword_or (keyword w) w) (drop (length w) bytes)
+abbrev pub observer_word : List ℕ → ObserverFront
+observer_word bytes = let w = take_while is_word bytes in Begins (observer_keyword_or (keyword w) w) (drop (length w) bytes)
 
-abbrev pub front : List ℕ → Front
-front [] = Over
-front (b ∷ bs) = if is_letter b then word (b ∷ bs) else symbol b bs
+abbrev pub observer_front : List ℕ → ObserverFront
+observer_front [] = Over
+observer_front (b ∷ bs) = if is_letter b then observer_word (b ∷ bs) else observer_symbol b bs
 
 -- these tokens are cut off the bytes one after the other, and this is the rest
-abbrev pub Cuts : List ℕ → List Token → List ℕ → Type 0
-Cuts bytes [] rest = rest ≡ bytes
-Cuts bytes (t ∷ ts) rest = (after : List ℕ) × (front (skip bytes) ≡ Begins t after) × Cuts after ts rest
+abbrev pub ObserverCuts : List ℕ → List Token → List ℕ → Type 0
+ObserverCuts bytes [] rest = rest ≡ bytes
+ObserverCuts bytes (t ∷ ts) rest = (after : List ℕ) × (observer_front (skip bytes) ≡ Begins t after) × ObserverCuts after ts rest

@@ -22,19 +22,19 @@ past Once began last before newest = last || newest
 past Historically began last before newest = (not began || last) && newest
 
 -- of a word between its operands: by its own value at the instant before, and theirs here
-abbrev pub both : Infix → (last first second : Bool) → Bool
-both And last first second = first && second
-both Or last first second = first || second
-both Since last first second = second || (last && first)
-both Implies last first second = not first || second
+abbrev pub infix_value : Infix → (last first second : Bool) → Bool
+infix_value And last first second = first && second
+infix_value Or last first second = first || second
+infix_value Since last first second = second || (last && first)
+infix_value Implies last first second = not first || second
 
 -- of part k, by the values of the parts at the instant before and those of earlier parts here
-abbrev pub value_of : (began : Bool) (now olds news : List Bool) (k : ℕ) → Part → Bool
-value_of began now olds news k (part.Lit b) = b
-value_of began now olds news k (part.Out i) = at now i
-value_of began now olds news k (part.Before p) = past p began (at olds k) (prior olds k) (prior news k)
-value_of began now olds news k (part.Between o l) = both o (at olds k) (at news l) (prior news k)
+abbrev pub part_value : (began : Bool) (now olds news : List Bool) (k : ℕ) → Part → Bool
+part_value began now olds news k (part.Lit b) = b
+part_value began now olds news k (part.Out i) = at now i
+part_value began now olds news k (part.Before p) = past p began (at olds k) (prior olds k) (prior news k)
+part_value began now olds news k (part.Between o l) = infix_value o (at olds k) (at news l) (prior news k)
 
 -- the parts below n have their values of this instant
 abbrev pub Turned : List Part → (began : Bool) (now olds news : List Bool) (n : ℕ) → Type 0
-Turned parts began now olds news n = (k : ℕ) → k < n → at news k ≡ value_of began now olds news k (slice_index_or parts k (part.Lit false))
+Turned parts began now olds news n = (k : ℕ) → k < n → at news k ≡ part_value began now olds news k (slice_index_or parts k (part.Lit false))

@@ -4,8 +4,8 @@ ghost use Rattle.lt_past.specs.Formula.{Formula, unary, binary};
 ghost use Rattle.lt_past.specs.Views.{formula_of};
 ghost use Rattle.lt_past.specs.Satisfaction.{Sat, signals_of};
 ghost use Rattle.lt_past.specs.Parts.{Fit, parts_of};
-ghost use Rattle.lt_past.specs.Turn.{Turned, both, past, prior};
-ghost use Rattle.lt_past.specs.Monitoring.{Stands};
+ghost use Rattle.lt_past.specs.Turn.{Turned, infix_value, past, prior};
+ghost use Rattle.lt_past.specs.Monitoring.{MonitorStands, TellsNext};
 
 use crate::words::{Infix, Prefix};
 use crate::{Obs, Observer};
@@ -105,7 +105,7 @@ fn past(word: Prefix, began: bool, last: bool, before: bool, newest: bool) -> bo
 
 /// The value of a word between its operands, by its own value at the instant before, and theirs now.
 fn both(word: Infix, last: bool, first: bool, second: bool) -> bool
-    ensures { result ≡ both word last first second }
+    ensures { result ≡ infix_value word last first second }
 {
     match word {
         Infix::And => first && second,
@@ -141,7 +141,7 @@ fn turn(parts: &[Part], values: &mut [bool], began: bool, now: &[bool]) -> bool
 impl Monitor {
     /// Before the first instant.
     pub fn start(alloc: Global, observer: &Observer) -> Result<Monitor, Memory>
-        ensures stands { IfOk result (λ monitor. Stands monitor observer.now.formula []) }
+        ensures stands { IfOk result (λ monitor. MonitorStands monitor observer.now.formula []) }
         ensures width { IfOk result (λ monitor. monitor.width ≡ length observer.now.outs) }
     {
         let mut parts = Vec::new(alloc);
@@ -159,9 +159,8 @@ impl Monitor {
     /// memory.
     pub fn step(&mut self, now: &[bool]) -> bool
         requires { length now.now ≡ self.old.width }
-        ensures stands { (f : Formula) (instants : Items (Items Truth)) → Stands self.old f instants → Stands self.new f (instants ++ now.now ∷ []) }
-        ensures value { (f : Formula) (instants : Items (Items Truth)) → Stands self.old f instants →
-            IsTrue result ↔ Sat (signals_of (instants ++ now.now ∷ [])) f (length instants) }
+        ensures stands { (f : Formula) (instants : Items (Items Truth)) → MonitorStands self.old f instants → MonitorStands self.new f (instants ++ now.now ∷ []) }
+        ensures value { (f : Formula) (instants : Items (Items Truth)) → MonitorStands self.old f instants → TellsNext f instants now.now result }
         ensures width { self.new.width ≡ self.old.width }
     {
         let holds = turn(&self.parts, &mut self.values, self.began, now);

@@ -1,7 +1,7 @@
 // The outputs that an observer names.
 ghost use Rattle.std.specs.Prelude.{◌≡◌, ◌<◌, ◌^◌, ◌==◌, position, length, false, ℕ, IfOk, IfSome, slice_index_or, vec_len};
 ghost use Rattle.lt_past.specs.Naming as naming;
-ghost use Rattle.lt_past.specs.Marking.{Marks, marked_below};
+ghost use Rattle.lt_past.specs.Marking.{MarksNames, marked_below};
 
 use crate::tokens::{Front, read_front};
 use crate::{ObserverFault, ObserverKind};
@@ -14,11 +14,7 @@ fn is_called(main: &Func, variable: u32, name: &[u8]) -> bool
     requires { variable < length main.now.decls }
     ensures { result ≡ naming.is_called main.now name.now variable }
 {
-    main.decls.as_slice()[variable as usize]
-        .name
-        .as_str()
-        .as_bytes()
-        == name
+    main.decls[variable as usize].name.as_str().as_bytes() == name
 }
 
 /// The place of the first output with this name.
@@ -26,10 +22,9 @@ fn place_of(main: &Func, name: &[u8]) -> Option<usize>
     ensures value { result ≡ position (naming.is_called main.now name.now) main.now.outs }
     ensures low { IfSome result (λ place. place < length main.now.outs) }
 {
-    main.kept();
-    let outs = main.outs.as_slice();
-    'outs: for place in 0..outs.len() {
-        if is_called(main, outs[place], name) {
+    main.invariant_holds();
+    'outs: for (place, out) in main.outs.iter().enumerate() {
+        if is_called(main, *out, name) {
             return Some(place);
         }
     }
@@ -51,7 +46,7 @@ fn of_variable(main: &Func, variable: u32, place: usize) -> Result<usize, Observ
     requires { variable < length main.now.decls }
     ensures { let d = naming.declaration main.now variable in result ≡ naming.of_type place d.ty d.clock }
 {
-    let declared = &main.decls.as_slice()[variable as usize];
+    let declared = &main.decls[variable as usize];
     match declared.ty {
         Ty::Int => Err(ObserverKind::NotBool),
         Ty::Bool => of_clock(place, &declared.clock),
@@ -63,15 +58,15 @@ pub fn output_of(main: &Func, name: &[u8]) -> Result<usize, ObserverKind>
     ensures value { result ≡ naming.output_of main.now name.now }
     ensures low { IfOk result (λ y. y < length main.now.outs) }
 {
-    main.kept();
+    main.invariant_holds();
     match place_of(main, name) {
-        Some(place) => of_variable(main, main.outs.as_slice()[place], place),
+        Some(place) => of_variable(main, main.outs[place], place),
         None => Err(ObserverKind::UnknownName),
     }
 }
 
 /// So many marks, none of them set.
-pub fn unmarked(alloc: Global, n: usize) -> Result<Vec<bool>, Memory>
+pub fn no_marks(alloc: Global, n: usize) -> Result<Vec<bool>, Memory>
     ensures none { IfOk result (λ marks. (place : ℕ) → slice_index_or marks.items place false ≡ false) }
     ensures size { IfOk result (λ marks. vec_len marks ≡ n) }
 {
@@ -82,7 +77,7 @@ pub fn unmarked(alloc: Global, n: usize) -> Result<Vec<bool>, Memory>
 /// is that of no bool output on the base clock.
 pub fn mark_names(main: &Func, bytes: &[u8], marks: &mut [bool]) -> Option<ObserverFault>
     requires { length marks.old ≡ length main.now.outs }
-    ensures { Marks main.now bytes.now marks.old marks.new result }
+    ensures { MarksNames main.now bytes.now marks.old marks.new result }
 {
     let mut rest = bytes;
     'text: loop {
@@ -105,13 +100,13 @@ pub fn mark_names(main: &Func, bytes: &[u8], marks: &mut [bool]) -> Option<Obser
 }
 
 /// The marked places.
-pub fn marked(alloc: Global, marks: &[bool]) -> Result<List<u32>, Memory>
+pub fn marked_places(alloc: Global, marks: &[bool]) -> Result<List<u32>, Memory>
     requires { length marks.now < 2 ^ 32 }
     ensures { IfOk result (λ outs. outs ≡ marked_below marks.now (length marks.now)) }
 {
     let mut outs = List::new(alloc);
-    for place in 0..marks.len() {
-        if marks[place] {
+    for (place, mark) in marks.iter().enumerate() {
+        if *mark {
             outs.push(place as u32)?;
         }
     }
@@ -121,7 +116,7 @@ pub fn marked(alloc: Global, marks: &[bool]) -> Result<List<u32>, Memory>
 /// The number of a name's output among some places.
 pub fn number_of(main: &Func, outs: &[u32], name: &[u8]) -> u32
     requires { length outs.now < 2 ^ 32 }
-    ensures { result ≡ naming.number_of main.now outs.now name.now }
+    ensures { result ≡ naming.output_number main.now outs.now name.now }
 {
     match output_of(main, name) {
         Ok(place) => place_in(outs, place),

@@ -2,9 +2,9 @@
 ghost use Rattle.std.specs.Prelude.{◌≡◌, ◌<◌, ◌^◌, length};
 ghost use Rattle.lt_past.specs.Observer.{Observing, IsObserver};
 ghost use Rattle.lt_past.specs.Faults.{IsObserverOf};
-ghost use Rattle.lt_past.specs.Reads.{Answers, Finds};
+ghost use Rattle.lt_past.specs.Reads.{AnswersObserver, FindsObserver};
 
-use crate::names::{mark_names, marked, unmarked};
+use crate::names::{mark_names, marked_places, no_marks};
 use crate::reading::read_formula;
 use crate::{Obs, ObserverFault};
 use lt_base::{Func, List, Or};
@@ -33,7 +33,7 @@ impl Model for Observer {
 
 impl Observer {
     /// What the type keeps, for callers.
-    pub fn kept(&self)
+    pub fn invariant_holds(&self)
         ensures { IsObserver self.now }
     {
         let _ = &self.formula;
@@ -48,14 +48,14 @@ pub fn read_observer(
     main: &Func,
 ) -> Result<Observer, Or<ObserverFault>>
     requires { length main.now.outs < 2 ^ 32 }
-    ensures exact { Answers 200 main.now bytes.now result }
+    ensures exact { AnswersObserver 200 main.now bytes.now result }
     // An observer is found, unless memory runs out.
-    ensures only { (o : Observing) → IsObserverOf 200 main.now bytes.now o → Finds o result }
+    ensures only { (o : Observing) → IsObserverOf 200 main.now bytes.now o → FindsObserver o result }
 {
-    let mut marks = unmarked(alloc, main.outs.len())?;
+    let mut marks = no_marks(alloc, main.outs.len())?;
     let bad = mark_names(main, bytes, &mut marks);
-    let outs = marked(alloc, &marks)?;
-    let formula = read_formula(alloc, bytes, main, outs.as_slice())?;
+    let outs = marked_places(alloc, &marks)?;
+    let formula = read_formula(alloc, bytes, main, &outs)?;
     match bad {
         Some(fault) => Err(Or::Fault(fault)),
         None => Ok(Observer { outs, formula }),

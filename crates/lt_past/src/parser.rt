@@ -3,7 +3,8 @@ ghost use Rattle.std.specs.Prelude.{◌≡◌, ◌≤◌, ◌<◌, ◌+◌, ◌^
 ghost use Rattle.lt_past.specs.Levels as levels;
 ghost use Rattle.lt_past.specs.Machine as machine;
 ghost use Rattle.lt_past.specs.Views.{formula_of};
-ghost use Rattle.lt_past.specs.Parsed.{Finds, NeedsNoMemory, Steps, frame_of, operand_of, stack_of, state_of, top_ends};
+ghost use Rattle.lt_past.specs.Parsed.{FindsFormula, ObserverSteps, observer_frame_of, observer_operand_of, observer_stack_of, observer_state_of, observer_top_ends};
+ghost use Rattle.lt_base.specs.Memory.{NeedsNoMemory};
 
 use crate::words::{Infix, Prefix};
 use crate::{Obs, ObserverKind};
@@ -37,7 +38,7 @@ pub struct Parser {
 
 /// The level of the line on which two formulas meet.
 fn level(word: Infix) -> u8
-    ensures { result ≡ levels.level word }
+    ensures { result ≡ levels.observer_level word }
 {
     match word {
         Infix::Implies => 1,
@@ -49,7 +50,7 @@ fn level(word: Infix) -> u8
 
 /// The level of what stands to the left of it.
 fn left(word: Infix) -> u8
-    ensures value { result ≡ levels.left word }
+    ensures value { result ≡ levels.observer_left_level word }
     ensures level { 1 ≤ result }
 {
     match word {
@@ -60,7 +61,7 @@ fn left(word: Infix) -> u8
 }
 
 fn push(frames: &mut Vec<Frame>, f: Frame) -> Result<(), Memory>
-    ensures { OnOk result (stack_of frames.new.items ≡ frame_of f ∷ stack_of frames.old.items) }
+    ensures { OnOk result (observer_stack_of frames.new.items ≡ observer_frame_of f ∷ observer_stack_of frames.old.items) }
 {
     frames.push(f)?;
     Ok(())
@@ -68,14 +69,14 @@ fn push(frames: &mut Vec<Frame>, f: Frame) -> Result<(), Memory>
 
 fn pop(frames: &mut Vec<Frame>) -> Option<Frame>
     ensures len { IfSome result (λ _. length frames.new.items + 1 ≡ length frames.old.items) }
-    ensures stack { MatchOption result ((stack_of frames.old.items ≡ []) × (stack_of frames.new.items ≡ [])) (λ f. stack_of frames.old.items ≡ frame_of f ∷ stack_of frames.new.items) }
+    ensures stack { MatchOption result ((observer_stack_of frames.old.items ≡ []) × (observer_stack_of frames.new.items ≡ [])) (λ f. observer_stack_of frames.old.items ≡ observer_frame_of f ∷ observer_stack_of frames.new.items) }
 {
     frames.pop()
 }
 
 /// The level of the newest form, where its next operand completes it.
 fn newest_ends(frames: &[Frame]) -> u8
-    ensures { result ≡ top_ends (stack_of frames.now) }
+    ensures { result ≡ observer_top_ends (observer_stack_of frames.now) }
 {
     match frames.last() {
         Some(Frame::Prefixed(_)) => 5,
@@ -86,7 +87,7 @@ fn newest_ends(frames: &[Frame]) -> u8
 
 /// The least height of what a form may become.
 fn least(f: &Frame) -> u64
-    ensures value { result ≡ machine.least (frame_of f.now) }
+    ensures value { result ≡ machine.observer_least_height (observer_frame_of f.now) }
     ensures bound { result ≤ 2 ^ 32 }
 {
     match f {
@@ -97,7 +98,7 @@ fn least(f: &Frame) -> u64
 
 /// The newest form fits the limit.
 fn fits(frames: &[Frame]) -> bool
-    ensures { IsTrue result ↔ (machine.need (stack_of frames.now) ≤ LIMIT) }
+    ensures { IsTrue result ↔ (machine.observer_need (observer_stack_of frames.now) ≤ LIMIT) }
 {
     let Some(f) = frames.last() else {
         return true;
@@ -105,9 +106,9 @@ fn fits(frames: &[Frame]) -> bool
     frames.len() <= 200 && frames.len() as u64 - 1 + least(f) <= u64::from(LIMIT)
 }
 
-fn prefixed(alloc: Global, word: Prefix, a: Operand) -> Result<Operand, Memory>
+fn apply_prefix(alloc: Global, word: Prefix, a: Operand) -> Result<Operand, Memory>
     requires { a.height + 1 < 2 ^ 32 }
-    ensures { IfOk result (λ r. operand_of r ≡ machine.complete (machine.prefixed word) (operand_of a)) }
+    ensures { IfOk result (λ r. observer_operand_of r ≡ machine.observer_complete (machine.prefixed word) (observer_operand_of a)) }
 {
     let height = a.height + 1;
     let inner = Box::new(alloc, a.formula)?;
@@ -120,9 +121,9 @@ fn prefixed(alloc: Global, word: Prefix, a: Operand) -> Result<Operand, Memory>
     Ok(Operand { formula, height })
 }
 
-fn joined(alloc: Global, word: Infix, a: Operand, b: Operand) -> Result<Operand, Memory>
-    requires { (machine.complete (machine.joined word (operand_of a)) (operand_of b)).height < 2 ^ 32 }
-    ensures { IfOk result (λ r. operand_of r ≡ machine.complete (machine.joined word (operand_of a)) (operand_of b)) }
+fn join_operands(alloc: Global, word: Infix, a: Operand, b: Operand) -> Result<Operand, Memory>
+    requires { (machine.observer_complete (machine.joined word (observer_operand_of a)) (observer_operand_of b)).height < 2 ^ 32 }
+    ensures { IfOk result (λ r. observer_operand_of r ≡ machine.observer_complete (machine.joined word (observer_operand_of a)) (observer_operand_of b)) }
 {
     let height = a.height.max(b.height) + 1;
     let first = Box::new(alloc, a.formula)?;
@@ -138,22 +139,22 @@ fn joined(alloc: Global, word: Infix, a: Operand, b: Operand) -> Result<Operand,
 
 /// The form with its last part.
 fn complete(alloc: Global, f: Frame, b: Operand) -> Result<Operand, Memory>
-    requires { (machine.complete (frame_of f) (operand_of b)).height < 2 ^ 32 }
-    ensures { IfOk result (λ r. operand_of r ≡ machine.complete (frame_of f) (operand_of b)) }
+    requires { (machine.observer_complete (observer_frame_of f) (observer_operand_of b)).height < 2 ^ 32 }
+    ensures { IfOk result (λ r. observer_operand_of r ≡ machine.observer_complete (observer_frame_of f) (observer_operand_of b)) }
 {
     match f {
         Frame::Opened => Ok(b),
-        Frame::Prefixed(word) => prefixed(alloc, word, b),
-        Frame::Joined(word, a) => joined(alloc, word, a, b),
+        Frame::Prefixed(word) => apply_prefix(alloc, word, b),
+        Frame::Joined(word, a) => join_operands(alloc, word, a, b),
     }
 }
 
 /// Completes the forms from this level on.
 fn close(alloc: Global, l: u8, frames: &mut Vec<Frame>, first: Operand) -> Result<Operand, Memory>
     requires level { 1 ≤ l }
-    requires room { machine.HasRoom LIMIT (stack_of frames.old.items) (operand_of first) }
-    ensures closed { IfOk result (λ b. machine.close l (stack_of frames.old.items) (operand_of first) ≡ record { below = stack_of frames.new.items; operand = operand_of b }) }
-    ensures room { IfOk result (λ b. machine.HasRoom LIMIT (stack_of frames.new.items) (operand_of b)) }
+    requires room { machine.ObserverHasRoom LIMIT (observer_stack_of frames.old.items) (observer_operand_of first) }
+    ensures closed { IfOk result (λ b. machine.observer_close l (observer_stack_of frames.old.items) (observer_operand_of first) ≡ record { below = observer_stack_of frames.new.items; operand = observer_operand_of b }) }
+    ensures room { IfOk result (λ b. machine.ObserverHasRoom LIMIT (observer_stack_of frames.new.items) (observer_operand_of b)) }
 {
     let mut b = first;
     'forms: while newest_ends(frames) >= l {
@@ -167,7 +168,7 @@ fn close(alloc: Global, l: u8, frames: &mut Vec<Frame>, first: Operand) -> Resul
 
 /// A form is begun, and an operand must come.
 fn waiting(frames: Vec<Frame>) -> Result<Parser, Or<ObserverKind>>
-    ensures steps { Steps result (machine.fitting LIMIT (stack_of frames.items)) }
+    ensures steps { ObserverSteps result (machine.fitting LIMIT (observer_stack_of frames.items)) }
     ensures memory { NeedsNoMemory result }
 {
     if fits(&frames) {
@@ -182,7 +183,7 @@ fn waiting(frames: Vec<Frame>) -> Result<Parser, Or<ObserverKind>>
 
 /// An operand that is whole by itself.
 pub fn leaf(parser: Parser, formula: Obs) -> Result<Parser, Or<ObserverKind>>
-    ensures steps { Steps result (machine.leaf (formula_of formula) (state_of parser).frames (state_of parser).whole) }
+    ensures steps { ObserverSteps result (machine.leaf (formula_of formula) (observer_state_of parser).frames (observer_state_of parser).whole) }
     ensures memory { NeedsNoMemory result }
 {
     if parser.whole.is_some() {
@@ -197,7 +198,7 @@ pub fn leaf(parser: Parser, formula: Obs) -> Result<Parser, Or<ObserverKind>>
 
 /// A form begins with what stands before its operand.
 pub fn begin(parser: Parser, f: Frame) -> Result<Parser, Or<ObserverKind>>
-    ensures { Steps result (machine.begin LIMIT (frame_of f) (state_of parser).frames (state_of parser).whole) }
+    ensures { ObserverSteps result (machine.begin LIMIT (observer_frame_of f) (observer_state_of parser).frames (observer_state_of parser).whole) }
 {
     if parser.whole.is_some() {
         return Err(Or::Fault(ObserverKind::Unexpected));
@@ -209,8 +210,8 @@ pub fn begin(parser: Parser, f: Frame) -> Result<Parser, Or<ObserverKind>>
 
 /// A word or symbol behind an operand.
 pub fn join(alloc: Global, parser: Parser, word: Infix) -> Result<Parser, Or<ObserverKind>>
-    requires { machine.Held LIMIT (state_of parser).frames (state_of parser).whole }
-    ensures { Steps result (machine.join LIMIT word (state_of parser).frames (state_of parser).whole) }
+    requires { machine.ObserverHeld LIMIT (observer_state_of parser).frames (observer_state_of parser).whole }
+    ensures { ObserverSteps result (machine.join LIMIT word (observer_state_of parser).frames (observer_state_of parser).whole) }
 {
     let Parser { frames, whole } = parser;
     let Some(first) = whole else {
@@ -225,7 +226,7 @@ pub fn join(alloc: Global, parser: Parser, word: Infix) -> Result<Parser, Or<Obs
 /// What ) makes of the newest form and its operand.
 fn shut_on(frames: Vec<Frame>, b: Operand) -> Result<Parser, Or<ObserverKind>>
     requires { b.height + 1 < 2 ^ 32 }
-    ensures steps { Steps result (machine.shut_on (stack_of frames.items) (operand_of b)) }
+    ensures steps { ObserverSteps result (machine.shut_on (observer_stack_of frames.items) (observer_operand_of b)) }
     ensures memory { NeedsNoMemory result }
 {
     let mut frames = frames;
@@ -243,8 +244,8 @@ fn shut_on(frames: Vec<Frame>, b: Operand) -> Result<Parser, Or<ObserverKind>>
 
 /// ) behind an operand.
 pub fn shut(alloc: Global, parser: Parser) -> Result<Parser, Or<ObserverKind>>
-    requires { machine.Held LIMIT (state_of parser).frames (state_of parser).whole }
-    ensures { Steps result (machine.shut (state_of parser).frames (state_of parser).whole) }
+    requires { machine.ObserverHeld LIMIT (observer_state_of parser).frames (observer_state_of parser).whole }
+    ensures { ObserverSteps result (machine.shut (observer_state_of parser).frames (observer_state_of parser).whole) }
 {
     let Parser { frames, whole } = parser;
     let Some(first) = whole else {
@@ -257,8 +258,8 @@ pub fn shut(alloc: Global, parser: Parser) -> Result<Parser, Or<ObserverKind>>
 
 /// The formula of the whole text, where it may end.
 pub fn end(alloc: Global, parser: Parser) -> Result<Option<Obs>, Memory>
-    requires { machine.Held LIMIT (state_of parser).frames (state_of parser).whole }
-    ensures { Finds result (machine.end_of (state_of parser).frames (state_of parser).whole) }
+    requires { machine.ObserverHeld LIMIT (observer_state_of parser).frames (observer_state_of parser).whole }
+    ensures { FindsFormula result (machine.end_of (observer_state_of parser).frames (observer_state_of parser).whole) }
 {
     let Parser { frames, whole } = parser;
     let Some(first) = whole else {

@@ -2,8 +2,9 @@
 ghost use Rattle.std.specs.Prelude.{◌≡◌, ◌<◌, ◌^◌, List, ℕ, length};
 ghost use Rattle.lt_past.specs.Tokens as text;
 ghost use Rattle.lt_past.specs.Machine as machine;
-ghost use Rattle.lt_past.specs.Naming.{number_of};
-ghost use Rattle.lt_past.specs.Parsed.{NeedsNoMemory, Parses, Steps, StepsAt, EndsAt, state_of};
+ghost use Rattle.lt_past.specs.Naming.{output_number};
+ghost use Rattle.lt_past.specs.Parsed.{Parses, ObserverSteps, ObserverStepsAt, ObserverEndsAt, observer_state_of};
+ghost use Rattle.lt_base.specs.Memory.{NeedsNoMemory};
 
 use crate::names::number_of;
 use crate::parser::{Frame, LIMIT, Parser, begin, end, join, leaf, shut};
@@ -21,15 +22,15 @@ fn step_name(
     name: &[u8],
 ) -> Result<Parser, Or<ObserverKind>>
     requires { length outs.now < 2 ^ 32 }
-    ensures steps { Steps result (machine.step LIMIT (number_of main.now outs.now) (state_of parser) (text.name name.now)) }
+    ensures steps { ObserverSteps result (machine.observer_step LIMIT (output_number main.now outs.now) (observer_state_of parser) (text.name name.now)) }
     ensures memory { NeedsNoMemory result }
 {
     leaf(parser, Obs::Out(number_of(main, outs, name)))
 }
 
 fn step_sign(alloc: Global, parser: Parser, sign: Sign) -> Result<Parser, Or<ObserverKind>>
-    requires { machine.Held LIMIT (state_of parser).frames (state_of parser).whole }
-    ensures { (number : List ℕ → ℕ) → Steps result (machine.step LIMIT number (state_of parser) (text.sign sign)) }
+    requires { machine.ObserverHeld LIMIT (observer_state_of parser).frames (observer_state_of parser).whole }
+    ensures { (number : List ℕ → ℕ) → ObserverSteps result (machine.observer_step LIMIT number (observer_state_of parser) (text.sign sign)) }
 {
     match sign {
         Sign::Truth(b) => leaf(parser, Obs::Lit(b)),
@@ -41,8 +42,11 @@ fn step_sign(alloc: Global, parser: Parser, sign: Sign) -> Result<Parser, Or<Obs
 }
 
 /// A step's refusal at the place of its token.
-fn placed(at: usize, stepped: Result<Parser, Or<ObserverKind>>) -> Result<Parser, Or<ObserverFault>>
-    ensures { StepsAt at stepped result }
+fn place_fault(
+    at: usize,
+    stepped: Result<Parser, Or<ObserverKind>>,
+) -> Result<Parser, Or<ObserverFault>>
+    ensures { ObserverStepsAt at stepped result }
 {
     match stepped {
         Ok(parser) => Ok(parser),
@@ -52,9 +56,9 @@ fn placed(at: usize, stepped: Result<Parser, Or<ObserverKind>>) -> Result<Parser
 }
 
 /// The formula, where the text may end.
-fn ended(alloc: Global, at: usize, parser: Parser) -> Result<Obs, Or<ObserverFault>>
-    requires { machine.Held LIMIT (state_of parser).frames (state_of parser).whole }
-    ensures { EndsAt at result (machine.end_of (state_of parser).frames (state_of parser).whole) }
+fn end_formula(alloc: Global, at: usize, parser: Parser) -> Result<Obs, Or<ObserverFault>>
+    requires { machine.ObserverHeld LIMIT (observer_state_of parser).frames (observer_state_of parser).whole }
+    ensures { ObserverEndsAt at result (machine.end_of (observer_state_of parser).frames (observer_state_of parser).whole) }
 {
     let kind = ObserverKind::Unexpected;
     match end(alloc, parser) {
@@ -73,7 +77,7 @@ pub fn read_formula(
     outs: &[u32],
 ) -> Result<Obs, Or<ObserverFault>>
     requires { length outs.now < 2 ^ 32 }
-    ensures { Parses LIMIT (number_of main.now outs.now) bytes.now result }
+    ensures { Parses LIMIT (output_number main.now outs.now) bytes.now result }
 {
     let mut parser = Parser {
         frames: Vec::new(alloc),
@@ -85,20 +89,20 @@ pub fn read_formula(
         let at = bytes.len() - here.len();
         match read_front(here) {
             Front::Name(n) => {
-                match placed(at, step_name(parser, main, outs, &here[..n])) {
+                match place_fault(at, step_name(parser, main, outs, &here[..n])) {
                     Ok(next) => parser = next,
                     Err(e) => return Err(e),
                 }
                 rest = &here[n..];
             }
             Front::Other(sign, n) => {
-                match placed(at, step_sign(alloc, parser, sign)) {
+                match place_fault(at, step_sign(alloc, parser, sign)) {
                     Ok(next) => parser = next,
                     Err(e) => return Err(e),
                 }
                 rest = &here[n..];
             }
-            Front::Over => return ended(alloc, at, parser),
+            Front::Over => return end_formula(alloc, at, parser),
             Front::BadByte => {
                 let kind = ObserverKind::BadByte;
                 return Err(Or::Fault(ObserverFault { at, kind }));

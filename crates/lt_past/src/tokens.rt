@@ -2,7 +2,7 @@
 ghost use Rattle.std.specs.Prelude.{◌≡◌, ◌≤◌, ◌+◌, ◌∷◌, bytes_eq, length, take_while};
 ghost use Rattle.lt_tokens.specs.Text.{is_letter, is_word};
 ghost use Rattle.lt_past.specs.Tokens as text;
-ghost use Rattle.lt_past.specs.Fronts.{front_of, IsWithin};
+ghost use Rattle.lt_past.specs.Fronts.{observer_front_of, ObserverFrontIsWithin};
 
 use crate::words::{Infix, Prefix, Sign};
 
@@ -68,8 +68,8 @@ fn keyword(s: &[u8]) -> Option<Sign>
 
 fn word(bytes: &[u8]) -> Front
     requires { 1 ≤ length (take_while is_word bytes.now) }
-    ensures value { front_of result bytes.now ≡ text.word bytes.now }
-    ensures within { IsWithin result (length bytes.now) }
+    ensures value { observer_front_of result bytes.now ≡ text.observer_word bytes.now }
+    ensures within { ObserverFrontIsWithin result (length bytes.now) }
 {
     let n = word_length(bytes);
     match keyword(&bytes[..n]) {
@@ -79,8 +79,8 @@ fn word(bytes: &[u8]) -> Front
 }
 
 fn symbol(b: u8, after: &[u8]) -> Front
-    ensures value { front_of result (b ∷ after.now) ≡ text.symbol b after.now }
-    ensures within { IsWithin result (1 + length after.now) }
+    ensures value { observer_front_of result (b ∷ after.now) ≡ text.observer_symbol b after.now }
+    ensures within { ObserverFrontIsWithin result (1 + length after.now) }
 {
     if b == b'(' {
         Front::Other(Sign::Open, 1)
@@ -95,8 +95,8 @@ fn symbol(b: u8, after: &[u8]) -> Front
 
 /// What stands at the front of a text without blanks there.
 pub fn read_front(bytes: &[u8]) -> Front
-    ensures value { front_of result bytes.now ≡ text.front bytes.now }
-    ensures within { IsWithin result (length bytes.now) }
+    ensures value { observer_front_of result bytes.now ≡ text.observer_front bytes.now }
+    ensures within { ObserverFrontIsWithin result (length bytes.now) }
 {
     let [b, after @ ..] = bytes else {
         return Front::Over;

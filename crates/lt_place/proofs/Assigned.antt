@@ -8,8 +8,8 @@ use Rattle.std.proofs.lemmas.Bool.{cases_eq}
 use Rattle.std.proofs.lemmas.Slice.Eq.{bytes_eq-Decides}
 use Rattle.lt_base.specs.declared.function.Decl.{Decl}
 use Rattle.lt_norm.specs.Flat.{Originated}
-use Rattle.lt_reads.specs.Origins.{IsMain, HasOrigins, count, name_in, name_of}
-use Rattle.lt_place.specs.declared.named.NamedNode.{NamedNode}
+use Rattle.lt_place_reads.specs.Origins.{IsMain, HasOrigins, variable_count, name_in, name_of}
+use Rattle.lt_arch.specs.declared.named.NamedNode.{NamedNode}
 use Rattle.lt_place.specs.declared.seats.Seat.{Seat}
 use Rattle.lt_place.specs.Nodes.{Listing, listings_on, listings_from, IsKnown, EachKnown}
 use Rattle.lt_place.specs.Seats.{at_name, KnowsMain, EachIn, IsFirstOut, seat_of, seats_of}
@@ -132,7 +132,7 @@ module _ {S : Type 0} (f : Originated) (i : ℕ) (m : Named ℕ S) (k : KnowsMai
   pub known_else : (get_or origin i 0 ≡ i → ⊥) → KnowsMain f (i + 1) m
   known_else h = known_skip f i m k (λ s. h (ap (λ (xs : List ℕ). get_or xs i 0) os ∙ s.own))
 
-module _ {S : Type 0} (f : Originated) (m : Named ℕ S) (k : KnowsMain f (count f) m) where
+module _ {S : Type 0} (f : Originated) (m : Named ℕ S) (k : KnowsMain f (variable_count f) m) where
   pub each_known : (ls : List Listing) → EachIn m ls → EachKnown f ls
   each_known [] h = tt
   each_known (l ∷ ls) h =

@@ -10,16 +10,16 @@ use Rattle.lt_base.specs.Clocking.{ClockedFunction}
 use Rattle.lt_base.proofs.Lookups.{right_all, left_below, same_self}
 use Rattle.lt_base.proofs.Reading.{or_left}
 use Rattle.lt_norm.specs.Flat.{Originated}
-use Rattle.lt_reads.specs.declared.crossing.Crossing.{Crossing}
-use Rattle.lt_reads.specs.Origins.{count, name_of}
-use Rattle.lt_reads.specs.Crossings.{cross_of, cross_in, cross_by, HasReaders, HasPlaces}
-use Rattle.lt_reads.proofs.Crossed.{differ}
-use Rattle.lt_place.specs.declared.named.NamedNode.{NamedNode}
-use Rattle.lt_place.specs.declared.placement.Placement.{Placement}
-use Rattle.lt_place.specs.declared.placement.Placement.TheVariants.{All as OnOne, Named as OnListed}
+use Rattle.lt_place_reads.specs.declared.crossing.Crossing.{Crossing}
+use Rattle.lt_place_reads.specs.Origins.{variable_count, name_of}
+use Rattle.lt_place_reads.specs.Crossings.{cross_of, cross_in, cross_by, HasReaders, HasPlaces}
+use Rattle.lt_place_reads.proofs.Crossed.{differ}
+use Rattle.lt_arch.specs.declared.named.NamedNode.{NamedNode}
+use Rattle.lt_arch.specs.declared.placement.Placement.{Placement}
+use Rattle.lt_arch.specs.declared.placement.Placement.TheVariants.{All as OnOne, Named as OnListed}
 use Rattle.lt_place.specs.declared.layout.Layout.{Layout}
-use Rattle.lt_place.specs.Names.{names_of}
-use Rattle.lt_place.specs.Placement.{node_names}
+use Rattle.lt_arch.specs.NodeNames.{names_of}
+use Rattle.lt_arch.specs.Placement.{node_names}
 use Rattle.lt_place.specs.Nodes.{listings_on, listings_from, node_listed, node_named, nodes_of, node_of}
 use Rattle.lt_place.specs.Layout.{HasCrossings, crossing_of, no_crossing}
 use Rattle.lt_place.specs.Spread.{IsLocal}
@@ -87,16 +87,16 @@ is_cross nodes x v y a = (made nodes x v y, ap (λ b. if b then None else Some (
 
 -- ---- in a list of them
 
-module _ (f : Originated) (good : GoodFunction f.func) (nodes : List ℕ) (readers : List (Option Crossing)) (r : HasReaders f nodes readers) (list : List Crossing) (places : List (Option ℕ)) (h : HasPlaces readers (count f) list places) where
-  pub of_place : (k : ℕ) (c : Crossing) → slice_get list k ≡ Some c → (c.reader < count f) × IsCross nodes c.reader (right_of f.func.eqs c.reader) c
+module _ (f : Originated) (good : GoodFunction f.func) (nodes : List ℕ) (readers : List (Option Crossing)) (r : HasReaders f nodes readers) (list : List Crossing) (places : List (Option ℕ)) (h : HasPlaces readers (variable_count f) list places) where
+  pub of_place : (k : ℕ) (c : Crossing) → slice_get list k ≡ Some c → (c.reader < variable_count f) × IsCross nodes c.reader (right_of f.func.eqs c.reader) c
   of_place k c s =
       let e = h.each k c s in
       (e.0, cross_is nodes c.reader (right_of f.func.eqs c.reader) c (sym (r.each c.reader e.0) ∙ e.1))
 
-  pub var_below : (k : ℕ) (c : Crossing) → slice_get list k ≡ Some c → c.var < count f
+  pub var_below : (k : ℕ) (c : Crossing) → slice_get list k ≡ Some c → c.var < variable_count f
   var_below k c s =
       let o = of_place k c s in
-      right_all (λ q. VarsBelow (count f) q.1) f.func.eqs good.rights c.reader (delayed c.first (variable c.var)) o.1.equation
+      right_all (λ q. VarsBelow (variable_count f) q.1) f.func.eqs good.rights c.reader (delayed c.first (variable c.var)) o.1.equation
 
   get_at : (xs : List Crossing) (k : ℕ) (d : Crossing) → k < length xs → slice_get xs k ≡ Some (get_or xs k d)
   get_at [] k d l = absurd (omega arith)
@@ -106,7 +106,7 @@ module _ (f : Originated) (good : GoodFunction f.func) (nodes : List ℕ) (reade
   pub at_place : (k : ℕ) (d : Crossing) → k < length list → slice_get list k ≡ Some (get_or list k d)
   at_place k d l = get_at list k d l
 
-  pub vars_below : (list' : List Crossing) (n : ℕ) → list' ≡ list → n ≡ count f → All (λ (c : Crossing). c.var < n) list'
+  pub vars_below : (list' : List Crossing) (n : ℕ) → list' ≡ list → n ≡ variable_count f → All (λ (c : Crossing). c.var < n) list'
   vars_below list' n e k = subst (λ xs. All (λ (c : Crossing). c.var < n) xs) (sym e) (λ i d l. let b = var_below i (get_or list i d) (at_place i d l) in omega (arith, b, k))
 
 -- ---- the numbers of nodes
@@ -147,11 +147,11 @@ clock_case : (ck : ClockPairs) → (ck ≢ [] → ⊥) → ck ≡ []
 clock_case [] h = refl
 clock_case (p ∷ ck) h = absurd (h (λ e. cc))
 
-module _ (f : Originated) (good : GoodFunction f.func) (clocked : ClockedFunction [] f.func) (p : Placement) (nodes : List ℕ) (e : nodes ≡ nodes_of f p) (local : IsLocal f nodes) (readers : List (Option Crossing)) (r : HasReaders f nodes readers) (places : List (Option ℕ)) (l : Layout) (h : HasPlaces readers (count f) l.cross places) (long : length l.nodes ≡ length (node_names p)) where
+module _ (f : Originated) (good : GoodFunction f.func) (clocked : ClockedFunction [] f.func) (p : Placement) (nodes : List ℕ) (e : nodes ≡ nodes_of f p) (local : IsLocal f nodes) (readers : List (Option Crossing)) (r : HasReaders f nodes readers) (places : List (Option ℕ)) (l : Layout) (h : HasPlaces readers (variable_count f) l.cross places) (long : length l.nodes ≡ length (node_names p)) where
   node_at : (x : ℕ) → get_or nodes x 0 ≡ node_of f p x
   node_at x = ap (λ (ns : List ℕ). get_or ns x 0) e
 
-  of_number : (c : ℕ) → c < length l.cross → ((crossing_of l c).reader < count f) × IsCross nodes (crossing_of l c).reader (right_of f.func.eqs (crossing_of l c).reader) (crossing_of l c)
+  of_number : (c : ℕ) → c < length l.cross → ((crossing_of l c).reader < variable_count f) × IsCross nodes (crossing_of l c).reader (right_of f.func.eqs (crossing_of l c).reader) (crossing_of l c)
   unfolding crossing_of
   of_number c b = of_place f good nodes readers r l.cross places h c (crossing_of l c) (at_place f good nodes readers r l.cross places h c no_crossing b)
 

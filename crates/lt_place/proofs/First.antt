@@ -7,13 +7,13 @@ use Rattle.lt_base.specs.Dependence.{has}
 use Rattle.lt_base.specs.Program.{GoodFunction}
 use Rattle.lt_base.proofs.Lookups.{left_below}
 use Rattle.lt_norm.specs.Flat.{Originated}
-use Rattle.lt_reads.specs.Reads.{unless_base}
-use Rattle.lt_place.specs.declared.placement.Placement.{Placement}
+use Rattle.lt_place_reads.specs.Reads.{unless_base}
+use Rattle.lt_arch.specs.declared.placement.Placement.{Placement}
 use Rattle.lt_place.specs.declared.fault.PlaceFault.{PlaceFault}
 use Rattle.lt_place.specs.declared.fault.PlaceFault.TheVariants.{Unplaced, PlacedTwice, UnknownName, DirectCross, SlowCross, ClockElsewhere}
 use Rattle.lt_place.specs.Nodes.{Listing, listings, IsKnown, EachKnown}
 use Rattle.lt_place.specs.Legal.{Legal}
-use Rattle.lt_place.specs.Faults.{IsLowest, IsUnplaced, IsPlacedTwice, AllOnce, IsFirstUnknown, IsClear, IsReached, IsFirstFault, judged, IsClockElsewhere, IsDirectCross, IsSlowCross}
+use Rattle.lt_place.specs.Faults.{IsLowest, IsUnplaced, IsPlacedTwice, AllOnce, IsFirstUnknown, IsClear, IsReached, IsFirstPlaceFault, judged_variables, IsClockElsewhere, IsDirectCross, IsSlowCross}
 
 same_lowest : (P : ℕ → Type 0) (m n : ℕ) → IsLowest P m → IsLowest P n → m ≡ n
 same_lowest P m n a b = let p = a.lowest n b.holds in let q = b.lowest m a.holds in omega (arith, p, q)
@@ -56,7 +56,7 @@ module _ (f : Originated) (p : Placement) where
   one_turn : (m n : ℕ) → IsReached f p m → IsReached f p n → (IsClear f p m → ⊥) → (IsClear f p n → ⊥) → m ≡ n
   one_turn m n a b u v =
       ⊎_elim
-      (λ (e : a.turn ≡ b.turn). let h : Some m ≡ Some n = sym a.here ∙ ap (slice_get (judged f)) e ∙ b.here in cc)
+      (λ (e : a.turn ≡ b.turn). let h : Some m ≡ Some n = sym a.here ∙ ap (slice_get (judged_variables f)) e ∙ b.here in cc)
       (⊎_elim (λ (l : a.turn < b.turn). absurd (u (b.before a.turn m l a.here))) (λ (l : b.turn < a.turn). absurd (v (a.before b.turn n l b.here))))
       (cases_order a.turn b.turn)
 
@@ -70,7 +70,7 @@ module _ (f : Originated) (p : Placement) where
   slow_unclear m n h c = c.slow n h.holds
 
   -- at most one fault is the first
-  pub one_first : (a b : PlaceFault) → IsFirstFault f p a → IsFirstFault f p b → a ≡ b
+  pub one_first : (a b : PlaceFault) → IsFirstPlaceFault f p a → IsFirstPlaceFault f p b → a ≡ b
   one_first (Unplaced x) (Unplaced y) h k = ap Unplaced (same_lowest (IsUnplaced f p) x y h k)
   one_first (Unplaced x) (PlacedTwice y) h k = absurd (k.0 x h.holds)
   one_first (Unplaced x) (UnknownName n) h k = absurd (once_placed k.0 x h.holds)
@@ -142,7 +142,7 @@ module _ (f : Originated) (p : Placement) where
     slow = λ n r. let u = unless_has (clock_of f.func.decls r.reader) _ r.read r.reads in r.apart (l.slow r.reader r.right r.read r.equation u.0 u.1);
   }
 
-  pub not_legal : GoodFunction f.func → (e : PlaceFault) → IsFirstFault f p e → Legal f p → ⊥
+  pub not_legal : GoodFunction f.func → (e : PlaceFault) → IsFirstPlaceFault f p e → Legal f p → ⊥
   not_legal good (Unplaced x) h l = once_placed l.once x h.holds
   not_legal good (PlacedTwice x) h l = once_not_twice l.once x h.1.holds
   not_legal good (UnknownName n) h l = none_unknown l.known n h.1

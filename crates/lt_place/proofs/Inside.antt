@@ -12,12 +12,12 @@ use Rattle.lt_base.specs.Order.{EachRead, EachArgumentRead, EachClockVar}
 use Rattle.lt_base.proofs.Lookups.{same_self}
 use Rattle.lt_base.proofs.Reading.{has_one, each_at, each_clock_at, or_left, or_right}
 use Rattle.lt_norm.specs.Flat.{Originated}
-use Rattle.lt_reads.specs.declared.look.Look.{Look}
-use Rattle.lt_reads.specs.declared.look.Look.TheVariants.{Clocks, Direct, Slow}
-use Rattle.lt_reads.specs.Origins.{HasOrigins, count}
-use Rattle.lt_reads.specs.Reads.{parts_read, whole_read, direct_reads, delayed_reads, unless_base, looked}
-use Rattle.lt_reads.proofs.Decls.{clock_get}
-use Rattle.lt_reads.proofs.Lefts.{lefts_below}
+use Rattle.lt_place_reads.specs.declared.look.Look.{Look}
+use Rattle.lt_place_reads.specs.declared.look.Look.TheVariants.{Clocks, Direct, Slow}
+use Rattle.lt_place_reads.specs.Origins.{HasOrigins, variable_count}
+use Rattle.lt_place_reads.specs.Reads.{parts_read, whole_read, direct_reads, delayed_reads, unless_base, looked}
+use Rattle.lt_place_reads.proofs.Decls.{clock_get}
+use Rattle.lt_place_reads.proofs.Lefts.{lefts_below}
 use Rattle.lt_place.specs.Reports.{Report, HasLeast, elsewhere, reports}
 use Rattle.lt_place.proofs.Lists.{each_of_all}
 
@@ -111,40 +111,40 @@ all_from_has P [] h = All-nil P
 all_from_has P (y ∷ ys) h = All-cons P y ys (h y (or_left _ _ (same_self y))) (all_from_has P ys (λ z k. h z (or_right _ _ k)))
 
 module _ (f : Originated) (good : GoodFunction f.func) where
-  pub clocks_below : (x : ℕ) → x < count f → EachClockVar (λ y. y < count f) (clock_of f.func.decls x)
+  pub clocks_below : (x : ℕ) → x < variable_count f → EachClockVar (λ y. y < variable_count f) (clock_of f.func.decls x)
   clocks_below x l =
       let d : Decl = record { name = []; ty = IntTy; clock = [] } in
-      subst (EachClockVar (λ y. y < count f)) (sym (clock_get f.func.decls x d l)) (each_of_all (λ y. y < count f) (get_or f.func.decls x d).clock (good.clocks x d l))
+      subst (EachClockVar (λ y. y < variable_count f)) (sym (clock_get f.func.decls x d l)) (each_of_all (λ y. y < variable_count f) (get_or f.func.decls x d).clock (good.clocks x d l))
 
-  looked_below : (look : Look) (x : ℕ) (e : Expression) → x < count f → VarsBelow (count f) e → (y : ℕ) → has y (looked look f x e) ≡ true → y < count f
-  looked_below Clocks x e l h y r = each_clock_at (λ y. y < count f) (clock_of f.func.decls x) (clocks_below x l) y r
-  looked_below Direct x e l h y r = direct_below (count f) e h y r
-  looked_below Slow x e l h y r = unless_below (count f) (clock_of f.func.decls x) (delayed_reads e) (delayed_below (count f) e h) y r
+  looked_below : (look : Look) (x : ℕ) (e : Expression) → x < variable_count f → VarsBelow (variable_count f) e → (y : ℕ) → has y (looked look f x e) ≡ true → y < variable_count f
+  looked_below Clocks x e l h y r = each_clock_at (λ y. y < variable_count f) (clock_of f.func.decls x) (clocks_below x l) y r
+  looked_below Direct x e l h y r = direct_below (variable_count f) e h y r
+  looked_below Slow x e l h y r = unless_below (variable_count f) (clock_of f.func.decls x) (delayed_reads e) (delayed_below (variable_count f) e h) y r
 
-  pub looked_inside : (look : Look) (q : ℕ × Expression) (items : List (ℕ × Expression)) (i : ℕ) → items ≡ f.func.eqs → i < length items → q ≡ get_or items i q → All (λ y. y < count f) (looked look f q.0 q.1)
+  pub looked_inside : (look : Look) (q : ℕ × Expression) (items : List (ℕ × Expression)) (i : ℕ) → items ≡ f.func.eqs → i < length items → q ≡ get_or items i q → All (λ y. y < variable_count f) (looked look f q.0 q.1)
   looked_inside look q items i e l r =
       let here : q ≡ get_or f.func.eqs i q = r ∙ ap (λ qs. get_or qs i q) e in
       let k : i < length f.func.eqs = let z = ap length e in omega (arith, z, l) in
-      all_from_has (λ y. y < count f) (looked look f q.0 q.1)
+      all_from_has (λ y. y < variable_count f) (looked look f q.0 q.1)
       (looked_below look q.0 q.1
-      (subst (λ (q : ℕ × Expression). q.0 < count f) (sym here) (lefts_below f good i q k))
-      (subst (λ (q : ℕ × Expression). VarsBelow (count f) q.1) (sym here) (good.rights i q k)))
+      (subst (λ (q : ℕ × Expression). q.0 < variable_count f) (sym here) (lefts_below f good i q k))
+      (subst (λ (q : ℕ × Expression). VarsBelow (variable_count f) q.1) (sym here) (good.rights i q k)))
 
 module _ (f : Originated) (h : HasOrigins f) (origin : List ℕ) (o : origin ≡ f.origin) where
-  pub origin_size : length origin ≡ count f
+  pub origin_size : length origin ≡ variable_count f
   origin_size = ap length o ∙ h.each
 
-  pub note_variable : (left x : ℕ) → left ≡ x → x < count f → left < length origin
+  pub note_variable : (left x : ℕ) → left ≡ x → x < variable_count f → left < length origin
   note_variable left x e l = let s = origin_size in omega (arith, s, e, l)
 
-  pub note_marks : (left x m : ℕ) → left ≡ x → x < count f → m ≡ count f → get_or origin left 0 < m
+  pub note_marks : (left x m : ℕ) → left ≡ x → x < variable_count f → m ≡ variable_count f → get_or origin left 0 < m
   note_marks left x m e l k =
       let d = (h.main x l).declared in
       let s : get_or origin left 0 ≡ get_or f.origin x 0 = λ i. get_or (o i) (e i) 0 in
       omega (arith, d, s, k)
 
-  pub note_reads : (ys zs : List ℕ) → ys ≡ zs → All (λ y. y < count f) zs → All (λ y. y < length origin) ys
-  note_reads ys zs e a = subst (λ n. All (λ y. y < n) ys) (sym origin_size) (subst (All (λ y. y < count f)) (sym e) a)
+  pub note_reads : (ys zs : List ℕ) → ys ≡ zs → All (λ y. y < variable_count f) zs → All (λ y. y < length origin) ys
+  note_reads ys zs e a = subst (λ n. All (λ y. y < n) ys) (sym origin_size) (subst (All (λ y. y < variable_count f)) (sym e) a)
 
 -- ---- one equation more
 

@@ -13,14 +13,14 @@ use Rattle.lt_base.specs.Placed.{renamed}
 use Rattle.lt_base.proofs.Lookups.{input_none, left_below, same_self}
 use Rattle.lt_base.proofs.Reading.{or_left, or_right, has_one}
 use Rattle.lt_norm.specs.Flat.{Originated, FlatFunction}
-use Rattle.lt_reads.specs.declared.crossing.Crossing.{Crossing}
-use Rattle.lt_reads.specs.Origins.{count, origin_of}
-use Rattle.lt_reads.specs.Crossings.{HasPlaces}
-use Rattle.lt_place.specs.declared.placement.Placement.{Placement}
+use Rattle.lt_place_reads.specs.declared.crossing.Crossing.{Crossing}
+use Rattle.lt_place_reads.specs.Origins.{variable_count, origin_of}
+use Rattle.lt_place_reads.specs.Crossings.{HasPlaces}
+use Rattle.lt_arch.specs.declared.placement.Placement.{Placement}
 use Rattle.lt_place.specs.declared.layout.Part.{Part}
 use Rattle.lt_place.specs.declared.layout.Layout.{Layout}
 use Rattle.lt_place.specs.declared.spread.Spread.{Spread}
-use Rattle.lt_place.specs.Placement.{node_names}
+use Rattle.lt_arch.specs.Placement.{node_names}
 use Rattle.lt_place.specs.Nodes.{nodes_of, node_of}
 use Rattle.lt_place.specs.Legal.{Legal}
 use Rattle.lt_place.specs.Layout.{IsLayoutOf, IsPartOf, part_of, crossing_of, no_crossing}
@@ -70,16 +70,16 @@ module _ (f : Originated) (good : GoodFunction f.func) (flat : FlatFunction f.fu
   local : IsLocal f nodes
   local = local_of f p nodes e legal
 
-  hp : HasPlaces sp.readers (count f) l.cross places
-  hp = subst (λ (xs : List Crossing). HasPlaces sp.readers (count f) xs places) (sym cross) sp.places
+  hp : HasPlaces sp.readers (variable_count f) l.cross places
+  hp = subst (λ (xs : List Crossing). HasPlaces sp.readers (variable_count f) xs places) (sym cross) sp.places
 
   split : Splits f nodes fed
   split = splits f good flat nodes local sp.readers sp.reads l.cross places hp fed sp.fed
 
-  fed_is : (x : ℕ) → x < count f → get_or fed x false ≡ (nat_lt x f.func.n_in || is_some (get_or places x None))
+  fed_is : (x : ℕ) → x < variable_count f → get_or fed x false ≡ (nat_lt x f.func.n_in || is_some (get_or places x None))
   fed_is x b = sp.fed.each x (let z = hp.size in omega (arith, z, b))
 
-  input : (x : ℕ) → x < count f → get_or fed x false ≡ true → get_or places x None ≡ None → right_of f.func.eqs x ≡ None
+  input : (x : ℕ) → x < variable_count f → get_or fed x false ≡ true → get_or places x None ≡ None → right_of f.func.eqs x ≡ None
   input x b t q = ⊎_elim
       (λ a. input_none f.func good x (ltb-true x f.func.n_in a))
       (λ a. let z : is_some (get_or places x None) ≡ false = ap is_some q in absurd (cc))
@@ -95,14 +95,14 @@ module _ (f : Originated) (good : GoodFunction f.func) (flat : FlatFunction f.fu
       go (x ∷ xs) (suc k) q = let w = go xs k q in (let b = w.0 in omega (arith, b), w.1)
 
   -- the place of a reader is that of its crossing
-  reader_at : (x k : ℕ) → x < count f → get_or places x None ≡ Some k → (c : Crossing) × (slice_get l.cross k ≡ Some c) × IsCross nodes x (right_of f.func.eqs x) c
+  reader_at : (x k : ℕ) → x < variable_count f → get_or places x None ≡ Some k → (c : Crossing) × (slice_get l.cross k ≡ Some c) × IsCross nodes x (right_of f.func.eqs x) c
   reader_at x k b q =
       let w = some_some (get_or sp.readers x None) (λ z. let y : Some k ≡ None = sym q ∙ hp.none x b z in absurd (cc)) in
       let o = hp.some x w.0 b w.1 in
       let same : o.0 ≡ k = let y : Some o.0 ≡ Some k = sym o.1 ∙ q in cc in
       (w.0, ap (slice_get l.cross) (sym same) ∙ o.2, cross_is nodes x (right_of f.func.eqs x) w.0 (sym (sp.reads.each x b) ∙ w.1))
 
-  reads : (x k : ℕ) → x < count f → get_or places x None ≡ Some k → ((crossing_of l k).reader ≡ x) × (k < length l.cross) × ((crossing_of l k).to ≡ get_or nodes x 0)
+  reads : (x k : ℕ) → x < variable_count f → get_or places x None ≡ Some k → ((crossing_of l k).reader ≡ x) × (k < length l.cross) × ((crossing_of l k).to ≡ get_or nodes x 0)
   reads x k b q =
       let w = reader_at x k b q in
       let a = at k w.0 w.1 in
@@ -133,11 +133,11 @@ module _ (f : Originated) (good : GoodFunction f.func) (flat : FlatFunction f.fu
         subst (IsPartOf f p l n) (sym q.is) (part_is f good flat nodes sp.size fed n q.members q.own q.inputs q.numbers split given p e l places wires typed clocked causal)
 
     abbrev Stands : ℕ → Expression → ℕ → Part → Type 0
-    Stands x d n q = (k : ℕ) × (k < count q.flat) × (origin_of q.flat k ≡ x) × (a : Expression) × (right_of q.flat.func.eqs k ≡ Some a) × (renamed (origin_of q.flat) a ≡ d)
+    Stands x d n q = (k : ℕ) × (k < variable_count q.flat) × (origin_of q.flat k ≡ x) × (a : Expression) × (right_of q.flat.func.eqs k ≡ Some a) × (renamed (origin_of q.flat) a ≡ d)
 
     equation : (x : ℕ) (d : Expression) → right_of f.func.eqs x ≡ Some d →
         ((c : ℕ) × (c < length l.cross) × ((crossing_of l c).reader ≡ x))
-        ⊎ ((n : ℕ) × (k : ℕ) × (n < length l.nodes) × (k < count (part_of l n).flat) × (origin_of (part_of l n).flat k ≡ x) × (a : Expression) × (right_of (part_of l n).flat.func.eqs k ≡ Some a) × (renamed (origin_of (part_of l n).flat) a ≡ d))
+        ⊎ ((n : ℕ) × (k : ℕ) × (n < length l.nodes) × (k < variable_count (part_of l n).flat) × (origin_of (part_of l n).flat k ≡ x) × (a : Expression) × (right_of (part_of l n).flat.func.eqs k ≡ Some a) × (renamed (origin_of (part_of l n).flat) a ≡ d))
     equation x d q =
         let b = left_below f.func good x d q in
         ⊎_elim

@@ -7,7 +7,7 @@ use Rattle.std.proofs.lemmas.List.{append_assoc, append-nil, length-take-le, tak
 use Rattle.std.proofs.lemmas.List.Sums.{sum_by-append, sum_by-cons}
 use Rattle.std.proofs.lemmas.Slice.Eq.{bytes_eq-Decides}
 use Rattle.std.proofs.lemmas.Bool.Decides.{nat_tests}
-use Rattle.lt_place.specs.declared.named.NamedNode.{NamedNode}
+use Rattle.lt_arch.specs.declared.named.NamedNode.{NamedNode}
 use Rattle.lt_place.specs.declared.seats.Seat.{Seat}
 use Rattle.lt_place.specs.Nodes.{Listing, listings_on, listings_from, times, node_listed}
 use Rattle.lt_place.specs.Seats.{seat_of, at_name, HasSeats}

@@ -7,11 +7,11 @@ use Rattle.lt_base.specs.declared.function.Decl.{Decl}
 use Rattle.lt_base.specs.Expression.{Expression}
 use Rattle.lt_base.specs.Meaning.{ClockPairs, clock_of, right_of}
 use Rattle.lt_base.specs.Typing.{ty_at}
-use Rattle.lt_base.specs.Equations.{lefts}
+use Rattle.lt_base.specs.Equations.{left_count}
 use Rattle.lt_base.specs.Order.{EachClockVar}
 use Rattle.lt_base.specs.Placed.{renamed, below}
 use Rattle.lt_base.proofs.Lookups.{lefts_cons, same_self}
-use Rattle.lt_reads.specs.Origins.{name_in}
+use Rattle.lt_place_reads.specs.Origins.{name_in}
 
 -- ---- declarations
 
@@ -127,15 +127,15 @@ module _ (s : ℕ → ℕ) (keep : ℕ × Expression → Bool) where
         by false e true h = let z : x ≡ q.0 = eqb-true x q.0 h in let y : nat_eq k (s q.0) ≡ true = subst (λ w. nat_eq k (s w) ≡ true) z (subst (λ w. nat_eq k w ≡ true) (sym own) (same_self k)) in absurd (cc)
 
     -- a variable whose equations are kept has as many
-    pub lefts_kept : (qs : List (ℕ × Expression)) → All (λ q. q.0 < b) qs → ((q : ℕ × Expression) → q.0 ≡ x → keep q ≡ true) → lefts k (kept qs) ≡ lefts x qs
+    pub lefts_kept : (qs : List (ℕ × Expression)) → All (λ q. q.0 < b) qs → ((q : ℕ × Expression) → q.0 ≡ x → keep q ≡ true) → left_count k (kept qs) ≡ left_count x qs
     lefts_kept [] a all = refl
     lefts_kept (q ∷ qs) a all =
         let ih = lefts_kept qs (All-tail (λ (q : ℕ × Expression). q.0 < b) q qs a) all in
         let l = All-head (λ (q : ℕ × Expression). q.0 < b) q qs a in
-        let go : (t : Bool) → keep q ≡ t → lefts k (map moved (cond t (q ∷ filter keep qs) (filter keep qs))) ≡ lefts x (q ∷ qs) =
+        let go : (t : Bool) → keep q ≡ t → left_count k (map moved (cond t (q ∷ filter keep qs) (filter keep qs))) ≡ left_count x (q ∷ qs) =
         elim [
           | true ↦ λ t. lefts_cons k (moved q) (kept qs) ∙ (λ i. cond (test q l t i) 1 0 + ih i) ∙ sym (lefts_cons x q qs)
-          | false ↦ λ t. ih ∙ sym (lefts_cons x q qs ∙ ap (λ b. cond b 1 0 + lefts x qs) (not_x q (all q) t) ∙ omega arith)
+          | false ↦ λ t. ih ∙ sym (lefts_cons x q qs ∙ ap (λ b. cond b 1 0 + left_count x qs) (not_x q (all q) t) ∙ omega arith)
         ] in
         go (keep q) refl
 
@@ -148,12 +148,12 @@ module _ (s : ℕ → ℕ) (keep : ℕ × Expression → Bool) where
         by false e = refl
 
     -- a number that none of them has
-    pub lefts_none : (qs : List (ℕ × Expression)) → All (λ q. q.0 < b) qs → lefts k (kept qs) ≡ 0
+    pub lefts_none : (qs : List (ℕ × Expression)) → All (λ q. q.0 < b) qs → left_count k (kept qs) ≡ 0
     lefts_none [] a = refl
     lefts_none (q ∷ qs) a =
         let ih = lefts_none qs (All-tail (λ (q : ℕ × Expression). q.0 < b) q qs a) in
         let l = All-head (λ (q : ℕ × Expression). q.0 < b) q qs a in
-        let go : (t : Bool) → keep q ≡ t → lefts k (map moved (cond t (q ∷ filter keep qs) (filter keep qs))) ≡ 0 =
+        let go : (t : Bool) → keep q ≡ t → left_count k (map moved (cond t (q ∷ filter keep qs) (filter keep qs))) ≡ 0 =
         elim [
           | true ↦ λ t. lefts_cons k (moved q) (kept qs) ∙ (λ i. cond (off q l t i) 1 0 + ih i)
           | false ↦ λ t. ih

@@ -4,7 +4,7 @@ use Rattle.std.specs.Prelude.{nat_eq, if◌then◌else◌}
 use Rattle.std.proofs.lemmas.List.{append_assoc, append-nil, length-set, take_more}
 use Rattle.std.proofs.lemmas.Bool.{cases_eq, cases_lt}
 use Rattle.std.proofs.lemmas.Bool.Decides.{nat_tests}
-use Rattle.lt_place.specs.Reports.{Report, In, LeastAt, HasLeast, elsewhere}
+use Rattle.lt_place.specs.Reports.{Report, IsAmong, LeastAt, HasLeast, elsewhere}
 use Rattle.lt_place.proofs.Found.{in_left, in_right, in_cases}
 
 -- a number after one more was noted
@@ -12,7 +12,7 @@ abbrev pub IsLower : Option ℕ → ℕ → ℕ → Type 0
 IsLower None n v = v ≡ n
 IsLower (Some k) n v = v ≡ min k n
 
-last_of : (r s : Report) → In r (s ∷ []) → r ≡ s
+last_of : (r s : Report) → IsAmong r (s ∷ []) → r ≡ s
 last_of r s (inl h) = h
 last_of r s (inr h) = elim h [ ]
 
@@ -20,25 +20,25 @@ module _ (rs : List Report) (at n : ℕ) where
   abbrev more : List Report
   more = rs ++ (at, n) ∷ []
 
-  here : In (at, n) more
+  here : IsAmong (at, n) more
   here = in_right (at, n) rs ((at, n) ∷ []) (inl refl)
 
-  old : (r : Report) → In r rs → In r more
+  old : (r : Report) → IsAmong r rs → IsAmong r more
   old r h = in_left r rs ((at, n) ∷ []) h
 
-  new_or_old : (m k : ℕ) → In (m, k) more → In (m, k) rs ⊎ ((m ≡ at) × (k ≡ n))
+  new_or_old : (m k : ℕ) → IsAmong (m, k) more → IsAmong (m, k) rs ⊎ ((m ≡ at) × (k ≡ n))
   new_or_old m k h = ⊎_elim (λ h. inl h) (λ h. let e = last_of (m, k) (at, n) h in inr (ap (λ (r : Report). r.0) e, ap (λ (r : Report). r.1) e)) (in_cases (m, k) rs ((at, n) ∷ []) h)
 
   lowered : (o : Option ℕ) (v : ℕ) → LeastAt rs at o → IsLower o n v → LeastAt more at (Some v)
   lowered None v h e =
-      (subst (λ z. In (at, z) more) (sym e) here, λ k i. ⊎_elim (λ j. absurd (h k j)) (λ j. let s = j.1 in omega (arith, e, s)) (new_or_old at k i))
+      (subst (λ z. IsAmong (at, z) more) (sym e) here, λ k i. ⊎_elim (λ j. absurd (h k j)) (λ j. let s = j.1 in omega (arith, e, s)) (new_or_old at k i))
   lowered (Some k) v h e = ⊎_elim
       (λ (l : k < n).
       let s : v ≡ k = omega (arith, e) in
-      (subst (λ z. In (at, z) more) (sym s) (old (at, k) h.0), λ j i. ⊎_elim (λ w. let b = h.1 j w in omega (arith, b, s)) (λ w. let t = w.1 in omega (arith, t, s)) (new_or_old at j i)))
+      (subst (λ z. IsAmong (at, z) more) (sym s) (old (at, k) h.0), λ j i. ⊎_elim (λ w. let b = h.1 j w in omega (arith, b, s)) (λ w. let t = w.1 in omega (arith, t, s)) (new_or_old at j i)))
       (λ (l : n ≤ k).
       let s : v ≡ n = omega (arith, e) in
-      (subst (λ z. In (at, z) more) (sym s) here, λ j i. ⊎_elim (λ w. let b = h.1 j w in omega (arith, b, s)) (λ w. let t = w.1 in omega (arith, t, s)) (new_or_old at j i)))
+      (subst (λ z. IsAmong (at, z) more) (sym s) here, λ j i. ⊎_elim (λ w. let b = h.1 j w in omega (arith, b, s)) (λ w. let t = w.1 in omega (arith, t, s)) (new_or_old at j i)))
       (cases_lt k n)
 
   unmoved : (m : ℕ) → m ≢ at → (o : Option ℕ) → LeastAt rs m o → LeastAt more m o

@@ -6,7 +6,7 @@ use Rattle.std.proofs.lemmas.List.{append-nil, map-append}
 use Rattle.std.proofs.lemmas.List.Sums.{sum_by-append, sum_by-cons}
 use Rattle.std.proofs.lemmas.Bool.{cases_eq, cases_lt}
 use Rattle.lt_base.proofs.Lookups.{same_self}
-use Rattle.lt_reads.proofs.Crossed.{get_left, get_last, get_end}
+use Rattle.lt_place_reads.proofs.Crossed.{get_left, get_last, get_end}
 use Rattle.lt_place.specs.Spread.{outs_below}
 
 and_both : (a b : Bool) → (a && b) ≡ true → (a ≡ true) × (b ≡ true)

@@ -15,7 +15,7 @@ use Rattle.lt_base.specs.Typing.{ty_at, type_of, TypedFunction}
 use Rattle.lt_base.specs.Clocking.{Clocked, ClockedFunction, WellFormed}
 use Rattle.lt_base.specs.Dependence.{has, Causal}
 use Rattle.lt_base.specs.Order.{EachRead, EachClockVar}
-use Rattle.lt_base.specs.Equations.{lefts, EquationsIn}
+use Rattle.lt_base.specs.Equations.{left_count, EquationsIn}
 use Rattle.lt_base.specs.Calls.{EachCall}
 use Rattle.lt_base.specs.Placed.{StandsIn, renamed, below}
 use Rattle.lt_base.proofs.Lookups.{all_found, is_input, left_below, same_self}
@@ -23,17 +23,17 @@ use Rattle.lt_base.proofs.Reading.{each_clock_map}
 use Rattle.lt_base.proofs.Order.{causal_from_ranks}
 use Rattle.lt_base.proofs.Behaviour.{causal_by_ranks}
 use Rattle.lt_norm.specs.Flat.{Originated, FlatRight, FlatFunction}
-use Rattle.lt_reads.specs.Origins.{count}
-use Rattle.lt_reads.proofs.Decls.{clock_get}
-use Rattle.lt_reads.proofs.Lefts.{lefts_below}
+use Rattle.lt_place_reads.specs.Origins.{variable_count}
+use Rattle.lt_place_reads.proofs.Decls.{clock_get}
+use Rattle.lt_place_reads.proofs.Lefts.{lefts_below}
 use Rattle.lt_place.specs.declared.layout.Part.{Part}
 use Rattle.lt_place.specs.Spread.{HasMembers, own_of, own_decl, own_equation, stays, built, no_decl, outs_below, feed_of, feed_by}
-use Rattle.lt_place.specs.declared.placement.Placement.{Placement}
+use Rattle.lt_arch.specs.declared.placement.Placement.{Placement}
 use Rattle.lt_place.specs.declared.layout.Feed.{Feed}
 use Rattle.lt_place.specs.declared.layout.Layout.{Layout}
 use Rattle.lt_place.specs.Nodes.{nodes_of, node_of}
 use Rattle.lt_place.specs.Sizes.{IsNoLarger}
-use Rattle.lt_place.specs.Layout.{IsPartOf, Gives, FeedFits, crossing_of}
+use Rattle.lt_place.specs.Layout.{IsPartOf, PartGives, FeedFits, crossing_of}
 use Rattle.lt_place.proofs.Lists.{clock_map, ty_map, name_map, ty_get, name_get, clock_beyond, each_of_all, all_below, each_clock_both, was, all_kept, all_take, lefts_kept, lefts_none}
 use Rattle.lt_place.proofs.Outs.{outs_in, outs_out, outs_ascend, outs_once}
 use Rattle.lt_place.proofs.Sizes.{delays, delays_renamed, parts_renamed, length_below, length_picked, sum_picked, sum_made}
@@ -43,10 +43,10 @@ use Rattle.lt_place.proofs.Vars.{EachVar, each_var_map, flat_callless, flat_rena
 -- what the variables of a function must keep so that it can be split: what is fed is on the base clock, and all else has an equation
 -- that reads variables of its own node; and so do the clocks
 pub record Splits (f : Originated) (nodes : List ℕ) (fed : List Bool) : Type 0 where
-  pub base : (x : ℕ) → x < count f → get_or fed x false ≡ true → clock_of f.func.decls x ≡ []
-  pub free : (x : ℕ) → x < count f → get_or fed x false ≡ false → f.func.n_in ≤ x
-  pub reads : (x : ℕ) (e : Expression) → right_of f.func.eqs x ≡ Some e → get_or fed x false ≡ false → EachVar (λ y. (y < count f) × (get_or nodes y 0 ≡ get_or nodes x 0)) e
-  pub clocks : (x : ℕ) → x < count f → EachClockVar (λ y. (y < count f) × (get_or nodes y 0 ≡ get_or nodes x 0)) (clock_of f.func.decls x)
+  pub base : (x : ℕ) → x < variable_count f → get_or fed x false ≡ true → clock_of f.func.decls x ≡ []
+  pub free : (x : ℕ) → x < variable_count f → get_or fed x false ≡ false → f.func.n_in ≤ x
+  pub reads : (x : ℕ) (e : Expression) → right_of f.func.eqs x ≡ Some e → get_or fed x false ≡ false → EachVar (λ y. (y < variable_count f) × (get_or nodes y 0 ≡ get_or nodes x 0)) e
+  pub clocks : (x : ℕ) → x < variable_count f → EachClockVar (λ y. (y < variable_count f) × (get_or nodes y 0 ≡ get_or nodes x 0)) (clock_of f.func.decls x)
 
 -- a variable that is given out: an output, or one that crosses
 abbrev pub Out : Originated → Layout → ℕ → Type 0
@@ -54,8 +54,8 @@ Out f l v = (has v f.func.outs ≡ true) ⊎ ((c : ℕ) × (c < length l.cross) 
 
 -- what feeds the variables, and what is given out
 pub record Wires (f : Originated) (nodes : List ℕ) (fed : List Bool) (places : List (Option ℕ)) (given : List Bool) (l : Layout) : Type 0 where
-  pub input : (x : ℕ) → x < count f → get_or fed x false ≡ true → get_or places x None ≡ None → right_of f.func.eqs x ≡ None
-  pub cross : (x k : ℕ) → x < count f → get_or places x None ≡ Some k → ((crossing_of l k).reader ≡ x) × (k < length l.cross) × ((crossing_of l k).to ≡ get_or nodes x 0)
+  pub input : (x : ℕ) → x < variable_count f → get_or fed x false ≡ true → get_or places x None ≡ None → right_of f.func.eqs x ≡ None
+  pub cross : (x k : ℕ) → x < variable_count f → get_or places x None ≡ Some k → ((crossing_of l k).reader ≡ x) × (k < length l.cross) × ((crossing_of l k).to ≡ get_or nodes x 0)
   pub out_given : (v : ℕ) → Out f l v → get_or given v false ≡ true
   pub given_out : (v : ℕ) → get_or given v false ≡ true → Out f l v
 
@@ -86,7 +86,7 @@ zero_low n m k a = grind (arith, nat_tests)
 zero_high : (n m k : ℕ) → m ≤ k → ◌≡◌ {A = ℕ} (if nat_le n k && nat_lt k m then 1 else 0) 0
 zero_high n m k a = grind (arith, nat_tests)
 
-module _ (f : Originated) (good : GoodFunction f.func) (flat : FlatFunction f.func) (nodes : List ℕ) (size : length nodes ≡ count f) (fed : List Bool) (n : ℕ) (members own : List ℕ) (inputs : ℕ) (h : HasMembers nodes fed n members own inputs) (splits : Splits f nodes fed) (given : List Bool) where
+module _ (f : Originated) (good : GoodFunction f.func) (flat : FlatFunction f.func) (nodes : List ℕ) (size : length nodes ≡ variable_count f) (fed : List Bool) (n : ℕ) (members own : List ℕ) (inputs : ℕ) (h : HasMembers nodes fed n members own inputs) (splits : Splits f nodes fed) (given : List Bool) where
   abbrev pub s : ℕ → ℕ
   s = own_of own
 
@@ -104,13 +104,13 @@ module _ (f : Originated) (good : GoodFunction f.func) (flat : FlatFunction f.fu
 
   -- ---- the numbers
 
-  pub inside : (k : ℕ) → k < length members → (r k < count f) × (get_or nodes (r k) 0 ≡ n)
+  pub inside : (k : ℕ) → k < length members → (r k < variable_count f) × (get_or nodes (r k) 0 ≡ n)
   inside k l = let i = h.numbered.inside k l in (omega (arith, i.0, size), i.1)
 
   pub back : (k : ℕ) → k < length members → s (r k) ≡ k
   back k l = h.numbered.back k l
 
-  pub forth : (x : ℕ) → x < count f → get_or nodes x 0 ≡ n → (s x < length members) × (r (s x) ≡ x)
+  pub forth : (x : ℕ) → x < variable_count f → get_or nodes x 0 ≡ n → (s x < length members) × (r (s x) ≡ x)
   forth x l e = h.all x (omega (arith, size, l)) e
 
   -- ---- declarations
@@ -128,7 +128,7 @@ module _ (f : Originated) (good : GoodFunction f.func) (flat : FlatFunction f.fu
     pub type : ty_at decls (s y) ≡ ty_at f.func.decls y
     pub clock : clock_of decls (s y) ≡ below s (clock_of f.func.decls y) []
 
-  home : (y : ℕ) → y < count f → get_or nodes y 0 ≡ n → Home y
+  home : (y : ℕ) → y < variable_count f → get_or nodes y 0 ≡ n → Home y
   home y l e =
       let w = forth y l e in
       record {
@@ -141,7 +141,7 @@ module _ (f : Originated) (good : GoodFunction f.func) (flat : FlatFunction f.fu
   clock_homes : (k : ℕ) → k < length members → EachClockVar Home (clock_of f.func.decls (r k))
   clock_homes k l =
       let i = inside k l in
-      each_clock_map (λ y. (y < count f) × (get_or nodes y 0 ≡ get_or nodes (r k) 0)) Home (λ y p. home y p.0 (p.1 ∙ i.1)) (clock_of f.func.decls (r k)) (splits.clocks (r k) i.0)
+      each_clock_map (λ y. (y < variable_count f) × (get_or nodes y 0 ≡ get_or nodes (r k) 0)) Home (λ y p. home y p.0 (p.1 ∙ i.1)) (clock_of f.func.decls (r k)) (splits.clocks (r k) i.0)
 
   clock_returns : (k : ℕ) → k < length members → below r (below s (clock_of f.func.decls (r k)) []) [] ≡ clock_of f.func.decls (r k)
   clock_returns k l = below_back s r (clock_of f.func.decls (r k)) (each_clock_map Home (λ y. r (s y) ≡ y) (λ y p. p.returns) (clock_of f.func.decls (r k)) (clock_homes k l))
@@ -188,7 +188,7 @@ module _ (f : Originated) (good : GoodFunction f.func) (flat : FlatFunction f.fu
         on = st.0;
         unfed = st.1;
         is = w.is;
-        homes = each_var_map (λ y. (y < count f) × (get_or nodes y 0 ≡ get_or nodes w.left 0)) Home (λ y p. home y p.0 (p.1 ∙ st.0)) w.right (splits.reads w.left w.right equation st.1);
+        homes = each_var_map (λ y. (y < variable_count f) × (get_or nodes y 0 ≡ get_or nodes w.left 0)) Home (λ y p. home y p.0 (p.1 ∙ st.0)) w.right (splits.reads w.left w.right equation st.1);
       }
 
   pub returned : (k : ℕ) (e : Expression) (c : Comes k e) → renamed r e ≡ c.right
@@ -308,21 +308,21 @@ module _ (f : Originated) (good : GoodFunction f.func) (flat : FlatFunction f.fu
       all_kept s (stays nodes fed n) (λ q. VarsBelow (length decls) q.1) f.func.eqs (λ i d l t.
       let q = get_or f.func.eqs i d in
       let st = staying q t in
-      let homes = each_var_map (λ y. (y < count f) × (get_or nodes y 0 ≡ get_or nodes q.0 0)) Home (λ y p. home y p.0 (p.1 ∙ st.0)) q.1 (splits.reads q.0 q.1 (eq_index f.func f.func.eqs (all_found f.func good) i d l) st.1) in
+      let homes = each_var_map (λ y. (y < variable_count f) × (get_or nodes y 0 ≡ get_or nodes q.0 0)) Home (λ y p. home y p.0 (p.1 ∙ st.0)) q.1 (splits.reads q.0 q.1 (eq_index f.func f.func.eqs (all_found f.func good) i d l) st.1) in
       vars_below s (length decls) q.1 (each_var_map Home (λ y. s y < length decls) (λ y z. z.below_len) q.1 homes))
 
   -- what stays under a number is the variable of that number
-  stays_at : (k : ℕ) (q : ℕ × Expression) → q.0 < count f → stays nodes fed n q ≡ true → s q.0 ≡ k → (k < length members) × (q.0 ≡ r k) × (get_or fed q.0 false ≡ false)
+  stays_at : (k : ℕ) (q : ℕ × Expression) → q.0 < variable_count f → stays nodes fed n q ≡ true → s q.0 ≡ k → (k < length members) × (q.0 ≡ r k) × (get_or fed q.0 false ≡ false)
   stays_at k q l t e =
       let st = staying q t in
       let w = forth q.0 l st.0 in
       (subst (λ z. z < length members) e w.0, sym w.1 ∙ ap r e, st.1)
 
-  one_each : (k : ℕ) → lefts k eqs ≡ (if nat_le inputs k && nat_lt k (length decls) then 1 else 0)
+  one_each : (k : ℕ) → left_count k eqs ≡ (if nat_le inputs k && nat_lt k (length decls) then 1 else 0)
   one_each k = ⊎_elim
       (λ (l : k < length members). ⊎_elim
       (λ (i : k < inputs).
-      lefts_none s (stays nodes fed n) (count f) k (λ q b t e.
+      lefts_none s (stays nodes fed n) (variable_count f) k (λ q b t e.
       let w = stays_at k q b t e in
       let a : get_or fed (r k) false ≡ false = ap (λ z. get_or fed z false) (sym w.1) ∙ w.2 in
       let c = h.first k i in
@@ -331,14 +331,14 @@ module _ (f : Originated) (good : GoodFunction f.func) (flat : FlatFunction f.fu
       (λ (i : inputs ≤ k).
       let unfed = h.rest k i l in
       let x = inside k l in
-      lefts_kept s (stays nodes fed n) (count f) (r k) k (back k l) (λ q b t e. (stays_at k q b t e).1) f.func.eqs (lefts_below f good)
+      lefts_kept s (stays nodes fed n) (variable_count f) (r k) k (back k l) (λ q b t e. (stays_at k q b t e).1) f.func.eqs (lefts_below f good)
       (λ q e. stay q (ap (λ z. get_or nodes z 0) e ∙ x.1) (ap (λ z. get_or fed z false) e ∙ unfed))
       ∙ good.lefts (r k)
       ∙ one_if f.func.n_in (length f.func.decls) (r k) (splits.free (r k) x.0 unfed) x.0
       ∙ sym (one_if inputs (length decls) k i (let m = many in omega (arith, l, m))))
       (cases_lt k inputs))
       (λ (l : length members ≤ k).
-      lefts_none s (stays nodes fed n) (count f) k (λ q b t e. let w = (stays_at k q b t e).0 in absurd (omega (arith, w, l))) f.func.eqs (lefts_below f good)
+      lefts_none s (stays nodes fed n) (variable_count f) k (λ q b t e. let w = (stays_at k q b t e).0 in absurd (omega (arith, w, l))) f.func.eqs (lefts_below f good)
       ∙ sym (zero_high inputs (length decls) k (let m = many in omega (arith, l, m))))
       (cases_lt k (length members))
 
@@ -376,7 +376,7 @@ module _ (f : Originated) (good : GoodFunction f.func) (flat : FlatFunction f.fu
   pub made : (G : Function) → G.name ≡ f.func.name → G.decls ≡ decls → G.n_in ≡ inputs → G.outs ≡ map s outs → G.eqs ≡ eqs → G ≡ F
   made G a b c d e = λ i. record { name = a i; decls = b i; n_in = c i; outs = d i; eqs = e i }
 
-  pub own_size : length own ≡ count f
+  pub own_size : length own ≡ variable_count f
   own_size = let z = h.numbered.size in omega (arith, z, size)
 
   pub outs_own : All (λ x. x < length own) outs
@@ -423,15 +423,15 @@ module _ (f : Originated) (good : GoodFunction f.func) (flat : FlatFunction f.fu
     map_get g (y ∷ xs) zero x q = let z : y ≡ x = cc in ap (λ y. Some (g y)) z
     map_get g (y ∷ xs) (suc i) x q = map_get g xs i x q
 
-    gives : (v : ℕ) → v < count f → node_of f p v ≡ n → Out f l v → (x : ℕ) × Gives part v x
+    gives : (v : ℕ) → v < variable_count f → node_of f p v ≡ n → Out f l v → (x : ℕ) × PartGives part v x
     gives v b a o =
         let w = outs_out nodes given n (length nodes) v (let z = size in omega (arith, z, b)) (sym (node_at v) ∙ a) (wires.out_given v o) in
         (s v, record { place = w.0; out = w.1; own = map_get s outs w.0 v w.1 })
 
-    given_is : (v x : ℕ) → Gives part v x → (x < length decls) × (r x ≡ v) × Out f l v
+    given_is : (v x : ℕ) → PartGives part v x → (x < length decls) × (r x ≡ v) × Out f l v
     given_is v x g =
         let w = outs_in nodes given n (length nodes) g.place v g.out in
-        let b : v < count f = let z = size in let c = w.0 in omega (arith, z, c) in
+        let b : v < variable_count f = let z = size in let c = w.0 in omega (arith, z, c) in
         let z = home v b w.1 in
         let same : s v ≡ x = let q : Some (s v) ≡ Some x = sym (map_get s outs g.place v g.out) ∙ g.own in cc in
         (subst (λ x. x < length decls) same z.below_len, ap r (sym same) ∙ z.returns, wires.given_out v w.2)

@@ -9,13 +9,13 @@ use Rattle.lt_norm.specs.Flat.{Originated}
 use Rattle.lt_base.specs.declared.memory.Or.{Or}
 use Rattle.lt_base.specs.declared.memory.Or.TheVariants.{Fault, Memory}
 use Rattle.lt_base.specs.Or.{ForFault}
-use Rattle.lt_reads.specs.Origins.{IsMain, HasOrigins, count, name_of, origin_of}
+use Rattle.lt_place_reads.specs.Origins.{IsMain, HasOrigins, variable_count, name_of, origin_of}
 use Rattle.lt_place.specs.declared.fault.PlaceFault.{PlaceFault}
 use Rattle.lt_place.specs.declared.fault.PlaceFault.TheVariants.{UnknownName}
-use Rattle.lt_place.specs.declared.named.NamedNode.{NamedNode}
-use Rattle.lt_place.specs.declared.nodes.NamedNodes.{NamedNodes}
-use Rattle.lt_place.specs.declared.placement.Placement.{Placement}
-use Rattle.lt_place.specs.declared.placement.Placement.TheVariants.{Named}
+use Rattle.lt_arch.specs.declared.named.NamedNode.{NamedNode}
+use Rattle.lt_arch.specs.declared.nodes.NamedNodes.{NamedNodes}
+use Rattle.lt_arch.specs.declared.placement.Placement.{Placement}
+use Rattle.lt_arch.specs.declared.placement.Placement.TheVariants.{Named}
 use Rattle.lt_place.specs.declared.seats.Seat.{Seat}
 use Rattle.lt_place.specs.Nodes.{Listing, listings_from, times, node_listed, nodes_of, EachKnown}
 use Rattle.lt_place.specs.Faults.{IsLowest, IsUnplaced, IsPlacedTwice, AllPlaced, AllOnce, IsFirstUnknown}
@@ -75,7 +75,7 @@ module _ (f : Originated) (h : HasOrigins f) (named : NamedNodes) (each : List (
   pub each_length : length each ≡ length origin
   each_length = ap length e ∙ length-map f.origin (λ x. seat_of L (name_of f x)) ∙ sym (ap length o)
 
-  origin_length : length origin ≡ count f
+  origin_length : length origin ≡ variable_count f
   origin_length = ap length o ∙ h.each
 
   get_map : (g : ℕ → Option Seat) (xs : List ℕ) (x : ℕ) → x < length xs → get_or (map g xs) x None ≡ g (get_or xs x 0)
@@ -83,7 +83,7 @@ module _ (f : Originated) (h : HasOrigins f) (named : NamedNodes) (each : List (
   get_map g (y ∷ xs) zero l = refl
   get_map g (y ∷ xs) (suc x) l = get_map g xs x (omega arith)
 
-  seat_at : (x : ℕ) → x < count f → get_or each x None ≡ seat_of L (name_of f (origin_of f x))
+  seat_at : (x : ℕ) → x < variable_count f → get_or each x None ≡ seat_of L (name_of f (origin_of f x))
   seat_at x l = ap (λ (es : List (Option Seat)). get_or es x None) e ∙ get_map (λ x. seat_of L (name_of f x)) f.origin x (let k = h.each in omega (arith, k, l))
 
   main_seat : (x : ℕ) → IsMain f x → get_or each x None ≡ seat_of L (name_of f x)
@@ -139,7 +139,7 @@ seats_length f named each e = ap length e ∙ length-map f.origin (λ x. seat_of
 pub each_is : {S : Type 0} (f : Originated) (named : NamedNodes) (m : HashMap (Bor (List ℕ)) Seat S) (nodes : List NamedNode) → nodes ≡ named.nodes → HasSeats m (listings_from 0 nodes) → (each : List (Option Seat)) → ((ls : List Listing) → HasSeats m ls → each ≡ seats_of f ls f.origin) → each ≡ seats_of f (listings_from 0 named.nodes) f.origin
 each_is f named m nodes e h each k = k (listings_from 0 nodes) h ∙ ap (λ ns. seats_of f (listings_from 0 ns) f.origin) e
 
-pub known_are : {S : Type 0} (f : Originated) (named : NamedNodes) (m : HashMap (Bor (List ℕ)) ℕ S) (nodes : List NamedNode) → nodes ≡ named.nodes → KnowsMain f (count f) m → EachIn m (listings_from 0 nodes) → EachKnown f (listings_from 0 named.nodes)
+pub known_are : {S : Type 0} (f : Originated) (named : NamedNodes) (m : HashMap (Bor (List ℕ)) ℕ S) (nodes : List NamedNode) → nodes ≡ named.nodes → KnowsMain f (variable_count f) m → EachIn m (listings_from 0 nodes) → EachKnown f (listings_from 0 named.nodes)
 known_are f named m nodes e k h = each_known f m k (listings_from 0 named.nodes) (subst (λ ns. EachIn m (listings_from 0 ns)) e h)
 
 -- the fault of an unknown name, where there was memory for the name
@@ -147,7 +147,7 @@ pub unknown_fault : (P : PlaceFault → Type 0) (e : Or PlaceFault) (name : List
 unknown_fault P (Fault e) name is p = subst P (sym is) p
 unknown_fault P Memory name is p = tt
 
-pub unknown_is : {S : Type 0} (f : Originated) (named : NamedNodes) (m : HashMap (Bor (List ℕ)) ℕ S) (nodes : List NamedNode) → nodes ≡ named.nodes → KnowsMain f (count f) m → (name name' : List ℕ) → name' ≡ name → IsFirstOut m (listings_from 0 nodes) name → IsFirstUnknown f (Named named) name'
+pub unknown_is : {S : Type 0} (f : Originated) (named : NamedNodes) (m : HashMap (Bor (List ℕ)) ℕ S) (nodes : List NamedNode) → nodes ≡ named.nodes → KnowsMain f (variable_count f) m → (name name' : List ℕ) → name' ≡ name → IsFirstOut m (listings_from 0 nodes) name → IsFirstUnknown f (Named named) name'
 unknown_is f named m nodes e k name name' s w = subst (IsFirstUnknown f (Named named)) (sym s) (record {
   before = w.before;
   node = w.node;

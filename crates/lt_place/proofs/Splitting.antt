@@ -11,10 +11,10 @@ use Rattle.lt_base.specs.Dependence.{has}
 use Rattle.lt_base.proofs.Lookups.{right_all, left_below, same_self}
 use Rattle.lt_base.proofs.Reading.{has_one, or_left, each_clock_at}
 use Rattle.lt_norm.specs.Flat.{Originated, FlatRight, FlatFunction}
-use Rattle.lt_reads.specs.declared.crossing.Crossing.{Crossing}
-use Rattle.lt_reads.specs.Origins.{count}
-use Rattle.lt_reads.specs.Reads.{whole_read, delayed_reads}
-use Rattle.lt_reads.specs.Crossings.{cross_by, HasReaders, HasPlaces}
+use Rattle.lt_place_reads.specs.declared.crossing.Crossing.{Crossing}
+use Rattle.lt_place_reads.specs.Origins.{variable_count}
+use Rattle.lt_place_reads.specs.Reads.{whole_read, delayed_reads}
+use Rattle.lt_place_reads.specs.Crossings.{cross_by, HasReaders, HasPlaces}
 use Rattle.lt_place.specs.Spread.{HasFed, IsLocal}
 use Rattle.lt_place.proofs.Inputs.{input_clock}
 use Rattle.lt_place.proofs.Inside.{direct_below, delayed_below, clocks_below}
@@ -62,12 +62,12 @@ some_case : {A : Type 0} (o : Option A) → (o ≡ None → ⊥) → (a : A) × 
 some_case None h = absurd (h refl)
 some_case (Some a) h = (a, refl)
 
-module _ (f : Originated) (good : GoodFunction f.func) (flat : FlatFunction f.func) (nodes : List ℕ) (local : IsLocal f nodes) (readers : List (Option Crossing)) (r : HasReaders f nodes readers) (list : List Crossing) (places : List (Option ℕ)) (h : HasPlaces readers (count f) list places) (fed : List Bool) (g : HasFed f.func.n_in places fed) where
-  fed_is : (x : ℕ) → x < count f → get_or fed x false ≡ (nat_lt x f.func.n_in || is_some (get_or places x None))
+module _ (f : Originated) (good : GoodFunction f.func) (flat : FlatFunction f.func) (nodes : List ℕ) (local : IsLocal f nodes) (readers : List (Option Crossing)) (r : HasReaders f nodes readers) (list : List Crossing) (places : List (Option ℕ)) (h : HasPlaces readers (variable_count f) list places) (fed : List Bool) (g : HasFed f.func.n_in places fed) where
+  fed_is : (x : ℕ) → x < variable_count f → get_or fed x false ≡ (nat_lt x f.func.n_in || is_some (get_or places x None))
   fed_is x l = g.each x (let s = h.size in omega (arith, s, l))
 
   -- a variable with a place reads a crossing
-  pub placed_cross : (x : ℕ) → x < count f → is_some (get_or places x None) ≡ true → (c : Crossing) × IsCross nodes x (right_of f.func.eqs x) c
+  pub placed_cross : (x : ℕ) → x < variable_count f → is_some (get_or places x None) ≡ true → (c : Crossing) × IsCross nodes x (right_of f.func.eqs x) c
   placed_cross x l t =
       let w = some_case (get_or readers x None) (λ e. let z : is_some (get_or places x None) ≡ false = ap is_some (h.none x l e) in absurd (cc)) in
       (w.0, cross_is nodes x (right_of f.func.eqs x) w.0 (sym (r.each x l) ∙ w.1))
@@ -80,7 +80,7 @@ module _ (f : Originated) (good : GoodFunction f.func) (flat : FlatFunction f.fu
       let s = h.some x c.0 l (r.each x l ∙ ap (cross_by nodes x) e ∙ c.1) in
       (s.0, s.1)
 
-  base : (x : ℕ) → x < count f → get_or fed x false ≡ true → clock_of f.func.decls x ≡ []
+  base : (x : ℕ) → x < variable_count f → get_or fed x false ≡ true → clock_of f.func.decls x ≡ []
   base x l t = ⊎_elim
       (λ a. input_clock f.func good x (ltb-true x f.func.n_in a))
       (λ a.
@@ -90,17 +90,17 @@ module _ (f : Originated) (good : GoodFunction f.func) (flat : FlatFunction f.fu
       (or_cases (nat_lt x f.func.n_in) (is_some (get_or places x None)) (sym (fed_is x l) ∙ t))
 
   abbrev Near : ℕ → ℕ → Type 0
-  Near x y = (y < count f) × (get_or nodes y 0 ≡ get_or nodes x 0)
+  Near x y = (y < variable_count f) × (get_or nodes y 0 ≡ get_or nodes x 0)
 
   reads : (x : ℕ) (e : Expression) → right_of f.func.eqs x ≡ Some e → get_or fed x false ≡ false → EachVar (Near x) e
   reads x e q t =
       let l = left_below f.func good x e q in
-      let below = right_all (λ q. VarsBelow (count f) q.1) f.func.eqs good.rights x e q in
+      let below = right_all (λ q. VarsBelow (variable_count f) q.1) f.func.eqs good.rights x e q in
       let unplaced = (or_none (nat_lt x f.func.n_in) (is_some (get_or places x None)) (sym (fed_is x l) ∙ t)).1 in
       flat_vars (Near x) e (right_all (λ q. FlatRight q.1) f.func.eqs flat x e q)
-      (λ y k. (direct_below (count f) e below y k, local.direct x e y q k))
+      (λ y k. (direct_below (variable_count f) e below y k, local.direct x e y q k))
       (λ y k. (
-        delayed_below (count f) e below y k,
+        delayed_below (variable_count f) e below y k,
         ⊎_elim (λ s. s) (λ s.
             let d = delayed_is e y k in
             let p = cross_placed x d.0 y (q ∙ ap Some d.1) s in
@@ -113,5 +113,5 @@ module _ (f : Originated) (good : GoodFunction f.func) (flat : FlatFunction f.fu
     base = base;
     free = λ x l t. ltb-false x f.func.n_in (or_none (nat_lt x f.func.n_in) (is_some (get_or places x None)) (sym (fed_is x l) ∙ t)).0;
     reads = reads;
-    clocks = λ x l. clock_vars_each (Near x) (clock_of f.func.decls x) (λ y k. (each_clock_at (λ y. y < count f) (clock_of f.func.decls x) (clocks_below f good x l) y k, local.clocks x y l k));
+    clocks = λ x l. clock_vars_each (Near x) (clock_of f.func.decls x) (λ y k. (each_clock_at (λ y. y < variable_count f) (clock_of f.func.decls x) (clocks_below f good x l) y k, local.clocks x y l k));
   }

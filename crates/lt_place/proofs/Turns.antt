@@ -10,8 +10,8 @@ use Rattle.lt_base.specs.Meaning.{right_of}
 use Rattle.lt_base.specs.Program.{GoodFunction}
 use Rattle.lt_base.proofs.Lookups.{is_input, same_self}
 use Rattle.lt_norm.specs.Flat.{Originated}
-use Rattle.lt_reads.specs.Origins.{IsMain, count}
-use Rattle.lt_place.specs.Faults.{main_lefts, main_below, judged}
+use Rattle.lt_place_reads.specs.Origins.{IsMain, variable_count}
+use Rattle.lt_place.specs.Faults.{main_lefts, main_below, judged_variables}
 
 other : (a b : ℕ) → (a ≡ b → ⊥) → nat_eq a b ≡ false
 other a b h = grind (arith, nat_tests)
@@ -65,9 +65,9 @@ in_below origin (suc n) x o l =
     below s = grind arith
 
 -- every variable of `main` is judged
-pub is_judged : (f : Originated) → GoodFunction f.func → (x : ℕ) → IsMain f x → StandsIn (judged f) x
+pub is_judged : (f : Originated) → GoodFunction f.func → (x : ℕ) → IsMain f x → StandsIn (judged_variables f) x
 is_judged f good x m =
-    let go : (o : Option Expression) → right_of f.func.eqs x ≡ o → StandsIn (judged f) x =
+    let go : (o : Option Expression) → right_of f.func.eqs x ≡ o → StandsIn (judged_variables f) x =
     elim [
       | None ↦ λ h. stands_back (main_lefts f.origin f.func.eqs) (main_below f.origin f.func.n_in) x (in_below f.origin f.func.n_in x m.own (is_input f.func good x m.declared h))
       | Some e ↦ λ h. stands_front (main_lefts f.origin f.func.eqs) (main_below f.origin f.func.n_in) x (in_lefts f.origin f.func.eqs x e m.own h)
@@ -92,9 +92,9 @@ below_inside n origin (suc k) l = All-append (λ x. x < n) (main_below origin k)
     by true = All-cons (λ x. x < n) k [] (omega arith) (All-nil (λ x. x < n))
     by false = All-nil (λ x. x < n)
 
-pub judged_inside : (f : Originated) → GoodFunction f.func → All (λ q. q.0 < count f) f.func.eqs → All (λ x. x < count f) (judged f)
+pub judged_inside : (f : Originated) → GoodFunction f.func → All (λ q. q.0 < variable_count f) f.func.eqs → All (λ x. x < variable_count f) (judged_variables f)
 judged_inside f good a =
-    All-append (λ x. x < count f) (main_lefts f.origin f.func.eqs) (main_below f.origin f.func.n_in) (lefts_inside (count f) f.origin f.func.eqs a) (below_inside (count f) f.origin f.func.n_in good.inputs)
+    All-append (λ x. x < variable_count f) (main_lefts f.origin f.func.eqs) (main_below f.origin f.func.n_in) (lefts_inside (variable_count f) f.origin f.func.eqs a) (below_inside (variable_count f) f.origin f.func.n_in good.inputs)
 
 -- ---- one more
 
@@ -140,10 +140,10 @@ module _ (origin : List ℕ) (x : ℕ) (start order : List ℕ) (so_far : order 
 
 -- ---- the list that was made
 
-pub var_inside : (f : Originated) → GoodFunction f.func → All (λ q. q.0 < count f) f.func.eqs → (order : List ℕ) → order ≡ judged f → (i : ℕ) → i < length order → get_or order i 0 < count f
+pub var_inside : (f : Originated) → GoodFunction f.func → All (λ q. q.0 < variable_count f) f.func.eqs → (order : List ℕ) → order ≡ judged_variables f → (i : ℕ) → i < length order → get_or order i 0 < variable_count f
 var_inside f good a order e i l =
-    let k : i < length (judged f) = let z = ap length e in omega (arith, z, l) in
-    subst (λ (xs : List ℕ). get_or xs i 0 < count f) (sym e) (judged_inside f good a i 0 k)
+    let k : i < length (judged_variables f) = let z = ap length e in omega (arith, z, l) in
+    subst (λ (xs : List ℕ). get_or xs i 0 < variable_count f) (sym e) (judged_inside f good a i 0 k)
 
 pub var_at : (order : List ℕ) (i : ℕ) → i < length order → slice_get order i ≡ Some (get_or order i 0)
 var_at [] i l = absurd (omega arith)

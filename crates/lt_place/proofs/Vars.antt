@@ -17,7 +17,7 @@ use Rattle.lt_base.specs.Placed.{renamed, below}
 use Rattle.lt_base.proofs.Reading.{has_front, has_back, or_left, or_right}
 use Rattle.lt_base.proofs.Lookups.{same_self}
 use Rattle.lt_norm.specs.Flat.{Direct, FlatRight}
-use Rattle.lt_reads.specs.Reads.{whole_read, parts_read, delayed_reads, direct_reads}
+use Rattle.lt_place_reads.specs.Reads.{whole_read, parts_read, delayed_reads, direct_reads}
 
 -- a fact of each variable of an expression, in which there is no call
 abbrev pub EachVar : (ℕ → Type 0) → Expression → Type 0

@@ -4,9 +4,9 @@ use Rattle.lt_base.specs.Expression.{Expression}
 use Rattle.lt_base.specs.Meaning.{right_of}
 use Rattle.lt_base.specs.Dependence.{has}
 use Rattle.lt_norm.specs.Flat.{Originated}
-use Rattle.lt_reads.specs.Origins.{IsMain, name_of, origin_of}
-use Rattle.lt_reads.specs.Reads.{clock_reads, plain_reads, slow_reads}
-use Rattle.lt_place.specs.declared.placement.Placement.{Placement}
+use Rattle.lt_place_reads.specs.Origins.{IsMain, name_of, origin_of}
+use Rattle.lt_place_reads.specs.Reads.{clock_reads, plain_reads, slow_reads}
+use Rattle.lt_arch.specs.declared.placement.Placement.{Placement}
 use Rattle.lt_place.specs.declared.fault.PlaceFault.{PlaceFault}
 use Rattle.lt_place.specs.declared.fault.PlaceFault.TheVariants.{Unplaced, PlacedTwice, UnknownName, DirectCross, SlowCross, ClockElsewhere}
 use Rattle.lt_place.specs.Nodes.{Listing, listings, puts, node_of, IsKnown, EachKnown}
@@ -88,27 +88,27 @@ main_below origin (suc n) = main_below origin n ++ (if nat_eq (slice_index origi
 
 -- the variables of `main` as they are judged: by the order of their equations. The inputs, from which no equation of a normal form
 -- arises, come last
-abbrev pub judged : Originated → List ℕ
-judged f = main_lefts f.origin f.func.eqs ++ main_below f.origin f.func.n_in
+abbrev pub judged_variables : Originated → List ℕ
+judged_variables f = main_lefts f.origin f.func.eqs ++ main_below f.origin f.func.n_in
 
 -- m is judged, the names are without fault, and so is each variable that is judged before
 pub record IsReached (f : Originated) (p : Placement) (m : ℕ) : Type 0 where
   pub once : AllOnce f p
   pub known : EachKnown f (listings p)
   pub turn : ℕ
-  pub here : slice_get (judged f) turn ≡ Some m
-  pub before : (i k : ℕ) → i < turn → slice_get (judged f) i ≡ Some k → IsClear f p k
+  pub here : slice_get (judged_variables f) turn ≡ Some m
+  pub before : (i k : ℕ) → i < turn → slice_get (judged_variables f) i ≡ Some k → IsClear f p k
 
 -- the fault is the first one
-abbrev pub IsFirstFault : Originated → Placement → PlaceFault → Type 0
-IsFirstFault f p (Unplaced x) = IsLowest (IsUnplaced f p) x
-IsFirstFault f p (PlacedTwice x) = AllPlaced f p × IsLowest (IsPlacedTwice f p) x
-IsFirstFault f p (UnknownName name) = AllOnce f p × IsFirstUnknown f p name
-IsFirstFault f p (ClockElsewhere m n) = IsReached f p m × IsLowest (IsClockElsewhere f p m) n
-IsFirstFault f p (DirectCross m n) = IsReached f p m × ((k : ℕ) → IsClockElsewhere f p m k → ⊥) × IsLowest (IsDirectCross f p m) n
-IsFirstFault f p (SlowCross m n) =
+abbrev pub IsFirstPlaceFault : Originated → Placement → PlaceFault → Type 0
+IsFirstPlaceFault f p (Unplaced x) = IsLowest (IsUnplaced f p) x
+IsFirstPlaceFault f p (PlacedTwice x) = AllPlaced f p × IsLowest (IsPlacedTwice f p) x
+IsFirstPlaceFault f p (UnknownName name) = AllOnce f p × IsFirstUnknown f p name
+IsFirstPlaceFault f p (ClockElsewhere m n) = IsReached f p m × IsLowest (IsClockElsewhere f p m) n
+IsFirstPlaceFault f p (DirectCross m n) = IsReached f p m × ((k : ℕ) → IsClockElsewhere f p m k → ⊥) × IsLowest (IsDirectCross f p m) n
+IsFirstPlaceFault f p (SlowCross m n) =
     IsReached f p m × ((k : ℕ) → IsClockElsewhere f p m k → ⊥) × ((k : ℕ) → IsDirectCross f p m k → ⊥) × IsLowest (IsSlowCross f p m) n
 
 -- at most one fault is the first
 abbrev pub OneIsFirst : Type 0
-OneIsFirst = (f : Originated) (p : Placement) (a b : PlaceFault) → IsFirstFault f p a → IsFirstFault f p b → a ≡ b
+OneIsFirst = (f : Originated) (p : Placement) (a b : PlaceFault) → IsFirstPlaceFault f p a → IsFirstPlaceFault f p b → a ≡ b

@@ -10,15 +10,15 @@ use Rattle.lt_base.specs.Clocking.{ClockedFunction}
 use Rattle.lt_base.specs.Dependence.{Causal, has}
 use Rattle.lt_base.specs.Placed.{StandsIn, below, renamed}
 use Rattle.lt_norm.specs.Flat.{Originated, FlatFunction}
-use Rattle.lt_reads.specs.declared.crossing.Crossing.{Crossing}
-use Rattle.lt_reads.specs.Origins.{count, name_of, origin_of}
+use Rattle.lt_place_reads.specs.declared.crossing.Crossing.{Crossing}
+use Rattle.lt_place_reads.specs.Origins.{variable_count, name_of, origin_of}
 use Rattle.lt_place.specs.declared.layout.Feed.{Feed}
 use Rattle.lt_place.specs.declared.layout.Feed.TheVariants.{Input, Cross}
 use Rattle.lt_place.specs.declared.layout.Part.{Part}
 use Rattle.lt_place.specs.declared.layout.Layout.{Layout}
-use Rattle.lt_place.specs.declared.placement.Placement.{Placement}
+use Rattle.lt_arch.specs.declared.placement.Placement.{Placement}
 use Rattle.lt_place.specs.Nodes.{node_of}
-use Rattle.lt_place.specs.Placement.{node_names}
+use Rattle.lt_arch.specs.Placement.{node_names}
 use Rattle.lt_place.specs.Sizes.{IsNoLarger, HasCodeRoom, IsCompilable}
 
 abbrev pub no_part : Part
@@ -36,21 +36,21 @@ unfoldable pub crossing_of : Layout → ℕ → Crossing
 crossing_of l c = get_or l.cross c no_crossing
 
 -- the part has x as its own number of the variable v, and gives it out
-pub record Gives (q : Part) (v x : ℕ) : Type 0 where
+pub record PartGives (q : Part) (v x : ℕ) : Type 0 where
   pub place : ℕ
   pub out : slice_get q.outs place ≡ Some v
   pub own : slice_get q.flat.func.outs place ≡ Some x
 
 -- what feeds the input x of the part q of node n
 abbrev pub FeedFits : Originated → Layout → ℕ → Part → ℕ → Feed → Type 0
-FeedFits f l n q x (Input i) = (origin_of q.flat x ≡ i) × (right_of f.func.eqs i ≡ None) × (i < count f)
+FeedFits f l n q x (Input i) = (origin_of q.flat x ≡ i) × (right_of f.func.eqs i ≡ None) × (i < variable_count f)
 FeedFits f l n q x (Cross c) = (origin_of q.flat x ≡ (crossing_of l c).reader) × (c < length l.cross) × ((crossing_of l c).to ≡ n)
 
 -- what the crossings of a layout are
 pub record HasCrossings (f : Originated) (p : Placement) (l : Layout) : Type 0 where
   -- each is a delay, on the base clock, of a variable of another node
   pub readers : (c : ℕ) → c < length l.cross → right_of f.func.eqs (crossing_of l c).reader ≡ Some (delayed (crossing_of l c).first (variable (crossing_of l c).var))
-  pub readers_declared : (c : ℕ) → c < length l.cross → (crossing_of l c).reader < count f
+  pub readers_declared : (c : ℕ) → c < length l.cross → (crossing_of l c).reader < variable_count f
   pub readers_on_base : (c : ℕ) → c < length l.cross → clock_of f.func.decls (crossing_of l c).reader ≡ []
   pub vars_on_base : (c : ℕ) → c < length l.cross → clock_of f.func.decls (crossing_of l c).var ≡ []
   pub from_node : (c : ℕ) → c < length l.cross → (crossing_of l c).from ≡ node_of f p (crossing_of l c).var
@@ -66,21 +66,21 @@ pub record HasCrossings (f : Originated) (p : Placement) (l : Layout) : Type 0 w
 -- the part of node n
 pub record IsPartOf (f : Originated) (p : Placement) (l : Layout) (n : ℕ) (q : Part) : Type 0 where
   -- its variables are those of the node, each once, with their names, types and clocks
-  pub numbered : length q.flat.origin ≡ count q.flat
-  pub on_node : (x : ℕ) → x < count q.flat → (origin_of q.flat x < count f) × (node_of f p (origin_of q.flat x) ≡ n)
-  pub each : (v : ℕ) → v < count f → node_of f p v ≡ n → (x : ℕ) × (x < count q.flat) × (origin_of q.flat x ≡ v)
-  pub once : (x y : ℕ) → x < count q.flat → y < count q.flat → origin_of q.flat x ≡ origin_of q.flat y → x ≡ y
-  pub names : (x : ℕ) → x < count q.flat → name_of q.flat x ≡ name_of f (origin_of q.flat x)
-  pub types : (x : ℕ) → x < count q.flat → ty_at q.flat.func.decls x ≡ ty_at f.func.decls (origin_of q.flat x)
-  pub clocks : (x : ℕ) → x < count q.flat → clock_of f.func.decls (origin_of q.flat x) ≡ below (origin_of q.flat) (clock_of q.flat.func.decls x) []
+  pub numbered : length q.flat.origin ≡ variable_count q.flat
+  pub on_node : (x : ℕ) → x < variable_count q.flat → (origin_of q.flat x < variable_count f) × (node_of f p (origin_of q.flat x) ≡ n)
+  pub each : (v : ℕ) → v < variable_count f → node_of f p v ≡ n → (x : ℕ) × (x < variable_count q.flat) × (origin_of q.flat x ≡ v)
+  pub once : (x y : ℕ) → x < variable_count q.flat → y < variable_count q.flat → origin_of q.flat x ≡ origin_of q.flat y → x ≡ y
+  pub names : (x : ℕ) → x < variable_count q.flat → name_of q.flat x ≡ name_of f (origin_of q.flat x)
+  pub types : (x : ℕ) → x < variable_count q.flat → ty_at q.flat.func.decls x ≡ ty_at f.func.decls (origin_of q.flat x)
+  pub clocks : (x : ℕ) → x < variable_count q.flat → clock_of f.func.decls (origin_of q.flat x) ≡ below (origin_of q.flat) (clock_of q.flat.func.decls x) []
   -- its equations are those of the node
   pub stands : StandsIn f.func q.flat.func (origin_of q.flat) []
   -- but for the crossings, whose readers are inputs, as the node's inputs of `main` are
-  pub feeds : (x : ℕ) → x < count q.flat → right_of q.flat.func.eqs x ≡ None → (d : Feed) × (slice_get q.feeds x ≡ Some d) × FeedFits f l n q x d
+  pub feeds : (x : ℕ) → x < variable_count q.flat → right_of q.flat.func.eqs x ≡ None → (d : Feed) × (slice_get q.feeds x ≡ Some d) × FeedFits f l n q x d
   pub fed : length q.feeds ≡ q.flat.func.n_in
   -- it gives out the outputs of `main` on the node and what crosses to another, in order of their numbers
-  pub gives : (v : ℕ) → v < count f → node_of f p v ≡ n → (has v f.func.outs ≡ true) ⊎ ((c : ℕ) × (c < length l.cross) × ((crossing_of l c).var ≡ v)) → (x : ℕ) × Gives q v x
-  pub given : (v x : ℕ) → Gives q v x → (x < count q.flat) × (origin_of q.flat x ≡ v) × ((has v f.func.outs ≡ true) ⊎ ((c : ℕ) × (c < length l.cross) × ((crossing_of l c).var ≡ v)))
+  pub gives : (v : ℕ) → v < variable_count f → node_of f p v ≡ n → (has v f.func.outs ≡ true) ⊎ ((c : ℕ) × (c < length l.cross) × ((crossing_of l c).var ≡ v)) → (x : ℕ) × PartGives q v x
+  pub given : (v x : ℕ) → PartGives q v x → (x < variable_count q.flat) × (origin_of q.flat x ≡ v) × ((has v f.func.outs ≡ true) ⊎ ((c : ℕ) × (c < length l.cross) × ((crossing_of l c).var ≡ v)))
   pub outs : length q.flat.func.outs ≡ length q.outs
   pub ascending : (i j : ℕ) → i < j → j < length q.outs → get_or q.outs i 0 < get_or q.outs j 0
   -- the checks hold of it
@@ -102,7 +102,7 @@ pub record IsLayoutOf (f : Originated) (p : Placement) (l : Layout) : Type 0 whe
   -- every equation is one of a part, or a crossing
   pub equations : (x : ℕ) (e : Expression) → right_of f.func.eqs x ≡ Some e →
       ((c : ℕ) × (c < length l.cross) × ((crossing_of l c).reader ≡ x))
-      ⊎ ((n : ℕ) × (k : ℕ) × (n < length l.nodes) × (k < count (part_of l n).flat) × (origin_of (part_of l n).flat k ≡ x) × (d : Expression) × (right_of (part_of l n).flat.func.eqs k ≡ Some d) × (renamed (origin_of (part_of l n).flat) d ≡ e))
+      ⊎ ((n : ℕ) × (k : ℕ) × (n < length l.nodes) × (k < variable_count (part_of l n).flat) × (origin_of (part_of l n).flat k ≡ x) × (d : Expression) × (right_of (part_of l n).flat.func.eqs k ≡ Some d) × (renamed (origin_of (part_of l n).flat) d ≡ e))
 
 -- the layout is one of this function under some placement, and the function passes the checks
 pub record IsPlaced (f : Originated) (l : Layout) : Type 0 where

@@ -4,9 +4,9 @@ use Rattle.lt_base.specs.Expression.{Expression}
 use Rattle.lt_base.specs.Meaning.{clock_of, right_of}
 use Rattle.lt_base.specs.Dependence.{has, clock_vars}
 use Rattle.lt_norm.specs.Flat.{Originated}
-use Rattle.lt_reads.specs.Origins.{IsMain, count, name_of}
-use Rattle.lt_reads.specs.Reads.{delayed_reads, direct_reads}
-use Rattle.lt_place.specs.declared.placement.Placement.{Placement}
+use Rattle.lt_place_reads.specs.Origins.{IsMain, variable_count, name_of}
+use Rattle.lt_place_reads.specs.Reads.{delayed_reads, direct_reads}
+use Rattle.lt_arch.specs.declared.placement.Placement.{Placement}
 use Rattle.lt_place.specs.Nodes.{listings, puts, node_of, EachKnown}
 
 -- each variable is on exactly one node; a variable of another node is read only as all that a delay on the base clock delays;
@@ -18,4 +18,4 @@ pub record Legal (f : Originated) (p : Placement) : Type 0 where
   -- what is read, and the clocks
   pub direct : (x : ℕ) (e : Expression) (y : ℕ) → right_of f.func.eqs x ≡ Some e → has y (direct_reads e) ≡ true → node_of f p y ≡ node_of f p x
   pub slow : (x : ℕ) (e : Expression) (y : ℕ) → right_of f.func.eqs x ≡ Some e → clock_of f.func.decls x ≢ [] → has y (delayed_reads e) ≡ true → node_of f p y ≡ node_of f p x
-  pub clocks : (x : ℕ) (y : ℕ) → x < count f → has y (clock_vars (clock_of f.func.decls x)) ≡ true → node_of f p y ≡ node_of f p x
+  pub clocks : (x : ℕ) (y : ℕ) → x < variable_count f → has y (clock_vars (clock_of f.func.decls x)) ≡ true → node_of f p y ≡ node_of f p x

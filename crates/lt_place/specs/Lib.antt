@@ -1,5 +1,3 @@
-pub mod Names
-pub mod Placement
 pub mod Nodes
 pub mod Legal
 pub mod Faults

@@ -3,10 +3,10 @@ use Rattle.std.specs.Prelude.{◌≡◌, ℕ, suc, List, [], ◌∷◌, ◌++◌
 use Rattle.std.specs.List.{count_by}
 use Rattle.std.specs.Str.{bytes_eq}
 use Rattle.lt_norm.specs.Flat.{Originated}
-use Rattle.lt_reads.specs.Origins.{IsMain, name_of}
-use Rattle.lt_place.specs.declared.named.NamedNode.{NamedNode}
-use Rattle.lt_place.specs.declared.placement.Placement.{Placement}
-use Rattle.lt_place.specs.declared.placement.Placement.TheVariants.{All, Named}
+use Rattle.lt_place_reads.specs.Origins.{IsMain, name_of}
+use Rattle.lt_arch.specs.declared.named.NamedNode.{NamedNode}
+use Rattle.lt_arch.specs.declared.placement.Placement.{Placement}
+use Rattle.lt_arch.specs.declared.placement.Placement.TheVariants.{All, Named}
 
 -- a name on the list of a node, and the number of the node
 abbrev pub Listing : Type 0

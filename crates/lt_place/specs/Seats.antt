@@ -5,7 +5,7 @@ use Rattle.std.specs.Option.{is_some}
 use Rattle.std.specs.HashMap.{HashMap, get_by}
 use Rattle.std.specs.Str.{bytes_eq}
 use Rattle.lt_norm.specs.Flat.{Originated}
-use Rattle.lt_reads.specs.Origins.{IsMain, name_of}
+use Rattle.lt_place_reads.specs.Origins.{IsMain, name_of}
 use Rattle.lt_place.specs.declared.seats.Seat.{Seat}
 use Rattle.lt_place.specs.Nodes.{Listing, times, node_listed}
 

@@ -10,9 +10,9 @@ use Rattle.lt_base.specs.Dependence.{has, clock_vars}
 use Rattle.lt_base.specs.Placed.{renamed, below}
 use Rattle.lt_base.specs.Program.{Function}
 use Rattle.lt_norm.specs.Flat.{Originated}
-use Rattle.lt_reads.specs.declared.crossing.Crossing.{Crossing}
-use Rattle.lt_reads.specs.Reads.{direct_reads, delayed_reads}
-use Rattle.lt_reads.specs.Crossings.{HasReaders, HasPlaces}
+use Rattle.lt_place_reads.specs.declared.crossing.Crossing.{Crossing}
+use Rattle.lt_place_reads.specs.Reads.{direct_reads, delayed_reads}
+use Rattle.lt_place_reads.specs.Crossings.{HasReaders, HasPlaces}
 use Rattle.lt_place.specs.declared.layout.Feed.{Feed}
 use Rattle.lt_place.specs.declared.layout.Feed.TheVariants.{Input, Cross}
 use Rattle.lt_place.specs.declared.layout.Part.{Part}

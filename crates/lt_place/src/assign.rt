@@ -2,13 +2,13 @@
 
 ghost use Rattle.std.specs.Prelude.{◌≡◌, ℕ, ◌<◌, ◌^◌, ◌↔◌, List, length, map, IfOk, IfErr, IsTrue, OnOk, MatchOption, replicate, slice_index};
 ghost use Rattle.lt_base.specs.Or.{ForFault};
-ghost use Rattle.lt_reads.specs.Origins.{HasOrigins, count};
+ghost use Rattle.lt_place_reads.specs.Origins.{HasOrigins, variable_count};
 ghost use Rattle.lt_place.specs.declared.fault.PlaceFault.TheVariants.{UnknownName};
-ghost use Rattle.lt_place.specs.declared.nodes.NamedNodes.{NamedNodes as Listed};
-ghost use Rattle.lt_place.specs.declared.placement.Placement.TheVariants.{All as OnOne, Named as OnListed};
-ghost use Rattle.lt_place.specs.Placement.{node_names};
+ghost use Rattle.lt_arch.specs.declared.nodes.NamedNodes.{NamedNodes as Listed};
+ghost use Rattle.lt_arch.specs.declared.placement.Placement.TheVariants.{All as OnOne, Named as OnListed};
+ghost use Rattle.lt_arch.specs.Placement.{node_names};
 ghost use Rattle.lt_place.specs.Nodes.{Listing, listings, listings_from, listings_on, nodes_of, EachKnown};
-ghost use Rattle.lt_place.specs.Faults.{AllOnce, IsFirstFault, IsLowest};
+ghost use Rattle.lt_place.specs.Faults.{AllOnce, IsFirstPlaceFault, IsLowest};
 ghost use Rattle.lt_place.specs.Seats.{HasSeats, seats_of, seat_node, IsVacant, IsAgain, is_again, KnowsMain, EachIn, IsFirstOut};
 
 use crate::seats::{Seat, seats};
@@ -16,7 +16,7 @@ use crate::{NamedNode, NamedNodes, PlaceFault, Placement};
 use indexmap::IndexMap;
 use lt_base::{Memory, Name, Or};
 use lt_norm::Flat;
-use lt_reads::view::{decls, origins};
+use lt_place_reads::view::{decls, origins};
 use std::alloc::Global;
 
 // The seat of each variable: that of its origin.
@@ -92,10 +92,10 @@ fn seat_nodes(alloc: Global, seats: &[Option<Seat>]) -> Result<Vec<u32>, Memory>
 }
 
 // The names of the variables of `main`.
-fn known(alloc: Global, f: &Flat) -> Result<IndexMap<&str, u32>, Memory>
+fn known_names(alloc: Global, f: &Flat) -> Result<IndexMap<&str, u32>, Memory>
     requires origins { HasOrigins f.now }
-    requires room { count f.now < 2 ^ 32 }
-    ensures { IfOk result (λ known. KnowsMain f.now (count f.now) known) }
+    requires room { variable_count f.now < 2 ^ 32 }
+    ensures { IfOk result (λ known. KnowsMain f.now (variable_count f.now) known) }
 {
     let origin = origins(f);
     let mut known = IndexMap::new(alloc);
@@ -124,7 +124,7 @@ fn first_unknown<'n>(known: &IndexMap<&str, u32>, nodes: &'n [NamedNode]) -> Opt
     ensures { MatchOption result ((n : ℕ) → EachIn known.now (listings_from n nodes.entry.now)) (λ name. (n : ℕ) → IsFirstOut known.now (listings_from n nodes.entry.now) name.now) }
 {
     for node in nodes {
-        if let Some(name) = first_out(known, node.vars.as_slice()) {
+        if let Some(name) = first_out(known, &node.vars) {
             return Some(name);
         }
     }
@@ -146,8 +146,7 @@ fn listed_seats(alloc: Global, f: &Flat, named: &NamedNodes) -> Result<Vec<Optio
     requires nodes { length named.now.nodes < 2 ^ 32 }
     ensures { IfOk result (λ each. each.items ≡ seats_of f.now (listings (OnListed named.now)) f.now.origin) }
 {
-    let nodes = named.nodes.as_slice();
-    let seats = seats(alloc, nodes)?;
+    let seats = seats(alloc, &named.nodes)?;
     let each = seat_each(alloc, f, &seats);
     drop(seats);
     each
@@ -156,10 +155,10 @@ fn listed_seats(alloc: Global, f: &Flat, named: &NamedNodes) -> Result<Vec<Optio
 // Passes where each variable of `main` has one seat. Else the first that has none, and if each has one, the first that has two.
 fn seat_once(f: &Flat, each: &[Option<Seat>]) -> Result<(), PlaceFault>
     requires origins { HasOrigins f.now }
-    requires variables { count f.now < 2 ^ 32 }
+    requires variables { variable_count f.now < 2 ^ 32 }
     requires size { length each.now ≡ length f.now.origin }
     ensures once { (named : Listed) → each.now ≡ seats_of f.now (listings (OnListed named)) f.now.origin → OnOk result (AllOnce f.now (OnListed named)) }
-    ensures fault { (named : Listed) → each.now ≡ seats_of f.now (listings (OnListed named)) f.now.origin → IfErr result (IsFirstFault f.now (OnListed named)) }
+    ensures fault { (named : Listed) → each.now ≡ seats_of f.now (listings (OnListed named)) f.now.origin → IfErr result (IsFirstPlaceFault f.now (OnListed named)) }
 {
     let origin = origins(f);
     if let Some(var) = first_vacant(origin, each) {
@@ -184,13 +183,12 @@ fn unknown_name(name: &Name) -> Or<PlaceFault>
 // Passes where each listed name is that of a variable of `main`. Else the first that is not.
 fn know_all(alloc: Global, f: &Flat, named: &NamedNodes) -> Result<(), Or<PlaceFault>>
     requires origins { HasOrigins f.now }
-    requires variables { count f.now < 2 ^ 32 }
+    requires variables { variable_count f.now < 2 ^ 32 }
     ensures known { OnOk result (EachKnown f.now (listings (OnListed named.now))) }
-    ensures fault { AllOnce f.now (OnListed named.now) → IfErr result (λ e. ForFault e (IsFirstFault f.now (OnListed named.now))) }
+    ensures fault { AllOnce f.now (OnListed named.now) → IfErr result (λ e. ForFault e (IsFirstPlaceFault f.now (OnListed named.now))) }
 {
-    let nodes = named.nodes.as_slice();
-    let known = known(alloc, f)?;
-    let unknown = first_unknown(&known, nodes);
+    let known = known_names(alloc, f)?;
+    let unknown = first_unknown(&known, &named.nodes);
     drop(known);
     match unknown {
         Some(name) => Err(unknown_name(name)),
@@ -201,19 +199,19 @@ fn know_all(alloc: Global, f: &Flat, named: &NamedNodes) -> Result<(), Or<PlaceF
 // Every variable on the node that lists its origin.
 fn on_listed(alloc: Global, f: &Flat, named: &NamedNodes) -> Result<Vec<u32>, Or<PlaceFault>>
     requires origins { HasOrigins f.now }
-    requires variables { count f.now < 2 ^ 32 }
+    requires variables { variable_count f.now < 2 ^ 32 }
     requires nodes { length named.now.nodes < 2 ^ 32 }
     ensures nodes { IfOk result (λ nodes. nodes.items ≡ nodes_of f.now (OnListed named.now)) }
     ensures once { OnOk result (AllOnce f.now (OnListed named.now)) }
     ensures known { OnOk result (EachKnown f.now (listings (OnListed named.now))) }
-    ensures fault { IfErr result (λ e. ForFault e (IsFirstFault f.now (OnListed named.now))) }
+    ensures fault { IfErr result (λ e. ForFault e (IsFirstPlaceFault f.now (OnListed named.now))) }
 {
     let each = listed_seats(alloc, f, named)?;
-    if let Err(fault) = seat_once(f, each.as_slice()) {
+    if let Err(fault) = seat_once(f, &each) {
         return Err(Or::Fault(fault));
     }
     know_all(alloc, f, named)?;
-    let nodes = seat_nodes(alloc, each.as_slice())?;
+    let nodes = seat_nodes(alloc, &each)?;
     Ok(nodes)
 }
 
@@ -221,12 +219,12 @@ fn on_listed(alloc: Global, f: &Flat, named: &NamedNodes) -> Result<Vec<u32>, Or
 /// twice, or a listed name that is none of a variable of `main`.
 pub(crate) fn assign(alloc: Global, f: &Flat, p: &Placement) -> Result<Vec<u32>, Or<PlaceFault>>
     requires origins { HasOrigins f.now }
-    requires variables { count f.now < 2 ^ 32 }
+    requires variables { variable_count f.now < 2 ^ 32 }
     requires nodes { length (node_names p.now) < 2 ^ 32 }
     ensures nodes { IfOk result (λ nodes. nodes.items ≡ nodes_of f.now p.now) }
     ensures once { OnOk result (AllOnce f.now p.now) }
     ensures known { OnOk result (EachKnown f.now (listings p.now)) }
-    ensures fault { IfErr result (λ e. ForFault e (IsFirstFault f.now p.now)) }
+    ensures fault { IfErr result (λ e. ForFault e (IsFirstPlaceFault f.now p.now)) }
 {
     match p {
         Placement::All => Ok(on_one(alloc, f)?),

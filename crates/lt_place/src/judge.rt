@@ -2,18 +2,18 @@
 
 ghost use Rattle.std.specs.Prelude.{◌≡◌, ◌≤◌, ◌<◌, ◌++◌, length, All, IfOk, IfErr, OnOk};
 ghost use Rattle.lt_base.specs.Or.{ForFault};
-ghost use Rattle.lt_reads.specs.Origins.{HasOrigins, count};
-ghost use Rattle.lt_place.specs.declared.placement.Placement.{Placement};
-ghost use Rattle.lt_place.specs.Faults.{IsFirstFault, judged, main_lefts, main_below};
+ghost use Rattle.lt_place_reads.specs.Origins.{HasOrigins, variable_count};
+ghost use Rattle.lt_arch.specs.declared.placement.Placement.{Placement};
+ghost use Rattle.lt_place.specs.Faults.{IsFirstPlaceFault, judged_variables, main_lefts, main_below};
 ghost use Rattle.lt_place.specs.Legal.{Legal};
-ghost use Rattle.lt_place.specs.Reports.{fault_at, IsAssigned};
+ghost use Rattle.lt_place.specs.Reports.{reported_fault, IsAssigned};
 
 use crate::PlaceFault;
 use crate::marks::marks;
 use lt_base::{Equation, Memory, Or};
 use lt_norm::Flat;
-use lt_reads::Look;
-use lt_reads::view::{equations, inputs, kept, origins};
+use lt_place_reads::Look;
+use lt_place_reads::view::{equations, inputs, invariant_holds, origins};
 use std::alloc::Global;
 
 // Appends the variables of `main` that have equations, in the order of these.
@@ -44,11 +44,11 @@ fn push_below(order: &mut Vec<u32>, origin: &[u32], bound: u32) -> Result<(), Me
 }
 
 // The variables of `main` as they are judged.
-fn judged(alloc: Global, f: &Flat) -> Result<Vec<u32>, Memory>
+fn main_variables(alloc: Global, f: &Flat) -> Result<Vec<u32>, Memory>
     requires { HasOrigins f.now }
-    ensures { IfOk result (λ order. order.items ≡ judged f.now) }
+    ensures { IfOk result (λ order. order.items ≡ judged_variables f.now) }
 {
-    kept(f);
+    invariant_holds(f);
     let origin = origins(f);
     let mut order = Vec::new(alloc);
     push_lefts(&mut order, origin, equations(f))?;
@@ -63,7 +63,7 @@ fn fault_at(
     direct: Option<u32>,
     slow: Option<u32>,
 ) -> Option<PlaceFault>
-    ensures { result ≡ fault_at var clock direct slow }
+    ensures { result ≡ reported_fault var clock direct slow }
 {
     if let Some(clock_var) = clock {
         return Some(PlaceFault::ClockElsewhere { var, clock_var });
@@ -80,15 +80,15 @@ fn fault_at(
 /// Whether the equations fit the nodes of their variables; else the first fault.
 pub(crate) fn judge(alloc: Global, f: &Flat, nodes: &[u32]) -> Result<(), Or<PlaceFault>>
     requires origins { HasOrigins f.now }
-    requires nodes { length nodes.now ≡ count f.now }
+    requires nodes { length nodes.now ≡ variable_count f.now }
     ensures legal { OnOk result ((p : Placement) → IsAssigned f.now p nodes.now → Legal f.now p) }
-    ensures fault { IfErr result (λ e. (p : Placement) → IsAssigned f.now p nodes.now → ForFault e (IsFirstFault f.now p)) }
+    ensures fault { IfErr result (λ e. (p : Placement) → IsAssigned f.now p nodes.now → ForFault e (IsFirstPlaceFault f.now p)) }
 {
-    kept(f);
+    invariant_holds(f);
     let clocks = marks(alloc, f, nodes, Look::Clocks)?;
     let direct = marks(alloc, f, nodes, Look::Direct)?;
     let slow = marks(alloc, f, nodes, Look::Slow)?;
-    let order = judged(alloc, f)?;
+    let order = main_variables(alloc, f)?;
     for var in &order {
         let at = *var as usize;
         if let Some(fault) = fault_at(*var, clocks[at], direct[at], slow[at]) {

@@ -4,7 +4,7 @@ ghost use Rattle.std.specs.Prelude.{◌≡◌, IfOk};
 
 use lt_base::{Duplicate, List, Memory, Name};
 use lt_norm::Flat;
-use lt_reads::Crossing;
+use lt_place_reads::Crossing;
 
 /// What an input of a part is: an input of `main`, by its number, or a crossing, by its place in the list of all.
 #[derive(Clone, Copy, Debug, PartialEq, Eq)]

@@ -1,16 +1,16 @@
 // The lowest variables that are read on other nodes.
 
 ghost use Rattle.std.specs.Prelude.{◌≡◌, ◌≤◌, ◌<◌, ◌^◌, ◌++◌, ◌∷◌, [], List, length, All, IfOk, OnOk, slice_index};
-ghost use Rattle.lt_reads.specs.Origins.{HasOrigins, count};
-ghost use Rattle.lt_reads.specs.Reads.{looked};
-ghost use Rattle.lt_place.specs.declared.placement.Placement.{Placement};
+ghost use Rattle.lt_place_reads.specs.Origins.{HasOrigins, variable_count};
+ghost use Rattle.lt_place_reads.specs.Reads.{looked};
+ghost use Rattle.lt_arch.specs.declared.placement.Placement.{Placement};
 ghost use Rattle.lt_place.specs.Nodes.{nodes_of};
-ghost use Rattle.lt_place.specs.Reports.{Report, HasLeast, Marks, elsewhere, reports};
+ghost use Rattle.lt_place.specs.Reports.{Report, HasLeast, MarksReads, elsewhere, reports};
 
 use lt_base::Memory;
 use lt_norm::Flat;
-use lt_reads::view::{equations, kept, origins};
-use lt_reads::{Look, looked_at};
+use lt_place_reads::view::{equations, invariant_holds, origins};
+use lt_place_reads::{Look, looked_at};
 use std::alloc::Global;
 
 // Notes that the number is read at this variable.
@@ -50,17 +50,17 @@ pub(crate) fn marks(
     look: Look,
 ) -> Result<Vec<Option<u32>>, Memory>
     requires origins { HasOrigins f.now }
-    requires nodes { length nodes.now ≡ count f.now }
-    ensures size { IfOk result (λ marks. length marks.items ≡ count f.now) }
+    requires nodes { length nodes.now ≡ variable_count f.now }
+    ensures size { IfOk result (λ marks. length marks.items ≡ variable_count f.now) }
     ensures least { IfOk result (λ marks. HasLeast marks.items (reports (looked look f.now) nodes.now f.now.origin f.now.func.eqs)) }
 {
     let origin = origins(f);
-    kept(f);
+    invariant_holds(f);
     let mut marks = Vec::new(alloc);
     marks.resize(origin.len(), None)?;
     for equation in equations(f) {
         let ys = looked_at(alloc, f, equation, look)?;
-        note(&mut marks, nodes, origin, equation.left(), ys.as_slice());
+        note(&mut marks, nodes, origin, equation.left(), &ys);
     }
     Ok(marks)
 }

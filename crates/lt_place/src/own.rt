@@ -73,7 +73,7 @@ fn own_clock(alloc: Global, own: &[u32], clock: &Clock) -> Result<Clock, Memory>
     ensures { IfOk result (λ r. r ≡ below (own_of own.now) clock.now []) }
 {
     let mut new = Clock::base(alloc);
-    for step in clock.steps.as_slice() {
+    for step in clock.steps.iter() {
         new = new.deeper(own[step.0 as usize], step.1)?;
     }
     Ok(new)

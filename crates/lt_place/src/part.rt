@@ -2,7 +2,7 @@
 
 ghost use Rattle.std.specs.Prelude.{◌≡◌, ◌<◌, ◌^◌, All, IfOk, length, map};
 ghost use Rattle.lt_norm.specs.Flat.{FlatFunction};
-ghost use Rattle.lt_reads.specs.Origins.{count};
+ghost use Rattle.lt_place_reads.specs.Origins.{variable_count};
 ghost use Rattle.lt_place.specs.Spread.{HasMembers, IsBuilt, IsLocal, IsSpread, feed_by, feed_of, outs_below, own_of, part_function};
 
 use crate::members::{Members, members_of};
@@ -11,7 +11,7 @@ use crate::spread::Spread;
 use crate::{Feed, Part};
 use lt_base::{Func, List, Memory};
 use lt_norm::Flat;
-use lt_reads::view::{decls, equations, kept, name};
+use lt_place_reads::view::{decls, equations, invariant_holds, name};
 use std::alloc::Global;
 
 // What feeds the input x: the crossing at its place, where it reads one.
@@ -74,25 +74,18 @@ fn function(
 ) -> Result<Func, Memory>
     requires spread { IsSpread f.now s.now }
     requires local { IsLocal f.now s.now.nodes.items }
-    requires room { count f.now < 2 ^ 32 }
+    requires room { variable_count f.now < 2 ^ 32 }
     requires members { HasMembers s.now.nodes.items s.now.fed.items n m.now.list.items m.now.own.items m.now.inputs }
     requires outs { outs.now ≡ outs_below s.now.nodes.items s.now.given.items n (length s.now.nodes.items) }
     ensures func { IfOk result (λ func. func ≡ part_function f.now s.now n m.now.list.items m.now.own.items m.now.inputs) }
     ensures flat { IfOk result (λ func. FlatFunction func) }
 {
-    kept(f);
+    invariant_holds(f);
     let own = m.own.as_slice();
     let name = name(f).copy()?;
-    let decls = own_decls(alloc, own, decls(f), m.list.as_slice())?;
+    let decls = own_decls(alloc, own, decls(f), &m.list)?;
     let outs = own_outs(alloc, own, outs)?;
-    let eqs = own_equations(
-        alloc,
-        own,
-        s.nodes.as_slice(),
-        s.fed.as_slice(),
-        n,
-        equations(f),
-    )?;
+    let eqs = own_equations(alloc, own, &s.nodes, &s.fed, n, equations(f))?;
     let inputs = m.inputs as u32;
     let func = Func::new(name, List::of(decls), inputs, List::of(outs), List::of(eqs));
     Ok(func)
@@ -102,17 +95,11 @@ fn function(
 pub(crate) fn part(alloc: Global, f: &Flat, s: &Spread, n: u32) -> Result<Part, Memory>
     requires spread { IsSpread f.now s.now }
     requires local { IsLocal f.now s.now.nodes.items }
-    requires room { count f.now < 2 ^ 32 }
+    requires room { variable_count f.now < 2 ^ 32 }
     ensures { IfOk result (λ q. IsBuilt f.now s.now n q) }
 {
-    let outs = outs(alloc, s.nodes.as_slice(), s.given.as_slice(), n)?;
-    let members = members_of(
-        alloc,
-        s.nodes.as_slice(),
-        s.fed.as_slice(),
-        s.free.as_slice(),
-        n,
-    )?;
+    let outs = outs(alloc, &s.nodes, &s.given, n)?;
+    let members = members_of(alloc, &s.nodes, &s.fed, &s.free, n)?;
     part_of(alloc, f, s, n, members, outs)
 }
 
@@ -127,13 +114,13 @@ fn part_of(
 ) -> Result<Part, Memory>
     requires spread { IsSpread f.now s.now }
     requires local { IsLocal f.now s.now.nodes.items }
-    requires room { count f.now < 2 ^ 32 }
+    requires room { variable_count f.now < 2 ^ 32 }
     requires members { HasMembers s.now.nodes.items s.now.fed.items n m.list.items m.own.items m.inputs }
     requires outs { outs.items ≡ outs_below s.now.nodes.items s.now.given.items n (length s.now.nodes.items) }
     ensures { IfOk result (λ q. IsBuilt f.now s.now n q) }
 {
-    let func = function(alloc, f, s, n, &m, outs.as_slice())?;
-    let feeds = feeds(alloc, s.places.as_slice(), &m.list[..m.inputs])?;
+    let func = function(alloc, f, s, n, &m, &outs)?;
+    let feeds = feeds(alloc, &s.places, &m.list[..m.inputs])?;
     let flat = Flat::new(func, List::of(m.list));
     Ok(Part {
         flat,

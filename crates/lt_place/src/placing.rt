@@ -5,11 +5,11 @@ ghost use Rattle.lt_base.specs.Or.{ForFault};
 ghost use Rattle.lt_base.specs.Typing.{TypedFunction};
 ghost use Rattle.lt_base.specs.Clocking.{ClockedFunction};
 ghost use Rattle.lt_base.specs.Dependence.{Causal};
-ghost use Rattle.lt_reads.specs.Origins.{HasOrigins, count};
-ghost use Rattle.lt_place.specs.Placement.{node_names};
+ghost use Rattle.lt_place_reads.specs.Origins.{HasOrigins, variable_count};
+ghost use Rattle.lt_arch.specs.Placement.{node_names};
 ghost use Rattle.lt_place.specs.Nodes.{nodes_of};
 ghost use Rattle.lt_place.specs.Legal.{Legal};
-ghost use Rattle.lt_place.specs.Faults.{IsFirstFault};
+ghost use Rattle.lt_place.specs.Faults.{IsFirstPlaceFault};
 ghost use Rattle.lt_place.specs.Layout.{IsLayoutOf, IsPlaced};
 ghost use Rattle.lt_place.specs.Spread.{AllBuilt, IsSpread, IsLocal};
 
@@ -20,14 +20,14 @@ use crate::spread::{Spread, spread_of};
 use crate::{Layout, Part, PlaceFault, Placement};
 use lt_base::{List, Memory, Or};
 use lt_norm::Flat;
-use lt_reads::view::{kept, outputs};
+use lt_place_reads::view::{invariant_holds, outputs};
 use std::alloc::Global;
 
 // The parts of the first nodes.
 fn parts(alloc: Global, f: &Flat, s: &Spread, nodes: u32) -> Result<Vec<Part>, Memory>
     requires spread { IsSpread f.now s.now }
     requires local { IsLocal f.now s.now.nodes.items }
-    requires room { count f.now < 2 ^ 32 }
+    requires room { variable_count f.now < 2 ^ 32 }
     ensures size { IfOk result (λ parts. length parts.items ≡ nodes) }
     ensures built { IfOk result (λ parts. AllBuilt f.now s.now parts.items) }
 {
@@ -44,14 +44,14 @@ fn layout(alloc: Global, f: &Flat, p: &Placement, nodes: Vec<u32>) -> Result<Lay
     requires clocked { ClockedFunction [] f.now.func }
     requires causal { Causal f.now.func }
     requires origins { HasOrigins f.now }
-    requires variables { count f.now < 2 ^ 32 }
+    requires variables { variable_count f.now < 2 ^ 32 }
     requires names { length (node_names p.now) < 2 ^ 32 }
     requires nodes { nodes.items ≡ nodes_of f.now p.now }
     requires legal { Legal f.now p.now }
     ensures layout { IfOk result (λ l. IsLayoutOf f.now p.now l) }
     ensures placed { IfOk result (λ l. IsPlaced f.now l) }
 {
-    kept(f);
+    invariant_holds(f);
     let names = p.names(alloc)?;
     let s = spread_of(alloc, f, nodes)?;
     let nodes = parts(alloc, f, &s, names.len() as u32)?;
@@ -65,16 +65,16 @@ fn layout(alloc: Global, f: &Flat, p: &Placement, nodes: Vec<u32>) -> Result<Lay
 }
 
 // The node of each variable, or the first fault.
-fn located(alloc: Global, f: &Flat, p: &Placement) -> Result<Vec<u32>, Or<PlaceFault>>
+fn locate_nodes(alloc: Global, f: &Flat, p: &Placement) -> Result<Vec<u32>, Or<PlaceFault>>
     requires origins { HasOrigins f.now }
-    requires variables { count f.now < 2 ^ 32 }
+    requires variables { variable_count f.now < 2 ^ 32 }
     requires nodes { length (node_names p.now) < 2 ^ 32 }
     ensures nodes { IfOk result (λ nodes. nodes.items ≡ nodes_of f.now p.now) }
     ensures legal { OnOk result (Legal f.now p.now) }
-    ensures first { IfErr result (λ e. ForFault e (IsFirstFault f.now p.now)) }
+    ensures first { IfErr result (λ e. ForFault e (IsFirstPlaceFault f.now p.now)) }
 {
     let nodes = assign(alloc, f, p)?;
-    judge(alloc, f, nodes.as_slice())?;
+    judge(alloc, f, &nodes)?;
     Ok(nodes)
 }
 
@@ -85,15 +85,15 @@ fn located(alloc: Global, f: &Flat, p: &Placement) -> Result<Vec<u32>, Or<PlaceF
 /// is read by a delay on another clock, each the lowest.
 pub fn legal_nodes(alloc: Global, f: &Flat, p: &Placement) -> Result<Vec<u32>, Or<PlaceFault>>
     requires origins { HasOrigins f.now }
-    requires variables { count f.now < 2 ^ 32 }
+    requires variables { variable_count f.now < 2 ^ 32 }
     requires nodes { length (node_names p.now) < 2 ^ 32 }
     ensures nodes { IfOk result (λ nodes. nodes.items ≡ nodes_of f.now p.now) }
     ensures legal { OnOk result (Legal f.now p.now) }
-    ensures first { IfErr result (λ e. ForFault e (IsFirstFault f.now p.now)) }
+    ensures first { IfErr result (λ e. ForFault e (IsFirstPlaceFault f.now p.now)) }
     ensures refused { IfErr result (λ e. ForFault e (λ fault. Legal f.now p.now → ⊥)) }
 {
-    kept(f);
-    located(alloc, f, p)
+    invariant_holds(f);
+    locate_nodes(alloc, f, p)
 }
 
 /// The function on the nodes of the placement, where it is legal. Else the first fault, as `legal_nodes` answers it.
@@ -102,12 +102,12 @@ pub fn place(alloc: Global, f: &Flat, p: &Placement) -> Result<Layout, Or<PlaceF
     requires clocked { ClockedFunction [] f.now.func }
     requires causal { Causal f.now.func }
     requires origins { HasOrigins f.now }
-    requires variables { count f.now < 2 ^ 32 }
+    requires variables { variable_count f.now < 2 ^ 32 }
     requires nodes { length (node_names p.now) < 2 ^ 32 }
     ensures legal { OnOk result (Legal f.now p.now) }
     ensures layout { IfOk result (λ l. IsLayoutOf f.now p.now l) }
     ensures placed { IfOk result (λ l. IsPlaced f.now l) }
-    ensures first { IfErr result (λ e. ForFault e (IsFirstFault f.now p.now)) }
+    ensures first { IfErr result (λ e. ForFault e (IsFirstPlaceFault f.now p.now)) }
     ensures refused { IfErr result (λ e. ForFault e (λ fault. Legal f.now p.now → ⊥)) }
 {
     let nodes = legal_nodes(alloc, f, p)?;

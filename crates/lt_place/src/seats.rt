@@ -55,7 +55,7 @@ pub(crate) fn seats<'a>(
 {
     let mut seats = IndexMap::new(alloc);
     for (n, node) in nodes.iter().enumerate() {
-        put_list(&mut seats, node.vars.as_slice(), n as u32)?;
+        put_list(&mut seats, &node.vars, n as u32)?;
     }
     Ok(seats)
 }

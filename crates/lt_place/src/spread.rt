@@ -1,13 +1,13 @@
 // What all parts of a placed function are made from.
 
 ghost use Rattle.std.specs.Prelude.{◌≡◌, ◌<◌, ◌^◌, All, IfOk, length, map, not};
-ghost use Rattle.lt_reads.specs.Origins.{count};
+ghost use Rattle.lt_place_reads.specs.Origins.{variable_count};
 ghost use Rattle.lt_place.specs.Spread.{HasFed, HasGiven, IsSpread};
 
 use lt_base::Memory;
 use lt_norm::Flat;
-use lt_reads::view::{inputs, kept, outputs};
-use lt_reads::{Crossing, Crossings, in_order, readers};
+use lt_place_reads::view::{inputs, invariant_holds, outputs};
+use lt_place_reads::{Crossing, Crossings, in_order, readers};
 use std::alloc::Global;
 
 /// For each variable its node, whether it is fed, as inputs of `main` and readers of crossings are, or free, the place of the
@@ -23,7 +23,7 @@ pub(crate) struct Spread {
 }
 
 // Which variables are fed: the inputs, and those that read a crossing.
-fn fed(alloc: Global, n_in: u32, places: &[Option<u32>]) -> Result<Vec<bool>, Memory>
+fn fed_variables(alloc: Global, n_in: u32, places: &[Option<u32>]) -> Result<Vec<bool>, Memory>
     ensures { IfOk result (λ fed. HasFed n_in places.now fed.items) }
 {
     let mut fed = Vec::with_capacity(alloc, places.len())?;
@@ -33,7 +33,7 @@ fn fed(alloc: Global, n_in: u32, places: &[Option<u32>]) -> Result<Vec<bool>, Me
     Ok(fed)
 }
 
-fn negated(alloc: Global, truths: &[bool]) -> Result<Vec<bool>, Memory>
+fn negate_all(alloc: Global, truths: &[bool]) -> Result<Vec<bool>, Memory>
     ensures { IfOk result (λ r. r.items ≡ map not truths.now) }
 {
     let mut negated = Vec::with_capacity(alloc, truths.len())?;
@@ -44,7 +44,7 @@ fn negated(alloc: Global, truths: &[bool]) -> Result<Vec<bool>, Memory>
 }
 
 // Which variables are given out: the outputs, and those that cross.
-fn given(
+fn given_out(
     alloc: Global,
     variables: usize,
     outs: &[u32],
@@ -67,17 +67,17 @@ fn given(
 
 /// The tables of a function on these nodes.
 pub(crate) fn spread_of(alloc: Global, f: &Flat, nodes: Vec<u32>) -> Result<Spread, Memory>
-    requires size { length nodes.items ≡ count f.now }
-    requires room { count f.now < 2 ^ 32 }
+    requires size { length nodes.items ≡ variable_count f.now }
+    requires room { variable_count f.now < 2 ^ 32 }
     ensures spread { IfOk result (λ s. IsSpread f.now s) }
     ensures nodes { IfOk result (λ s. s.nodes.items ≡ nodes.items) }
 {
-    kept(f);
-    let readers = readers(alloc, f, nodes.as_slice())?;
-    let Crossings { list, places } = in_order(alloc, readers.as_slice())?;
-    let fed = fed(alloc, inputs(f), places.as_slice())?;
-    let free = negated(alloc, fed.as_slice())?;
-    let given = given(alloc, nodes.len(), outputs(f), list.as_slice())?;
+    invariant_holds(f);
+    let readers = readers(alloc, f, &nodes)?;
+    let Crossings { list, places } = in_order(alloc, &readers)?;
+    let fed = fed_variables(alloc, inputs(f), &places)?;
+    let free = negate_all(alloc, &fed)?;
+    let given = given_out(alloc, nodes.len(), outputs(f), &list)?;
     Ok(Spread {
         nodes,
         fed,

@@ -12,8 +12,9 @@ use Rattle.lt_syntax.specs.declared.tree.DeclText.{DeclText}
 use Rattle.lt_syntax.specs.declared.tree.NodeText.{NodeText}
 use Rattle.lt_syntax.specs.Tree.{Tm}
 use Rattle.lt_syntax.specs.Grammar.{tokens, height}
-use Rattle.lt_syntax.specs.Program.{Group, Node, each, between, clause, group, local, locals, equation, node, NotEmpty, Each}
-use Rattle.lt_print.specs.Canonical.{placed, text, ty_text, clock_text, clocks_text, decl_text, decls_text, local_lines, locals_text, equation_lines, node_text, canonical}
+use Rattle.lt_syntax.specs.Program.{Group, Node, each, separated_by, clause, group, local, locals, equation, node, NotEmpty, Each}
+use Rattle.lt_print.specs.Canonical.{placed, text, when_text, clocks_text, decl_text, decls_text, local_lines, locals_text, equation_lines, node_text, canonical}
+use Rattle.lt_base.specs.TypeText.{ty_text}
 use Rattle.lt_print.proofs.Written.{IsIdent, Good}
 use Rattle.lt_print.proofs.Lexed.{Stops, ident_front, span_stops, halts_word, open_front, close_front, semicolon_front, colon_front}
 use Rattle.lt_print.proofs.Texts.{Nonempty, blank, blank_form, reads}
@@ -59,11 +60,11 @@ ty_front : (t : Ty) (r : List ℕ) → Stops r → front (skip (ty_text t ++ r))
 ty_front ty.Int r s = span_stops is_word (codes "int") r lexer.word (refl, (refl, (refl, tt))) (halts_word r s)
 ty_front ty.Bool r s = span_stops is_word (codes "bool") r lexer.word (refl, (refl, (refl, (refl, tt)))) (halts_word r s)
 
-reads_clock : (x : List ℕ) (b : Bool) (r : List ℕ) (ts : List Token) (rest : List ℕ) → IsIdent x → Stops r → Cuts r ts rest → Cuts (clock_text x b ++ r) (clause (x, b) ts) rest
+reads_clock : (x : List ℕ) (b : Bool) (r : List ℕ) (ts : List Token) (rest : List ℕ) → IsIdent x → Stops r → Cuts r ts rest → Cuts (when_text x b ++ r) (clause (x, b) ts) rest
 reads_clock x true r ts rest i s c = (32 ∷ (x ++ r), refl, (r, ident_front x r i s, c))
 reads_clock x false r ts rest i s c = (codes " not " ++ (x ++ r), refl, (32 ∷ (x ++ r), refl, (r, ident_front x r i s, c)))
 
-stops_clock : (x : List ℕ) (b : Bool) (u r : List ℕ) → Stops ((clock_text x b ++ u) ++ r)
+stops_clock : (x : List ℕ) (b : Bool) (u r : List ℕ) → Stops ((when_text x b ++ u) ++ r)
 stops_clock x true u r = refl
 stops_clock x false u r = refl
 
@@ -74,7 +75,7 @@ stops_clocks (c ∷ cs) r s = stops_clock c.0 c.1 (clocks_text cs) r
 reads_clocks : (cs : List (List ℕ × Bool)) → GoodClock cs → (r : List ℕ) (ts : List Token) (rest : List ℕ) → Stops r → Cuts r ts rest → Cuts (clocks_text cs ++ r) (each clause cs ts) rest
 reads_clocks [] g r ts rest s c = c
 reads_clocks (k ∷ cs) g r ts rest s c =
-    regroup (clock_text k.0 k.1) (clocks_text cs) r (each clause (k ∷ cs) ts) rest
+    regroup (when_text k.0 k.1) (clocks_text cs) r (each clause (k ∷ cs) ts) rest
     (reads_clock k.0 k.1 (clocks_text cs ++ r) (each clause cs ts) rest g.0 (stops_clocks cs r s) (reads_clocks cs g.1 r ts rest s c))
 
 reads_decl : (d : DeclText) → GoodDecl d → (r : List ℕ) (ts : List Token) (rest : List ℕ) → Stops r → Cuts r ts rest → Cuts (decl_text d ++ r) (group (single d) ts) rest
@@ -90,17 +91,17 @@ reads_decl d g r ts rest s c =
       ),
     )
 
-reads_decls : (ds : List DeclText) → Each GoodDecl ds → (r : List ℕ) (ts : List Token) (rest : List ℕ) → Stops r → Cuts r ts rest → Cuts (decls_text ds ++ r) (between token.Semicolon group (map single ds) ts) rest
+reads_decls : (ds : List DeclText) → Each GoodDecl ds → (r : List ℕ) (ts : List Token) (rest : List ℕ) → Stops r → Cuts r ts rest → Cuts (decls_text ds ++ r) (separated_by token.Semicolon group (map single ds) ts) rest
 reads_decls [] g r ts rest s c = c
 reads_decls (d ∷ []) g r ts rest s c = reads_decl d g.0 r ts rest s c
 reads_decls (d ∷ e ∷ ds) g r ts rest s c =
     let u = codes "; " ++ decls_text (e ∷ ds) in
-    let ts' = between token.Semicolon group (map single (e ∷ ds)) ts in
+    let ts' = separated_by token.Semicolon group (map single (e ∷ ds)) ts in
     regroup (decl_text d) u r (group (single d) (token.Semicolon ∷ ts')) rest
     (reads_decl d g.0 (u ++ r) (token.Semicolon ∷ ts') rest refl
     (32 ∷ (decls_text (e ∷ ds) ++ r), semicolon_front _, blank ts' (some_decl e ds ts) (decls_text (e ∷ ds) ++ r) rest (reads_decls (e ∷ ds) g.1 r ts rest s c)))
   where
-    some_decl : (e : DeclText) (ds : List DeclText) (ts : List Token) → Nonempty (between token.Semicolon group (map single (e ∷ ds)) ts)
+    some_decl : (e : DeclText) (ds : List DeclText) (ts : List Token) → Nonempty (separated_by token.Semicolon group (map single (e ∷ ds)) ts)
     some_decl e [] ts = record { head = token.Ident e.name; tail = _; is = refl }
     some_decl e (f ∷ ds) ts = record { head = token.Ident e.name; tail = _; is = refl }
 
@@ -147,7 +148,7 @@ reads_node n g r ts rest c =
     let t5 = token.Tel ∷ ts in
     let t4 = each equation es t5 in
     let t3 = locals (map single n.locals) (token.Let ∷ t4) in
-    let t2 = between token.Semicolon group (map single n.outs) (token.Close ∷ t3) in
+    let t2 = separated_by token.Semicolon group (map single n.outs) (token.Close ∷ t3) in
     let u5 = equation_lines n.eqs ++ codes "tel\n" in
     let u4 = locals_text n.locals ++ (codes "let\n" ++ u5) in
     let u3 = decls_text n.outs ++ (codes ")\n" ++ u4) in
@@ -159,13 +160,13 @@ reads_node n g r ts rest c =
     let c3 : Cuts (u3 ++ r) t2 rest =
     regroup (decls_text n.outs) (codes ")\n" ++ u4) r t2 rest (reads_decls n.outs g.outs ((codes ")\n" ++ u4) ++ r) (token.Close ∷ t3) rest refl (10 ∷ (u4 ++ r), close_front _, c4)) in
     let t1 = token.Close ∷ token.Returns ∷ token.Open ∷ t2 in
-    let c2 : Cuts (u2 ++ r) (between token.Semicolon group (map single n.ins) t1) rest =
-    regroup (decls_text n.ins) (codes ") returns (" ++ u3) r (between token.Semicolon group (map single n.ins) t1) rest
+    let c2 : Cuts (u2 ++ r) (separated_by token.Semicolon group (map single n.ins) t1) rest =
+    regroup (decls_text n.ins) (codes ") returns (" ++ u3) r (separated_by token.Semicolon group (map single n.ins) t1) rest
     (reads_decls n.ins g.ins ((codes ") returns (" ++ u3) ++ r) t1 rest refl
     (codes " returns (" ++ (u3 ++ r), refl, (codes " (" ++ (u3 ++ r), refl, (u3 ++ r, open_front _, c3)))) in (
       32 ∷ ((n.name ++ (codes "(" ++ u2)) ++ r),
       refl,
-      reads_name n.name (codes "(" ++ u2) r (token.Open ∷ between token.Semicolon group (map single n.ins) t1) rest g.named refl
+      reads_name n.name (codes "(" ++ u2) r (token.Open ∷ separated_by token.Semicolon group (map single n.ins) t1) rest g.named refl
           (u2 ++ r, open_front _, c2),
     )
 

@@ -9,12 +9,12 @@ use Rattle.lt_tokens.specs.declared.token.Infix.{Infix}
 use Rattle.lt_tokens.specs.declared.token.Infix.TheVariants.{Operator, Fby, Arrow}
 use Rattle.lt_tokens.specs.declared.token.Token.{Token}
 use Rattle.lt_tokens.specs.declared.token.Token.TheVariants as token
-use Rattle.lt_tokens.specs.Text.{Front, Begins, greatest, skip, front, is_word, is_digit, Cuts}
+use Rattle.lt_tokens.specs.Text.{Front, Begins, greatest_number, skip, front, is_word, is_digit, Cuts}
 use Rattle.lt_syntax.specs.Tree as tree
 use Rattle.lt_syntax.specs.Tree.{Tm, Tms}
-use Rattle.lt_syntax.specs.Levels.{line, left, right}
+use Rattle.lt_syntax.specs.Levels.{infix_line, left_level, right_level}
 use Rattle.lt_syntax.specs.Grammar.{Form, Forms, number, truth, name, paren, minus, negated, binary, choice, sampled, merged, call, nil, cons, IsAt, AreExprs, tokens, arguments, literal, joined, meaning, meanings}
-use Rattle.lt_print.specs.Canonical.{within, value_form, guarded, led, level_of, bare, all_bare, placed}
+use Rattle.lt_print.specs.Canonical.{parenthesized, value_form, guarded_literal, led, level_of, bare, all_bare, placed}
 use Rattle.lt_print.proofs.Written.{AllPass, IsIdent, GoodValue, GoodLit, Good, AllGood}
 use Rattle.lt_print.proofs.Lexed.{own}
 use Rattle.std.proofs.Common.{leb-true, ◌||◌, bytes_eq, take, cond, drop}
@@ -34,11 +34,11 @@ good_lit (Int (pos n)) g = g
 good_lit (Int (negsuc n)) g = absurd g
 good_lit (Truth b) g = tt
 
-within_good : (l own : ℕ) (a : Form) → GoodForm a → GoodForm (within l own a)
+within_good : (l own : ℕ) (a : Form) → GoodForm a → GoodForm (parenthesized l own a)
 within_good l own a g = elim (nat_le l own) as (λ t. GoodForm (if t then a else paren a)) [ true ↦ g | false ↦ g ]
 
 led_good : (a : Form) → GoodForm a → GoodForm (led a)
-led_good a g = elim (literal a) as (λ v. GoodForm (guarded v a)) [ Some v ↦ g | None ↦ g ]
+led_good a g = elim (literal a) as (λ v. GoodForm (guarded_literal v a)) [ Some v ↦ g | None ↦ g ]
 
 mutual
   pub good_bare : (t : Tm) → Good t → GoodForm (bare t)
@@ -46,7 +46,7 @@ mutual
   good_bare (tree.Var x) g = g
   good_bare (tree.Unary Neg a) g = (within_good 11 (level_of a) (bare a) (good_bare a g), placed_at 11 a (omega arith) g)
   good_bare (tree.Unary Not a) g = within_good 5 (level_of a) (bare a) (good_bare a g)
-  good_bare (tree.Binary o a b) g = (within_good (left (line (Operator o))) (level_of a) (bare a) (good_bare a g.0), within_good (right (line (Operator o))) (level_of b) (bare b) (good_bare b g.1))
+  good_bare (tree.Binary o a b) g = (within_good (left_level (infix_line (Operator o))) (level_of a) (bare a) (good_bare a g.0), within_good (right_level (infix_line (Operator o))) (level_of b) (bare b) (good_bare b g.1))
   good_bare (tree.Choice c a b) g = (within_good 1 (level_of c) (bare c) (good_bare c g.0), within_good 1 (level_of a) (bare a) (good_bare a g.1), within_good 1 (level_of b) (bare b) (good_bare b g.2))
   good_bare (tree.Sampled a c b) g = (within_good 9 (level_of a) (bare a) (good_bare a g.0), g.1)
   good_bare (tree.Merged c a b) g = (g.0, within_good 12 (level_of a) (bare a) (good_bare a g.1), within_good 12 (level_of b) (bare b) (good_bare b g.2))
@@ -112,7 +112,7 @@ mutual
 -- tokens that bytes give
 abbrev pub GoodToken : Token → Type 0
 GoodToken (token.Ident x) = IsIdent x
-GoodToken (token.Number n) = n ≤ greatest
+GoodToken (token.Number n) = n ≤ greatest_number
 GoodToken _ = Unit {0}
 
 abbrev pub AllTokens : List Token → Type 0
@@ -128,8 +128,8 @@ mutual
   tokens_good l (minus a) at ts g = let d = tokens_good 11 a at.1 ts g.1 in ((d.0, at.1), d.1)
   tokens_good l (negated a) at ts g = tokens_good 5 a at.1 ts g.1
   tokens_good l (binary o a b) at ts g =
-      let d = tokens_good (left (line o)) a at.1 (token.Infix o ∷ tokens b ts) g in
-      let e = tokens_good (right (line o)) b at.2 ts d.1.1 in
+      let d = tokens_good (left_level (infix_line o)) a at.1 (token.Infix o ∷ tokens b ts) g in
+      let e = tokens_good (right_level (infix_line o)) b at.2 ts d.1.1 in
       ((d.0, e.0), e.1)
   tokens_good l (choice c a b) at ts g =
       let d = tokens_good 1 c at.1 (token.Then ∷ tokens a (token.Else ∷ tokens b ts)) g.1 in
@@ -224,8 +224,8 @@ GoodFront _ = Unit {0}
 
 good_number : (s r : List ℕ) → GoodFront (number_of s r)
 good_number s r =
-    elim (nat_le (value_on 0 s) greatest) as (λ t. nat_le (value_on 0 s) greatest ≡ t → GoodFront (if t then Begins (token.Number (value_on 0 s)) r else BadNumber)) [
-      | true ↦ λ e. leb-true (value_on 0 s) greatest e
+    elim (nat_le (value_on 0 s) greatest_number) as (λ t. nat_le (value_on 0 s) greatest_number ≡ t → GoodFront (if t then Begins (token.Number (value_on 0 s)) r else BadNumber)) [
+      | true ↦ λ e. leb-true (value_on 0 s) greatest_number e
       | false ↦ λ e. tt
     ] refl
 

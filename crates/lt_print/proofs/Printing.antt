@@ -6,7 +6,7 @@ use Rattle.lt_syntax.specs.declared.tree.DeclText.{DeclText}
 use Rattle.lt_syntax.specs.declared.tree.NodeText.{NodeText}
 use Rattle.lt_syntax.specs.Tree as tree
 use Rattle.lt_syntax.specs.Tree.{Tm, tms}
-use Rattle.lt_print.specs.Canonical.{led, arrow_left, bare, all_bare, placed, clock_text, text, texts, clocks_text, decl_text, decls_text, local_lines, equation_lines, node_text, canonical}
+use Rattle.lt_print.specs.Canonical.{led, arrow_left, bare, all_bare, placed, when_text, text, texts, clocks_text, decl_text, decls_text, local_lines, equation_lines, node_text, canonical}
 use Rattle.lt_print.specs.Printed.{is_literal, head_text, body_text, local_line, equation_line}
 use Rattle.lt_syntax.specs.Views.{tm_of}
 
@@ -35,9 +35,9 @@ next_apart {A} f piece s none one more old m k n xs i x h is p q r =
     apart (suc j) [] h = absurd (omega (arith, h))
     apart (suc j) (y ∷ ys) h = more y (take j ys) x ∙ ap (λ b. f (y ∷ take j ys) ++ ((if b then s else []) ++ piece x)) (sym (lt-ltb 0 (suc j) (omega arith)))
 
-pub clocks_snoc : (cs : List (List ℕ × Bool)) (c : List ℕ × Bool) → clocks_text (cs ++ c ∷ []) ≡ clocks_text cs ++ clock_text c.0 c.1
-clocks_snoc [] c = append-nil (clock_text c.0 c.1)
-clocks_snoc (d ∷ cs) c = ap (λ z. clock_text d.0 d.1 ++ z) (clocks_snoc cs c) ∙ sym (append_assoc (clock_text d.0 d.1) (clocks_text cs) (clock_text c.0 c.1))
+pub clocks_snoc : (cs : List (List ℕ × Bool)) (c : List ℕ × Bool) → clocks_text (cs ++ c ∷ []) ≡ clocks_text cs ++ when_text c.0 c.1
+clocks_snoc [] c = append-nil (when_text c.0 c.1)
+clocks_snoc (d ∷ cs) c = ap (λ z. when_text d.0 d.1 ++ z) (clocks_snoc cs c) ∙ sym (append_assoc (when_text d.0 d.1) (clocks_text cs) (when_text c.0 c.1))
 
 pub lines_snoc : (ds : List DeclText) (d : DeclText) → local_lines (ds ++ d ∷ []) ≡ local_lines ds ++ local_line d
 lines_snoc [] d = ap (λ z. codes "  " ++ (decl_text d ++ z)) refl

@@ -7,13 +7,13 @@ use Rattle.lt_syntax.specs.declared.tree.DeclText.{DeclText}
 use Rattle.lt_syntax.specs.declared.tree.NodeText.{NodeText}
 use Rattle.lt_syntax.specs.Tree.{Tm}
 use Rattle.lt_syntax.specs.Grammar.{Form, height, meaning}
-use Rattle.lt_syntax.specs.Program.{Group, Node, each, between, optional, ident, clause, group, local, locals, equation, node, NotEmpty, Each, IsGroup, IsPlain, IsEquation, IsNode, declared, decls, node_tree, Spells}
+use Rattle.lt_syntax.specs.Program.{Group, Node, each, separated_by, optional, ident, clause, group, local, locals, equation, node, NotEmpty, Each, IsGroup, IsPlain, IsEquation, IsNode, declared, decls, node_tree, Spells}
 use Rattle.lt_print.specs.Canonical.{placed, canonical}
 use Rattle.lt_print.proofs.Written.{IsIdent, placed_at, placed_means, lowest}
 use Rattle.lt_print.proofs.Goods.{AllTokens, good_meaning, tokens_good, cuts_good}
 use Rattle.lt_print.proofs.Canon.{single, printed, GoodClock, GoodDecl, GoodEquation, GoodNode, reads_nodes}
 
-names_good : (xs : List (List ℕ)) (ts : List Token) → AllTokens (between token.Comma ident xs ts) → Each IsIdent xs × AllTokens ts
+names_good : (xs : List (List ℕ)) (ts : List Token) → AllTokens (separated_by token.Comma ident xs ts) → Each IsIdent xs × AllTokens ts
 names_good [] ts g = (tt, g)
 names_good (x ∷ []) ts g = ((g.0, tt), g.1)
 names_good (x ∷ y ∷ xs) ts g = let d = names_good (y ∷ xs) ts g.1.1 in ((g.0, d.0), d.1)
@@ -43,11 +43,11 @@ each_append : {A : Type 0} → (P : A → Type 0) (xs ys : List A) → Each P xs
 each_append P [] ys g h = h
 each_append P (x ∷ xs) ys g h = (g.0, each_append P xs ys g.1 h)
 
-groups_good : (gs : List Group) (ts : List Token) → AllTokens (between token.Semicolon group gs ts) → Each GoodDecl (decls gs) × AllTokens ts
+groups_good : (gs : List Group) (ts : List Token) → AllTokens (separated_by token.Semicolon group gs ts) → Each GoodDecl (decls gs) × AllTokens ts
 groups_good [] ts a = (tt, a)
 groups_good (g ∷ []) ts a = let d = group_good g ts a in (each_append GoodDecl (declared g.names g.ty g.clock) [] d.0 tt, d.1)
 groups_good (g ∷ h ∷ gs) ts a =
-    let d = group_good g (token.Semicolon ∷ between token.Semicolon group (h ∷ gs) ts) a in
+    let d = group_good g (token.Semicolon ∷ separated_by token.Semicolon group (h ∷ gs) ts) a in
     let e = groups_good (h ∷ gs) ts d.1.1 in
     (each_append GoodDecl (declared g.names g.ty g.clock) (decls (h ∷ gs)) d.0 e.0, e.1)
 
@@ -96,7 +96,7 @@ node_good : (d : Node) (ts : List Token) → IsNode 200 d → AllTokens (node d 
 node_good d ts m a =
     let t5 = optional d.last token.Semicolon ts in
     let t4 = token.Let ∷ each equation d.eqs (token.Tel ∷ t5) in
-    let t2 = between token.Semicolon group d.outs (token.Close ∷ optional d.semicolon token.Semicolon (locals d.locals t4)) in
+    let t2 = separated_by token.Semicolon group d.outs (token.Close ∷ optional d.semicolon token.Semicolon (locals d.locals t4)) in
     let i = groups_good d.ins (token.Close ∷ token.Returns ∷ token.Open ∷ t2) a.1.1.1 in
     let o = groups_good d.outs (token.Close ∷ optional d.semicolon token.Semicolon (locals d.locals t4)) i.1.1.1.1 in
     let l = locals_good d.semicolon d.locals t4 o.1.1 in

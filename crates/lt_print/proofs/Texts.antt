@@ -7,10 +7,10 @@ use Rattle.lt_tokens.specs.declared.token.Token.{Token}
 use Rattle.lt_tokens.specs.declared.token.Token.TheVariants as token
 use Rattle.std.proofs.lemmas.Fmt.{digits_decimal, decimal_nonempty}
 use Rattle.lt_tokens.specs.Text as lexer
-use Rattle.lt_tokens.specs.Text.{Front, Begins, greatest, skip, front, is_word, is_digit, Cuts}
-use Rattle.lt_syntax.specs.Levels.{line}
+use Rattle.lt_tokens.specs.Text.{Front, Begins, greatest_number, skip, front, is_word, is_digit, Cuts}
+use Rattle.lt_syntax.specs.Levels.{infix_line}
 use Rattle.lt_syntax.specs.Grammar.{Form, Forms, number, truth, name, paren, minus, negated, binary, choice, sampled, merged, call, nil, cons, IsAt, polarity, tokens, arguments}
-use Rattle.lt_print.specs.Canonical.{operator, truth_text, clock_text, text, texts}
+use Rattle.lt_print.specs.Canonical.{operator, truth_text, when_text, text, texts}
 use Rattle.lt_syntax.proofs.Complete.{table}
 use Rattle.lt_print.proofs.Written.{AllPass, IsIdent}
 use Rattle.lt_print.proofs.Lexed.{Stops, letter_plain, digit_plain, ident_front, number_front, open_front, close_front, comma_front, minus_front, own, small, span_stops, halts_word}
@@ -18,7 +18,7 @@ use Rattle.lt_print.proofs.Lexed.{Stops, letter_plain, digit_plain, ident_front,
 -- the names and numbers of a form can be read
 abbrev mutual
   pub GoodForm : Form → Type 0
-  GoodForm (number n) = n ≤ greatest
+  GoodForm (number n) = n ≤ greatest_number
   GoodForm (truth b) = Unit {0}
   GoodForm (name x) = IsIdent x
   GoodForm (paren a) = GoodForm a
@@ -120,11 +120,11 @@ reads_choice d a b rd ra rb r ts rest s c =
 
 reads_sampled : (a : Form) (x : List ℕ) (b : Bool) → IsIdent x → Reads a → Reads (sampled a x b)
 reads_sampled a x true i ra r ts rest s c =
-    regroup (text a) (clock_text x true) r (tokens (sampled a x true) ts) rest
-    (ra (clock_text x true ++ r) (token.When ∷ token.Ident x ∷ ts) rest refl (32 ∷ (x ++ r), refl, (r, ident_front x r i s, c)))
+    regroup (text a) (when_text x true) r (tokens (sampled a x true) ts) rest
+    (ra (when_text x true ++ r) (token.When ∷ token.Ident x ∷ ts) rest refl (32 ∷ (x ++ r), refl, (r, ident_front x r i s, c)))
 reads_sampled a x false i ra r ts rest s c =
-    regroup (text a) (clock_text x false) r (tokens (sampled a x false) ts) rest
-    (ra (clock_text x false ++ r) (token.When ∷ token.Not ∷ token.Ident x ∷ ts) rest refl (codes " not " ++ (x ++ r), refl, (32 ∷ (x ++ r), refl, (r, ident_front x r i s, c))))
+    regroup (text a) (when_text x false) r (tokens (sampled a x false) ts) rest
+    (ra (when_text x false ++ r) (token.When ∷ token.Not ∷ token.Ident x ∷ ts) rest refl (codes " not " ++ (x ++ r), refl, (32 ∷ (x ++ r), refl, (r, ident_front x r i s, c))))
 
 reads_merged : (x : List ℕ) (a b : Form) → IsIdent x → Reads a → Reads b → Reads (merged x a b)
 reads_merged x a b i ra rb r ts rest s c =
@@ -195,7 +195,7 @@ leads (name x) at g r = ident_leads x r g
 leads (paren a) at g r = record { first = 40; more = (text a ++ codes ")") ++ r; is = refl; no_comment = refl; no_arrow = refl }
 leads (minus a) at g r = absurd (omega (arith, at.0))
 leads (negated a) at g r = absurd (omega (arith, at.0))
-leads (binary o a b) at g r = absurd (omega (arith, at.0, (table (line o)).high))
+leads (binary o a b) at g r = absurd (omega (arith, at.0, (table (infix_line o)).high))
 leads (choice c a b) at g r = absurd (omega (arith, at.0))
 leads (sampled a c b) at g r = absurd (omega (arith, at.0))
 leads (merged x a b) at g r = record { first = 109; more = codes "erge " ++ ((x ++ (codes " " ++ (text a ++ (codes " " ++ text b)))) ++ r); is = refl; no_comment = refl; no_arrow = refl }

@@ -7,12 +7,12 @@ use Rattle.lt_tokens.specs.declared.token.Infix.{Infix}
 use Rattle.lt_tokens.specs.declared.token.Infix.TheVariants.{Operator, Fby, Arrow}
 use Rattle.lt_tokens.specs.declared.token.Token.TheVariants as token
 use Rattle.lt_tokens.specs.Words.{word_of}
-use Rattle.lt_tokens.specs.Text.{greatest, is_letter, is_word}
+use Rattle.lt_tokens.specs.Text.{greatest_number, is_letter, is_word}
 use Rattle.lt_syntax.specs.Tree as tree
 use Rattle.lt_syntax.specs.Tree.{Tm, Tms}
-use Rattle.lt_syntax.specs.Levels.{line, level, left, right}
+use Rattle.lt_syntax.specs.Levels.{infix_line, level, left_level, right_level}
 use Rattle.lt_syntax.specs.Grammar.{Form, Forms, number, truth, name, paren, minus, negated, binary, choice, sampled, merged, call, nil, cons, IsAt, AreExprs, literal, joined, left_height, height, heights, meaning, meanings}
-use Rattle.lt_print.specs.Canonical.{within, value_form, guarded, led, level_of, bare, all_bare, placed}
+use Rattle.lt_print.specs.Canonical.{parenthesized, value_form, guarded_literal, led, level_of, bare, all_bare, placed}
 use Rattle.lt_syntax.proofs.Complete.{height_pos, table}
 use Rattle.lt_syntax.proofs.Zipper.{at_lower}
 
@@ -27,12 +27,12 @@ IsIdent [] = ⊥
 IsIdent (b ∷ w) = (is_letter b ≡ true) × AllPass is_word w × (word_of (b ∷ w) ≡ token.Ident (b ∷ w))
 
 abbrev pub GoodValue : Value → Type 0
-GoodValue (Int (pos n)) = n ≤ greatest
-GoodValue (Int (negsuc n)) = suc n ≤ greatest
+GoodValue (Int (pos n)) = n ≤ greatest_number
+GoodValue (Int (negsuc n)) = suc n ≤ greatest_number
 GoodValue (Truth b) = Unit {0}
 
 abbrev pub GoodLit : Value → Type 0
-GoodLit (Int (pos n)) = n ≤ greatest
+GoodLit (Int (pos n)) = n ≤ greatest_number
 GoodLit (Int (negsuc n)) = ⊥
 GoodLit (Truth b) = Unit {0}
 
@@ -76,40 +76,40 @@ lit_meaning (Int (pos n)) g = refl
 lit_meaning (Int (negsuc n)) g = absurd g
 lit_meaning (Truth b) g = refl
 
-within_at : (l own : ℕ) (a : Form) → l ≤ 12 → 1 ≤ own → IsAt own a → IsAt l (within l own a)
+within_at : (l own : ℕ) (a : Form) → l ≤ 12 → 1 ≤ own → IsAt own a → IsAt l (parenthesized l own a)
 within_at l own a hi low at = elim (nat_le l own) as (λ t. nat_le l own ≡ t → IsAt l (if t then a else paren a)) [ true ↦ λ is. at_lower a l own (leb-true l own is) at | false ↦ λ is. (hi, at_lower a 1 own low at) ] refl
 
-within_meaning : (l own : ℕ) (a : Form) → meaning (within l own a) ≡ meaning a
+within_meaning : (l own : ℕ) (a : Form) → meaning (parenthesized l own a) ≡ meaning a
 within_meaning l own a = elim (nat_le l own) as (λ t. meaning (if t then a else paren a) ≡ meaning a) [ true ↦ refl | false ↦ refl ]
 
-within_height : (l own : ℕ) (a : Form) → height (within l own a) ≤ height a + 1
+within_height : (l own : ℕ) (a : Form) → height (parenthesized l own a) ≤ height a + 1
 within_height l own a = elim (nat_le l own) as (λ t. height (if t then a else paren a) ≤ height a + 1) [ true ↦ omega arith | false ↦ omega arith ]
 
-within_same : (l own : ℕ) (a : Form) → l ≤ own → within l own a ≡ a
+within_same : (l own : ℕ) (a : Form) → l ≤ own → parenthesized l own a ≡ a
 within_same l own a h = ap (λ t. if t then a else paren a) (le-leb l own h)
 
-within_none : (l own : ℕ) (a : Form) → literal a ≡ None → literal (within l own a) ≡ None
+within_none : (l own : ℕ) (a : Form) → literal a ≡ None → literal (parenthesized l own a) ≡ None
 within_none l own a e = elim (nat_le l own) as (λ t. literal (if t then a else paren a) ≡ None) [ true ↦ e | false ↦ refl ]
 
 led_at : (a : Form) → IsAt 2 a → IsAt 2 (led a)
-led_at a at = elim (literal a) as (λ v. IsAt 2 (guarded v a)) [ Some v ↦ (omega arith, at_lower a 1 2 (omega arith) at) | None ↦ at ]
+led_at a at = elim (literal a) as (λ v. IsAt 2 (guarded_literal v a)) [ Some v ↦ (omega arith, at_lower a 1 2 (omega arith) at) | None ↦ at ]
 
 led_none : (a : Form) → literal (led a) ≡ None
-led_none a = elim (literal a) as (λ v. literal a ≡ v → literal (guarded v a) ≡ None) [ Some v ↦ λ e. refl | None ↦ λ e. e ] refl
+led_none a = elim (literal a) as (λ v. literal a ≡ v → literal (guarded_literal v a) ≡ None) [ Some v ↦ λ e. refl | None ↦ λ e. e ] refl
 
 led_meaning : (a : Form) → meaning (led a) ≡ meaning a
-led_meaning a = elim (literal a) as (λ v. meaning (guarded v a) ≡ meaning a) [ Some v ↦ refl | None ↦ refl ]
+led_meaning a = elim (literal a) as (λ v. meaning (guarded_literal v a) ≡ meaning a) [ Some v ↦ refl | None ↦ refl ]
 
 led_height : (a : Form) → height (led a) ≤ height a + 1
-led_height a = elim (literal a) as (λ v. height (guarded v a) ≤ height a + 1) [ Some v ↦ omega arith | None ↦ omega arith ]
+led_height a = elim (literal a) as (λ v. height (guarded_literal v a) ≤ height a + 1) [ Some v ↦ omega arith | None ↦ omega arith ]
 
 led_same : (a : Form) → literal a ≡ None → led a ≡ a
-led_same a e = ap (λ v. guarded v a) e
+led_same a e = ap (λ v. guarded_literal v a) e
 
 level_pos : (t : Tm) → 1 ≤ level_of t
 level_pos (tree.Unary Neg a) = omega arith
 level_pos (tree.Unary Not a) = omega arith
-level_pos (tree.Binary o a b) = (table (line (Operator o))).low
+level_pos (tree.Binary o a b) = (table (infix_line (Operator o))).low
 level_pos _ = omega arith
 
 mutual
@@ -119,9 +119,9 @@ mutual
   bare_at (tree.Unary Neg a) g = (omega arith, within_at 11 (level_of a) (bare a) (omega arith) (level_pos a) (bare_at a g))
   bare_at (tree.Unary Not a) g = (omega arith, within_at 5 (level_of a) (bare a) (omega arith) (level_pos a) (bare_at a g))
   bare_at (tree.Binary o a b) g =
-      let k = table (line (Operator o)) in
-      let e : level (line (Operator o)) ≤ level (line (Operator o)) = omega arith in
-      (e, within_at (left (line (Operator o))) (level_of a) (bare a) (omega (arith, k.left_high)) (level_pos a) (bare_at a g.0), within_at (right (line (Operator o))) (level_of b) (bare b) (omega (arith, k.right_high)) (level_pos b) (bare_at b g.1))
+      let k = table (infix_line (Operator o)) in
+      let e : level (infix_line (Operator o)) ≤ level (infix_line (Operator o)) = omega arith in
+      (e, within_at (left_level (infix_line (Operator o))) (level_of a) (bare a) (omega (arith, k.left_high)) (level_pos a) (bare_at a g.0), within_at (right_level (infix_line (Operator o))) (level_of b) (bare b) (omega (arith, k.right_high)) (level_pos b) (bare_at b g.1))
   bare_at (tree.Choice c a b) g = (omega arith, within_at 1 (level_of c) (bare c) (omega arith) (level_pos c) (bare_at c g.0), within_at 1 (level_of a) (bare a) (omega arith) (level_pos a) (bare_at a g.1), within_at 1 (level_of b) (bare b) (omega arith) (level_pos b) (bare_at b g.2))
   bare_at (tree.Sampled a c b) g = (omega arith, within_at 9 (level_of a) (bare a) (omega arith) (level_pos a) (bare_at a g.0))
   bare_at (tree.Merged c a b) g = (omega arith, within_at 12 (level_of a) (bare a) (omega arith) (level_pos a) (bare_at a g.1), within_at 12 (level_of b) (bare b) (omega arith) (level_pos b) (bare_at b g.2))
@@ -151,7 +151,7 @@ mutual
   bare_meaning (tree.Var x) g = refl
   bare_meaning (tree.Unary Neg a) g = ap (tree.Unary Neg) (within_meaning 11 (level_of a) (bare a) ∙ bare_meaning a g)
   bare_meaning (tree.Unary Not a) g = ap (tree.Unary Not) (within_meaning 5 (level_of a) (bare a) ∙ bare_meaning a g)
-  bare_meaning (tree.Binary o a b) g = ap₂ (tree.Binary o) (within_meaning (left (line (Operator o))) (level_of a) (bare a) ∙ bare_meaning a g.0) (within_meaning (right (line (Operator o))) (level_of b) (bare b) ∙ bare_meaning b g.1)
+  bare_meaning (tree.Binary o a b) g = ap₂ (tree.Binary o) (within_meaning (left_level (infix_line (Operator o))) (level_of a) (bare a) ∙ bare_meaning a g.0) (within_meaning (right_level (infix_line (Operator o))) (level_of b) (bare b) ∙ bare_meaning b g.1)
   bare_meaning (tree.Choice c a b) g = ap (λ z. tree.Choice z (meaning (placed 1 a)) (meaning (placed 1 b))) (within_meaning 1 (level_of c) (bare c) ∙ bare_meaning c g.0) ∙ ap₂ (tree.Choice c) (within_meaning 1 (level_of a) (bare a) ∙ bare_meaning a g.1) (within_meaning 1 (level_of b) (bare b) ∙ bare_meaning b g.2)
   bare_meaning (tree.Sampled a c b) g = ap (λ z. tree.Sampled z c b) (within_meaning 9 (level_of a) (bare a) ∙ bare_meaning a g.0)
   bare_meaning (tree.Merged c a b) g = ap₂ (tree.Merged c) (within_meaning 12 (level_of a) (bare a) ∙ bare_meaning a g.1) (within_meaning 12 (level_of b) (bare b) ∙ bare_meaning b g.2)
@@ -221,7 +221,7 @@ minus_low (name x) at e d = omega arith
 minus_low (paren a) at e d = omega (arith, minus_led (placed 11 (meaning a)), d.0 11 at, height_pos a)
 minus_low (minus a) at e d = absurd (omega (arith, at.0))
 minus_low (negated a) at e d = absurd (omega (arith, at.0))
-minus_low (binary o a b) at e d = absurd (omega (arith, at.0, (table (line o)).high))
+minus_low (binary o a b) at e d = absurd (omega (arith, at.0, (table (infix_line o)).high))
 minus_low (choice c a b) at e d = absurd (omega (arith, at.0))
 minus_low (sampled a c b) at e d = absurd (omega (arith, at.0))
 minus_low (merged c a b) at e d = omega (arith, d 11 at)
@@ -267,8 +267,8 @@ arrow_low l t u m n h p k j = expr_low l (tree.Arrow t u) (max m n + 1) h (open_
 
 binary_low : (o : Infix) (a b : Form) → Deep a → Deep b → Low (binary o a b)
 binary_low (Operator o) a b da db l at =
-    let k = line (Operator o) in
-    expr_low l (tree.Binary o (meaning a) (meaning b)) (height (binary (Operator o) a b)) at.0 (omega (arith, low_of a da (left k) at.1, low_of b db (right k) at.2))
+    let k = infix_line (Operator o) in
+    expr_low l (tree.Binary o (meaning a) (meaning b)) (height (binary (Operator o) a b)) at.0 (omega (arith, low_of a da (left_level k) at.1, low_of b db (right_level k) at.2))
 binary_low Fby a b da db l at =
     let hb = low_of b db 1 at.2 in
     elim (literal a) as (λ v. literal a ≡ v → height (placed l (joined Fby v (meaning a) (meaning b))) ≤ max (left_height Fby v (height a)) (height b) + 1) [

@@ -12,12 +12,13 @@ use Rattle.lt_syntax.specs.declared.tree.DeclText.{DeclText}
 use Rattle.lt_syntax.specs.declared.tree.NodeText.{NodeText}
 use Rattle.lt_syntax.specs.Tree as tree
 use Rattle.lt_syntax.specs.Tree.{Tm, Tms}
-use Rattle.lt_syntax.specs.Levels.{line, level, left, right}
+use Rattle.lt_syntax.specs.Levels.{infix_line, level, left_level, right_level}
 use Rattle.lt_syntax.specs.Grammar.{Form, Forms, number, truth, name, paren, minus, negated, binary, choice, sampled, merged, call, nil, cons, literal}
+use Rattle.lt_base.specs.TypeText.{ty_text}
 
 -- the form where the place asks for level l: in parentheses where its own level is lower
-abbrev pub within : ℕ → ℕ → Form → Form
-within l own a = if nat_le l own then a else paren a
+abbrev pub parenthesized : ℕ → ℕ → Form → Form
+parenthesized l own a = if nat_le l own then a else paren a
 
 -- a literal, with - before a negative number
 abbrev pub value_form : Value → Form
@@ -26,12 +27,12 @@ value_form (Int (negsuc n)) = minus (number (nat_abs (negsuc n)))
 value_form (Truth b) = truth b
 
 -- a left side of `fby` or `->` that is no literal, but would be read as one, is in parentheses
-abbrev pub guarded : Option Value → Form → Form
-guarded (Some v) a = paren a
-guarded None a = a
+abbrev pub guarded_literal : Option Value → Form → Form
+guarded_literal (Some v) a = paren a
+guarded_literal None a = a
 
 abbrev pub led : Form → Form
-led a = guarded (literal a) a
+led a = guarded_literal (literal a) a
 
 -- the left side of `->`: a literal is one value
 abbrev pub arrow_left : Tm → Form → Form
@@ -44,7 +45,7 @@ level_of (tree.Lit v) = 12
 level_of (tree.Var x) = 12
 level_of (tree.Unary Neg a) = 10
 level_of (tree.Unary Not a) = 5
-level_of (tree.Binary o a b) = level (line (Operator o))
+level_of (tree.Binary o a b) = level (infix_line (Operator o))
 level_of (tree.Choice c a b) = 1
 level_of (tree.Sampled a c b) = 9
 level_of (tree.Merged c a b) = 11
@@ -58,24 +59,24 @@ abbrev mutual
   pub bare : Tm → Form
   bare (tree.Lit v) = value_form v
   bare (tree.Var x) = name x
-  bare (tree.Unary Neg a) = minus (within 11 (level_of a) (bare a))
-  bare (tree.Unary Not a) = negated (within 5 (level_of a) (bare a))
-  bare (tree.Binary o a b) = binary (Operator o) (within (left (line (Operator o))) (level_of a) (bare a)) (within (right (line (Operator o))) (level_of b) (bare b))
-  bare (tree.Choice c a b) = choice (within 1 (level_of c) (bare c)) (within 1 (level_of a) (bare a)) (within 1 (level_of b) (bare b))
-  bare (tree.Sampled a c b) = sampled (within 9 (level_of a) (bare a)) c b
-  bare (tree.Merged c a b) = merged c (within 12 (level_of a) (bare a)) (within 12 (level_of b) (bare b))
-  bare (tree.Delayed v b) = binary Fby (value_form v) (within 1 (level_of b) (bare b))
-  bare (tree.Followed a b) = binary Fby (led (within 2 (level_of a) (bare a))) (within 1 (level_of b) (bare b))
-  bare (tree.Arrow a b) = binary Arrow (arrow_left a (within 2 (level_of a) (bare a))) (within 1 (level_of b) (bare b))
+  bare (tree.Unary Neg a) = minus (parenthesized 11 (level_of a) (bare a))
+  bare (tree.Unary Not a) = negated (parenthesized 5 (level_of a) (bare a))
+  bare (tree.Binary o a b) = binary (Operator o) (parenthesized (left_level (infix_line (Operator o))) (level_of a) (bare a)) (parenthesized (right_level (infix_line (Operator o))) (level_of b) (bare b))
+  bare (tree.Choice c a b) = choice (parenthesized 1 (level_of c) (bare c)) (parenthesized 1 (level_of a) (bare a)) (parenthesized 1 (level_of b) (bare b))
+  bare (tree.Sampled a c b) = sampled (parenthesized 9 (level_of a) (bare a)) c b
+  bare (tree.Merged c a b) = merged c (parenthesized 12 (level_of a) (bare a)) (parenthesized 12 (level_of b) (bare b))
+  bare (tree.Delayed v b) = binary Fby (value_form v) (parenthesized 1 (level_of b) (bare b))
+  bare (tree.Followed a b) = binary Fby (led (parenthesized 2 (level_of a) (bare a))) (parenthesized 1 (level_of b) (bare b))
+  bare (tree.Arrow a b) = binary Arrow (arrow_left a (parenthesized 2 (level_of a) (bare a))) (parenthesized 1 (level_of b) (bare b))
   bare (tree.Call f xs) = call f (all_bare xs)
 
   pub all_bare : Tms → Forms
   all_bare tree.Nil = nil
-  all_bare (tree.Cons a xs) = cons (within 1 (level_of a) (bare a)) (all_bare xs)
+  all_bare (tree.Cons a xs) = cons (parenthesized 1 (level_of a) (bare a)) (all_bare xs)
 
 -- the canonical form of a term where the grammar asks for level l
 abbrev pub placed : ℕ → Tm → Form
-placed l t = within l (level_of t) (bare t)
+placed l t = parenthesized l (level_of t) (bare t)
 
 abbrev pub operator : Infix → List ℕ
 operator Fby = codes "fby"
@@ -101,9 +102,9 @@ truth_text true = codes "true"
 truth_text false = codes "false"
 
 -- a clock's variable behind `when`
-abbrev pub clock_text : List ℕ → Bool → List ℕ
-clock_text c true = codes " when " ++ c
-clock_text c false = codes " when not " ++ c
+abbrev pub when_text : List ℕ → Bool → List ℕ
+when_text c true = codes " when " ++ c
+when_text c false = codes " when not " ++ c
 
 -- the bytes of a form
 abbrev mutual
@@ -116,7 +117,7 @@ abbrev mutual
   text (negated a) = codes "not " ++ text a
   text (binary o a b) = text a ++ (codes " " ++ (operator o ++ (codes " " ++ text b)))
   text (choice c a b) = codes "if " ++ (text c ++ (codes " then " ++ (text a ++ (codes " else " ++ text b))))
-  text (sampled a c b) = text a ++ clock_text c b
+  text (sampled a c b) = text a ++ when_text c b
   text (merged c a b) = codes "merge " ++ (c ++ (codes " " ++ (text a ++ (codes " " ++ text b))))
   text (call f xs) = f ++ (codes "(" ++ (texts xs ++ codes ")"))
 
@@ -126,13 +127,9 @@ abbrev mutual
   texts (cons a nil) = text a
   texts (cons a (cons b xs)) = text a ++ (codes ", " ++ texts (cons b xs))
 
-abbrev pub ty_text : Ty → List ℕ
-ty_text ty.Int = codes "int"
-ty_text ty.Bool = codes "bool"
-
 abbrev pub clocks_text : List (List ℕ × Bool) → List ℕ
 clocks_text [] = []
-clocks_text (c ∷ cs) = clock_text c.0 c.1 ++ clocks_text cs
+clocks_text (c ∷ cs) = when_text c.0 c.1 ++ clocks_text cs
 
 -- a declaration: the name, the type and the clock
 abbrev pub decl_text : DeclText → List ℕ

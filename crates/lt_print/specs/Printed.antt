@@ -20,9 +20,9 @@ abbrev pub semicolon_before : ℕ → List ℕ
 semicolon_before i = if nat_lt 0 i then codes "; " else []
 
 -- a number as a text writes it
-abbrev pub is_number : Tm → Bool
-is_number (tree.Lit (Int (pos n))) = true
-is_number _ = false
+abbrev pub is_number_term : Tm → Bool
+is_number_term (tree.Lit (Int (pos n))) = true
+is_number_term _ = false
 
 -- a literal
 abbrev pub is_literal : Tm → Bool

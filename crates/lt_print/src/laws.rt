@@ -1,5 +1,5 @@
 //! What holds of `print`, with `parse`; nothing here is run.
-ghost use Rattle.lt_syntax.specs.Reads.{Finds};
+ghost use Rattle.lt_syntax.specs.Reads.{FindsTree};
 ghost use Rattle.lt_print.specs.Laws.{CanonicalSpells};
 
 use crate::printer::print;
@@ -14,8 +14,8 @@ pub fn canonical_spells()
 
 /// What a tree is printed as is parsed as that tree again, unless memory runs out.
 pub fn parse_of_print(alloc: Global, t: &Tree) -> Result<Tree, Or<SyntaxFault>>
-    ensures { Finds t.now result }
+    ensures { FindsTree t.now result }
 {
     let text = print(alloc, t)?;
-    parse(alloc, text.as_slice())
+    parse(alloc, &text)
 }

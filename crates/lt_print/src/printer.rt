@@ -1,8 +1,9 @@
 // The canonical text of a tree.
 ghost use Rattle.std.specs.Prelude.{◌≡◌, ◌++◌, OnOk, IfOk, codes, decimal, map};
 ghost use Rattle.lt_tokens.specs.declared.token.Infix.TheVariants as meet;
-ghost use Rattle.lt_print.specs.Canonical.{value_form, led, arrow_left, level_of, bare, all_bare, placed, operator, truth_text, clock_text, text, texts, ty_text, clocks_text, decl_text, decls_text, local_lines, locals_text, equation_lines, node_text, canonical};
-ghost use Rattle.lt_print.specs.Printed.{is_number, is_literal, looks_led, head_text, body_text, comma_before, semicolon_before, local_line, equation_line};
+ghost use Rattle.lt_print.specs.Canonical.{value_form, led, arrow_left, level_of, bare, all_bare, placed, operator, truth_text, when_text, text, texts, clocks_text, decl_text, decls_text, local_lines, locals_text, equation_lines, node_text, canonical};
+ghost use Rattle.lt_base.specs.TypeText.{ty_text};
+ghost use Rattle.lt_print.specs.Printed.{is_number_term, is_literal, looks_led, head_text, body_text, comma_before, semicolon_before, local_line, equation_line};
 ghost use Rattle.lt_syntax.specs.Tree.{tms};
 ghost use Rattle.lt_syntax.specs.Program.{Spells};
 ghost use Rattle.lt_syntax.specs.Views.{tm_of};
@@ -61,7 +62,7 @@ fn own_level(t: &Term) -> u8
 }
 
 /// An operator between its two spaces.
-fn spaced(o: Bin) -> &'static [u8]
+fn spaced_operator(o: Bin) -> &'static [u8]
     ensures { result.now ≡ codes " " ++ (operator (meet.Operator o) ++ codes " ") }
 {
     match o {
@@ -84,7 +85,7 @@ fn spaced(o: Bin) -> &'static [u8]
 }
 
 fn is_number(t: &Term) -> bool
-    ensures { result ≡ is_number (tm_of t.now) }
+    ensures { result ≡ is_number_term (tm_of t.now) }
 {
     match t {
         Term::Lit(Value::Int(n)) => *n >= 0,
@@ -159,7 +160,7 @@ fn inside(out: &mut List<u8>, t: &Term) -> Result<(), Memory>
         Term::Un(Un::Not, a) => show_after(out, b"not ", 5, a),
         Term::Bin(o, a, b) => {
             show(out, left(Infix::Operator(*o)), a)?;
-            show_after(out, spaced(*o), right(Infix::Operator(*o)), b)
+            show_after(out, spaced_operator(*o), right(Infix::Operator(*o)), b)
         }
         Term::If(c, a, b) => {
             show_after(out, b"if ", 1, c)?;
@@ -235,7 +236,7 @@ fn semicolon(out: &mut List<u8>, i: usize) -> Result<(), Memory>
 
 /// A clock's variable behind `when`.
 fn clock(out: &mut List<u8>, c: &Name, b: bool) -> Result<(), Memory>
-    ensures { OnOk result (out.new ≡ out.old ++ clock_text c.now b) }
+    ensures { OnOk result (out.new ≡ out.old ++ when_text c.now b) }
 {
     if b {
         out.extend(b" when ")?;
@@ -269,7 +270,7 @@ fn decl(out: &mut List<u8>, d: &DeclText) -> Result<(), Memory>
     out.extend(d.name.as_str().as_bytes())?;
     out.extend(b": ")?;
     ty(out, d.ty)?;
-    clocks(out, d.clock.as_slice())
+    clocks(out, &d.clock)
 }
 
 /// Declarations separated by a semicolon and a space.
@@ -337,15 +338,15 @@ fn head(out: &mut List<u8>, n: &NodeText) -> Result<(), Memory>
     out.extend(b"node ")?;
     out.extend(n.name.as_str().as_bytes())?;
     out.extend(b"(")?;
-    decls(out, n.ins.as_slice())
+    decls(out, &n.ins)
 }
 
 fn body(out: &mut List<u8>, n: &NodeText) -> Result<(), Memory>
     ensures { OnOk result (out.new ≡ out.old ++ body_text n.now) }
 {
-    locals(out, n.locals.as_slice())?;
+    locals(out, &n.locals)?;
     out.extend(b"let\n")?;
-    equations(out, n.eqs.as_slice())?;
+    equations(out, &n.eqs)?;
     out.extend(b"tel\n")
 }
 
@@ -354,7 +355,7 @@ fn node(out: &mut List<u8>, n: &NodeText) -> Result<(), Memory>
 {
     head(out, n)?;
     out.extend(b") returns (")?;
-    decls(out, n.outs.as_slice())?;
+    decls(out, &n.outs)?;
     out.extend(b")\n")?;
     body(out, n)?;
     Ok(())
@@ -375,7 +376,7 @@ pub fn print(alloc: Global, t: &Tree) -> Result<List<u8>, Memory>
     ensures text { IfOk result (λ bytes. bytes ≡ canonical t.now) }
     ensures spells { IfOk result (λ bytes. Spells 200 bytes t.now) }
 {
-    t.kept();
-    let out = all_nodes(alloc, t.nodes.as_slice())?;
+    t.invariant_holds();
+    let out = all_nodes(alloc, &t.nodes)?;
     Ok(out)
 }

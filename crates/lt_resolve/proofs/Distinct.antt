@@ -8,7 +8,7 @@ use Rattle.std.proofs.lemmas.List.Folds.{list_any-append, list_any_at}
 use Rattle.std.proofs.lemmas.List.Sums.{sum_by-cons}
 use Rattle.std.proofs.lemmas.Slice.Eq.{bytes_eq-Decides}
 use Rattle.lt_base.specs.Checked.{NamesDiffer}
-use Rattle.lt_resolve.specs.Names.{Name, among, if_missing, if_among, repeated, first_some}
+use Rattle.lt_resolve.specs.Names.{Name, among, if_missing, if_among, repeated_name, first_some}
 
 pub same_name : (x y : Name) → bytes_eq x y ≡ true → x ≡ y
 same_name x y = (bytes_eq-Decides x y).0
@@ -27,15 +27,15 @@ pub among_append : (xs ys : List Name) (x : Name) → among (xs ++ ys) x ≡ (am
 among_append xs ys x = list_any-append (bytes_eq x) xs ys
 
 -- no repeat at the head
-head_fresh : (before : List Name) (x : Name) (xs : List Name) → repeated before (x ∷ xs) ≡ None → (among before x ≡ false) × (repeated (before ++ x ∷ []) xs ≡ None)
+head_fresh : (before : List Name) (x : Name) (xs : List Name) → repeated_name before (x ∷ xs) ≡ None → (among before x ≡ false) × (repeated_name (before ++ x ∷ []) xs ≡ None)
 head_fresh before x xs h = go (among before x) refl h
   where
-    go : (b : Bool) → among before x ≡ b → (if b then Some x else repeated (before ++ x ∷ []) xs) ≡ None → (among before x ≡ false) × (repeated (before ++ x ∷ []) xs ≡ None)
+    go : (b : Bool) → among before x ≡ b → (if b then Some x else repeated_name (before ++ x ∷ []) xs) ≡ None → (among before x ≡ false) × (repeated_name (before ++ x ∷ []) xs ≡ None)
     go true e k = absurd (cc)
     go false e k = (e, k)
 
 -- none of the names is one of those before
-fresh : (xs before : List Name) → repeated before xs ≡ None → (j : ℕ) → j < length xs → (y : Name) → among before y ≡ true → y ≡ get_or xs j [] → ⊥
+fresh : (xs before : List Name) → repeated_name before xs ≡ None → (j : ℕ) → j < length xs → (y : Name) → among before y ≡ true → y ≡ get_or xs j [] → ⊥
 fresh [] before h j l y a e = absurd (omega arith)
 fresh (x ∷ xs) before h zero l y a e = let f = (head_fresh before x xs h).0 in let g : among before x ≡ true = subst (λ z. among before z ≡ true) e a in absurd (cc)
 fresh (x ∷ xs) before h (suc j) l y a e = fresh xs (before ++ x ∷ []) (head_fresh before x xs h).1 j (omega arith) y (among_append before (x ∷ []) y ∙ or_left (among before y) (among (x ∷ []) y) a) e
@@ -43,14 +43,14 @@ fresh (x ∷ xs) before h (suc j) l y a e = fresh xs (before ++ x ∷ []) (head_
 last_among : (before : List Name) (x : Name) → among (before ++ x ∷ []) x ≡ true
 last_among before x = among_append before (x ∷ []) x ∙ or_right (among before x) (among (x ∷ []) x) (ap (λ b. b || false) (eq_self x))
 
-differ_from : (xs before : List Name) → repeated before xs ≡ None → (i j : ℕ) → i < length xs → j < length xs → get_or xs i [] ≡ get_or xs j [] → i ≡ j
+differ_from : (xs before : List Name) → repeated_name before xs ≡ None → (i j : ℕ) → i < length xs → j < length xs → get_or xs i [] ≡ get_or xs j [] → i ≡ j
 differ_from [] before h i j l m e = absurd (omega arith)
 differ_from (x ∷ xs) before h zero zero l m e = refl
 differ_from (x ∷ xs) before h zero (suc j) l m e = absurd (fresh xs (before ++ x ∷ []) (head_fresh before x xs h).1 j (omega arith) x (last_among before x) e)
 differ_from (x ∷ xs) before h (suc i) zero l m e = absurd (fresh xs (before ++ x ∷ []) (head_fresh before x xs h).1 i (omega arith) x (last_among before x) (sym e))
 differ_from (x ∷ xs) before h (suc i) (suc j) l m e = ap suc (differ_from xs (before ++ x ∷ []) (head_fresh before x xs h).1 i j (omega arith) (omega arith) e)
 
-pub differ : (xs : List Name) → repeated [] xs ≡ None → NamesDiffer xs
+pub differ : (xs : List Name) → repeated_name [] xs ≡ None → NamesDiffer xs
 differ xs h = differ_from xs [] h
 
 -- ---- counts
@@ -77,7 +77,7 @@ among_some v (x ∷ xs) h = subst (λ n. 1 ≤ n) (sym (times_cons v x xs)) (go 
     go ih true k = omega arith
     go ih false k = omega (arith, ih k)
 
-at_most_once : (xs before : List Name) → repeated before xs ≡ None → (v : Name) → times v xs + cond (among before v) 1 0 ≤ 1
+at_most_once : (xs before : List Name) → repeated_name before xs ≡ None → (v : Name) → times v xs + cond (among before v) 1 0 ≤ 1
 at_most_once [] before h v = go (among before v)
   where
     go : (b : Bool) → 0 + cond b 1 0 ≤ 1
@@ -94,7 +94,7 @@ at_most_once (x ∷ xs) before h v =
     go false e true d f k = omega (arith, k)
     go false e false d f k = omega (arith, k)
 
-pub once : (v : Name) (xs : List Name) → repeated [] xs ≡ None → times v xs ≤ 1
+pub once : (v : Name) (xs : List Name) → repeated_name [] xs ≡ None → times v xs ≤ 1
 once v xs h = let k = at_most_once xs [] h v in omega (arith, k)
 
 -- ---- what is found nowhere

@@ -13,9 +13,9 @@ use Rattle.lt_resolve.specs.declared.fault.NameFault.{NameFault}
 use Rattle.lt_resolve.specs.declared.fault.NameKind.TheVariants.{Recursive}
 use Rattle.lt_resolve.specs.Names.{Name, number_of}
 use Rattle.lt_resolve.specs.Scopes.{functions}
-use Rattle.lt_resolve.specs.Uses.{Site, count, sites_in, argument_sites, equation_sites, sites_from, edge, edges}
+use Rattle.lt_resolve.specs.Uses.{Site, term_count, sites_in, argument_sites, equation_sites, sites_from, edge, edges}
 use Rattle.lt_resolve.specs.Faults.{Recursion, IsFirstRecursion, sites}
-use Rattle.lt_resolve.specs.Told.{Blames}
+use Rattle.lt_resolve.specs.Told.{BlamesName}
 use Rattle.lt_resolve.specs.Checks.{Locates}
 use Rattle.lt_resolve.proofs.Numbers.{number_below}
 
@@ -60,7 +60,7 @@ module _ (n : ℕ) where
         term_within (Delayed v a) = term_within a
         term_within (Followed a b) = both (sites_in funcs i a) (sites_in funcs i b) (term_within a) (term_within b)
         term_within (Arrow a b) = both (sites_in funcs i a) (sites_in funcs i b) (term_within a) (term_within b)
-        term_within (Call f args) = both (record { caller = i; name = f; callee = number_of funcs f; arguments = count args } ∷ []) (argument_sites funcs i args) (one i f funcs (count args) fit low) (arguments_within args)
+        term_within (Call f args) = both (record { caller = i; name = f; callee = number_of funcs f; arguments = term_count args } ∷ []) (argument_sites funcs i args) (one i f funcs (term_count args) fit low) (arguments_within args)
 
         arguments_within : (args : Tms) → AreWithin n (edges (argument_sites funcs i args))
         arguments_within Nil = All-nil Within
@@ -93,6 +93,6 @@ module _ (t : List NodeText) (es : List (ℕ × ℕ)) (is : es ≡ edges (sites 
     called = get_or-map (λ (m : NodeText). m.name) t e.1 n [] below ∙ ap (λ (m : NodeText). m.name) (sym node) ∙ sym named;
   }
 
-  pub blames_recursion : (r : Or NameFault) → Locates Recursive e.0 (Fault x) r → Blames Recursive (Recursion t) r
+  pub blames_recursion : (r : Or NameFault) → Locates Recursive e.0 (Fault x) r → BlamesName Recursive (Recursion t) r
   blames_recursion (Fault f) h = (h.0, subst (IsFirstRecursion t) (λ j. (sym h.1 j, sym h.2 j)) first_recursion)
   blames_recursion Memory h = tt

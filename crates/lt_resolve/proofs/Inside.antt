@@ -13,8 +13,8 @@ use Rattle.lt_resolve.specs.declared.fault.NameKind.TheVariants.{Twice, Unknown,
 use Rattle.lt_resolve.specs.Names.{Name, number_of, if_missing, first_some}
 use Rattle.lt_resolve.specs.Scopes.{functions}
 use Rattle.lt_resolve.specs.Named.{main}
-use Rattle.lt_resolve.specs.Uses.{Site, count, sites_in, argument_sites, equation_sites, sites_from, edges}
-use Rattle.lt_resolve.specs.Faults.{Occurrence, First, first_in, twice_in, unknown_in, no_equation_in, two_equations_in, input_equation_in, sites, wanted, answered, unless, above, size, functions_limit, IsFirstFault}
+use Rattle.lt_resolve.specs.Uses.{Site, term_count, sites_in, argument_sites, equation_sites, sites_from, edges}
+use Rattle.lt_resolve.specs.Faults.{Occurrence, First, first_in, twice_in, unknown_in, no_equation_in, two_equations_in, input_equation_in, sites, wanted, answered, unless, above, size, functions_limit, IsFirstNameFault}
 use Rattle.lt_resolve.proofs.Edges.{sites_within}
 
 -- what is found stands in one of the functions
@@ -45,7 +45,7 @@ module _ (n : ℕ) (funcs : List Name) where
       callers (Delayed v a) = callers a
       callers (Followed a b) = All-append Caller (sites_in funcs i a) (sites_in funcs i b) (callers a) (callers b)
       callers (Arrow a b) = All-append Caller (sites_in funcs i a) (sites_in funcs i b) (callers a) (callers b)
-      callers (Call f args) = All-cons Caller (record { caller = i; name = f; callee = number_of funcs f; arguments = count args }) (argument_sites funcs i args) l (argument_callers args)
+      callers (Call f args) = All-cons Caller (record { caller = i; name = f; callee = number_of funcs f; arguments = term_count args }) (argument_sites funcs i args) l (argument_callers args)
 
       argument_callers : (args : Tms) → All Caller (argument_sites funcs i args)
       argument_callers Nil = All-nil Caller
@@ -99,5 +99,5 @@ module _ (t : List NodeText) (some : 0 < length t) where
       (λ k. let m = below_functions (λ _ n. above 64 (length n.outs) (codes "outputs")) 0 t o k in omega (arith, m))))
       (sym h)
 
-  pub inside : (f : NameFault) → IsFirstFault t f → f.func < length t
+  pub inside : (f : NameFault) → IsFirstNameFault t f → f.func < length t
   inside f h = stands f.kind (f.func, f.name) h.here

@@ -11,7 +11,7 @@ use Rattle.lt_syntax.specs.declared.tree.NodeText.{NodeText}
 use Rattle.lt_syntax.specs.Tree.{Tm, Lit, Var, Unary, Binary, Choice, Sampled, Merged, Delayed, Followed, Arrow, Call, Tms, Nil, Cons}
 use Rattle.lt_resolve.specs.Names.{Name, number_of}
 use Rattle.lt_resolve.specs.Scopes.{declarations, variables, functions}
-use Rattle.lt_resolve.specs.Named.{operator_of, IsNamed, AreNamed, IsPair, IsDeclared, IsEquation, IsFunction, Along, Named, main}
+use Rattle.lt_resolve.specs.Named.{operator_of, IsNamed, AreNamed, IsPair, IsDeclared, IsNamedEquation, IsFunction, Along, Named, main}
 
 abbrev number_or : Option ℕ → ℕ
 number_or None = 0
@@ -85,13 +85,13 @@ one_declaration vars d e f h k =
     let clock : e.clock ≡ f.clock = sym (reverse-reverse e.clock) ∙ ap reverse (along_one (IsPair vars) (one_pair vars) d.clock (reverse e.clock) (reverse f.clock) h.clock k.clock) ∙ reverse-reverse f.clock in
     λ i. record { name = (h.name ∙ sym k.name) i; ty = (h.ty ∙ sym k.ty) i; clock = clock i }
 
-one_equation : (vars funcs : List Name) (q : Name × Tm) (d e : ℕ × Expression) → IsEquation vars funcs q d → IsEquation vars funcs q e → d ≡ e
+one_equation : (vars funcs : List Name) (q : Name × Tm) (d e : ℕ × Expression) → IsNamedEquation vars funcs q d → IsNamedEquation vars funcs q e → d ≡ e
 one_equation vars funcs q d e h k = λ i. (same_number (number_of vars q.0) d.0 e.0 h.0 k.0 i, (is_translated vars funcs q.1 d.1 h.1 ∙ sym (is_translated vars funcs q.1 e.1 k.1)) i)
 
 one_function : (funcs : List Name) (n : NodeText) (f g : Function) → IsFunction funcs n f → IsFunction funcs n g → f ≡ g
 one_function funcs n f g h k =
     let decls = along_one (IsDeclared (variables n)) (one_declaration (variables n)) (declarations n) f.decls g.decls h.decls k.decls in
-    let eqs = along_one (IsEquation (variables n) funcs) (one_equation (variables n) funcs) n.eqs f.eqs g.eqs h.eqs k.eqs in
+    let eqs = along_one (IsNamedEquation (variables n) funcs) (one_equation (variables n) funcs) n.eqs f.eqs g.eqs h.eqs k.eqs in
     λ i. record { name = (h.name ∙ sym k.name) i; decls = decls i; n_in = (h.n_in ∙ sym k.n_in) i; outs = (h.outs ∙ sym k.outs) i; eqs = eqs i }
 
 pub one_program : (t : List NodeText) (p q : WholeProgram) → Named t p → Named t q → p ≡ q

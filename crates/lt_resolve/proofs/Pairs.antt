@@ -3,7 +3,7 @@ use Rattle.std.proofs.Common.{◌≡◌, ℕ, zero, suc, ◌+◌, ◌<◌, ◌�
 use Rattle.std.specs.List.{All}
 use Rattle.std.proofs.lemmas.List.{append_assoc, take_more, take_all, reverse-append, reverse-reverse}
 use Rattle.std.proofs.lemmas.List.Elements.{All-nil, All-cons, All-head, All-tail, All-push, All-same, All-get_or}
-use Rattle.lt_resolve.specs.Named.{Along, numbers}
+use Rattle.lt_resolve.specs.Named.{Along, numbers_from}
 
 module _ {A B : Type 0} (R : A → B → Type 0) where
   pub along_append : (xs xs' : List A) (ys ys' : List B) → Along R xs ys → Along R xs' ys' → Along R (xs ++ xs') (ys ++ ys')
@@ -67,6 +67,6 @@ all_reversed P (x ∷ xs) h = All-same P (reverse (x ∷ xs)) (reverse xs ++ x �
 pub all_unreversed : {A : Type 0} (P : A → Type 0) (xs : List A) → All P (reverse xs) → All P xs
 all_unreversed P xs h = All-same P xs (reverse (reverse xs)) (sym (reverse-reverse xs)) (all_reversed P (reverse xs) h)
 
-pub numbers_more : (first n : ℕ) → numbers first (suc n) ≡ numbers first n ++ (first + n) ∷ []
+pub numbers_more : (first n : ℕ) → numbers_from first (suc n) ≡ numbers_from first n ++ (first + n) ∷ []
 numbers_more first zero = ap (λ k. k ∷ []) (omega arith)
-numbers_more first (suc n) = ap (λ l. first ∷ l) (numbers_more (suc first) n ∙ ap (λ k. numbers (suc first) n ++ k ∷ []) (omega arith))
+numbers_more first (suc n) = ap (λ l. first ∷ l) (numbers_more (suc first) n ∙ ap (λ k. numbers_from (suc first) n ++ k ∷ []) (omega arith))

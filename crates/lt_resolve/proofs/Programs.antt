@@ -8,17 +8,17 @@ use Rattle.lt_base.specs.declared.function.Decl.{Decl}
 use Rattle.lt_base.specs.Expression.{Expression, literal, variable, unary, binary, imported, choose, sampled, merged, delayed, follow, arrow, call, Arguments, no_arguments, argument}
 use Rattle.lt_base.specs.Program.{Function, GoodFunction, GoodProgram, CallsBelow}
 use Rattle.lt_base.specs.Meaning.{function_of}
-use Rattle.lt_base.specs.Checked.{EachUse, EachArgumentUse, Answers, NamesDiffer, count}
+use Rattle.lt_base.specs.Checked.{EachUse, EachArgumentUse, AnswersCall, NamesDiffer, argument_count}
 use Rattle.lt_syntax.specs.declared.tree.DeclText.{DeclText}
 use Rattle.lt_syntax.specs.declared.tree.NodeText.{NodeText}
 use Rattle.lt_syntax.specs.Tree.{Tm, Lit, Var, Unary, Binary, Choice, Sampled, Merged, Delayed, Followed, Arrow, Call, Tms, Nil, Cons}
 use Rattle.lt_resolve.specs.Names.{Name, number_of}
-use Rattle.lt_resolve.specs.Scopes.{declarations, names_of, variables, functions}
-use Rattle.lt_resolve.specs.Named.{IsNamed, AreNamed, IsDeclared, IsEquation, IsFunction, Along, numbers, main}
+use Rattle.lt_resolve.specs.Scopes.{declarations, declared_names, variables, functions}
+use Rattle.lt_resolve.specs.Named.{IsNamed, AreNamed, IsDeclared, IsNamedEquation, IsFunction, Along, numbers_from, main}
 use Rattle.lt_resolve.specs.Uses as uses
 use Rattle.lt_resolve.specs.Uses.{Site, sites_in, argument_sites, equation_sites, sites_from, edge, edges}
-use Rattle.lt_resolve.specs.Right.{IsRight, IsRightTree}
-use Rattle.lt_resolve.specs.Faults.{sites, wanted, answered, inputs_of, outputs_of}
+use Rattle.lt_resolve.specs.Right.{NodeIsRight, IsRightTree}
+use Rattle.lt_resolve.specs.Faults.{sites, wanted, answered, input_count_of, output_count_of}
 use Rattle.lt_resolve.proofs.Numbers.{number_below}
 use Rattle.lt_resolve.proofs.Distinct.{differ}
 use Rattle.lt_resolve.proofs.Below.{calls_below}
@@ -29,11 +29,11 @@ use Rattle.lt_resolve.proofs.Good.{good_function}
 
 -- ---- a good program
 
-good_functions : (funcs : List Name) (t : List NodeText) (fs : List Function) → Along (IsFunction funcs) t fs → All (IsRight funcs) t → All GoodFunction fs
+good_functions : (funcs : List Name) (t : List NodeText) (fs : List Function) → Along (IsFunction funcs) t fs → All (NodeIsRight funcs) t → All GoodFunction fs
 good_functions funcs [] [] h r = All-nil GoodFunction
 good_functions funcs [] (f ∷ fs) h r = absurd h
 good_functions funcs (n ∷ t) [] h r = absurd h
-good_functions funcs (n ∷ t) (f ∷ fs) h r = All-cons GoodFunction f fs (good_function funcs n f h.0 (All-head (IsRight funcs) n t r)) (good_functions funcs t fs h.1 (All-tail (IsRight funcs) n t r))
+good_functions funcs (n ∷ t) (f ∷ fs) h r = All-cons GoodFunction f fs (good_function funcs n f h.0 (All-head (NodeIsRight funcs) n t r)) (good_functions funcs t fs h.1 (All-tail (NodeIsRight funcs) n t r))
 
 pub good_program : (t : List NodeText) (fs : List Function) (m : ℕ) → Along (IsFunction (functions t)) t fs → number_of (functions t) main ≡ Some m → IsRightTree t → GoodProgram (record { funcs = fs; main = m })
 good_program t fs m h k r =
@@ -44,7 +44,7 @@ good_program t fs m h k r =
       functions = good_functions (functions t) t fs h r.all;
       main = omega (arith, same, many, below);
       calls = along_right (IsFunction (functions t)) (λ f. All (λ e. CallsBelow (length fs) e.1) f.eqs)
-          (λ n f i. along_right (IsEquation (variables n) (functions t)) (λ e. CallsBelow (length fs) e.1) (λ q e j. subst (λ z. CallsBelow z e.1) (many ∙ sym same) (calls_below (variables n) (functions t) q.1 e.1 j.1)) n.eqs f.eqs i.eqs) t fs h;
+          (λ n f i. along_right (IsNamedEquation (variables n) (functions t)) (λ e. CallsBelow (length fs) e.1) (λ q e j. subst (λ z. CallsBelow z e.1) (many ∙ sym same) (calls_below (variables n) (functions t) q.1 e.1 j.1)) n.eqs f.eqs i.eqs) t fs h;
     }
 
 -- ---- names
@@ -55,24 +55,24 @@ function_names funcs [] (f ∷ fs) h = absurd h
 function_names funcs (n ∷ t) [] h = absurd h
 function_names funcs (n ∷ t) (f ∷ fs) h = λ i. h.0.name i ∷ function_names funcs t fs h.1 i
 
-decl_names : (vars : List Name) (ds : List DeclText) (es : List Decl) → Along (IsDeclared vars) ds es → map (λ d. d.name) es ≡ names_of ds
+decl_names : (vars : List Name) (ds : List DeclText) (es : List Decl) → Along (IsDeclared vars) ds es → map (λ d. d.name) es ≡ declared_names ds
 decl_names vars [] [] h = refl
 decl_names vars [] (e ∷ es) h = absurd h
 decl_names vars (d ∷ ds) [] h = absurd h
 decl_names vars (d ∷ ds) (e ∷ es) h = λ i. h.0.name i ∷ decl_names vars ds es h.1 i
 
-pub variables_differ : (funcs : List Name) (t : List NodeText) (fs : List Function) → Along (IsFunction funcs) t fs → All (IsRight funcs) t → All (λ f. NamesDiffer (map (λ d. d.name) f.decls)) fs
+pub variables_differ : (funcs : List Name) (t : List NodeText) (fs : List Function) → Along (IsFunction funcs) t fs → All (NodeIsRight funcs) t → All (λ f. NamesDiffer (map (λ d. d.name) f.decls)) fs
 variables_differ funcs [] [] h r = All-nil (λ f. NamesDiffer (map (λ d. d.name) f.decls))
 variables_differ funcs [] (f ∷ fs) h r = absurd h
 variables_differ funcs (n ∷ t) [] h r = absurd h
 variables_differ funcs (n ∷ t) (f ∷ fs) h r =
     All-cons (λ f. NamesDiffer (map (λ d. d.name) f.decls)) f fs
-    (subst NamesDiffer (sym (decl_names (variables n) (declarations n) f.decls h.0.decls)) (differ (variables n) (All-head (IsRight funcs) n t r).apart))
-    (variables_differ funcs t fs h.1 (All-tail (IsRight funcs) n t r))
+    (subst NamesDiffer (sym (decl_names (variables n) (declarations n) f.decls h.0.decls)) (differ (variables n) (All-head (NodeIsRight funcs) n t r).apart))
+    (variables_differ funcs t fs h.1 (All-tail (NodeIsRight funcs) n t r))
 
 -- ---- calls
 
-count_named : (vars funcs : List Name) (args : Tms) (es : Arguments) → AreNamed vars funcs args es → count es ≡ uses.count args
+count_named : (vars funcs : List Name) (args : Tms) (es : Arguments) → AreNamed vars funcs args es → argument_count es ≡ uses.term_count args
 count_named vars funcs Nil no_arguments h = refl
 count_named vars funcs (Cons a args) (argument e es) h = ap (λ n. 1 + n) (count_named vars funcs args es h.1)
 count_named vars funcs _ _ h = absurd h
@@ -97,11 +97,11 @@ module _ (P : ℕ → ℕ → Type 0) (vars funcs : List Name) (i : ℕ) where
     each_use (Followed a b) (follow d e) h s = (each_use a d h.0 (all_left (OfSite P) (sites_in funcs i a) (sites_in funcs i b) s), each_use b e h.1 (all_right (OfSite P) (sites_in funcs i a) (sites_in funcs i b) s))
     each_use (Arrow a b) (arrow d e) h s = (each_use a d h.0 (all_left (OfSite P) (sites_in funcs i a) (sites_in funcs i b) s), each_use b e h.1 (all_right (OfSite P) (sites_in funcs i a) (sites_in funcs i b) s))
     each_use (Call f args) (call g es) h s = (
-      subst (P g) (sym (count_named vars funcs args es h.1)) (All-head (OfSite P) (record { caller = i; name = f; callee = number_of funcs f; arguments = uses.count args }) (argument_sites funcs i args) s g h.0),
-      each_args args es h.1 (All-tail (OfSite P) (record { caller = i; name = f; callee = number_of funcs f; arguments = uses.count args }) (argument_sites funcs i args) s),
+      subst (P g) (sym (count_named vars funcs args es h.1)) (All-head (OfSite P) (record { caller = i; name = f; callee = number_of funcs f; arguments = uses.term_count args }) (argument_sites funcs i args) s g h.0),
+      each_args args es h.1 (All-tail (OfSite P) (record { caller = i; name = f; callee = number_of funcs f; arguments = uses.term_count args }) (argument_sites funcs i args) s),
     )
     each_use (Call f args) (imported o d e) h s =
-        let k = each_args args (argument d (argument e no_arguments)) h.2 (All-tail (OfSite P) (record { caller = i; name = f; callee = number_of funcs f; arguments = uses.count args }) (argument_sites funcs i args) s) in (k.0, k.1.0)
+        let k = each_args args (argument d (argument e no_arguments)) h.2 (All-tail (OfSite P) (record { caller = i; name = f; callee = number_of funcs f; arguments = uses.term_count args }) (argument_sites funcs i args) s) in (k.0, k.1.0)
     each_use _ _ h s = absurd h
 
     each_args : (args : Tms) (es : Arguments) → AreNamed vars funcs args es → All (OfSite P) (argument_sites funcs i args) → EachArgumentUse P es
@@ -109,7 +109,7 @@ module _ (P : ℕ → ℕ → Type 0) (vars funcs : List Name) (i : ℕ) where
     each_args (Cons a args) (argument e es) h s = (each_use a e h.0 (all_left (OfSite P) (sites_in funcs i a) (argument_sites funcs i args) s), each_args args es h.1 (all_right (OfSite P) (sites_in funcs i a) (argument_sites funcs i args) s))
     each_args _ _ h s = absurd h
 
-  equations_use : (qs : List (Name × Tm)) (es : List (ℕ × Expression)) → Along (IsEquation vars funcs) qs es → All (OfSite P) (equation_sites funcs i qs) → All (λ e. EachUse P e.1) es
+  equations_use : (qs : List (Name × Tm)) (es : List (ℕ × Expression)) → Along (IsNamedEquation vars funcs) qs es → All (OfSite P) (equation_sites funcs i qs) → All (λ e. EachUse P e.1) es
   equations_use [] [] h s = All-nil (λ e. EachUse P e.1)
   equations_use [] (e ∷ es) h s = absurd h
   equations_use (q ∷ qs) [] h s = absurd h
@@ -127,22 +127,22 @@ functions_use P funcs i (n ∷ t) (f ∷ fs) h s =
     (equations_use P (variables n) funcs i n.eqs f.eqs h.0.eqs (all_left (OfSite P) (equation_sites funcs i n.eqs) (sites_from funcs (i + 1) t) s))
     (functions_use P funcs (i + 1) t fs h.1 (all_right (OfSite P) (equation_sites funcs i n.eqs) (sites_from funcs (i + 1) t) s))
 
-pub length_numbers : (first n : ℕ) → length (numbers first n) ≡ n
+pub length_numbers : (first n : ℕ) → length (numbers_from first n) ≡ n
 length_numbers first zero = refl
 length_numbers first (suc n) = ap suc (length_numbers (suc first) n)
 
 -- the called function has the inputs and outputs of its node
-answers : (funcs : List Name) (t : List NodeText) (fs : List Function) → Along (IsFunction funcs) t fs → (g k : ℕ) → g < length t → k ≡ inputs_of (slice_get t g) → outputs_of (slice_get t g) ≡ 1 → Answers (function_of fs g) k
+answers : (funcs : List Name) (t : List NodeText) (fs : List Function) → Along (IsFunction funcs) t fs → (g k : ℕ) → g < length t → k ≡ input_count_of (slice_get t g) → output_count_of (slice_get t g) ≡ 1 → AnswersCall (function_of fs g) k
 answers funcs [] fs h g k l a b = absurd (omega arith)
 answers funcs (n ∷ t) [] h g k l a b = absurd h
 answers funcs (n ∷ t) (f ∷ fs) h zero k l a b = (h.0.n_in ∙ sym a, ap length h.0.outs ∙ length_numbers (length n.ins) (length n.outs) ∙ b)
 answers funcs (n ∷ t) (f ∷ fs) h (suc g) k l a b = answers funcs t fs h.1 g k (omega arith) a b
 
 pub uses_right : (t : List NodeText) (fs : List Function) → Along (IsFunction (functions t)) t fs → All (λ s. nat_eq s.arguments (wanted t s.callee) ≡ true) (sites t) → All (λ s. nat_eq (answered t s.callee) 1 ≡ true) (sites t) → All (λ s. (g : ℕ) → s.callee ≡ Some g → g < length t) (sites t)
-    → All (λ f. All (λ e. EachUse (λ g n. Answers (function_of fs g) n) e.1) f.eqs) fs
+    → All (λ f. All (λ e. EachUse (λ g n. AnswersCall (function_of fs g) n) e.1) f.eqs) fs
 uses_right t fs h a b c =
-    functions_use (λ g n. Answers (function_of fs g) n) (functions t) 0 t fs h
-    (λ k d l g e. answers (functions t) t fs h g (get_or (sites t) k d).arguments (c k d l g e) (eqb-true (get_or (sites t) k d).arguments (inputs_of (slice_get t g)) (subst (λ o. nat_eq (get_or (sites t) k d).arguments (wanted t o) ≡ true) e (a k d l))) (eqb-true (outputs_of (slice_get t g)) 1 (subst (λ o. nat_eq (answered t o) 1 ≡ true) e (b k d l))))
+    functions_use (λ g n. AnswersCall (function_of fs g) n) (functions t) 0 t fs h
+    (λ k d l g e. answers (functions t) t fs h g (get_or (sites t) k d).arguments (c k d l g e) (eqb-true (get_or (sites t) k d).arguments (input_count_of (slice_get t g)) (subst (λ o. nat_eq (get_or (sites t) k d).arguments (wanted t o) ≡ true) e (a k d l))) (eqb-true (output_count_of (slice_get t g)) 1 (subst (λ o. nat_eq (answered t o) 1 ≡ true) e (b k d l))))
 
 -- ---- drafts
 
@@ -162,8 +162,8 @@ module _ (t : List NodeText) (ds : List Draft) (a : AreDrafts t ds) (r : IsRight
   pub draft_at : IsDraft (functions t) d
   draft_at = all_at (IsDraft (functions t)) ds k d a.all l e
 
-  pub right_at : IsRight (functions t) d.node.now
-  right_at = all_at (λ d. IsRight (functions t) d.node.now) ds k d (unmapped (IsRight (functions t)) node_of ds (subst (All (IsRight (functions t))) (sym a.nodes) r.all)) l e
+  pub right_at : NodeIsRight (functions t) d.node.now
+  right_at = all_at (λ d. NodeIsRight (functions t) d.node.now) ds k d (unmapped (NodeIsRight (functions t)) node_of ds (subst (All (NodeIsRight (functions t))) (sym a.nodes) r.all)) l e
 
 -- one function more
 pub along_next : (funcs : List Name) (ds : List Draft) (fs fs' : List Function) (d : Draft) (f : Function) → Along (IsFunction funcs) (map (λ d. d.node.now) ds) fs → IsFunction funcs d.node.now f → fs' ≡ fs ++ f ∷ [] → Along (IsFunction funcs) (map (λ d. d.node.now) (ds ++ d ∷ [])) fs'

@@ -4,50 +4,50 @@ use Rattle.std.specs.Option.{option_or}
 use Rattle.std.proofs.lemmas.List.{append_assoc, append-nil, map-append}
 use Rattle.lt_syntax.specs.declared.tree.DeclText.{DeclText}
 use Rattle.lt_syntax.specs.declared.tree.NodeText.{NodeText}
-use Rattle.lt_resolve.specs.Names.{Name, among, repeated}
-use Rattle.lt_resolve.specs.Scopes.{names_of, variables}
+use Rattle.lt_resolve.specs.Names.{Name, among, repeated_name}
+use Rattle.lt_resolve.specs.Scopes.{declared_names, variables}
 
-pub repeated_append : (before xs ys : List Name) → repeated before (xs ++ ys) ≡ option_or (repeated before xs) (repeated (before ++ xs) ys)
-repeated_append before [] ys = ap (λ b. repeated b ys) (sym (append-nil before))
+pub repeated_append : (before xs ys : List Name) → repeated_name before (xs ++ ys) ≡ option_or (repeated_name before xs) (repeated_name (before ++ xs) ys)
+repeated_append before [] ys = ap (λ b. repeated_name b ys) (sym (append-nil before))
 repeated_append before (x ∷ xs) ys = go (repeated_append (before ++ x ∷ []) xs ys) (among before x)
   where
-    go : repeated (before ++ x ∷ []) (xs ++ ys) ≡ option_or (repeated (before ++ x ∷ []) xs) (repeated ((before ++ x ∷ []) ++ xs) ys) → (b : Bool) → (if b then Some x else repeated (before ++ x ∷ []) (xs ++ ys)) ≡ option_or (if b then Some x else repeated (before ++ x ∷ []) xs) (repeated (before ++ x ∷ xs) ys)
+    go : repeated_name (before ++ x ∷ []) (xs ++ ys) ≡ option_or (repeated_name (before ++ x ∷ []) xs) (repeated_name ((before ++ x ∷ []) ++ xs) ys) → (b : Bool) → (if b then Some x else repeated_name (before ++ x ∷ []) (xs ++ ys)) ≡ option_or (if b then Some x else repeated_name (before ++ x ∷ []) xs) (repeated_name (before ++ x ∷ xs) ys)
     go ih true = refl
-    go ih false = ih ∙ ap (λ b. option_or (repeated (before ++ x ∷ []) xs) (repeated b ys)) (append_assoc before (x ∷ []) xs)
+    go ih false = ih ∙ ap (λ b. option_or (repeated_name (before ++ x ∷ []) xs) (repeated_name b ys)) (append_assoc before (x ∷ []) xs)
 
-pub variables_are : (n : NodeText) → variables n ≡ names_of n.ins ++ (names_of n.outs ++ names_of n.locals)
+pub variables_are : (n : NodeText) → variables n ≡ declared_names n.ins ++ (declared_names n.outs ++ declared_names n.locals)
 variables_are n =
     map-append (λ (d : DeclText). d.name) n.ins (n.outs ++ n.locals)
-    ∙ ap (λ l. names_of n.ins ++ l) (map-append (λ (d : DeclText). d.name) n.outs n.locals)
+    ∙ ap (λ l. declared_names n.ins ++ l) (map-append (λ (d : DeclText). d.name) n.outs n.locals)
 
 -- the variables of a function, declared in three parts
-pub repeated_variables : (n : NodeText) (v0 v1 v2 : List Name) → v0 ≡ [] → v1 ≡ v0 ++ names_of n.ins → v2 ≡ v1 ++ names_of n.outs
-    → repeated [] (variables n) ≡ option_or (repeated v0 (names_of n.ins)) (option_or (repeated v1 (names_of n.outs)) (repeated v2 (names_of n.locals)))
+pub repeated_variables : (n : NodeText) (v0 v1 v2 : List Name) → v0 ≡ [] → v1 ≡ v0 ++ declared_names n.ins → v2 ≡ v1 ++ declared_names n.outs
+    → repeated_name [] (variables n) ≡ option_or (repeated_name v0 (declared_names n.ins)) (option_or (repeated_name v1 (declared_names n.outs)) (repeated_name v2 (declared_names n.locals)))
 repeated_variables n v0 v1 v2 e0 e1 e2 =
-    ap (repeated []) (variables_are n)
-    ∙ repeated_append [] (names_of n.ins) (names_of n.outs ++ names_of n.locals)
-    ∙ (λ i. option_or (repeated (sym e0 i) (names_of n.ins)) (repeated (sym one i) (names_of n.outs ++ names_of n.locals)))
-    ∙ ap (option_or (repeated v0 (names_of n.ins))) (repeated_append v1 (names_of n.outs) (names_of n.locals) ∙ ap (λ b. option_or (repeated v1 (names_of n.outs)) (repeated b (names_of n.locals))) (sym e2))
+    ap (repeated_name []) (variables_are n)
+    ∙ repeated_append [] (declared_names n.ins) (declared_names n.outs ++ declared_names n.locals)
+    ∙ (λ i. option_or (repeated_name (sym e0 i) (declared_names n.ins)) (repeated_name (sym one i) (declared_names n.outs ++ declared_names n.locals)))
+    ∙ ap (option_or (repeated_name v0 (declared_names n.ins))) (repeated_append v1 (declared_names n.outs) (declared_names n.locals) ∙ ap (λ b. option_or (repeated_name v1 (declared_names n.outs)) (repeated_name b (declared_names n.locals))) (sym e2))
   where
-    one : v1 ≡ [] ++ names_of n.ins
-    one = e1 ∙ ap (λ v. v ++ names_of n.ins) e0
+    one : v1 ≡ [] ++ declared_names n.ins
+    one = e1 ∙ ap (λ v. v ++ declared_names n.ins) e0
 
-module _ (before xs : List Name) (i : ℕ) (x : Name) (l : i < length xs) (e : x ≡ get_or xs i x) (h : repeated before (drop i xs) ≡ None) where
-  next_repeats : repeated before (x ∷ drop (i + 1) xs) ≡ None
-  next_repeats = sym (ap (repeated before) (drop-cons xs i x l ∙ (λ j. sym e j ∷ drop (sym (add-one i) j) xs))) ∙ h
+module _ (before xs : List Name) (i : ℕ) (x : Name) (l : i < length xs) (e : x ≡ get_or xs i x) (h : repeated_name before (drop i xs) ≡ None) where
+  next_repeats : repeated_name before (x ∷ drop (i + 1) xs) ≡ None
+  next_repeats = sym (ap (repeated_name before) (drop-cons xs i x l ∙ (λ j. sym e j ∷ drop (sym (add-one i) j) xs))) ∙ h
 
   -- the next name is not one of those before it
   pub next_is_new : among before x ≡ false
   next_is_new = go (among before x) refl next_repeats
     where
-      go : (b : Bool) → among before x ≡ b → ◌≡◌ {A = Option Name} (if b then Some x else repeated (before ++ x ∷ []) (drop (i + 1) xs)) None → among before x ≡ false
+      go : (b : Bool) → among before x ≡ b → ◌≡◌ {A = Option Name} (if b then Some x else repeated_name (before ++ x ∷ []) (drop (i + 1) xs)) None → among before x ≡ false
       go true p k = absurd (cc)
       go false p k = p
 
-  pub later_are_new : repeated (before ++ x ∷ []) (drop (i + 1) xs) ≡ None
+  pub later_are_new : repeated_name (before ++ x ∷ []) (drop (i + 1) xs) ≡ None
   later_are_new = go (among before x) next_repeats
     where
-      go : (b : Bool) → ◌≡◌ {A = Option Name} (if b then Some x else repeated (before ++ x ∷ []) (drop (i + 1) xs)) None → repeated (before ++ x ∷ []) (drop (i + 1) xs) ≡ None
+      go : (b : Bool) → ◌≡◌ {A = Option Name} (if b then Some x else repeated_name (before ++ x ∷ []) (drop (i + 1) xs)) None → repeated_name (before ++ x ∷ []) (drop (i + 1) xs) ≡ None
       go true k = absurd (cc)
       go false k = k
 

@@ -19,12 +19,12 @@ use Rattle.lt_syntax.specs.declared.tree.NodeText.{NodeText}
 use Rattle.lt_syntax.specs.Program.{IsSpelled}
 use Rattle.lt_syntax.specs.Tree.{Tm, Lit, Var, Unary, Binary, Choice, Sampled, Merged, Delayed, Followed, Arrow, Call, Tms, Nil, Cons}
 use Rattle.lt_resolve.specs.declared.fault.NameKind.TheVariants as kind
-use Rattle.lt_resolve.specs.Names.{Name, among, if_among, repeated}
+use Rattle.lt_resolve.specs.Names.{Name, among, if_among, repeated_name}
 use Rattle.lt_resolve.specs.Scopes.{declarations, variables, functions}
-use Rattle.lt_resolve.specs.Named.{IsNamed, AreNamed, IsDeclared, IsEquation, IsFunction, Along, Named}
+use Rattle.lt_resolve.specs.Named.{IsNamed, AreNamed, IsDeclared, IsNamedEquation, IsFunction, Along, Named}
 use Rattle.lt_resolve.specs.Uses.{Site, delays, argument_delays, sites_in, argument_sites, equation_sites, sites_from, edge, edges}
-use Rattle.lt_resolve.specs.Faults.{first_in, twice_in, sites, answered, unless, size, NoFault}
-use Rattle.lt_resolve.specs.Resolves.{IsSmall, IsResolved}
+use Rattle.lt_resolve.specs.Faults.{first_in, twice_in, sites, answered, unless, size, NoNameFault}
+use Rattle.lt_resolve.specs.Resolves.{IsSmallFunction, IsResolved}
 use Rattle.lt_resolve.proofs.Distinct.{none_left, none_right, at_among}
 use Rattle.lt_resolve.proofs.Pairs.{along_length, all_right, all_left}
 use Rattle.lt_resolve.proofs.Edges.{edges_append, sites_within}
@@ -61,7 +61,7 @@ module _ (vars funcs : List Name) (i : ℕ) where
     edges_args (Cons a args) (argument e es) h = both (sites_in funcs i a) (argument_sites funcs i args) (called e) (arguments_called es) (edges_named a e h.0) (edges_args args es h.1)
     edges_args _ _ h = absurd h
 
-  edges_equations : (qs : List (Name × Tm)) (es : List (ℕ × Expression)) → Along (IsEquation vars funcs) qs es → edges (equation_sites funcs i qs) ≡ map from_here (equations_called es)
+  edges_equations : (qs : List (Name × Tm)) (es : List (ℕ × Expression)) → Along (IsNamedEquation vars funcs) qs es → edges (equation_sites funcs i qs) ≡ map from_here (equations_called es)
   edges_equations [] [] h = refl
   edges_equations [] (e ∷ es) h = absurd h
   edges_equations (q ∷ qs) [] h = absurd h
@@ -121,7 +121,7 @@ module _ (t : List NodeText) (twice : first_in (twice_in (functions t)) 0 t ≡ 
           let in_t : j < length t = omega (arith, many, m) in
           let none = in_place (twice_in (functions t)) 0 t twice j j (omega arith) d in_t in
           let name : get_or (functions t) j [] ≡ (get_or t j d).name = get_or-map (λ (n : NodeText). n.name) t j d [] in_t in
-          let out = none_left (if_among (take j (functions t)) (get_or t j d).name) (repeated [] (variables (get_or t j d))) none in
+          let out = none_left (if_among (take j (functions t)) (get_or t j d).name) (repeated_name [] (variables (get_or t j d))) none in
           let front : get_or (take j (functions t)) i [] ≡ (get_or t j d).name = get_or-take j (functions t) i [] l ∙ e ∙ name in
           let short : i < length (take j (functions t)) = rw length-take (omega (arith, l, m)) in
           let there : among (take j (functions t)) (get_or t j d).name ≡ true = subst (λ z. among (take j (functions t)) z ≡ true) front (at_among (take j (functions t)) i short) in
@@ -166,7 +166,7 @@ module _ (vars funcs : List Name) where
     delays_args (Cons a args) (argument e es) h = λ i. delays_named a e h.0 i + delays_args args es h.1 i
     delays_args _ _ h = absurd h
 
-  delays_equations : (qs : List (Name × Tm)) (es : List (ℕ × Expression)) → Along (IsEquation vars funcs) qs es → sum_by (λ e. cost 1 (λ _. 0) e.1) es ≡ sum_by (λ q. delays q.1) qs
+  delays_equations : (qs : List (Name × Tm)) (es : List (ℕ × Expression)) → Along (IsNamedEquation vars funcs) qs es → sum_by (λ e. cost 1 (λ _. 0) e.1) es ≡ sum_by (λ q. delays q.1) qs
   delays_equations [] [] h = refl
   delays_equations [] (e ∷ es) h = absurd h
   delays_equations (q ∷ qs) [] h = absurd h
@@ -175,19 +175,19 @@ module _ (vars funcs : List Name) where
       ∙ (λ i. delays_named q.1 e.1 h.0.1 i + delays_equations qs es h.1 i)
       ∙ sym (sum_by-cons (λ (q : Name × Tm). delays q.1) q qs)
 
-is_small : (funcs : List Name) (n : NodeText) (f : Function) → IsFunction funcs n f → size n ≤ 4096 → length n.ins ≤ 64 → length n.outs ≤ 64 → IsSmall f
+is_small : (funcs : List Name) (n : NodeText) (f : Function) → IsFunction funcs n f → size n ≤ 4096 → length n.ins ≤ 64 → length n.outs ≤ 64 → IsSmallFunction f
 is_small funcs n f h a b c = record {
   variables = (let ds = along_length (IsDeclared (variables n)) (declarations n) f.decls h.decls in let es = delays_equations (variables n) funcs n.eqs f.eqs h.eqs in omega (arith, ds, es, a));
   inputs = (let i = h.n_in in omega (arith, i, b));
   outputs = (let o : length f.outs ≡ length n.outs = ap length h.outs ∙ length_numbers (length n.ins) (length n.outs) in omega (arith, o, c));
 }
 
-all_small : (funcs : List Name) (t : List NodeText) (fs : List Function) → Along (IsFunction funcs) t fs → All (λ n. size n ≤ 4096) t → All (λ n. length n.ins ≤ 64) t → All (λ n. length n.outs ≤ 64) t → All IsSmall fs
-all_small funcs [] [] h a b c = All-nil IsSmall
+all_small : (funcs : List Name) (t : List NodeText) (fs : List Function) → Along (IsFunction funcs) t fs → All (λ n. size n ≤ 4096) t → All (λ n. length n.ins ≤ 64) t → All (λ n. length n.outs ≤ 64) t → All IsSmallFunction fs
+all_small funcs [] [] h a b c = All-nil IsSmallFunction
 all_small funcs [] (f ∷ fs) h a b c = absurd h
 all_small funcs (n ∷ t) [] h a b c = absurd h
 all_small funcs (n ∷ t) (f ∷ fs) h a b c =
-    All-cons IsSmall f fs (is_small funcs n f h.0 (All-head (λ n. size n ≤ 4096) n t a) (All-head (λ n. length n.ins ≤ 64) n t b) (All-head (λ n. length n.outs ≤ 64) n t c))
+    All-cons IsSmallFunction f fs (is_small funcs n f h.0 (All-head (λ n. size n ≤ 4096) n t a) (All-head (λ n. length n.ins ≤ 64) n t b) (All-head (λ n. length n.outs ≤ 64) n t c))
     (all_small funcs t fs h.1 (All-tail (λ n. size n ≤ 4096) n t a) (All-tail (λ n. length n.ins ≤ 64) n t b) (All-tail (λ n. length n.outs ≤ 64) n t c))
 
 -- ---- callees are functions
@@ -201,7 +201,7 @@ callees_below n (s ∷ ss) h =
 
 -- ---- the program
 
-module _ (t : List NodeText) (p : WholeProgram) (spelled : IsSpelled t) (no : NoFault t) (named : Named t p) where
+module _ (t : List NodeText) (p : WholeProgram) (spelled : IsSpelled t) (no : NoNameFault t) (named : Named t p) where
   one_output : All (λ s. nat_eq (answered t s.callee) 1 ≡ true) (sites t)
   one_output = all_of_first (λ s. unless (nat_eq (answered t s.callee) 1) s) (λ s. nat_eq (answered t s.callee) 1 ≡ true) (λ s h. go s (nat_eq (answered t s.callee) 1) h) (sites t) (sym (no kind.NotOneOutput))
     where

@@ -10,13 +10,13 @@ use Rattle.lt_syntax.specs.declared.tree.NodeText.{NodeText}
 use Rattle.lt_syntax.specs.Tree.{Tm, Lit, Var, Unary, Binary, Choice, Sampled, Merged, Delayed, Followed, Arrow, Call, Tms, Nil, Cons}
 use Rattle.lt_syntax.specs.Program.{Group, Node, IsPlain, IsNode, Each, decls, declared, node_tree, IsSpelled}
 use Rattle.lt_resolve.specs.declared.fault.NameKind.TheVariants as kind
-use Rattle.lt_resolve.specs.Names.{Name, number_of, among, if_missing, if_among, repeated, first_some}
+use Rattle.lt_resolve.specs.Names.{Name, number_of, among, if_missing, if_among, repeated_name, first_some}
 use Rattle.lt_resolve.specs.Scopes.{declarations, variables, functions}
 use Rattle.lt_resolve.specs.Named.{operator_of, main}
-use Rattle.lt_resolve.specs.Uses.{Site, count, unknown, unknown_argument, if_uncallable, sites_in, argument_sites, equation_sites, sites_from}
+use Rattle.lt_resolve.specs.Uses.{Site, term_count, unknown, unknown_argument, if_uncallable, sites_in, argument_sites, equation_sites, sites_from}
 use Rattle.lt_resolve.specs.Known.{HasNumber, IsCallable, IsKnown, AreKnown}
-use Rattle.lt_resolve.specs.Right.{ClockKnown, IsRight, IsRightTree}
-use Rattle.lt_resolve.specs.Faults.{first_in, twice_in, unknown_clock, unknown_declared, unknown_equation, unknown_in, no_equation_in, two_equations_in, input_equation_in, sites, wanted, unless, above, size, functions_limit, NoOtherFault, NoFault}
+use Rattle.lt_resolve.specs.Right.{ClockKnown, NodeIsRight, IsRightTree}
+use Rattle.lt_resolve.specs.Faults.{first_in, twice_in, unknown_clock, unknown_declared, unknown_equation, unknown_in, no_equation_in, two_equations_in, input_equation_in, sites, wanted, unless, above, size, functions_limit, NoOtherFault, NoNameFault}
 use Rattle.lt_resolve.proofs.Numbers.{has_number}
 use Rattle.lt_resolve.proofs.Distinct.{none_left, none_right}
 use Rattle.lt_resolve.proofs.Pairs.{all_left, all_right}
@@ -97,8 +97,8 @@ module _ (t : List NodeText) (vars funcs : List Name) (i : ℕ) where
     known_term (Followed a b) h s = (known_term a (none_left (unknown vars funcs a) (unknown vars funcs b) h) (all_left (Fits t) (sites_in funcs i a) (sites_in funcs i b) s), known_term b (none_right (unknown vars funcs a) (unknown vars funcs b) h) (all_right (Fits t) (sites_in funcs i a) (sites_in funcs i b) s))
     known_term (Arrow a b) h s = (known_term a (none_left (unknown vars funcs a) (unknown vars funcs b) h) (all_left (Fits t) (sites_in funcs i a) (sites_in funcs i b) s), known_term b (none_right (unknown vars funcs a) (unknown vars funcs b) h) (all_right (Fits t) (sites_in funcs i a) (sites_in funcs i b) s))
     known_term (Call f args) h s = (
-      callable f (count args) (none_left (if_uncallable funcs f) (unknown_argument vars funcs args) h) (All-head (Fits t) (record { caller = i; name = f; callee = number_of funcs f; arguments = count args }) (argument_sites funcs i args) s),
-      known_args args (none_right (if_uncallable funcs f) (unknown_argument vars funcs args) h) (All-tail (Fits t) (record { caller = i; name = f; callee = number_of funcs f; arguments = count args }) (argument_sites funcs i args) s),
+      callable f (term_count args) (none_left (if_uncallable funcs f) (unknown_argument vars funcs args) h) (All-head (Fits t) (record { caller = i; name = f; callee = number_of funcs f; arguments = term_count args }) (argument_sites funcs i args) s),
+      known_args args (none_right (if_uncallable funcs f) (unknown_argument vars funcs args) h) (All-tail (Fits t) (record { caller = i; name = f; callee = number_of funcs f; arguments = term_count args }) (argument_sites funcs i args) s),
     )
 
     known_args : (args : Tms) → unknown_argument vars funcs args ≡ None → All (Fits t) (argument_sites funcs i args) → AreKnown vars funcs args
@@ -116,7 +116,7 @@ module _ (t : List NodeText) (vars funcs : List Name) (i : ℕ) where
 
 -- what the kinds of single functions leave of a function
 pub record Clean (funcs : List Name) (n : NodeText) : Type 0 where
-  pub apart : repeated [] (variables n) ≡ None
+  pub apart : repeated_name [] (variables n) ≡ None
   pub known : unknown_in funcs n ≡ None
   pub each : no_equation_in n ≡ None
   pub once : two_equations_in n ≡ None
@@ -124,7 +124,7 @@ pub record Clean (funcs : List Name) (n : NodeText) : Type 0 where
   pub few : size n ≤ 4096
   pub base : All (λ d. d.clock ≡ []) n.ins
 
-clean_right : (t : List NodeText) (funcs : List Name) (i : ℕ) (n : NodeText) → Clean funcs n → All (Fits t) (equation_sites funcs i n.eqs) → IsRight funcs n
+clean_right : (t : List NodeText) (funcs : List Name) (i : ℕ) (n : NodeText) → Clean funcs n → All (Fits t) (equation_sites funcs i n.eqs) → NodeIsRight funcs n
 clean_right t funcs i n c s = record {
   apart = c.apart;
   clocks = all_of_first (λ d. unknown_clock vars d.clock) (ClockKnown vars) (λ d h. all_of_first (λ p. if_missing vars p.0) (λ p. HasNumber vars p.0) (λ p k. missing_none vars p.0 k) d.clock h) (declarations n) (none_left (unknown_declared vars (declarations n)) eqs c.known);
@@ -150,10 +150,10 @@ clean_right t funcs i n c s = record {
 abbrev IfKnown : List Name → (NodeText → Type 0) → NodeText → Type 0
 IfKnown funcs P n = unknown_in funcs n ≡ None → P n
 
-right_from : (whole : List NodeText) (funcs : List Name) (i : ℕ) (t : List NodeText) → All (IfKnown funcs (Clean funcs)) t → All (Fits whole) (sites_from funcs i t) → All (IfKnown funcs (IsRight funcs)) t
-right_from whole funcs i [] c s = All-nil (IfKnown funcs (IsRight funcs))
+right_from : (whole : List NodeText) (funcs : List Name) (i : ℕ) (t : List NodeText) → All (IfKnown funcs (Clean funcs)) t → All (Fits whole) (sites_from funcs i t) → All (IfKnown funcs (NodeIsRight funcs)) t
+right_from whole funcs i [] c s = All-nil (IfKnown funcs (NodeIsRight funcs))
 right_from whole funcs i (n ∷ t) c s =
-    All-cons (IfKnown funcs (IsRight funcs)) n t
+    All-cons (IfKnown funcs (NodeIsRight funcs)) n t
     (λ k. clean_right whole funcs i n (All-head (IfKnown funcs (Clean funcs)) n t c k) (all_left (Fits whole) (equation_sites funcs i n.eqs) (sites_from funcs (i + 1) t) s))
     (right_from whole funcs (i + 1) t (All-tail (IfKnown funcs (Clean funcs)) n t c) (all_right (Fits whole) (equation_sites funcs i n.eqs) (sites_from funcs (i + 1) t) s))
 
@@ -208,8 +208,8 @@ module _ (t : List NodeText) (spelled : IsSpelled t) (no : NoOtherFault t) where
       go s false h = absurd (cc)
 
   -- no variable of a function is declared twice
-  pub all_apart : All (λ n. repeated [] (variables n) ≡ None) t
-  all_apart = all_of_functions (twice_in (functions t)) (λ n. repeated [] (variables n) ≡ None) (λ i n h. none_right (if_among (take i (functions t)) n.name) (repeated [] (variables n)) h) 0 t (sym (no kind.Twice tt))
+  pub all_apart : All (λ n. repeated_name [] (variables n) ≡ None) t
+  all_apart = all_of_functions (twice_in (functions t)) (λ n. repeated_name [] (variables n) ≡ None) (λ i n h. none_right (if_among (take i (functions t)) n.name) (repeated_name [] (variables n)) h) 0 t (sym (no kind.Twice tt))
 
   clean : All (IfKnown (functions t) (Clean (functions t))) t
   clean =
@@ -221,14 +221,14 @@ module _ (t : List NodeText) (spelled : IsSpelled t) (no : NoOtherFault t) where
       λ k d l known. record { apart = all_apart k d l; known = known; each = each k d l; once = once k d l; inputs = inputs k d l; few = few k d l; base = base k d l }
 
   -- each function is right where its names are declared
-  pub right_if_known : All (λ n. unknown_in (functions t) n ≡ None → IsRight (functions t) n) t
+  pub right_if_known : All (λ n. unknown_in (functions t) n ≡ None → NodeIsRight (functions t) n) t
   right_if_known = right_from t (functions t) 0 t clean fit
 
   pub has_main : HasNumber (functions t) main
   has_main = missing_none (functions t) main (map_none (λ x. (0, x)) (if_missing (functions t) main) (sym (no kind.NoMain tt)))
 
 -- no kind occurs, where unknown names do not
-pub no_fault : (t : List NodeText) → NoOtherFault t → first_in (λ _. unknown_in (functions t)) 0 t ≡ None → NoFault t
+pub no_fault : (t : List NodeText) → NoOtherFault t → first_in (λ _. unknown_in (functions t)) 0 t ≡ None → NoNameFault t
 no_fault t free known kind.Twice = free kind.Twice tt
 no_fault t free known kind.Unknown = sym known
 no_fault t free known kind.NoEquation = free kind.NoEquation tt
@@ -240,10 +240,10 @@ no_fault t free known kind.NotOneOutput = free kind.NotOneOutput tt
 no_fault t free known kind.Recursive = free kind.Recursive tt
 no_fault t free known kind.Limit = free kind.Limit tt
 
-pub no_other : (t : List NodeText) → NoFault t → NoOtherFault t
+pub no_other : (t : List NodeText) → NoNameFault t → NoOtherFault t
 no_other t free k other = free k
 
-pub right_tree : (t : List NodeText) → IsSpelled t → NoFault t → IsRightTree t
+pub right_tree : (t : List NodeText) → IsSpelled t → NoNameFault t → IsRightTree t
 right_tree t spelled free =
     let other = no_other t free in
     let known : All (λ n. unknown_in (functions t) n ≡ None) t = all_of_functions (λ _. unknown_in (functions t)) (λ n. unknown_in (functions t) n ≡ None) (λ i n h. h) 0 t (sym (free kind.Unknown)) in

@@ -12,14 +12,14 @@ use Rattle.lt_syntax.specs.Views.{tm_of}
 use Rattle.lt_resolve.specs.declared.fault.NameKind.{NameKind}
 use Rattle.lt_resolve.specs.declared.fault.NameFault.{NameFault}
 use Rattle.lt_resolve.specs.Names.{Name, number_of, first_some}
-use Rattle.lt_resolve.specs.Uses.{Site, count, sites_in, argument_sites}
+use Rattle.lt_resolve.specs.Uses.{Site, term_count, sites_in, argument_sites}
 use Rattle.lt_resolve.specs.Faults.{Occurrence, unless}
-use Rattle.lt_resolve.specs.Told.{Blames}
+use Rattle.lt_resolve.specs.Told.{BlamesName}
 use Rattle.lt_resolve.specs.Checks.{ShowsSite}
 use Rattle.lt_resolve.proofs.Lists.{drop_whole, some_here}
 
 -- the fault at the first call that fails the test
-pub blames_site : (kind : NameKind) (test : Site → Bool) (ss : List Site) (i : ℕ) (s : Site) (r : Or NameFault) → i < length ss → s ≡ get_or ss i s → first_some (λ c. unless (test c) c) (drop i ss) ≡ first_some (λ c. unless (test c) c) ss → test s ≡ false → ShowsSite kind s r → Blames kind (λ o. o ≡ first_some (λ c. unless (test c) c) ss) r
+pub blames_site : (kind : NameKind) (test : Site → Bool) (ss : List Site) (i : ℕ) (s : Site) (r : Or NameFault) → i < length ss → s ≡ get_or ss i s → first_some (λ c. unless (test c) c) (drop i ss) ≡ first_some (λ c. unless (test c) c) ss → test s ≡ false → ShowsSite kind s r → BlamesName kind (λ o. o ≡ first_some (λ c. unless (test c) c) ss) r
 blames_site kind test ss i s (Fault f) l e k h w =
     let found : unless (test s) s ≡ Some (s.caller, s.name) = ap (λ b. unless b s) h in
     let pair : ◌≡◌ {A = Option Occurrence} (Some (s.caller, s.name)) (Some (f.func, f.name)) = λ j. Some (sym w.1 j, sym w.2 j) in
@@ -37,21 +37,21 @@ pub not_equal : (m n : ℕ) → (m ≡ n → ⊥) → nat_eq m n ≡ false
 not_equal m n h = grind (arith, nat_tests)
 
 -- as many arguments as the list has
-pub count_is : (args : List Term) → count (tms (map tm_of args)) ≡ length args
+pub count_is : (args : List Term) → term_count (tms (map tm_of args)) ≡ length args
 count_is [] = refl
 count_is (a ∷ args) = let more = count_is args in omega (arith, more)
 
 -- a call and the calls in its arguments
 module _ (funcs : List Name) (i : ℕ) (f name : Name) (args slice : List Term) (t : Tm) (callee : Option ℕ) (n : ℕ)
     (is : t ≡ Call f (tms (map tm_of args))) (named : name ≡ f) (found : callee ≡ number_of funcs name) (many : n ≡ length args) (same : slice ≡ args) where
-  site_is : ◌≡◌ {A = Site} (record { caller = i; name = name; callee = callee; arguments = n }) (record { caller = i; name = f; callee = number_of funcs f; arguments = count (tms (map tm_of args)) })
+  site_is : ◌≡◌ {A = Site} (record { caller = i; name = name; callee = callee; arguments = n }) (record { caller = i; name = f; callee = number_of funcs f; arguments = term_count (tms (map tm_of args)) })
   site_is = λ j. record { caller = i; name = named j; callee = (found ∙ ap (number_of funcs) named) j; arguments = (many ∙ sym (count_is args)) j }
 
   pub collected : {E : Type 0} (r : Result (Unit {0}) E) (old mid new : List Site) → mid ≡ old ++ record { caller = i; name = name; callee = callee; arguments = n } ∷ [] → OnOk r (new ≡ mid ++ argument_sites funcs i (tms (map tm_of slice))) → OnOk r (new ≡ old ++ sites_in funcs i t)
   collected (Ok u) old mid new pushed h =
       h
       ∙ (λ j. (pushed ∙ ap (λ s. old ++ s ∷ []) site_is) j ++ argument_sites funcs i (tms (map tm_of (same j))))
-      ∙ append_assoc old (record { caller = i; name = f; callee = number_of funcs f; arguments = count (tms (map tm_of args)) } ∷ []) (argument_sites funcs i (tms (map tm_of args)))
+      ∙ append_assoc old (record { caller = i; name = f; callee = number_of funcs f; arguments = term_count (tms (map tm_of args)) } ∷ []) (argument_sites funcs i (tms (map tm_of args)))
       ∙ ap (λ u. old ++ sites_in funcs i u) (sym is)
   collected (Err e) old mid new pushed h = tt
 

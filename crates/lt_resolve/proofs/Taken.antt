@@ -18,15 +18,15 @@ use Rattle.lt_resolve.specs.declared.fault.NameKind.{NameKind}
 use Rattle.lt_resolve.specs.declared.fault.NameKind.TheVariants as kind
 use Rattle.lt_resolve.specs.declared.fault.NameFault.{NameFault}
 use Rattle.lt_resolve.specs.declared.function.Draft.{Draft}
-use Rattle.lt_resolve.specs.Names.{Name, number_of, among, if_among, repeated, first_some}
+use Rattle.lt_resolve.specs.Names.{Name, number_of, among, if_among, repeated_name, first_some}
 use Rattle.lt_resolve.specs.Scopes.{declarations, variables, functions}
-use Rattle.lt_resolve.specs.Named.{IsDeclared, IsFunction, Along, Named, numbers, main}
+use Rattle.lt_resolve.specs.Named.{IsDeclared, IsFunction, Along, Named, numbers_from, main}
 use Rattle.lt_resolve.specs.Known.{HasNumber}
 use Rattle.lt_resolve.specs.Resolves.{IsResolved, Resolves}
 use Rattle.lt_resolve.specs.Drafts.{IsDraft, IsDraftEquation, completed}
-use Rattle.lt_resolve.specs.Right.{IsRight}
-use Rattle.lt_resolve.specs.Faults.{Occurrence, First, NoOtherFault, first_in, twice_in, unknown_declared, unknown_equation, unknown_in, IsFirstFault, NoFault}
-use Rattle.lt_resolve.specs.Told.{Refuses, Blames, Shows, Cleared}
+use Rattle.lt_resolve.specs.Right.{NodeIsRight}
+use Rattle.lt_resolve.specs.Faults.{Occurrence, First, NoOtherFault, first_in, twice_in, unknown_declared, unknown_equation, unknown_in, IsFirstNameFault, NoNameFault}
+use Rattle.lt_resolve.specs.Told.{RefusesName, BlamesName, ShowsFault, Cleared}
 use Rattle.lt_resolve.specs.Checks.{Locates}
 use Rattle.lt_resolve.proofs.Distinct.{none_left, none_right}
 use Rattle.lt_resolve.proofs.Lists.{at_place, at_function}
@@ -43,7 +43,7 @@ use Rattle.lt_resolve.proofs.Resolved.{is_resolved}
 abbrev pub Standing : ℕ → Option Name → Option Occurrence → Type 0
 Standing i found o = o ≡ option_map (λ x. (i, x)) found
 
-pub blames_here : (k : NameKind) (i : ℕ) (found : Option Name) (e : Or (Bor Name)) (r : Or NameFault) → Locates k i e r → Refuses found e → Blames k (Standing i found) r
+pub blames_here : (k : NameKind) (i : ℕ) (found : Option Name) (e : Or (Bor Name)) (r : Or NameFault) → Locates k i e r → RefusesName found e → BlamesName k (Standing i found) r
 blames_here k i found (Fault x) (Fault g) h s =
     let pair : ◌≡◌ {A = Option Occurrence} (Some (i, x.now)) (Some (g.func, g.name)) = λ j. Some (sym h.1 j, sym h.2 j) in
     (h.0, sym (ap (option_map (λ x. (i, x))) s ∙ pair))
@@ -51,15 +51,15 @@ blames_here k i found (Fault x) Memory h s = tt
 blames_here k i found Memory (Fault g) h s = absurd h
 blames_here k i found Memory Memory h s = tt
 
-pub shows_here : {T : Type 0} (k : NameKind) (i : ℕ) (found : Option Name) (x : T) → found ≡ None → Shows {T = T} k (Standing i found) (Ok x)
+pub shows_here : {T : Type 0} (k : NameKind) (i : ℕ) (found : Option Name) (x : T) → found ≡ None → ShowsFault {T = T} k (Standing i found) (Ok x)
 shows_here k i found x none = sym (ap (option_map (λ x. (i, x))) none)
 
 -- an error that is handed on
-pub shows_on : {T : Type 0} (k : NameKind) (P Q : Option Occurrence → Type 0) (e : Or NameFault) (r : Result T (Or NameFault)) → IsErrAnd r (λ f. f ≡ e) → ((p : Occurrence) → P (Some p) → Q (Some p)) → Blames k P e → Shows k Q r
+pub shows_on : {T : Type 0} (k : NameKind) (P Q : Option Occurrence → Type 0) (e : Or NameFault) (r : Result T (Or NameFault)) → IsErrAnd r (λ f. f ≡ e) → ((p : Occurrence) → P (Some p) → Q (Some p)) → BlamesName k P e → ShowsFault k Q r
 shows_on k P Q e (Ok x) h wider b = absurd h
-shows_on k P Q e (Err f) h wider b = go f (subst (Blames k P) (sym h) b)
+shows_on k P Q e (Err f) h wider b = go f (subst (BlamesName k P) (sym h) b)
   where
-    go : (f : Or NameFault) → Blames k P f → Blames k Q f
+    go : (f : Or NameFault) → BlamesName k P f → BlamesName k Q f
     go (Fault g) b = (b.0, wider (g.func, g.name) b.1)
     go Memory b = tt
 
@@ -109,23 +109,23 @@ module _ (funcs : List Name) (h : NodeText) (qs : List (Name × Tm)) where
   pub all_known : h.eqs ≡ [] → unknown_in funcs h ≡ None → first_some (unknown_equation (variables h) funcs) qs ≡ None → unknown_in funcs joined ≡ None
   all_known none known others = unknown_joined none ∙ ap (λ o. option_or o (first_some (unknown_equation (variables h) funcs) qs)) known ∙ others
 
-  pub joined_function : (d : Draft) (es : List (ℕ × Expression)) → d.node.now ≡ h → IsDraft funcs d → Along (IsDraftEquation (variables h) funcs) qs es → IsRight funcs joined → IsFunction funcs joined (completed (record d { eqs = es }))
+  pub joined_function : (d : Draft) (es : List (ℕ × Expression)) → d.node.now ≡ h → IsDraft funcs d → Along (IsDraftEquation (variables h) funcs) qs es → NodeIsRight funcs joined → IsFunction funcs joined (completed (record d { eqs = es }))
   joined_function d es same draft along right = record {
     name = ap (λ (n : NodeText). n.name) same;
     decls = subst (λ n. Along (IsDeclared (variables n)) (declarations n) d.decls) same draft.decls;
     n_in = ap (λ (n : NodeText). length n.ins) same;
-    outs = ap (λ (n : NodeText). numbers (length n.ins) (length n.outs)) same;
+    outs = ap (λ (n : NodeText). numbers_from (length n.ins) (length n.outs)) same;
     eqs = equations_named (variables h) funcs qs es along right.known;
   }
 
   module _ (none : h.eqs ≡ []) (s : NodeText) (is : s ≡ h) (vs : List Name) (are : vs ≡ variables s) where
-    pub right_joined : (place : ℕ) → Standing place (unknown_in funcs s) None → Standing place (first_some (unknown_equation vs funcs) qs) None → (unknown_in funcs joined ≡ None → IsRight funcs joined) → IsRight funcs joined
+    pub right_joined : (place : ℕ) → Standing place (unknown_in funcs s) None → Standing place (first_some (unknown_equation vs funcs) qs) None → (unknown_in funcs joined ≡ None → NodeIsRight funcs joined) → NodeIsRight funcs joined
     right_joined place a b right =
         right (all_known none
         (subst (λ n. unknown_in funcs n ≡ None) is (none_standing place (unknown_in funcs s) a))
         (subst (λ v. first_some (unknown_equation v funcs) qs ≡ None) (are ∙ ap variables is) (none_standing place (first_some (unknown_equation vs funcs) qs) b)))
 
-    pub function_joined : (d : Draft) (es : List (ℕ × Expression)) → d.node.now ≡ s → IsDraft funcs d → Along (IsDraftEquation vs funcs) qs es → IsRight funcs joined → (w : Draft) → w ≡ record d { eqs = es } → IsFunction funcs joined (completed w)
+    pub function_joined : (d : Draft) (es : List (ℕ × Expression)) → d.node.now ≡ s → IsDraft funcs d → Along (IsDraftEquation vs funcs) qs es → NodeIsRight funcs joined → (w : Draft) → w ≡ record d { eqs = es } → IsFunction funcs joined (completed w)
     function_joined d es node draft along right w same =
         subst (λ w. IsFunction funcs joined (completed w)) (sym same)
         (joined_function d es (node ∙ is) draft (subst (λ v. Along (IsDraftEquation v funcs) qs es) (are ∙ ap variables is) along) right)
@@ -136,23 +136,23 @@ taken_length R xs k ys l h = along_length R (take k xs) ys h ∙ rw length-take 
 
 -- ---- the names of the functions
 
-apart_from : (funcs before : List Name) (i : ℕ) (u : List NodeText) → funcs ≡ before ++ functions u → length before ≡ i → first_in (twice_in funcs) i u ≡ None → repeated before (functions u) ≡ None
+apart_from : (funcs before : List Name) (i : ℕ) (u : List NodeText) → funcs ≡ before ++ functions u → length before ≡ i → first_in (twice_in funcs) i u ≡ None → repeated_name before (functions u) ≡ None
 apart_from funcs before i [] e k h = refl
 apart_from funcs before i (n ∷ u) e k h =
     let here = nothing (none_left (option_map (λ x. (i, x)) (twice_in funcs i n)) (first_in (twice_in funcs) (i + 1) u) h) in
     let front : take i funcs ≡ before = (λ j. take (sym k j) (e j)) ∙ take-append_seam before (functions (n ∷ u)) in
-    let new : if_among before n.name ≡ None = ap (λ l. if_among l n.name) (sym front) ∙ none_left (if_among (take i funcs) n.name) (repeated [] (variables n)) here in
+    let new : if_among before n.name ≡ None = ap (λ l. if_among l n.name) (sym front) ∙ none_left (if_among (take i funcs) n.name) (repeated_name [] (variables n)) here in
     let long : length (before ++ n.name ∷ []) ≡ i + 1 = length-append before (n.name ∷ []) ∙ ap (λ m. m + 1) k in
     go (among before n.name) new (apart_from funcs (before ++ n.name ∷ []) (i + 1) u (e ∙ sym (append_assoc before (n.name ∷ []) (functions u))) long (none_right (option_map (λ x. (i, x)) (twice_in funcs i n)) (first_in (twice_in funcs) (i + 1) u) h))
   where
     nothing : option_map {U = Occurrence} (λ x. (i, x)) (twice_in funcs i n) ≡ None → twice_in funcs i n ≡ None
     nothing h = none_standing i (twice_in funcs i n) (sym h)
 
-    go : (b : Bool) → ◌≡◌ {A = Option Name} (if b then Some n.name else None) None → repeated (before ++ n.name ∷ []) (functions u) ≡ None → ◌≡◌ {A = Option Name} (if b then Some n.name else repeated (before ++ n.name ∷ []) (functions u)) None
+    go : (b : Bool) → ◌≡◌ {A = Option Name} (if b then Some n.name else None) None → repeated_name (before ++ n.name ∷ []) (functions u) ≡ None → ◌≡◌ {A = Option Name} (if b then Some n.name else repeated_name (before ++ n.name ∷ []) (functions u)) None
     go true p k = absurd (cc)
     go false p k = k
 
-pub functions_apart : (t : List NodeText) → NoOtherFault t → repeated [] (functions t) ≡ None
+pub functions_apart : (t : List NodeText) → NoOtherFault t → repeated_name [] (functions t) ≡ None
 functions_apart t free = apart_from (functions t) [] 0 t refl refl (sym (free kind.Twice tt))
 
 -- ---- kinds
@@ -170,7 +170,7 @@ no_others t twice c kind.Recursive o = c kind.Recursive (omega arith) (omega ari
 no_others t twice c kind.Limit o = c kind.Limit (omega arith) (omega arith)
 
 -- an unknown name is the first fault
-pub unknown_first : (t : List NodeText) → NoOtherFault t → (f : NameFault) → f.kind ≡ kind.Unknown → First t kind.Unknown (Some (f.func, f.name)) → IsFirstFault t f
+pub unknown_first : (t : List NodeText) → NoOtherFault t → (f : NameFault) → f.kind ≡ kind.Unknown → First t kind.Unknown (Some (f.func, f.name)) → IsFirstNameFault t f
 unknown_first t free f e h =
     let twice : Cleared t 0 1 = also t 0 0 (omega arith) kind.Twice refl (none_cleared t 0) (free kind.Twice tt) in
     first_of_all t 0 f (none_cleared t 0) (is_first t 0 1 (omega arith) kind.Unknown refl twice f e h)
@@ -180,36 +180,36 @@ pub one_longer : {A : Type 0} (xs : List A) (x : A) → length (xs ++ x ∷ []) 
 one_longer xs x = length-append xs (x ∷ [])
 
 -- and refuses the tree
-pub unknown_refuses : (t : List NodeText) → NoOtherFault t → (e : Or NameFault) (r : Result WholeProgram (Or NameFault)) → IsErrAnd r (λ f. f ≡ e) → Blames kind.Unknown (First t kind.Unknown) e → MatchResult r (λ p. Resolves t (Ok p)) (λ e. ForFault e (λ f. Resolves t (Err f)))
+pub unknown_refuses : (t : List NodeText) → NoOtherFault t → (e : Or NameFault) (r : Result WholeProgram (Or NameFault)) → IsErrAnd r (λ f. f ≡ e) → BlamesName kind.Unknown (First t kind.Unknown) e → MatchResult r (λ p. Resolves t (Ok p)) (λ e. ForFault e (λ f. Resolves t (Err f)))
 unknown_refuses t free e (Ok p) h b = absurd h
-unknown_refuses t free e (Err f) h b = go f (subst (Blames kind.Unknown (First t kind.Unknown)) (sym h) b)
+unknown_refuses t free e (Err f) h b = go f (subst (BlamesName kind.Unknown (First t kind.Unknown)) (sym h) b)
   where
-    go : (f : Or NameFault) → Blames kind.Unknown (First t kind.Unknown) f → ForFault f (λ f. Resolves t (Err f))
+    go : (f : Or NameFault) → BlamesName kind.Unknown (First t kind.Unknown) f → ForFault f (λ f. Resolves t (Err f))
     go (Fault g) b = unknown_first t free g b.0 b.1
     go Memory b = tt
 
 -- ---- the program
 
 module _ (t : List NodeText) (spelled : IsSpelled t) (free : NoOtherFault t) (fs : List Name) (same : fs ≡ functions t) (ns : List NodeText) (are : ns ≡ t) where
-  pub apart_all : All (λ n. repeated [] (variables n) ≡ None) ns
-  apart_all = subst (λ ns. All (λ n. repeated [] (variables n) ≡ None) ns) (sym are) (all_apart t spelled free)
+  pub apart_all : All (λ n. repeated_name [] (variables n) ≡ None) ns
+  apart_all = subst (λ ns. All (λ n. repeated_name [] (variables n) ≡ None) ns) (sym are) (all_apart t spelled free)
 
-  pub right_all : All (λ n. unknown_in fs n ≡ None → IsRight fs n) ns
+  pub right_all : All (λ n. unknown_in fs n ≡ None → NodeIsRight fs n) ns
   right_all =
-      subst (λ ns. All (λ n. unknown_in fs n ≡ None → IsRight fs n) ns) (sym are)
-      (subst (λ fs. All (λ n. unknown_in fs n ≡ None → IsRight fs n) t) (sym same) (right_if_known t spelled free))
+      subst (λ ns. All (λ n. unknown_in fs n ≡ None → NodeIsRight fs n) ns) (sym are)
+      (subst (λ fs. All (λ n. unknown_in fs n ≡ None → NodeIsRight fs n) t) (sym same) (right_if_known t spelled free))
 
   pub main_named : HasNumber fs main
   main_named = subst (λ fs. HasNumber fs main) (sym same) (has_main t spelled free)
 
   -- the first unknown name of these nodes is the tree's
-  pub blames_tree : (e : Or NameFault) → Blames kind.Unknown (λ o. o ≡ first_in (λ _. unknown_in fs) 0 ns) e → Blames kind.Unknown (First t kind.Unknown) e
+  pub blames_tree : (e : Or NameFault) → BlamesName kind.Unknown (λ o. o ≡ first_in (λ _. unknown_in fs) 0 ns) e → BlamesName kind.Unknown (First t kind.Unknown) e
   blames_tree e b =
-      subst (λ fs. Blames kind.Unknown (λ o. o ≡ first_in (λ _. unknown_in fs) 0 t) e) same
-      (subst (λ ns. Blames kind.Unknown (λ o. o ≡ first_in (λ _. unknown_in fs) 0 ns) e) are b)
+      subst (λ fs. BlamesName kind.Unknown (λ o. o ≡ first_in (λ _. unknown_in fs) 0 t) e) same
+      (subst (λ ns. BlamesName kind.Unknown (λ o. o ≡ first_in (λ _. unknown_in fs) 0 ns) e) are b)
 
   module _ (gs : List Function) (known : None ≡ first_in (λ _. unknown_in fs) 0 ns) (along : Along (IsFunction fs) ns gs) (l : List Function) (is : l ≡ gs) (m : ℕ) (number : number_of fs main ≡ Some m) where
-    faultless : NoFault t
+    faultless : NoNameFault t
     faultless = no_fault t free (sym (subst (λ fs. None ≡ first_in (λ _. unknown_in fs) 0 t) same (subst (λ ns. None ≡ first_in (λ _. unknown_in fs) 0 ns) are known)))
 
     along_tree : Along (IsFunction (functions t)) t l

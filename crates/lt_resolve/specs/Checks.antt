@@ -26,12 +26,12 @@ abbrev pub variables_limit : NodeText → Option Name
 variables_limit n = above 4096 (size n) (codes "variables")
 
 -- the kind of fault that it shows
-abbrev pub kind_of : Check → NameKind
-kind_of NoEquation = kind.NoEquation
-kind_of TwoEquations = kind.TwoEquations
-kind_of EquationForInput = kind.EquationForInput
-kind_of Inputs = kind.Limit
-kind_of Outputs = kind.Limit
+abbrev pub check_kind : Check → NameKind
+check_kind NoEquation = kind.NoEquation
+check_kind TwoEquations = kind.TwoEquations
+check_kind EquationForInput = kind.EquationForInput
+check_kind Inputs = kind.Limit
+check_kind Outputs = kind.Limit
 
 -- the check is of a kind of its own
 abbrev pub IsWhole : Check → Type 0

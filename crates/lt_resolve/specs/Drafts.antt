@@ -8,7 +8,7 @@ use Rattle.lt_syntax.specs.Tree.{Tm}
 use Rattle.lt_resolve.specs.declared.function.Draft.{Draft}
 use Rattle.lt_resolve.specs.Names.{Name, number_of}
 use Rattle.lt_resolve.specs.Scopes.{declarations, variables, functions}
-use Rattle.lt_resolve.specs.Named.{IsDeclared, Along, numbers}
+use Rattle.lt_resolve.specs.Named.{IsDeclared, Along, numbers_from}
 use Rattle.lt_resolve.specs.Known.{IsTranslated}
 
 -- an equation with the number of its variable, and a right side that may call an imported operator with a wrong number of arguments
@@ -26,7 +26,7 @@ completed d = record {
   name = d.node.now.name;
   decls = d.decls;
   n_in = length d.node.now.ins;
-  outs = numbers (length d.node.now.ins) (length d.node.now.outs);
+  outs = numbers_from (length d.node.now.ins) (length d.node.now.outs);
   eqs = d.eqs;
 }
 

@@ -10,8 +10,8 @@ use Rattle.lt_graph.specs.Edges.{Joined, IsFirstCircular}
 use Rattle.lt_resolve.specs.declared.fault.NameKind.{NameKind}
 use Rattle.lt_resolve.specs.declared.fault.NameKind.TheVariants.{Twice, Unknown, NoEquation, TwoEquations, EquationForInput, NoMain, WrongCount, NotOneOutput, Recursive, Limit}
 use Rattle.lt_resolve.specs.declared.fault.NameFault.{NameFault}
-use Rattle.lt_resolve.specs.Names.{Name, if_missing, if_among, repeated, first_some}
-use Rattle.lt_resolve.specs.Scopes.{declarations, names_of, variables, lefts, functions}
+use Rattle.lt_resolve.specs.Names.{Name, if_missing, if_among, repeated_name, first_some}
+use Rattle.lt_resolve.specs.Scopes.{declarations, declared_names, variables, left_names, functions}
 use Rattle.lt_resolve.specs.Named.{main}
 use Rattle.lt_resolve.specs.Uses.{unknown, Site, sites_from, edges, delays}
 
@@ -26,7 +26,7 @@ first_in f i (n ∷ t) = option_or (option_map (λ x. (i, x)) (f i n)) (first_in
 
 -- in a function: its own name, where a function before it has that name, or its first variable that was declared before
 abbrev pub twice_in : List Name → ℕ → NodeText → Option Name
-twice_in funcs i n = option_or (if_among (take i funcs) n.name) (repeated [] (variables n))
+twice_in funcs i n = option_or (if_among (take i funcs) n.name) (repeated_name [] (variables n))
 
 -- the first variable of a clock that is not declared
 abbrev pub unknown_clock : List Name → List (Name × Bool) → Option Name
@@ -46,15 +46,15 @@ unknown_in funcs n = option_or (unknown_declared (variables n) (declarations n))
 
 -- in a function: the first output or local that is on the left of no equation
 abbrev pub no_equation_in : NodeText → Option Name
-no_equation_in n = first_some (if_missing (lefts n)) (names_of (n.outs ++ n.locals))
+no_equation_in n = first_some (if_missing (left_names n)) (declared_names (n.outs ++ n.locals))
 
 -- in a function: the first left side that is one of those before it
 abbrev pub two_equations_in : NodeText → Option Name
-two_equations_in n = repeated [] (lefts n)
+two_equations_in n = repeated_name [] (left_names n)
 
 -- in a function: the first left side that is an input
 abbrev pub input_equation_in : NodeText → Option Name
-input_equation_in n = first_some (if_among (names_of n.ins)) (lefts n)
+input_equation_in n = first_some (if_among (declared_names n.ins)) (left_names n)
 
 -- `main`, where it is no function
 abbrev pub no_main : List Name → Option Occurrence
@@ -65,23 +65,23 @@ abbrev pub sites : List NodeText → List Site
 sites t = sites_from (functions t) 0 t
 
 -- how many inputs, and outputs, a function has, if there is one
-abbrev pub inputs_of : Option NodeText → ℕ
-inputs_of None = 0
-inputs_of (Some n) = length n.ins
+abbrev pub input_count_of : Option NodeText → ℕ
+input_count_of None = 0
+input_count_of (Some n) = length n.ins
 
-abbrev pub outputs_of : Option NodeText → ℕ
-outputs_of None = 0
-outputs_of (Some n) = length n.outs
+abbrev pub output_count_of : Option NodeText → ℕ
+output_count_of None = 0
+output_count_of (Some n) = length n.outs
 
 -- how many arguments a call has to have: as many as the function's inputs, and two for an imported operator
 abbrev pub wanted : List NodeText → Option ℕ → ℕ
 wanted t None = 2
-wanted t (Some g) = inputs_of (slice_get t g)
+wanted t (Some g) = input_count_of (slice_get t g)
 
 -- how many outputs the called function has; an imported operator has one
 abbrev pub answered : List NodeText → Option ℕ → ℕ
 answered t None = 1
-answered t (Some g) = outputs_of (slice_get t g)
+answered t (Some g) = output_count_of (slice_get t g)
 
 abbrev pub unless : Bool → Site → Option Occurrence
 unless right s = if right then None else Some (s.caller, s.name)
@@ -141,22 +141,22 @@ First t Recursive o = Recursion t o
 First t Limit o = o ≡ limit t
 
 -- a kind's number
-abbrev pub number : NameKind → ℕ
-number Twice = 1
-number Unknown = 2
-number NoEquation = 3
-number TwoEquations = 4
-number EquationForInput = 5
-number NoMain = 6
-number WrongCount = 7
-number NotOneOutput = 8
-number Recursive = 9
-number Limit = 10
+abbrev pub kind_number : NameKind → ℕ
+kind_number Twice = 1
+kind_number Unknown = 2
+kind_number NoEquation = 3
+kind_number TwoEquations = 4
+kind_number EquationForInput = 5
+kind_number NoMain = 6
+kind_number WrongCount = 7
+kind_number NotOneOutput = 8
+kind_number Recursive = 9
+kind_number Limit = 10
 
 -- the first occurrence of the first kind that occurs
-pub record IsFirstFault (t : List NodeText) (f : NameFault) : Type 0 where
+pub record IsFirstNameFault (t : List NodeText) (f : NameFault) : Type 0 where
   pub here : First t f.kind (Some (f.func, f.name))
-  pub before : (k : NameKind) → number k < number f.kind → First t k None
+  pub before : (k : NameKind) → kind_number k < kind_number f.kind → First t k None
 
 -- every kind but that of unknown names
 abbrev pub IsOther : NameKind → Type 0
@@ -168,5 +168,5 @@ abbrev pub NoOtherFault : List NodeText → Type 0
 NoOtherFault t = (k : NameKind) → IsOther k → First t k None
 
 -- no kind occurs
-abbrev pub NoFault : List NodeText → Type 0
-NoFault t = (k : NameKind) → First t k None
+abbrev pub NoNameFault : List NodeText → Type 0
+NoNameFault t = (k : NameKind) → First t k None

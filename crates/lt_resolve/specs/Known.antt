@@ -7,7 +7,7 @@ use Rattle.lt_resolve.specs.Names.{Name, number_of}
 use Rattle.lt_resolve.specs.declared.expression.Callee.{Callee}
 use Rattle.lt_resolve.specs.declared.expression.Callee.TheVariants.{Function, Operator}
 use Rattle.lt_resolve.specs.Named.{operator_of, IsNamed, AreNamed}
-use Rattle.lt_resolve.specs.Uses.{count}
+use Rattle.lt_resolve.specs.Uses.{term_count}
 
 -- the name has a number
 abbrev pub HasNumber : List Name → Name → Type 0
@@ -32,7 +32,7 @@ abbrev mutual
   IsKnown vars funcs (Delayed v a) = IsKnown vars funcs a
   IsKnown vars funcs (Followed a b) = IsKnown vars funcs a × IsKnown vars funcs b
   IsKnown vars funcs (Arrow a b) = IsKnown vars funcs a × IsKnown vars funcs b
-  IsKnown vars funcs (Call f args) = IsCallable (number_of funcs f) (operator_of f) (count args) × AreKnown vars funcs args
+  IsKnown vars funcs (Call f args) = IsCallable (number_of funcs f) (operator_of f) (term_count args) × AreKnown vars funcs args
 
   pub AreKnown : List Name → List Name → Tms → Type 0
   AreKnown vars funcs Nil = Unit {0}

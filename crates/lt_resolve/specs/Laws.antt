@@ -4,11 +4,11 @@ use Rattle.lt_base.specs.Program.{WholeProgram}
 use Rattle.lt_syntax.specs.declared.tree.NodeText.{NodeText}
 use Rattle.lt_resolve.specs.declared.fault.NameFault.{NameFault}
 use Rattle.lt_resolve.specs.Named.{Named}
-use Rattle.lt_resolve.specs.Faults.{IsFirstFault}
+use Rattle.lt_resolve.specs.Faults.{IsFirstNameFault}
 
 -- the first fault stands in a function of the tree
 abbrev pub FaultsStandInside : Type 0
-FaultsStandInside = (t : List NodeText) → 0 < length t → (f : NameFault) → IsFirstFault t f → f.func < length t
+FaultsStandInside = (t : List NodeText) → 0 < length t → (f : NameFault) → IsFirstNameFault t f → f.func < length t
 
 -- a tree names at most one program
 abbrev pub OneProgram : Type 0

@@ -57,21 +57,21 @@ pub record IsDeclared (vars : List Name) (d : DeclText) (e : Decl) : Type 0 wher
   pub clock : Along (IsPair vars) d.clock (reverse e.clock)
 
 -- an equation with the number of its variable
-abbrev pub IsEquation : List Name → List Name → Name × Tm → ℕ × Expression → Type 0
-IsEquation vars funcs q e = (number_of vars q.0 ≡ Some e.0) × IsNamed vars funcs q.1 e.1
+abbrev pub IsNamedEquation : List Name → List Name → Name × Tm → ℕ × Expression → Type 0
+IsNamedEquation vars funcs q e = (number_of vars q.0 ≡ Some e.0) × IsNamed vars funcs q.1 e.1
 
 -- as many numbers, from the first on
-abbrev pub numbers : ℕ → ℕ → List ℕ
-numbers first zero = []
-numbers first (suc n) = first ∷ numbers (suc first) n
+abbrev pub numbers_from : ℕ → ℕ → List ℕ
+numbers_from first zero = []
+numbers_from first (suc n) = first ∷ numbers_from (suc first) n
 
 -- the function is the node: inputs, then outputs, then locals have the numbers from 0 on
 pub record IsFunction (funcs : List Name) (n : NodeText) (f : Function) : Type 0 where
   pub name : f.name ≡ n.name
   pub decls : Along (IsDeclared (variables n)) (declarations n) f.decls
   pub n_in : f.n_in ≡ length n.ins
-  pub outs : f.outs ≡ numbers (length n.ins) (length n.outs)
-  pub eqs : Along (IsEquation (variables n) funcs) n.eqs f.eqs
+  pub outs : f.outs ≡ numbers_from (length n.ins) (length n.outs)
+  pub eqs : Along (IsNamedEquation (variables n) funcs) n.eqs f.eqs
 
 -- the name of the function that is run
 abbrev pub main : Name

@@ -25,9 +25,9 @@ abbrev pub if_among : List Name → Name → Option Name
 if_among names x = if among names x then Some x else None
 
 -- the first name of a list that is one of those before it
-abbrev pub repeated : List Name → List Name → Option Name
-repeated before [] = None
-repeated before (x ∷ xs) = if among before x then Some x else repeated (before ++ x ∷ []) xs
+abbrev pub repeated_name : List Name → List Name → Option Name
+repeated_name before [] = None
+repeated_name before (x ∷ xs) = if among before x then Some x else repeated_name (before ++ x ∷ []) xs
 
 -- what is found first along a list
 abbrev pub first_some : {A B : Type 0} → (A → Option B) → List A → Option B

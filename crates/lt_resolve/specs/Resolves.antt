@@ -7,23 +7,23 @@ use Rattle.lt_base.specs.Sizes.{cost}
 use Rattle.lt_syntax.specs.declared.tree.NodeText.{NodeText}
 use Rattle.lt_resolve.specs.declared.fault.NameFault.{NameFault}
 use Rattle.lt_resolve.specs.Named.{Named}
-use Rattle.lt_resolve.specs.Faults.{NoFault, IsFirstFault}
+use Rattle.lt_resolve.specs.Faults.{NoNameFault, IsFirstNameFault}
 
 -- a function within the limits: on its variables and delays, on its inputs and on its outputs
-pub record IsSmall (f : Function) : Type 0 where
+pub record IsSmallFunction (f : Function) : Type 0 where
   pub variables : length f.decls + sum_by (λ e. cost 1 (λ _. 0) e.1) f.eqs ≤ 4096
   pub inputs : f.n_in ≤ 64
   pub outputs : length f.outs ≤ 64
 
 -- the program of a tree without a fault
 pub record IsResolved (t : List NodeText) (p : WholeProgram) : Type 0 where
-  pub faultless : NoFault t
+  pub faultless : NoNameFault t
   pub named : Named t p
   pub checked : NamedProgram p
   pub functions : length p.funcs ≤ 64
-  pub small : All IsSmall p.funcs
+  pub small : All IsSmallFunction p.funcs
 
 -- the program of the tree where there is no fault, and else the first fault
 abbrev pub Resolves : List NodeText → Result WholeProgram NameFault → Type 0
 Resolves t (Ok p) = IsResolved t p
-Resolves t (Err f) = IsFirstFault t f
+Resolves t (Err f) = IsFirstNameFault t f

@@ -9,16 +9,16 @@ abbrev pub declarations : NodeText → List DeclText
 declarations n = n.ins ++ (n.outs ++ n.locals)
 
 -- the declared names
-abbrev pub names_of : List DeclText → List Name
-names_of ds = map (λ d. d.name) ds
+abbrev pub declared_names : List DeclText → List Name
+declared_names ds = map (λ d. d.name) ds
 
 -- the variables of a function
 abbrev pub variables : NodeText → List Name
-variables n = names_of (declarations n)
+variables n = declared_names (declarations n)
 
 -- the variables on the left of a function's equations
-abbrev pub lefts : NodeText → List Name
-lefts n = map (λ q. q.0) n.eqs
+abbrev pub left_names : NodeText → List Name
+left_names n = map (λ q. q.0) n.eqs
 
 -- the functions of a tree
 abbrev pub functions : List NodeText → List Name

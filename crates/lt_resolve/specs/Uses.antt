@@ -37,9 +37,9 @@ pub record Site : Type 0 where
   pub callee : Option ℕ
   pub arguments : ℕ
 
-abbrev pub count : Tms → ℕ
-count Nil = 0
-count (Cons a args) = 1 + count args
+abbrev pub term_count : Tms → ℕ
+term_count Nil = 0
+term_count (Cons a args) = 1 + term_count args
 
 -- the calls in a term
 abbrev mutual
@@ -54,7 +54,7 @@ abbrev mutual
   sites_in funcs i (Delayed v a) = sites_in funcs i a
   sites_in funcs i (Followed a b) = sites_in funcs i a ++ sites_in funcs i b
   sites_in funcs i (Arrow a b) = sites_in funcs i a ++ sites_in funcs i b
-  sites_in funcs i (Call f args) = record { caller = i; name = f; callee = number_of funcs f; arguments = count args } ∷ argument_sites funcs i args
+  sites_in funcs i (Call f args) = record { caller = i; name = f; callee = number_of funcs f; arguments = term_count args } ∷ argument_sites funcs i args
 
   pub argument_sites : List Name → ℕ → Tms → List Site
   argument_sites funcs i Nil = []

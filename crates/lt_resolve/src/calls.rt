@@ -8,12 +8,12 @@ ghost use Rattle.lt_graph.specs.Edges.{AreWithin};
 ghost use Rattle.lt_resolve.specs.Scopes.{functions};
 ghost use Rattle.lt_resolve.specs.Uses.{sites_in, argument_sites, equation_sites, edges};
 ghost use Rattle.lt_resolve.specs.Faults.{First, sites, wanted, answered};
-ghost use Rattle.lt_resolve.specs.Told.{Shows, Cleared, Passes};
+ghost use Rattle.lt_resolve.specs.Told.{ShowsFault, Cleared, ChecksPass};
 ghost use Rattle.lt_resolve.specs.Checks.{Locates, ShowsSite};
 
 use crate::fault::{NameFault, NameKind};
 use crate::names::Names;
-use crate::tables::{Tables, located};
+use crate::tables::{Tables, locate_fault};
 use lt_base::{List, Memory, Name, Or};
 use lt_graph::first_circular;
 use lt_syntax::{EqText, Term};
@@ -42,7 +42,7 @@ impl<'a> Call<'a> {
     fn fault(&self, alloc: Global, kind: NameKind) -> Or<NameFault>
         ensures { ShowsSite kind self.now result }
     {
-        located(alloc, kind, self.caller as usize, Or::Fault(self.name))
+        locate_fault(alloc, kind, self.caller as usize, Or::Fault(self.name))
     }
 }
 
@@ -136,7 +136,7 @@ fn collect_arguments<'a>(
 }
 
 /// How many arguments a call has to have.
-fn wanted(tables: &Tables, callee: Option<u32>) -> usize
+fn argument_count(tables: &Tables, callee: Option<u32>) -> usize
     ensures { result ≡ wanted tables.now callee }
 {
     match callee {
@@ -149,7 +149,7 @@ fn wanted(tables: &Tables, callee: Option<u32>) -> usize
 }
 
 /// How many outputs what is called has.
-fn answered(tables: &Tables, callee: Option<u32>) -> usize
+fn output_count(tables: &Tables, callee: Option<u32>) -> usize
     ensures { result ≡ answered tables.now callee }
 {
     match callee {
@@ -164,11 +164,11 @@ fn answered(tables: &Tables, callee: Option<u32>) -> usize
 /// Refuses the first call with a wrong number of arguments.
 fn right_counts(alloc: Global, tables: &Tables, calls: &[Call]) -> Result<(), Or<NameFault>>
     requires { calls.now ≡ sites tables.now }
-    ensures shown { Shows NameKind.WrongCount (First tables.now NameKind.WrongCount) result }
+    ensures shown { ShowsFault NameKind.WrongCount (First tables.now NameKind.WrongCount) result }
     ensures fine { First tables.now NameKind.WrongCount None → IsOk result }
 {
     'calls: for call in calls {
-        if call.arguments != wanted(tables, call.callee) {
+        if call.arguments != argument_count(tables, call.callee) {
             return Err(call.fault(alloc, NameKind::WrongCount));
         }
     }
@@ -178,11 +178,11 @@ fn right_counts(alloc: Global, tables: &Tables, calls: &[Call]) -> Result<(), Or
 /// Refuses the first call of a function with other than one output.
 fn one_output(alloc: Global, tables: &Tables, calls: &[Call]) -> Result<(), Or<NameFault>>
     requires { calls.now ≡ sites tables.now }
-    ensures shown { Shows NameKind.NotOneOutput (First tables.now NameKind.NotOneOutput) result }
+    ensures shown { ShowsFault NameKind.NotOneOutput (First tables.now NameKind.NotOneOutput) result }
     ensures fine { First tables.now NameKind.NotOneOutput None → IsOk result }
 {
     'calls: for call in calls {
-        if answered(tables, call.callee) != 1 {
+        if output_count(tables, call.callee) != 1 {
             return Err(call.fault(alloc, NameKind::NotOneOutput));
         }
     }
@@ -206,7 +206,7 @@ fn edges_of(alloc: Global, calls: &[Call]) -> Result<Vec<(u32, u32)>, Memory>
 fn no_recursion(alloc: Global, tables: &Tables, calls: &[Call]) -> Result<(), Or<NameFault>>
     requires calls { calls.now ≡ sites tables.now }
     requires within { AreWithin (length tables.now) (edges calls.now) }
-    ensures { Shows NameKind.Recursive (First tables.now NameKind.Recursive) result }
+    ensures { ShowsFault NameKind.Recursive (First tables.now NameKind.Recursive) result }
 {
     let edges = edges_of(alloc, calls)?;
     let scopes = tables.scopes();
@@ -215,7 +215,7 @@ fn no_recursion(alloc: Global, tables: &Tables, calls: &[Call]) -> Result<(), Or
         Some(place) => {
             let (caller, callee) = edges[place];
             let name = scopes[callee as usize].node().name.as_str();
-            Err(located(alloc, NameKind::Recursive, caller as usize, Or::Fault(name)))
+            Err(locate_fault(alloc, NameKind::Recursive, caller as usize, Or::Fault(name)))
         }
     }
 }
@@ -225,7 +225,7 @@ pub fn check_calls(alloc: Global, tables: &Tables, calls: &[Call]) -> Result<(),
     requires room { length tables.now < 2 ^ 32 }
     requires calls { calls.now ≡ sites tables.now }
     requires cleared { Cleared tables.now 2 6 }
-    ensures { Passes tables.now 2 9 result }
+    ensures { ChecksPass tables.now 2 9 result }
 {
     right_counts(alloc, tables, calls)?;
     one_output(alloc, tables, calls)?;

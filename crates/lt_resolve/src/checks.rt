@@ -1,14 +1,15 @@
 // The faults that are looked for in one function after another.
 ghost use Rattle.std.specs.Prelude.{◌≡◌, ◌<◌, ◌^◌, ◌-◌, None, IsOk, length, map};
 ghost use Rattle.lt_resolve.specs.Scopes.{functions};
-ghost use Rattle.lt_resolve.specs.Faults.{First, first_in, above, number, no_main, functions_limit};
-ghost use Rattle.lt_resolve.specs.Told.{NeedsNoMemory, Tells, Shows, Cleared, Passes};
+ghost use Rattle.lt_resolve.specs.Faults.{First, first_in, above, kind_number, no_main, functions_limit};
+ghost use Rattle.lt_resolve.specs.Told.{TellsName, ShowsFault, Cleared, ChecksPass};
+ghost use Rattle.lt_base.specs.Memory.{NeedsNoMemory};
 ghost use Rattle.lt_resolve.specs.Uses.{all_delays};
-ghost use Rattle.lt_resolve.specs.Checks.{found, kind_of, variables_limit, IsWhole, NeedsNoTable};
+ghost use Rattle.lt_resolve.specs.Checks.{found, check_kind, variables_limit, IsWhole, NeedsNoTable};
 
 use crate::fault::{NameFault, NameKind};
 use crate::scope::Scope;
-use crate::tables::{Tables, located};
+use crate::tables::{Tables, locate_fault};
 use lt_base::Or;
 use std::alloc::Global;
 
@@ -23,7 +24,7 @@ enum Check {
 }
 
 fn kind_of(check: Check) -> NameKind
-    ensures { result ≡ kind_of check }
+    ensures { result ≡ check_kind check }
 {
     match check {
         Check::NoEquation => NameKind::NoEquation,
@@ -35,7 +36,7 @@ fn kind_of(check: Check) -> NameKind
 
 /// Refuses a quantity above its limit, by its word.
 fn within<'a>(limit: u64, quantity: u64, word: &'a str) -> Result<(), Or<&'a str>>
-    ensures told { Tells (above limit quantity word.now) result }
+    ensures told { TellsName (above limit quantity word.now) result }
     ensures memory { NeedsNoMemory result }
 {
     if quantity > limit {
@@ -47,7 +48,7 @@ fn within<'a>(limit: u64, quantity: u64, word: &'a str) -> Result<(), Or<&'a str
 
 /// Refuses what the check finds in a function.
 fn check_one<'a>(alloc: Global, check: Check, scope: &Scope<'a>) -> Result<(), Or<&'a str>>
-    ensures told { Tells (found check scope.now) result }
+    ensures told { TellsName (found check scope.now) result }
     ensures memory { NeedsNoTable check → NeedsNoMemory result }
 {
     match check {
@@ -62,13 +63,13 @@ fn check_one<'a>(alloc: Global, check: Check, scope: &Scope<'a>) -> Result<(), O
 /// Refuses what the check finds first.
 fn check_all(alloc: Global, check: Check, tables: &Tables) -> Result<(), Or<NameFault>>
     requires { length tables.now < 2 ^ 32 }
-    ensures shown { Shows (kind_of check) (λ o. o ≡ first_in (λ _. found check) 0 tables.now) result }
+    ensures shown { ShowsFault (check_kind check) (λ o. o ≡ first_in (λ _. found check) 0 tables.now) result }
     ensures fine { NeedsNoTable check → first_in (λ _. found check) 0 tables.now ≡ None → IsOk result }
 {
     'scopes: for (i, scope) in tables.scopes().iter().enumerate() {
         match check_one(alloc, check, scope) {
             Ok(()) => {}
-            Err(error) => return Err(located(alloc, kind_of(check), i, error)),
+            Err(error) => return Err(locate_fault(alloc, kind_of(check), i, error)),
         }
     }
     Ok(())
@@ -78,8 +79,8 @@ fn check_all(alloc: Global, check: Check, tables: &Tables) -> Result<(), Or<Name
 fn pass(alloc: Global, check: Check, tables: &Tables) -> Result<(), Or<NameFault>>
     requires room { length tables.now < 2 ^ 32 }
     requires whole { IsWhole check }
-    requires cleared { Cleared tables.now 2 (number (kind_of check) - 1) }
-    ensures passes { Passes tables.now 2 (number (kind_of check)) result }
+    requires cleared { Cleared tables.now 2 (kind_number (check_kind check) - 1) }
+    ensures passes { ChecksPass tables.now 2 (kind_number (check_kind check)) result }
     ensures fine { NeedsNoTable check → first_in (λ _. found check) 0 tables.now ≡ None → IsOk result }
 {
     check_all(alloc, check, tables)
@@ -87,19 +88,19 @@ fn pass(alloc: Global, check: Check, tables: &Tables) -> Result<(), Or<NameFault
 
 /// Refuses a tree without a function `main`.
 fn has_main(alloc: Global, tables: &Tables) -> Result<(), Or<NameFault>>
-    ensures shown { Shows NameKind.NoMain (λ o. o ≡ no_main (functions tables.now)) result }
+    ensures shown { ShowsFault NameKind.NoMain (λ o. o ≡ no_main (functions tables.now)) result }
     ensures fine { no_main (functions tables.now) ≡ None → IsOk result }
 {
     match tables.functions().check("main") {
         Ok(()) => Ok(()),
-        Err(error) => Err(located(alloc, NameKind::NoMain, 0, error)),
+        Err(error) => Err(locate_fault(alloc, NameKind::NoMain, 0, error)),
     }
 }
 
 /// Refuses the first fault among those of single functions, and a tree without `main`.
 pub fn check_functions(alloc: Global, tables: &Tables) -> Result<(), Or<NameFault>>
     requires { length tables.now < 2 ^ 32 }
-    ensures { Passes tables.now 2 6 result }
+    ensures { ChecksPass tables.now 2 6 result }
 {
     pass(alloc, Check::NoEquation, tables)?;
     pass(alloc, Check::TwoEquations, tables)?;
@@ -108,12 +109,12 @@ pub fn check_functions(alloc: Global, tables: &Tables) -> Result<(), Or<NameFaul
 }
 
 fn few_functions(alloc: Global, tables: &Tables) -> Result<(), Or<NameFault>>
-    ensures shown { Shows NameKind.Limit (λ o. o ≡ functions_limit tables.now) result }
+    ensures shown { ShowsFault NameKind.Limit (λ o. o ≡ functions_limit tables.now) result }
     ensures fine { functions_limit tables.now ≡ None → IsOk result }
 {
     match within(64, tables.scopes().len() as u64, "functions") {
         Ok(()) => Ok(()),
-        Err(error) => Err(located(alloc, NameKind::Limit, 0, error)),
+        Err(error) => Err(locate_fault(alloc, NameKind::Limit, 0, error)),
     }
 }
 
@@ -121,13 +122,13 @@ fn few_functions(alloc: Global, tables: &Tables) -> Result<(), Or<NameFault>>
 fn few_variables(alloc: Global, tables: &Tables, delays: &[u64]) -> Result<(), Or<NameFault>>
     requires room { length tables.now < 2 ^ 32 }
     requires delays { delays.now ≡ map (λ n. all_delays n.eqs) tables.now }
-    ensures shown { Shows NameKind.Limit (λ o. o ≡ first_in (λ _. variables_limit) 0 tables.now) result }
+    ensures shown { ShowsFault NameKind.Limit (λ o. o ≡ first_in (λ _. variables_limit) 0 tables.now) result }
     ensures fine { first_in (λ _. variables_limit) 0 tables.now ≡ None → IsOk result }
 {
     'scopes: for (i, scope) in tables.scopes().iter().enumerate() {
         match within(4096, scope.size(delays[i]), "variables") {
             Ok(()) => {}
-            Err(error) => return Err(located(alloc, NameKind::Limit, i, error)),
+            Err(error) => return Err(locate_fault(alloc, NameKind::Limit, i, error)),
         }
     }
     Ok(())
@@ -138,7 +139,7 @@ pub fn check_limits(alloc: Global, tables: &Tables, delays: &[u64]) -> Result<()
     requires room { length tables.now < 2 ^ 32 }
     requires delays { delays.now ≡ map (λ n. all_delays n.eqs) tables.now }
     requires cleared { Cleared tables.now 2 9 }
-    ensures passes { Passes tables.now 2 10 result }
+    ensures passes { ChecksPass tables.now 2 10 result }
     ensures fine { First tables.now NameKind.Limit None → IsOk result }
 {
     few_functions(alloc, tables)?;

@@ -8,7 +8,8 @@ ghost use Rattle.lt_syntax.specs.Views.{tm_of};
 ghost use Rattle.lt_resolve.specs.Names.{if_missing};
 ghost use Rattle.lt_resolve.specs.Named.{operator_of};
 ghost use Rattle.lt_resolve.specs.Uses.{if_uncallable, unknown, unknown_argument};
-ghost use Rattle.lt_resolve.specs.Told.{NeedsNoMemory, Tells};
+ghost use Rattle.lt_resolve.specs.Told.{TellsName};
+ghost use Rattle.lt_base.specs.Memory.{NeedsNoMemory};
 ghost use Rattle.lt_resolve.specs.Known.{StandsFor, IsOperation, IsCalled, IsTranslated, AreTranslated};
 
 use crate::names::Names;
@@ -40,7 +41,7 @@ fn operator_of(name: &str) -> Option<Imp>
 
 /// The function of this name or, without one, the imported operator; refuses a name that is neither.
 fn callee_of<'t>(functions: &Names, name: &'t str) -> Result<Callee, Or<&'t str>>
-    ensures told { Tells (if_uncallable functions.now name.now) result }
+    ensures told { TellsName (if_uncallable functions.now name.now) result }
     ensures memory { NeedsNoMemory result }
     ensures found { IfOk result (StandsFor functions.now name.now) }
 {
@@ -70,7 +71,7 @@ fn operation(alloc: Global, operator: Imp, mut args: Vec<Expr>) -> Result<Expr, 
 
 /// What is called, with its arguments.
 fn call<'t>(alloc: Global, callee: Callee, args: Vec<Expr>) -> Result<Expr, Or<&'t str>>
-    ensures told { Tells None result }
+    ensures told { TellsName None result }
     ensures called { IfOk result (λ e. IsCalled callee (vec_len args) (arguments_of (map shape args.items)) (shape e)) }
 {
     match callee {
@@ -81,7 +82,7 @@ fn call<'t>(alloc: Global, callee: Callee, args: Vec<Expr>) -> Result<Expr, Or<&
 
 /// A variable by its number; refuses a name that is not declared.
 fn variable<'t>(variables: &Names, name: &'t Name) -> Result<Expr, Or<&'t str>>
-    ensures told { Tells (if_missing variables.now name.now) result }
+    ensures told { TellsName (if_missing variables.now name.now) result }
     ensures named { IfOk result (λ e. (functions : List (List ℕ)) → IsTranslated variables.now functions (tree.Var name.now) (shape e)) }
 {
     Ok(Expr::Var(variables.find(name.as_str())?))
@@ -89,7 +90,7 @@ fn variable<'t>(variables: &Names, name: &'t Name) -> Result<Expr, Or<&'t str>>
 
 /// The expression that was made, in a box.
 fn in_box<'t>(alloc: Global, made: Result<Expr, Or<&'t str>>) -> Result<Box<Expr>, Or<&'t str>>
-    ensures told { (unknown : Option (List ℕ)) → Tells unknown made.entry → Tells unknown result }
+    ensures told { (unknown : Option (List ℕ)) → TellsName unknown made.entry → TellsName unknown result }
     ensures boxed { IfOk result (λ e. made.entry ≡ Ok e.value) }
 {
     match made {
@@ -107,7 +108,7 @@ pub fn expression<'t>(
     functions: &Names,
     term: &'t Term,
 ) -> Result<Expr, Or<&'t str>>
-    ensures told { Tells (unknown variables.now functions.now (tm_of term.now)) result }
+    ensures told { TellsName (unknown variables.now functions.now (tm_of term.now)) result }
     ensures named { IfOk result (λ e. IsTranslated variables.now functions.now (tm_of term.now) (shape e)) }
 {
     match term {
@@ -116,24 +117,24 @@ pub fn expression<'t>(
         Term::Un(o, a) => unary(alloc, variables, functions, *o, a),
         Term::Bin(o, a, b) => binary(alloc, variables, functions, *o, a, b),
         Term::If(c, a, b) => choice(alloc, variables, functions, c, a, b),
-        Term::When(a, c, polarity) => sampled(alloc, variables, functions, a, c, *polarity),
-        Term::Merge(c, a, b) => merged(alloc, variables, functions, c, a, b),
-        Term::Fby(v, a) => delayed(alloc, variables, functions, *v, a),
-        Term::Follow(a, b) => followed(alloc, variables, functions, a, b),
+        Term::When(a, c, polarity) => sample_of(alloc, variables, functions, a, c, *polarity),
+        Term::Merge(c, a, b) => merge_of(alloc, variables, functions, c, a, b),
+        Term::Fby(v, a) => delay_of(alloc, variables, functions, *v, a),
+        Term::Follow(a, b) => follow_of(alloc, variables, functions, a, b),
         Term::Arrow(a, b) => arrow(alloc, variables, functions, a, b),
-        Term::Call(f, args) => called(alloc, variables, functions, f, args),
+        Term::Call(f, args) => call_of(alloc, variables, functions, f, args),
     }
 }
 
 /// The same in a box.
 #[cycle(expression)]
-fn boxed<'t>(
+fn box_expression<'t>(
     alloc: Global,
     variables: &Names,
     functions: &Names,
     term: &'t Term,
 ) -> Result<Box<Expr>, Or<&'t str>>
-    ensures told { Tells (unknown variables.now functions.now (tm_of term.now)) result }
+    ensures told { TellsName (unknown variables.now functions.now (tm_of term.now)) result }
     ensures named { IfOk result (λ e. IsTranslated variables.now functions.now (tm_of term.now) (shape e.value)) }
 {
     in_box(alloc, expression(alloc, variables, functions, term))
@@ -149,11 +150,11 @@ fn operands<'t>(
     a: &'t Term,
     b: &'t Term,
 ) -> Result<(Box<Expr>, Box<Expr>), Or<&'t str>>
-    ensures told { Tells (option_or (unknown variables.now functions.now (tm_of a.now)) (unknown variables.now functions.now (tm_of b.now))) result }
+    ensures told { TellsName (option_or (unknown variables.now functions.now (tm_of a.now)) (unknown variables.now functions.now (tm_of b.now))) result }
     ensures named { IfOk result (λ p. IsTranslated variables.now functions.now (tm_of a.now) (shape p.0.value) × IsTranslated variables.now functions.now (tm_of b.now) (shape p.1.value)) }
 {
-    let a = boxed(alloc, variables, functions, a)?;
-    let b = boxed(alloc, variables, functions, b)?;
+    let a = box_expression(alloc, variables, functions, a)?;
+    let b = box_expression(alloc, variables, functions, b)?;
     Ok((a, b))
 }
 
@@ -166,10 +167,10 @@ fn unary<'t>(
     o: Un,
     a: &'t Term,
 ) -> Result<Expr, Or<&'t str>>
-    ensures told { Tells (unknown variables.now functions.now (tree.Unary o (tm_of a.now))) result }
+    ensures told { TellsName (unknown variables.now functions.now (tree.Unary o (tm_of a.now))) result }
     ensures named { IfOk result (λ e. IsTranslated variables.now functions.now (tree.Unary o (tm_of a.now)) (shape e)) }
 {
-    match boxed(alloc, variables, functions, a) {
+    match box_expression(alloc, variables, functions, a) {
         Ok(a) => Ok(Expr::Un(o, a)),
         Err(error) => Err(error),
     }
@@ -185,7 +186,7 @@ fn binary<'t>(
     a: &'t Term,
     b: &'t Term,
 ) -> Result<Expr, Or<&'t str>>
-    ensures told { Tells (unknown variables.now functions.now (tree.Binary o (tm_of a.now) (tm_of b.now))) result }
+    ensures told { TellsName (unknown variables.now functions.now (tree.Binary o (tm_of a.now) (tm_of b.now))) result }
     ensures named { IfOk result (λ e. IsTranslated variables.now functions.now (tree.Binary o (tm_of a.now) (tm_of b.now)) (shape e)) }
 {
     match operands(alloc, variables, functions, a, b) {
@@ -204,10 +205,10 @@ fn choice<'t>(
     a: &'t Term,
     b: &'t Term,
 ) -> Result<Expr, Or<&'t str>>
-    ensures told { Tells (unknown variables.now functions.now (tree.Choice (tm_of c.now) (tm_of a.now) (tm_of b.now))) result }
+    ensures told { TellsName (unknown variables.now functions.now (tree.Choice (tm_of c.now) (tm_of a.now) (tm_of b.now))) result }
     ensures named { IfOk result (λ e. IsTranslated variables.now functions.now (tree.Choice (tm_of c.now) (tm_of a.now) (tm_of b.now)) (shape e)) }
 {
-    let c = boxed(alloc, variables, functions, c)?;
+    let c = box_expression(alloc, variables, functions, c)?;
     match operands(alloc, variables, functions, a, b) {
         Ok((a, b)) => Ok(Expr::If(c, a, b)),
         Err(error) => Err(error),
@@ -216,7 +217,7 @@ fn choice<'t>(
 
 /// An operand where a variable has this value.
 #[cycle(expression)]
-fn sampled<'t>(
+fn sample_of<'t>(
     alloc: Global,
     variables: &Names,
     functions: &Names,
@@ -224,17 +225,17 @@ fn sampled<'t>(
     c: &'t Name,
     polarity: bool,
 ) -> Result<Expr, Or<&'t str>>
-    ensures told { Tells (unknown variables.now functions.now (tree.Sampled (tm_of a.now) c.now polarity)) result }
+    ensures told { TellsName (unknown variables.now functions.now (tree.Sampled (tm_of a.now) c.now polarity)) result }
     ensures named { IfOk result (λ e. IsTranslated variables.now functions.now (tree.Sampled (tm_of a.now) c.now polarity) (shape e)) }
 {
-    let a = boxed(alloc, variables, functions, a)?;
+    let a = box_expression(alloc, variables, functions, a)?;
     let c = variables.find(c.as_str())?;
     Ok(Expr::When(a, c, polarity))
 }
 
 /// A merge of two branches by a variable.
 #[cycle(expression)]
-fn merged<'t>(
+fn merge_of<'t>(
     alloc: Global,
     variables: &Names,
     functions: &Names,
@@ -242,7 +243,7 @@ fn merged<'t>(
     a: &'t Term,
     b: &'t Term,
 ) -> Result<Expr, Or<&'t str>>
-    ensures told { Tells (unknown variables.now functions.now (tree.Merged c.now (tm_of a.now) (tm_of b.now))) result }
+    ensures told { TellsName (unknown variables.now functions.now (tree.Merged c.now (tm_of a.now) (tm_of b.now))) result }
     ensures named { IfOk result (λ e. IsTranslated variables.now functions.now (tree.Merged c.now (tm_of a.now) (tm_of b.now)) (shape e)) }
 {
     let c = variables.find(c.as_str())?;
@@ -254,17 +255,17 @@ fn merged<'t>(
 
 /// A delay that begins with a literal.
 #[cycle(expression)]
-fn delayed<'t>(
+fn delay_of<'t>(
     alloc: Global,
     variables: &Names,
     functions: &Names,
     v: Value,
     a: &'t Term,
 ) -> Result<Expr, Or<&'t str>>
-    ensures told { Tells (unknown variables.now functions.now (tree.Delayed v (tm_of a.now))) result }
+    ensures told { TellsName (unknown variables.now functions.now (tree.Delayed v (tm_of a.now))) result }
     ensures named { IfOk result (λ e. IsTranslated variables.now functions.now (tree.Delayed v (tm_of a.now)) (shape e)) }
 {
-    match boxed(alloc, variables, functions, a) {
+    match box_expression(alloc, variables, functions, a) {
         Ok(a) => Ok(Expr::Fby(v, a)),
         Err(error) => Err(error),
     }
@@ -272,14 +273,14 @@ fn delayed<'t>(
 
 /// A delay that begins with an expression.
 #[cycle(expression)]
-fn followed<'t>(
+fn follow_of<'t>(
     alloc: Global,
     variables: &Names,
     functions: &Names,
     a: &'t Term,
     b: &'t Term,
 ) -> Result<Expr, Or<&'t str>>
-    ensures told { Tells (unknown variables.now functions.now (tree.Followed (tm_of a.now) (tm_of b.now))) result }
+    ensures told { TellsName (unknown variables.now functions.now (tree.Followed (tm_of a.now) (tm_of b.now))) result }
     ensures named { IfOk result (λ e. IsTranslated variables.now functions.now (tree.Followed (tm_of a.now) (tm_of b.now)) (shape e)) }
 {
     match operands(alloc, variables, functions, a, b) {
@@ -297,7 +298,7 @@ fn arrow<'t>(
     a: &'t Term,
     b: &'t Term,
 ) -> Result<Expr, Or<&'t str>>
-    ensures told { Tells (unknown variables.now functions.now (tree.Arrow (tm_of a.now) (tm_of b.now))) result }
+    ensures told { TellsName (unknown variables.now functions.now (tree.Arrow (tm_of a.now) (tm_of b.now))) result }
     ensures named { IfOk result (λ e. IsTranslated variables.now functions.now (tree.Arrow (tm_of a.now) (tm_of b.now)) (shape e)) }
 {
     match operands(alloc, variables, functions, a, b) {
@@ -308,14 +309,14 @@ fn arrow<'t>(
 
 /// A call with its arguments; its name is looked up first.
 #[cycle(expression)]
-fn called<'t>(
+fn call_of<'t>(
     alloc: Global,
     variables: &Names,
     functions: &Names,
     name: &'t Name,
     args: &'t [Term],
 ) -> Result<Expr, Or<&'t str>>
-    ensures told { Tells (unknown variables.now functions.now (tree.Call name.now (tms (map tm_of args.now)))) result }
+    ensures told { TellsName (unknown variables.now functions.now (tree.Call name.now (tms (map tm_of args.now)))) result }
     ensures named { IfOk result (λ e. IsTranslated variables.now functions.now (tree.Call name.now (tms (map tm_of args.now))) (shape e)) }
 {
     let callee = callee_of(functions, name.as_str())?;
@@ -330,7 +331,7 @@ fn arguments<'t>(
     functions: &Names,
     args: &'t [Term],
 ) -> Result<Vec<Expr>, Or<&'t str>>
-    ensures told { Tells (unknown_argument variables.now functions.now (tms (map tm_of args.now))) result }
+    ensures told { TellsName (unknown_argument variables.now functions.now (tms (map tm_of args.now))) result }
     ensures len { IfOk result (λ es. vec_len es ≡ length args.now) }
     ensures named { IfOk result (λ es. AreTranslated variables.now functions.now (tms (map tm_of args.now)) (arguments_of (map shape es.items))) }
 {

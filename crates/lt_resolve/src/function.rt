@@ -3,9 +3,9 @@ ghost use Rattle.std.specs.Prelude.{◌≡◌, ◌++◌, ◌∷◌, [], ◌+◌,
 ghost use Rattle.lt_syntax.specs.declared.tree.DeclText.{DeclText as OneDecl};
 ghost use Rattle.lt_resolve.specs.Names.{first_some};
 ghost use Rattle.lt_resolve.specs.Faults.{unknown_clock, unknown_declared, unknown_equation, unknown_in};
-ghost use Rattle.lt_resolve.specs.Told.{Tells};
+ghost use Rattle.lt_resolve.specs.Told.{TellsName};
 ghost use Rattle.lt_base.specs.Program.{GoodFunction};
-ghost use Rattle.lt_resolve.specs.Named.{IsPair, IsDeclared, Along, numbers};
+ghost use Rattle.lt_resolve.specs.Named.{IsPair, IsDeclared, Along, numbers_from};
 ghost use Rattle.lt_resolve.specs.Drafts.{IsDraftEquation, IsDraft, completed};
 
 use crate::expression::expression;
@@ -20,7 +20,7 @@ fn clock<'t>(
     variables: &Names,
     pairs: &'t List<(Name, bool)>,
 ) -> Result<Clock, Or<&'t str>>
-    ensures told { Tells (unknown_clock variables.now pairs.now) result }
+    ensures told { TellsName (unknown_clock variables.now pairs.now) result }
     ensures named { IfOk result (λ clock. Along (IsPair variables.now) pairs.now (reverse clock)) }
 {
     let mut clock = Clock::base(alloc);
@@ -35,7 +35,7 @@ fn declaration<'t>(
     variables: &Names,
     decl: &'t DeclText,
 ) -> Result<Decl, Or<&'t str>>
-    ensures told { Tells (unknown_clock variables.now decl.now.clock) result }
+    ensures told { TellsName (unknown_clock variables.now decl.now.clock) result }
     ensures named { IfOk result (λ d. IsDeclared variables.now decl.now d) }
 {
     Ok(Decl {
@@ -52,7 +52,7 @@ fn declare<'t>(
     decls: &'t List<DeclText>,
     out: &mut Vec<Decl>,
 ) -> Result<(), Or<&'t str>>
-    ensures told { Tells (unknown_declared variables.now decls.now) result }
+    ensures told { TellsName (unknown_declared variables.now decls.now) result }
     ensures named { OnOk result ((before : List OneDecl) → Along (IsDeclared variables.now) before out.old.items → Along (IsDeclared variables.now) (before ++ decls.now) out.new.items) }
 {
     'decls: for decl in decls.as_slice() {
@@ -67,7 +67,7 @@ pub fn equation<'t>(
     functions: &Names,
     eq: &'t EqText,
 ) -> Result<Equation, Or<&'t str>>
-    ensures told { Tells (unknown_equation variables.now functions.now eq.now) result }
+    ensures told { TellsName (unknown_equation variables.now functions.now eq.now) result }
     ensures named { IfOk result (λ e. IsDraftEquation variables.now functions.now eq.now e) }
 {
     let left = variables.find(eq.left().as_str())?;
@@ -81,7 +81,7 @@ fn equations<'t>(
     functions: &Names,
     eqs: &'t List<EqText>,
 ) -> Result<Vec<Equation>, Or<&'t str>>
-    ensures told { Tells (first_some (unknown_equation variables.now functions.now) eqs.now) result }
+    ensures told { TellsName (first_some (unknown_equation variables.now functions.now) eqs.now) result }
     ensures named { IfOk result (λ list. Along (IsDraftEquation variables.now functions.now) eqs.now list.items) }
 {
     let mut list = Vec::with_capacity(alloc, eqs.len())?;
@@ -105,7 +105,7 @@ pub fn draft_of<'a>(
     functions: &Names,
     scope: &Scope<'a>,
 ) -> Result<Draft<'a>, Or<&'a str>>
-    ensures told { Tells (unknown_in functions.now scope.now) result }
+    ensures told { TellsName (unknown_in functions.now scope.now) result }
     ensures node { IfOk result (λ d. d.node.now ≡ scope.now) }
     ensures draft { IfOk result (IsDraft functions.now) }
 {
@@ -126,7 +126,7 @@ pub fn draft_of<'a>(
 /// As many numbers, from the first on.
 fn count(alloc: Global, first: u32, n: u32) -> Result<Vec<u32>, Memory>
     requires { first + n < 2 ^ 32 }
-    ensures { IfOk result (λ list. list.items ≡ numbers first n) }
+    ensures { IfOk result (λ list. list.items ≡ numbers_from first n) }
 {
     let mut list = Vec::with_capacity(alloc, n as usize)?;
     'numbers: for i in 0..n {

@@ -1,7 +1,8 @@
 // Tables of names.
 ghost use Rattle.std.specs.Prelude.{◌≡◌, ◌++◌, ◌∷◌, ◌<◌, ◌-◌, ◌^◌, ◌↔◌, [], not, Some, IfOk, IsTrue, OnOk, if◌then◌else◌, length};
 ghost use Rattle.lt_resolve.specs.Names.{number_of, among, if_missing};
-ghost use Rattle.lt_resolve.specs.Told.{NeedsNoMemory, Tells};
+ghost use Rattle.lt_resolve.specs.Told.{TellsName};
+ghost use Rattle.lt_base.specs.Memory.{NeedsNoMemory};
 
 use indexmap::IndexSet;
 use lt_base::{Memory, Or};
@@ -73,7 +74,7 @@ impl<'a> Names<'a> {
 
     /// The number of a name; refuses a name that is not there.
     pub fn find<'t>(&self, name: &'t str) -> Result<u32, Or<&'t str>>
-        ensures told { Tells (if_missing self.now name.now) result }
+        ensures told { TellsName (if_missing self.now name.now) result }
         ensures memory { NeedsNoMemory result }
         ensures number { IfOk result (λ i. number_of self.now name.now ≡ Some i) }
     {
@@ -85,7 +86,7 @@ impl<'a> Names<'a> {
 
     /// Refuses a name that is not there.
     pub fn check<'t>(&self, name: &'t str) -> Result<(), Or<&'t str>>
-        ensures told { Tells (if_missing self.now name.now) result }
+        ensures told { TellsName (if_missing self.now name.now) result }
         ensures memory { NeedsNoMemory result }
     {
         if self.has(name) {

@@ -7,7 +7,7 @@ ghost use Rattle.lt_resolve.specs.Named.{main, Named};
 ghost use Rattle.lt_resolve.specs.Known.{HasNumber};
 ghost use Rattle.lt_resolve.specs.Drafts.{AreDrafts};
 ghost use Rattle.lt_resolve.specs.Faults.{First, NoOtherFault};
-ghost use Rattle.lt_resolve.specs.Told.{Cleared, Passes};
+ghost use Rattle.lt_resolve.specs.Told.{Cleared, ChecksPass};
 ghost use Rattle.lt_resolve.specs.Right.{IsRightTree};
 ghost use Rattle.lt_resolve.specs.Resolves.{Resolves};
 
@@ -48,7 +48,7 @@ fn program(alloc: Global, tables: &Tables, drafts: Vec<Draft>) -> Result<Program
 /// Refuses the first fault of the kinds that come behind unknown names.
 fn check_others(alloc: Global, tables: &Tables) -> Result<(), Or<NameFault>>
     requires { length tables.now < 2 ^ 32 }
-    ensures { Passes tables.now 2 10 result }
+    ensures { ChecksPass tables.now 2 10 result }
 {
     let uses = uses_of(alloc, tables)?;
     check_functions(alloc, tables)?;
@@ -91,7 +91,7 @@ pub fn resolve(alloc: Global, t: &Tree) -> Result<Program, Or<NameFault>>
     // The program where there is no fault, and else the first fault.
     ensures { MatchResult result (λ p. Resolves t.now (Ok p)) (λ e. ForFault e (λ f. Resolves t.now (Err f))) }
 {
-    t.kept();
+    t.invariant_holds();
     let tables = Tables::of(alloc, t)?;
     let program = program_of_tables(alloc, &tables);
     drop(tables);

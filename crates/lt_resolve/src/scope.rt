@@ -1,10 +1,11 @@
 // A function of the tree with the table of its variables.
 ghost use Rattle.std.specs.Prelude.{◌≡◌, ◌++◌, ◌∷◌, [], ◌^◌, ◌-◌, min, ℕ, List, IfOk, OnOk, length, map};
-ghost use Rattle.lt_resolve.specs.Names.{among, if_missing, if_among, repeated, first_some};
-ghost use Rattle.lt_resolve.specs.Scopes.{names_of, variables, lefts};
+ghost use Rattle.lt_resolve.specs.Names.{among, if_missing, if_among, repeated_name, first_some};
+ghost use Rattle.lt_resolve.specs.Scopes.{declared_names, variables, left_names};
 ghost use Rattle.lt_resolve.specs.Faults.{no_equation_in, two_equations_in, input_equation_in, size};
 ghost use Rattle.lt_resolve.specs.Uses.{all_delays};
-ghost use Rattle.lt_resolve.specs.Told.{NeedsNoMemory, Tells};
+ghost use Rattle.lt_resolve.specs.Told.{TellsName};
+ghost use Rattle.lt_base.specs.Memory.{NeedsNoMemory};
 
 use crate::names::Names;
 use lt_base::{List, Memory, Or};
@@ -36,8 +37,8 @@ impl<'a> Model for Scope<'a> {
 
 /// Appends declared names; refuses one that is there.
 fn declare<'a>(names: &mut Names<'a>, decls: &'a List<DeclText>) -> Result<(), Or<&'a str>>
-    ensures told { Tells (repeated names.old (names_of decls.now)) result }
-    ensures ok { OnOk result (names.new ≡ names.old ++ names_of decls.now) }
+    ensures told { TellsName (repeated_name names.old (declared_names decls.now)) result }
+    ensures ok { OnOk result (names.new ≡ names.old ++ declared_names decls.now) }
 {
     'decls: for decl in decls.as_slice() {
         let name = decl.name.as_str();
@@ -51,7 +52,7 @@ fn declare<'a>(names: &mut Names<'a>, decls: &'a List<DeclText>) -> Result<(), O
 /// Puts the variables of a function into a table without any names; refuses one that is there.
 fn declare_all<'a>(names: &mut Names<'a>, node: &'a NodeText) -> Result<(), Or<&'a str>>
     requires { names.old ≡ [] }
-    ensures told { Tells (repeated [] (variables node.now)) result }
+    ensures told { TellsName (repeated_name [] (variables node.now)) result }
     ensures ok { OnOk result (names.new ≡ variables node.now) }
 {
     declare(names, &node.ins)?;
@@ -62,7 +63,7 @@ fn declare_all<'a>(names: &mut Names<'a>, node: &'a NodeText) -> Result<(), Or<&
 
 /// Appends the left sides of equations; refuses one that is there.
 fn insert_lefts<'a>(names: &mut Names<'a>, eqs: &'a List<EqText>) -> Result<(), Or<&'a str>>
-    ensures { Tells (repeated names.old (map (λ q. q.0) eqs.now)) result }
+    ensures { TellsName (repeated_name names.old (map (λ q. q.0) eqs.now)) result }
 {
     'eqs: for eq in eqs.as_slice() {
         let name = eq.left().as_str();
@@ -86,7 +87,7 @@ fn table_of_lefts<'a>(alloc: Global, eqs: &'a List<EqText>) -> Result<Names<'a>,
 
 /// Refuses the first declared name that is not in the table.
 fn all_among<'t>(names: &Names, decls: &'t List<DeclText>) -> Result<(), Or<&'t str>>
-    ensures told { Tells (first_some (if_missing names.now) (names_of decls.now)) result }
+    ensures told { TellsName (first_some (if_missing names.now) (declared_names decls.now)) result }
     ensures memory { NeedsNoMemory result }
 {
     'decls: for decl in decls.as_slice() {
@@ -97,7 +98,7 @@ fn all_among<'t>(names: &Names, decls: &'t List<DeclText>) -> Result<(), Or<&'t 
 
 /// Refuses the first output or local of a function that is not in the table.
 fn others_among<'t>(names: &Names, node: &'t NodeText) -> Result<(), Or<&'t str>>
-    ensures { Tells (first_some (if_missing names.now) (names_of (node.now.outs ++ node.now.locals))) result }
+    ensures { TellsName (first_some (if_missing names.now) (declared_names (node.now.outs ++ node.now.locals))) result }
 {
     all_among(names, &node.outs)?;
     all_among(names, &node.locals)
@@ -106,7 +107,7 @@ fn others_among<'t>(names: &Names, node: &'t NodeText) -> Result<(), Or<&'t str>
 impl<'a> Scope<'a> {
     /// The function with its variables; refuses a variable that was declared before.
     pub fn of(alloc: Global, node: &'a NodeText) -> Result<Scope<'a>, Or<&'a str>>
-        ensures told { Tells (repeated [] (variables node.now)) result }
+        ensures told { TellsName (repeated_name [] (variables node.now)) result }
         ensures ok { IfOk result (λ s. s ≡ node.now) }
     {
         let many = node.ins.len().saturating_add(node.outs.len());
@@ -135,7 +136,7 @@ impl<'a> Scope<'a> {
 
     /// Refuses the first output or local without an equation.
     pub fn no_equation(&self, alloc: Global) -> Result<(), Or<&'a str>>
-        ensures { Tells (no_equation_in self.now) result }
+        ensures { TellsName (no_equation_in self.now) result }
     {
         let lefts = table_of_lefts(alloc, &self.node.eqs)?;
         let told = others_among(&lefts, self.node);
@@ -145,7 +146,7 @@ impl<'a> Scope<'a> {
 
     /// Refuses the first second equation of a variable.
     pub fn two_equations(&self, alloc: Global) -> Result<(), Or<&'a str>>
-        ensures { Tells (two_equations_in self.now) result }
+        ensures { TellsName (two_equations_in self.now) result }
     {
         let mut names = Names::with_capacity(alloc, self.node.eqs.len())?;
         let told = insert_lefts(&mut names, &self.node.eqs);
@@ -154,7 +155,7 @@ impl<'a> Scope<'a> {
     }
 
     fn is_input(&self, name: &str) -> bool
-        ensures { result ≡ among (names_of self.now.ins) name.now }
+        ensures { result ≡ among (declared_names self.now.ins) name.now }
     {
         match self.variables.number(name) {
             Some(i) => (i as usize) < self.node.ins.len(),
@@ -164,7 +165,7 @@ impl<'a> Scope<'a> {
 
     /// Refuses the first equation of an input.
     pub fn input_equation(&self) -> Result<(), Or<&'a str>>
-        ensures told { Tells (input_equation_in self.now) result }
+        ensures told { TellsName (input_equation_in self.now) result }
         ensures memory { NeedsNoMemory result }
     {
         'eqs: for eq in self.node.eqs.as_slice() {

@@ -1,11 +1,11 @@
 // The functions of a tree with the tables of their names.
 ghost use Rattle.std.specs.Prelude.{◌≡◌, ◌++◌, ◌∷◌, [], ◌<◌, ◌^◌, IfOk, OnOk, length};
 ghost use Rattle.std.specs.Option.{option_or};
-ghost use Rattle.lt_resolve.specs.Names.{if_among, repeated};
+ghost use Rattle.lt_resolve.specs.Names.{if_among, repeated_name};
 ghost use Rattle.lt_resolve.specs.Scopes as names;
 ghost use Rattle.lt_resolve.specs.Scopes.{variables, functions};
 ghost use Rattle.lt_resolve.specs.Faults.{First};
-ghost use Rattle.lt_resolve.specs.Told.{Tells, Shows};
+ghost use Rattle.lt_resolve.specs.Told.{TellsName, ShowsFault};
 ghost use Rattle.lt_resolve.specs.Checks.{Locates};
 
 use crate::fault::{NameFault, NameKind};
@@ -40,7 +40,12 @@ impl<'a> Model for Tables<'a> {
 }
 
 /// The fault of this kind at a name that stands in the function of this number.
-pub fn located(alloc: Global, kind: NameKind, function: usize, error: Or<&str>) -> Or<NameFault>
+pub fn locate_fault(
+    alloc: Global,
+    kind: NameKind,
+    function: usize,
+    error: Or<&str>,
+) -> Or<NameFault>
     requires { function < 2 ^ 32 }
     ensures { Locates kind function error.entry result }
 {
@@ -64,7 +69,7 @@ fn next<'a>(
     functions: &mut Names<'a>,
     node: &'a NodeText,
 ) -> Result<Scope<'a>, Or<&'a str>>
-    ensures told { Tells (option_or (if_among functions.old node.now.name) (repeated [] (variables node.now))) result }
+    ensures told { TellsName (option_or (if_among functions.old node.now.name) (repeated_name [] (variables node.now))) result }
     ensures scope { IfOk result (λ s. s ≡ node.now) }
     ensures names { OnOk result (functions.new ≡ functions.old ++ node.now.name ∷ []) }
 {
@@ -84,7 +89,7 @@ fn scopes_of<'a>(
 ) -> Result<Vec<Scope<'a>>, Or<NameFault>>
     requires room { length nodes.now < 2 ^ 32 }
     requires none { functions.old ≡ [] }
-    ensures shown { Shows NameKind.Twice (First nodes.now NameKind.Twice) result }
+    ensures shown { ShowsFault NameKind.Twice (First nodes.now NameKind.Twice) result }
     ensures scopes { IfOk result (λ scopes. scopes.items ≡ nodes.now) }
     ensures names { OnOk result (functions.new ≡ names.functions nodes.now) }
 {
@@ -92,7 +97,7 @@ fn scopes_of<'a>(
     'nodes: for (i, node) in nodes.iter().enumerate() {
         match next(alloc, functions, node) {
             Ok(scope) => scopes.push(scope)?,
-            Err(error) => return Err(located(alloc, NameKind::Twice, i, error)),
+            Err(error) => return Err(locate_fault(alloc, NameKind::Twice, i, error)),
         }
     }
     Ok(scopes)
@@ -102,7 +107,7 @@ impl<'a> Tables<'a> {
     /// The tables of a tree; refuses a second function, or a second variable of a function, of one name.
     pub fn of(alloc: Global, t: &'a Tree) -> Result<Tables<'a>, Or<NameFault>>
         requires { length t.now < 2 ^ 32 }
-        ensures shown { Shows NameKind.Twice (First t.now NameKind.Twice) result }
+        ensures shown { ShowsFault NameKind.Twice (First t.now NameKind.Twice) result }
         ensures tree { IfOk result (λ tables. tables ≡ t.now) }
     {
         let nodes = t.nodes.as_slice();

@@ -5,14 +5,14 @@ ghost use Rattle.std.specs.List.{All};
 ghost use Rattle.std.specs.Option.{option_map};
 ghost use Rattle.lt_base.specs.Or.{ForFault};
 ghost use Rattle.lt_syntax.specs.Program.{IsSpelled};
-ghost use Rattle.lt_resolve.specs.Names.{repeated, first_some};
+ghost use Rattle.lt_resolve.specs.Names.{repeated_name, first_some};
 ghost use Rattle.lt_resolve.specs.Scopes as scopes;
 ghost use Rattle.lt_resolve.specs.Scopes.{variables, functions};
 ghost use Rattle.lt_resolve.specs.Named.{Along, IsFunction};
 ghost use Rattle.lt_resolve.specs.Drafts.{IsDraft, IsDraftEquation};
-ghost use Rattle.lt_resolve.specs.Right.{IsRight};
+ghost use Rattle.lt_resolve.specs.Right.{NodeIsRight};
 ghost use Rattle.lt_resolve.specs.Faults.{First, NoOtherFault, first_in, unknown_equation, unknown_in};
-ghost use Rattle.lt_resolve.specs.Told.{Shows};
+ghost use Rattle.lt_resolve.specs.Told.{ShowsFault};
 ghost use Rattle.lt_resolve.specs.Resolves.{Resolves};
 
 use crate::fault::{NameFault, NameKind};
@@ -20,7 +20,7 @@ use crate::function::{Draft, draft_of, equation};
 use crate::names::Names;
 use crate::program::main_of;
 use crate::scope::Scope;
-use crate::tables::located;
+use crate::tables::locate_fault;
 use lt_base::{Equation, Func, List, Memory, Name, Or, Program};
 use lt_syntax::{EqText, NodeText, Tree};
 use std::alloc::Global;
@@ -49,7 +49,7 @@ fn function_names(alloc: Global, t: &Tree) -> Result<List<Name>, Memory>
 /// Puts names of which none comes twice into a table without any.
 fn insert_all<'a>(table: &mut Names<'a>, names: &'a List<Name>) -> Result<(), Memory>
     requires none { table.old ≡ [] }
-    requires apart { repeated [] names.now ≡ None }
+    requires apart { repeated_name [] names.now ≡ None }
     ensures { OnOk result (table.new ≡ names.now) }
 {
     'names: for name in names.as_slice() {
@@ -60,7 +60,7 @@ fn insert_all<'a>(table: &mut Names<'a>, names: &'a List<Name>) -> Result<(), Me
 
 /// The table of names of which none comes twice.
 fn table_of<'a>(alloc: Global, names: &'a List<Name>) -> Result<Names<'a>, Memory>
-    requires { repeated [] names.now ≡ None }
+    requires { repeated_name [] names.now ≡ None }
     ensures { IfOk result (λ table. table ≡ names.now) }
 {
     let mut table = Names::with_capacity(alloc, names.len())?;
@@ -82,12 +82,12 @@ fn located_equation(
     eq: &EqText,
 ) -> Result<Equation, Or<NameFault>>
     requires { place < 2 ^ 32 }
-    ensures shown { Shows NameKind.Unknown (λ o. o ≡ option_map (λ x. (place, x)) (unknown_equation variables.now functions.now eq.now)) result }
+    ensures shown { ShowsFault NameKind.Unknown (λ o. o ≡ option_map (λ x. (place, x)) (unknown_equation variables.now functions.now eq.now)) result }
     ensures named { IfOk result (λ e. IsDraftEquation variables.now functions.now eq.now e) }
 {
     match equation(alloc, variables, functions, eq) {
         Ok(named) => Ok(named),
-        Err(error) => Err(located(alloc, NameKind::Unknown, place, error)),
+        Err(error) => Err(locate_fault(alloc, NameKind::Unknown, place, error)),
     }
 }
 
@@ -100,7 +100,7 @@ fn taken_equation(
     eq: EqText,
 ) -> Result<Equation, Or<NameFault>>
     requires { place < 2 ^ 32 }
-    ensures shown { Shows NameKind.Unknown (λ o. o ≡ option_map (λ x. (place, x)) (unknown_equation variables.now functions.now eq)) result }
+    ensures shown { ShowsFault NameKind.Unknown (λ o. o ≡ option_map (λ x. (place, x)) (unknown_equation variables.now functions.now eq)) result }
     ensures named { IfOk result (λ e. IsDraftEquation variables.now functions.now eq e) }
 {
     let named = located_equation(alloc, variables, functions, place, &eq);
@@ -117,7 +117,7 @@ fn taken_equations(
     eqs: Vec<EqText>,
 ) -> Result<Vec<Equation>, Or<NameFault>>
     requires { place < 2 ^ 32 }
-    ensures shown { Shows NameKind.Unknown (λ o. o ≡ option_map (λ x. (place, x)) (first_some (unknown_equation variables.now functions.now) eqs.items)) result }
+    ensures shown { ShowsFault NameKind.Unknown (λ o. o ≡ option_map (λ x. (place, x)) (first_some (unknown_equation variables.now functions.now) eqs.items)) result }
     ensures named { IfOk result (λ list. Along (IsDraftEquation variables.now functions.now) eqs.items list.items) }
 {
     let mut list = Vec::with_capacity(alloc, eqs.len())?;
@@ -129,7 +129,7 @@ fn taken_equations(
 
 /// A function, of which no variable is declared twice, with the table of its variables.
 fn scope_of<'a>(alloc: Global, head: &'a NodeText) -> Result<Scope<'a>, Memory>
-    requires { repeated [] (variables head.now) ≡ None }
+    requires { repeated_name [] (variables head.now) ≡ None }
     ensures { IfOk result (λ s. s ≡ head.now) }
 {
     match Scope::of(alloc, head) {
@@ -147,13 +147,13 @@ fn located_draft<'a>(
     scope: &Scope<'a>,
 ) -> Result<Draft<'a>, Or<NameFault>>
     requires { place < 2 ^ 32 }
-    ensures shown { Shows NameKind.Unknown (λ o. o ≡ option_map (λ x. (place, x)) (unknown_in functions.now scope.now)) result }
+    ensures shown { ShowsFault NameKind.Unknown (λ o. o ≡ option_map (λ x. (place, x)) (unknown_in functions.now scope.now)) result }
     ensures node { IfOk result (λ d. d.node.now ≡ scope.now) }
     ensures draft { IfOk result (IsDraft functions.now) }
 {
     match draft_of(alloc, functions, scope) {
         Ok(draft) => Ok(draft),
-        Err(error) => Err(located(alloc, NameKind::Unknown, place, error)),
+        Err(error) => Err(locate_fault(alloc, NameKind::Unknown, place, error)),
     }
 }
 
@@ -171,8 +171,8 @@ fn drafted_function<'a>(
     requires known { unknown_in functions.now scope.now ≡ None }
     requires node { draft.node.now ≡ scope.now }
     requires draft { IsDraft functions.now draft }
-    requires right { let node = record scope.now { eqs = eqs.items } in unknown_in functions.now node ≡ None → IsRight functions.now node }
-    ensures shown { Shows NameKind.Unknown (λ o. o ≡ option_map (λ x. (place, x)) (unknown_in functions.now (record scope.now { eqs = eqs.items }))) result }
+    requires right { let node = record scope.now { eqs = eqs.items } in unknown_in functions.now node ≡ None → NodeIsRight functions.now node }
+    ensures shown { ShowsFault NameKind.Unknown (λ o. o ≡ option_map (λ x. (place, x)) (unknown_in functions.now (record scope.now { eqs = eqs.items }))) result }
     ensures function { IfOk result (IsFunction functions.now (record scope.now { eqs = eqs.items })) }
 {
     let taken = taken_equations(alloc, scope.variables(), functions, place, eqs)?;
@@ -189,8 +189,8 @@ fn scoped_function(
 ) -> Result<Func, Or<NameFault>>
     requires place { place < 2 ^ 32 }
     requires none { scope.now.eqs ≡ [] }
-    requires right { let node = record scope.now { eqs = eqs.items } in unknown_in functions.now node ≡ None → IsRight functions.now node }
-    ensures shown { Shows NameKind.Unknown (λ o. o ≡ option_map (λ x. (place, x)) (unknown_in functions.now (record scope.now { eqs = eqs.items }))) result }
+    requires right { let node = record scope.now { eqs = eqs.items } in unknown_in functions.now node ≡ None → NodeIsRight functions.now node }
+    ensures shown { ShowsFault NameKind.Unknown (λ o. o ≡ option_map (λ x. (place, x)) (unknown_in functions.now (record scope.now { eqs = eqs.items }))) result }
     ensures function { IfOk result (IsFunction functions.now (record scope.now { eqs = eqs.items })) }
 {
     let draft = located_draft(alloc, functions, place, scope)?;
@@ -207,9 +207,9 @@ fn function_with(
 ) -> Result<Func, Or<NameFault>>
     requires place { place < 2 ^ 32 }
     requires none { head.now.eqs ≡ [] }
-    requires apart { repeated [] (variables head.now) ≡ None }
-    requires right { let node = record head.now { eqs = eqs.items } in unknown_in functions.now node ≡ None → IsRight functions.now node }
-    ensures shown { Shows NameKind.Unknown (λ o. o ≡ option_map (λ x. (place, x)) (unknown_in functions.now (record head.now { eqs = eqs.items }))) result }
+    requires apart { repeated_name [] (variables head.now) ≡ None }
+    requires right { let node = record head.now { eqs = eqs.items } in unknown_in functions.now node ≡ None → NodeIsRight functions.now node }
+    ensures shown { ShowsFault NameKind.Unknown (λ o. o ≡ option_map (λ x. (place, x)) (unknown_in functions.now (record head.now { eqs = eqs.items }))) result }
     ensures function { IfOk result (IsFunction functions.now (record head.now { eqs = eqs.items })) }
 {
     let scope = scope_of(alloc, head)?;
@@ -226,9 +226,9 @@ fn taken_function(
     node: NodeText,
 ) -> Result<Func, Or<NameFault>>
     requires place { place < 2 ^ 32 }
-    requires apart { repeated [] (variables node) ≡ None }
-    requires right { unknown_in functions.now node ≡ None → IsRight functions.now node }
-    ensures shown { Shows NameKind.Unknown (λ o. o ≡ option_map (λ x. (place, x)) (unknown_in functions.now node)) result }
+    requires apart { repeated_name [] (variables node) ≡ None }
+    requires right { unknown_in functions.now node ≡ None → NodeIsRight functions.now node }
+    ensures shown { ShowsFault NameKind.Unknown (λ o. o ≡ option_map (λ x. (place, x)) (unknown_in functions.now node)) result }
     ensures function { IfOk result (IsFunction functions.now node) }
 {
     let head = NodeText {
@@ -250,9 +250,9 @@ fn taken_functions(
     nodes: Vec<NodeText>,
 ) -> Result<Vec<Func>, Or<NameFault>>
     requires room { length nodes.items < 2 ^ 32 }
-    requires apart { All (λ n. repeated [] (variables n) ≡ None) nodes.items }
-    requires right { All (λ n. unknown_in functions.now n ≡ None → IsRight functions.now n) nodes.items }
-    ensures shown { Shows NameKind.Unknown (λ o. o ≡ first_in (λ _. unknown_in functions.now) 0 nodes.items) result }
+    requires apart { All (λ n. repeated_name [] (variables n) ≡ None) nodes.items }
+    requires right { All (λ n. unknown_in functions.now n ≡ None → NodeIsRight functions.now n) nodes.items }
+    ensures shown { ShowsFault NameKind.Unknown (λ o. o ≡ first_in (λ _. unknown_in functions.now) 0 nodes.items) result }
     ensures functions { IfOk result (λ fs. Along (IsFunction functions.now) nodes.items fs.items) }
 {
     let mut funcs = Vec::with_capacity(alloc, nodes.len())?;
@@ -304,7 +304,7 @@ pub fn taken_program(alloc: Global, t: Tree) -> Result<Program, Or<NameFault>>
     requires others { NoOtherFault t }
     ensures { MatchResult result (λ p. Resolves t (Ok p)) (λ e. ForFault e (λ f. Resolves t (Err f))) }
 {
-    t.kept();
+    t.invariant_holds();
     let names = function_names(alloc, &t)?;
     let program = named_program(alloc, &names, t.nodes.into_vec());
     drop(names);

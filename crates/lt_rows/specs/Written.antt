@@ -8,7 +8,7 @@ use Rattle.lt_arch.specs.Schedule.{IsEventOf}
 use Rattle.lt_arch.specs.Step.{time_of}
 use Rattle.lt_rows.specs.Limits.{longest_line, greatest_time}
 use Rattle.lt_rows.specs.Events.{time_in, node_name, ends_text}
-use Rattle.lt_rows.specs.Texts.{place_text}
+use Rattle.lt_rows.specs.Texts.{event_place_text}
 
 -- node n has this name
 pub record IsNodeOf (s : Shape) (name : List ℕ) (n : ℕ) : Type 0 where
@@ -33,4 +33,4 @@ pub record IsTimed (line : List ℕ) (time : ℕ) (rest : List ℕ) : Type 0 whe
 pub record IsWritten (s : Shape) (rest : List ℕ) (time : ℕ) (e : Event) : Type 0 where
   pub of_shape : IsEventOf s e
   pub time_is : time_of e ≡ time
-  pub rest_is : rest ≡ place_text s e
+  pub rest_is : rest ≡ event_place_text s e

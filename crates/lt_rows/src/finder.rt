@@ -10,7 +10,7 @@ pub(crate) trait Finder {
     /// The number of the node of this name.
     fn find_node(&self, shape: &Shape, name: &[u8]) -> Option<u32>
         requires { length shape.now.nodes < 2 ^ 32 }
-        ensures found { result ≡ events.node_named shape.now name.now }
+        ensures found { result ≡ events.named_node_number shape.now name.now }
         ensures placed { IfSome result (λ node. node < length shape.now.nodes) };
 
     /// The number of the channel of this kind that has these ends.

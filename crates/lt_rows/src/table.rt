@@ -12,7 +12,7 @@ use crate::places::{
 };
 use crate::print::print_event;
 use crate::read::read_by;
-use crate::written::{message, timed};
+use crate::written::{message, time_of_line};
 use lt_arch::{Chan, ChanKind, Event, Shape};
 use lt_base::{Memory, Name};
 use std::alloc::Global;
@@ -61,11 +61,11 @@ impl PlaceTable {
         };
         for seed in 0..TRIES {
             table.seed = seed;
-            if table.note_nodes(shape.nodes.as_slice()) {
+            if table.note_nodes(&shape.nodes) {
                 break;
             }
         }
-        table.note_channels(shape.channels.as_slice());
+        table.note_channels(&shape.channels);
         note_rows(alloc, &mut table.rows, shape)?;
         Ok(table)
     }
@@ -77,7 +77,7 @@ impl PlaceTable {
         ensures event { result ≡ events.event_of shape.now line.now }
         ensures of_shape { IfOk result (IsEventOf shape.now) }
     {
-        match self.written(line, shape) {
+        match self.event_of_line(line, shape) {
             Some(e) => Ok(e),
             None => read_by(self, line, shape),
         }
@@ -85,16 +85,16 @@ impl PlaceTable {
 
     // The event of a line that stands as it is written, where its place is guessed right.
     #[tactic(auto, using(crate::proofs::Found::written_reads))]
-    fn written(&self, line: &[u8], shape: &Shape) -> Option<Event>
+    fn event_of_line(&self, line: &[u8], shape: &Shape) -> Option<Event>
         ensures event { IfSome result (λ e. events.event_of shape.now line.now ≡ Ok e) }
         ensures of_shape { IfSome result (IsEventOf shape.now) }
     {
-        let (time, rest) = timed(line)?;
-        self.placed(shape, rest, time)
+        let (time, rest) = time_of_line(line)?;
+        self.event_at_place(shape, rest, time)
     }
 
     // The event of a kind and a place.
-    fn placed(&self, shape: &Shape, rest: &[u8], time: u64) -> Option<Event>
+    fn event_at_place(&self, shape: &Shape, rest: &[u8], time: u64) -> Option<Event>
         requires { time ≤ GREATEST_TIME }
         ensures { IfSome result (IsWritten shape.now rest.now time) }
     {
@@ -126,12 +126,12 @@ impl PlaceTable {
     fn note_nodes(&mut self, nodes: &[Name]) -> bool
         requires { length nodes.now < 2 ^ 32 }
     {
-        for node in 0..nodes.len() {
-            let slot = slot_of(self.seed, nodes[node].as_str().as_bytes());
+        for (node, name) in nodes.iter().enumerate() {
+            let slot = slot_of(self.seed, name.as_str().as_bytes());
             put(&mut self.nodes, slot, node as u32);
         }
-        for node in 0..nodes.len() {
-            if self.node_guess(nodes[node].as_str().as_bytes()) != node as u32 {
+        for (node, name) in nodes.iter().enumerate() {
+            if self.node_guess(name.as_str().as_bytes()) != node as u32 {
                 return false;
             }
         }
@@ -142,8 +142,7 @@ impl PlaceTable {
     fn note_channels(&mut self, channels: &[Chan])
         requires { length channels.now < 2 ^ 32 }
     {
-        for chan in 0..channels.len() {
-            let ends = channels[chan];
+        for (chan, ends) in channels.iter().enumerate() {
             let place = place_of(self.width, ends.from, ends.to);
             match ends.kind {
                 ChanKind::Data => put(&mut self.data, place, chan as u32),
@@ -234,11 +233,11 @@ fn note_rows(alloc: Global, rows: &mut Vec<u32>, shape: &Shape) -> Result<(), Me
 {
     for node in 0..shape.nodes.len() as u32 {
         let row = print_event(alloc, &Event::Act(node, 0), shape)?;
-        put(rows, mark(behind_time(row.as_slice())), node);
+        put(rows, mark(behind_time(&row)), node);
     }
     for chan in 0..shape.channels.len() as u32 {
         let row = print_event(alloc, &Event::Del(chan, 0), shape)?;
-        put(rows, mark(behind_time(row.as_slice())), chan);
+        put(rows, mark(behind_time(&row)), chan);
     }
     Ok(())
 }
@@ -246,7 +245,7 @@ fn note_rows(alloc: Global, rows: &mut Vec<u32>, shape: &Shape) -> Result<(), Me
 // What stands behind the time of a row that ends with its line feed.
 fn behind_time(row: &[u8]) -> &[u8] {
     match row {
-        [line @ .., _] => match timed(line) {
+        [line @ .., _] => match time_of_line(line) {
             Some((_, rest)) => rest,
             None => row,
         },

@@ -12,7 +12,7 @@ use crate::places::after;
 use lt_arch::{ChanKind, GREATEST_TIME};
 
 /// The time at the head of a line, and what stands behind its comma. A line of anything else may have none.
-pub fn timed(line: &[u8]) -> Option<(u64, &[u8])>
+pub fn time_of_line(line: &[u8]) -> Option<(u64, &[u8])>
     ensures { IfSome result (λ both. IsTimed line.now both.0 both.1.now) }
 {
     if line.len() > LONGEST_LINE {

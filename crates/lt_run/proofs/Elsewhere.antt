@@ -13,13 +13,13 @@ use Rattle.lt_front.specs.Examined.{ExaminedText}
 use Rattle.lt_front.specs.Front.{examine_verdict}
 use Rattle.lt_inputs.specs.Inputs.{inputs_of}
 use Rattle.lt_config.specs.declared.config.Config.{Config}
-use Rattle.lt_verdict.specs.Rules.{Exactly, Raised}
-use Rattle.lt_fit.specs.declared.fault.What.{What}
-use Rattle.lt_fit.specs.declared.fault.What.TheVariants.{ProgramBytes, ConfigBytes, InputsBytes, ObserverBytes, ScheduleBytes}
-use Rattle.lt_fit.specs.declared.fault.CommandFault.{CommandFault}
-use Rattle.lt_fit.specs.declared.fault.CommandFault.TheVariants as fault
-use Rattle.lt_fit.specs.Main.{main_in}
-use Rattle.lt_fit.specs.Fits.{fitting_verdict}
+use Rattle.lt_answer.specs.Rules.{Exactly, Raised}
+use Rattle.lt_load_fit.specs.declared.fault.What.{What}
+use Rattle.lt_load_fit.specs.declared.fault.What.TheVariants.{ProgramBytes, ConfigBytes, InputsBytes, ObserverBytes, ScheduleBytes}
+use Rattle.lt_load_fit.specs.declared.fault.CommandFault.{CommandFault}
+use Rattle.lt_load_fit.specs.declared.fault.CommandFault.TheVariants as fault
+use Rattle.lt_load_fit.specs.Main.{main_in}
+use Rattle.lt_load_fit.specs.Fits.{fitting_verdict}
 use Rattle.lt_load.specs.Blamed.{command_blame}
 use Rattle.lt_load.specs.Loaded.{setup_verdict, whole_verdict, program_verdict, config_verdict, inputs_verdict}
 use Rattle.lt_load.specs.Plan.{Loads, chosen_setup_verdict, fitting_plan_verdict, inputs_plan_verdict, load_verdict, setup_plan_verdict}
@@ -28,8 +28,8 @@ use Rattle.lt_load.proofs.Steps.{IsContent, content_then, content_raised}
 use Rattle.lt_run.specs.declared.fault.RunFault.{RunFault}
 use Rattle.lt_run.specs.declared.fault.RunFault.TheVariants as run
 use Rattle.lt_run.specs.Fault.{IsNearRun}
-use Rattle.lt_run.specs.Near.{IsNearCommand, IsNearFault, ReadNear}
-use Rattle.lt_run.specs.Run.{AsCommand, command_fault}
+use Rattle.lt_run.specs.Near.{IsNearCommand, IsNearCommandFault, ReadNear}
+use Rattle.lt_run.specs.Run.{AsCommand, run_command_fault}
 
 -- which faults are those of what was read, where a schedule's are set apart
 
@@ -55,7 +55,7 @@ of_fault (fault.Limit what) = of_limit what
 of_fault fault.Read = Content
 of_fault fault.Link = Content
 
-near_limit : (file : Option (List ℕ)) (place : ℕ) (what : What) → of_limit what ≡ Content → IsNearFault file place (fault.Limit what)
+near_limit : (file : Option (List ℕ)) (place : ℕ) (what : What) → of_limit what ≡ Content → IsNearCommandFault file place (fault.Limit what)
 near_limit file place ProgramBytes is = tt
 near_limit file place ConfigBytes is = tt
 near_limit file place InputsBytes is = tt
@@ -63,7 +63,7 @@ near_limit file place ObserverBytes is = tt
 near_limit file place ScheduleBytes is = absurd (cc)
 
 -- of the others nothing is said
-elsewhere : (file : Option (List ℕ)) (place : ℕ) (e : CommandFault) → of_fault e ≡ Content → IsNearFault file place e
+elsewhere : (file : Option (List ℕ)) (place : ℕ) (e : CommandFault) → of_fault e ≡ Content → IsNearCommandFault file place e
 elsewhere file place (fault.Program f) is = tt
 elsewhere file place (fault.Config f) is = tt
 elsewhere file place (fault.Place f main) is = tt
@@ -158,7 +158,7 @@ near_error file place e (Err f) is near = subst (IsNearCommand file place) (sym 
 
 -- a run's refusal
 
-near_fault : (s : Shape) (file : Option (List ℕ)) (place : ℕ) (f : RunFault) → IsNearRun file place (Fault f) → IsNearFault file place (command_fault s f)
+near_fault : (s : Shape) (file : Option (List ℕ)) (place : ℕ) (f : RunFault) → IsNearRun file place (Fault f) → IsNearCommandFault file place (run_command_fault s f)
 near_fault s file place (run.Row row f) near = near
 near_fault s file place (run.Offence event offence) near = near
 near_fault s file place (run.Lossy event offence) near = near
@@ -167,7 +167,7 @@ near_fault s file place run.Read near = tt
 near_fault s file place run.Link near = tt
 
 pub near_as_command : (s : Shape) (file : Option (List ℕ)) (place : ℕ) (e : Or RunFault) (g : Or CommandFault) → AsCommand s e g → IsNearRun file place e → IsNearCommand file place g
-near_as_command s file place (Fault f) (Fault g) is near = subst (IsNearFault file place) (sym is) (near_fault s file place f near)
+near_as_command s file place (Fault f) (Fault g) is near = subst (IsNearCommandFault file place) (sym is) (near_fault s file place f near)
 near_as_command s file place (Fault f) Memory is near = tt
 near_as_command s file place Memory (Fault g) is near = absurd is
 near_as_command s file place Memory Memory is near = tt
@@ -178,7 +178,7 @@ near_names n m name place r same near = subst (λ (names : List ℕ → Option (
 
 -- a run whose refusal is right and so far read
 
-by_read : (file : Option (List ℕ)) (place : ℕ) (e : CommandFault) → command_blame e ≡ Reading → IsNearFault file place e
+by_read : (file : Option (List ℕ)) (place : ℕ) (e : CommandFault) → command_blame e ≡ Reading → IsNearCommandFault file place e
 by_read file place (fault.Program f) is = absurd (cc)
 by_read file place (fault.Config f) is = absurd (cc)
 by_read file place (fault.Place f main) is = absurd (cc)

@@ -13,20 +13,20 @@ use Rattle.lt_arch.specs.declared.timing.Timing.{Timing}
 use Rattle.lt_io.specs.FilesState.{FilesState}
 use Rattle.lt_io.specs.FabricState.{FabricState, OpensOnce}
 use Rattle.lt_place.specs.declared.layout.Layout.{Layout}
-use Rattle.lt_config.specs.declared.pace.Pace.{Pace}
+use Rattle.lt_arch.specs.declared.pace.Pace.{Pace}
 use Rattle.lt_lead.specs.Paced.{IsShapeBy}
 use Rattle.lt_answer.specs.World.{Blames, alone, Content}
 use Rattle.lt_answer.specs.Answered.{Answered, AndThen}
 use Rattle.lt_answer.proofs.Stages.{beside, goes_on, opens_none, renamed, runs_short, stops, widened}
 use Rattle.lt_front.specs.Examined.{ExaminedText}
-use Rattle.lt_judge.specs.Errand.{schedule_errand}
-use Rattle.lt_replay.specs.Played.{world}
-use Rattle.lt_fit.specs.declared.fault.CommandFault.{CommandFault}
+use Rattle.lt_schedule.specs.Errand.{schedule_errand}
+use Rattle.lt_net_start.specs.Outside.{world}
+use Rattle.lt_load_fit.specs.declared.fault.CommandFault.{CommandFault}
 use Rattle.lt_load.specs.Errands.{load_errands}
 use Rattle.lt_load.specs.Blamed.{command_blame}
 use Rattle.lt_load.specs.Plan.{Plan, LoadedPlan, IsLoadedFrom, Loads, load_verdict}
 use Rattle.lt_load.proofs.Raising.{raised_value, raised_fault}
-use Rattle.lt_stream.specs.declared.outputs.Outputs.{Outputs}
+use Rattle.lt_evaluate.specs.declared.outputs.Outputs.{Outputs}
 use Rattle.lt_run.specs.declared.fault.RunFault.{RunFault}
 use Rattle.lt_run.specs.declared.fault.RunFault.TheVariants as run
 use Rattle.lt_run.specs.declared.printed.Printed.{Printed}
@@ -34,11 +34,12 @@ use Rattle.lt_run.specs.Errands.{run_errands}
 use Rattle.lt_run.specs.Fault.{run_blame}
 use Rattle.lt_run.specs.Kinds.{EventsBy}
 use Rattle.lt_run.specs.Near.{IsNearCommand}
-use Rattle.lt_run.specs.Printed.{HasPrinted, ReplayShows, ShowsAt, loaded_verdict}
-use Rattle.lt_run.specs.Run.{AsCommand, KeepsShape, HasOutputs, IsLaidOutBy, Shows, along_loaded, along_verdict, command_fault, placed_run_verdict, ordered_verdict}
+use Rattle.lt_run.specs.Printed.{HasPrinted, ReplayShows, ShowsAt, run_loaded_verdict}
+use Rattle.lt_run.specs.Run.{AsCommand, KeepsShape, HasOutputs, IsLaidOutBy, OutputsShow, along_loaded, run_along_verdict, run_command_fault, placed_run_verdict, ordered_verdict}
 use Rattle.lt_run.proofs.Replays.{answered_value, answered_fault}
+use Rattle.lt_machine.specs.declared.machine.Machine.{Ghosts as Machines}
 
-same_blame : (s : Shape) (e : RunFault) → command_blame (command_fault s e) ≡ run_blame e
+same_blame : (s : Shape) (e : RunFault) → command_blame (run_command_fault s e) ≡ run_blame e
 same_blame s (run.Row row f) = refl
 same_blame s (run.Offence event offence) = refl
 same_blame s (run.Lossy event offence) = refl
@@ -47,40 +48,40 @@ same_blame s run.Read = refl
 same_blame s run.Link = refl
 
 -- the outputs of what a replay answers show the same
-outputs_show : {M : Type 0} (stands : M → Function → List (List Value) → Type 0) (made : M → ℕ) (p : WholeProgram) (l : Layout) (s : Shape) (t : Timing) (pace : Pace) (inputs : List (List Value)) (fabric : FabricState) (printed : Printed M) (outputs : Outputs)
-    → outputs.names ≡ printed.names → outputs.cells ≡ printed.cells → (events : EventsBy pace) → ReplayShows stands made p l s t pace inputs fabric events printed → Shows p l s t pace inputs fabric events outputs
-outputs_show stands made p l s t pace inputs fabric printed outputs names cells events shown = record {
+outputs_show : {M : Type 0} (mch : Machines M) (p : WholeProgram) (l : Layout) (s : Shape) (t : Timing) (pace : Pace) (inputs : List (List Value)) (fabric : FabricState) (printed : Printed M) (outputs : Outputs)
+    → outputs.names ≡ printed.names → outputs.cells ≡ printed.cells → (events : EventsBy pace) → ReplayShows mch p l s t pace inputs fabric events printed → OutputsShow p l s t pace inputs fabric events outputs
+outputs_show mch p l s t pace inputs fabric printed outputs names cells events shown = record {
   horizon = printed.horizon;
   told =
       subst (λ (ns : List (List ℕ)). ShowsAt p l s t pace inputs fabric events ns outputs.cells printed.horizon) (sym names)
       (subst (λ (cs : List (List Cell)). ShowsAt p l s t pace inputs fabric events printed.names cs printed.horizon) (sym cells) shown.shows);
 }
 
-module _ {M : Type 0} (stands : M → Function → List (List Value) → Type 0) (made : M → ℕ) (k : LoadedPlan) (name : List ℕ) (files files' : FilesState) (fabric fabric' : FabricState) where
+module _ {M : Type 0} (mch : Machines M) (k : LoadedPlan) (name : List ℕ) (files files' : FilesState) (fabric fabric' : FabricState) where
   abbrev file : Option (List ℕ)
   file = files.named name
 
   abbrev printed_end : EventsBy k.pace → Printed M → Type 0
-  printed_end = ReplayShows stands made k.checked.program k.layout k.shape k.timing k.pace k.inputs.rows fabric'
+  printed_end = ReplayShows mch k.checked.program k.layout k.shape k.timing k.pace k.inputs.rows fabric'
 
   abbrev outputs_end : EventsBy k.pace → Outputs → Type 0
-  outputs_end = Shows k.checked.program k.layout k.shape k.timing k.pace k.inputs.rows fabric'
+  outputs_end = OutputsShow k.checked.program k.layout k.shape k.timing k.pace k.inputs.rows fabric'
 
   abbrev Outs : Result Outputs (Or RunFault) → Type 0
   Outs r = HasOutputs k name files files' fabric fabric' r
 
   -- the outputs of what a replay answers
-  pub outputs_of : (printed : Printed M) (outputs : Outputs) → outputs.names ≡ printed.names → outputs.cells ≡ printed.cells → HasPrinted stands made k name files files' fabric fabric' (Ok printed) → Outs (Ok outputs)
+  pub outputs_of : (printed : Printed M) (outputs : Outputs) → outputs.names ≡ printed.names → outputs.cells ≡ printed.cells → HasPrinted mch k name files files' fabric fabric' (Ok printed) → Outs (Ok outputs)
   outputs_of printed outputs names cells has = record {
     answered =
         answered_value k.pace printed_end outputs_end k.shape k.timing (length k.inputs.rows) file (world files fabric) (world files' fabric') printed outputs
-        (outputs_show stands made k.checked.program k.layout k.shape k.timing k.pace k.inputs.rows fabric' printed outputs names cells) has.answered;
+        (outputs_show mch k.checked.program k.layout k.shape k.timing k.pace k.inputs.rows fabric' printed outputs names cells) has.answered;
     near = λ told. tt;
     opens = record { calls = has.opens.calls; done = has.opens.done };
   }
 
   -- its refusal
-  pub not_printed : (e : Or RunFault) (r : Result Outputs (Or RunFault)) → IsErrAnd r (λ f. f ≡ e) → HasPrinted stands made k name files files' fabric fabric' (Err e) → Outs r
+  pub not_printed : (e : Or RunFault) (r : Result Outputs (Or RunFault)) → IsErrAnd r (λ f. f ≡ e) → HasPrinted mch k name files files' fabric fabric' (Err e) → Outs r
   not_printed e (Ok x) is has = absurd is
   not_printed e (Err f) is has =
       let told : Outs (Err e) = record {
@@ -112,16 +113,16 @@ outputs_at k l is name files files' fabric fabric' r has = subst (λ (m : Loaded
 
 module _ (k : LoadedPlan) (name : List ℕ) (files files' : FilesState) (fabric fabric' : FabricState) where
   abbrev right : Result Outputs RunFault → Type 0
-  right = loaded_verdict k (Shows k.checked.program k.layout k.shape k.timing k.pace k.inputs.rows fabric') (files.named name)
+  right = run_loaded_verdict k (OutputsShow k.checked.program k.layout k.shape k.timing k.pace k.inputs.rows fabric') (files.named name)
 
   abbrev Runs : Result Outputs (Or CommandFault) → Type 0
   Runs r = Answered command_blame (schedule_errand name) (along_loaded fabric' k (files.named name)) (world files fabric) (world files' fabric') r
 
   pub shown_by : (outputs : Outputs) → HasOutputs k name files files' fabric fabric' (Ok outputs) → Runs (Ok outputs)
-  shown_by outputs has = raised_value (command_fault k.shape) run_blame command_blame (same_blame k.shape) right (world files fabric) (world files' fabric') outputs has.answered
+  shown_by outputs has = raised_value (run_command_fault k.shape) run_blame command_blame (same_blame k.shape) right (world files fabric) (world files' fabric') outputs has.answered
 
-  raised : (e : Or RunFault) (g : Or CommandFault) → MapsFault e g (λ f h. h ≡ command_fault k.shape f) → Answered run_blame (schedule_errand name) right (world files fabric) (world files' fabric') (Err e) → Runs (Err g)
-  raised e g is first = raised_fault (command_fault k.shape) run_blame command_blame (same_blame k.shape) right (world files fabric) (world files' fabric') e g is first
+  raised : (e : Or RunFault) (g : Or CommandFault) → MapsFault e g (λ f h. h ≡ run_command_fault k.shape f) → Answered run_blame (schedule_errand name) right (world files fabric) (world files' fabric') (Err e) → Runs (Err g)
+  raised e g is first = raised_fault (run_command_fault k.shape) run_blame command_blame (same_blame k.shape) right (world files fabric) (world files' fabric') e g is first
 
   content : (f : RunFault) → KeepsShape f → run_blame f ≡ Content
   content (run.Row row f) keeps = absurd keeps
@@ -150,7 +151,7 @@ module _ (k : LoadedPlan) (name : List ℕ) (files files' : FilesState) (fabric 
 
 module _ (program inputs schedule : List ℕ) (config : Option (List ℕ)) (a : FilesState) where
   wider : (fabric : FabricState) (o : Result Outputs CommandFault) → AndThen (Loads (load_verdict a.named program inputs config)) (λ k. along_loaded fabric k (a.named schedule)) o → ordered_verdict a.named program inputs schedule config fabric o
-  unfolding ordered_verdict along_verdict
+  unfolding ordered_verdict run_along_verdict
   wider fabric (Ok x) (inl p) = absurd p
   wider fabric (Err e) (inl p) = inl p
   wider fabric o (inr q) =

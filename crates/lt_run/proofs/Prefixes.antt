@@ -19,28 +19,28 @@ use Rattle.lt_arch.specs.Schedule.{reached}
 use Rattle.lt_io.specs.FabricState.{FabricState}
 use Rattle.lt_norm.specs.Flat.{Originated}
 use Rattle.lt_place.specs.declared.layout.Layout.{Layout}
-use Rattle.lt_place.specs.Layout.{IsPlaced, Gives, part_of}
+use Rattle.lt_place.specs.Layout.{IsPlaced, PartGives, part_of}
 use Rattle.lt_place.specs.Nodes.{node_of}
-use Rattle.lt_node.proofs.Named.{node_below}
-use Rattle.lt_node.specs.Local.{local_stream}
-use Rattle.lt_node.specs.Payloads.{between, row_at}
-use Rattle.lt_config.specs.declared.pace.Pace.{Pace}
-use Rattle.lt_config.specs.declared.pace.Pace.TheVariants.{Plain, Lossy, Leader}
+use Rattle.lt_net_node.proofs.Named.{node_below}
+use Rattle.lt_net_node.specs.Local.{local_stream}
+use Rattle.lt_net_node.specs.Payloads.{payloads_between, row_at}
+use Rattle.lt_arch.specs.declared.pace.Pace.{Pace}
+use Rattle.lt_arch.specs.declared.pace.Pace.TheVariants.{Plain, Lossy, Leader}
 use Rattle.lt_lead.specs.Paced.{KeepsPace, bound_by}
 use Rattle.lt_front.specs.Flattened.{KeepsMain}
-use Rattle.lt_replay.specs.Run.{IsRun}
+use Rattle.lt_net_replay.specs.Run.{IsRun}
 use Rattle.lt_lossy.specs.declared.event.LossyEvent.{LossyEvent}
 use Rattle.lt_lossy.specs.Schedule.{lossy_reached}
 use Rattle.lt_lossy.specs.Laws.{lossy_bound}
-use Rattle.lt_replay.specs.LossyRun.{IsLossyRun, executed_in}
-use Rattle.lt_fit.specs.Main.{main_in}
+use Rattle.lt_net_lossy.specs.LossyRun.{IsLossyRun, executed_in}
+use Rattle.lt_load_fit.specs.Main.{main_in}
 use Rattle.lt_load.proofs.Flattens.{main_good, flat_stream, outputs_same}
-use Rattle.lt_stream.specs.Main.{output_names, output_streams}
+use Rattle.lt_evaluate.specs.Main.{output_names, output_streams}
 use Rattle.lt_run.specs.Kinds.{EventsBy, executed_by, IsRunBy, got_by}
 use Rattle.lt_run.specs.Printed.{AreShown}
 
 -- each output of a placed function is on a node
-home_of : (f : Originated) (l : Layout) → IsPlaced f l → (y : ℕ) → y < length f.func.outs → (n : ℕ) × (n < length l.nodes) × (x : ℕ) × Gives (part_of l n) (slice_index_or f.func.outs y 0) x
+home_of : (f : Originated) (l : Layout) → IsPlaced f l → (y : ℕ) → y < length f.func.outs → (n : ℕ) × (n < length l.nodes) × (x : ℕ) × PartGives (part_of l n) (slice_index_or f.func.outs y 0) x
 home_of f l placed y inside =
     let v = slice_index_or f.func.outs y 0 in
     let n = node_of f placed.placement v in
@@ -56,9 +56,9 @@ module _ (p : WholeProgram) (good : GoodProgram p) (f : Originated) (keeps : Kee
   pub layout_outs : l.outs ≡ (main_in p).outs
   layout_outs = placed.layout.outs ∙ flat_outs
 
-  pub home : (y : ℕ) → y < length l.outs → (n : ℕ) × (n < length l.nodes) × (x : ℕ) × Gives (part_of l n) (slice_index_or l.outs y 0) x
+  pub home : (y : ℕ) → y < length l.outs → (n : ℕ) × (n < length l.nodes) × (x : ℕ) × PartGives (part_of l n) (slice_index_or l.outs y 0) x
   home y inside =
-      subst (λ (outs : List ℕ). (n : ℕ) × (n < length l.nodes) × (x : ℕ) × Gives (part_of l n) (slice_index_or outs y 0) x) (sym placed.layout.outs)
+      subst (λ (outs : List ℕ). (n : ℕ) × (n < length l.nodes) × (x : ℕ) × PartGives (part_of l n) (slice_index_or outs y 0) x) (sym placed.layout.outs)
       (home_of f l placed y (subst (λ (outs : List ℕ). y < length outs) placed.layout.outs inside))
 
   -- an output's stream in the flat form is that of the program
@@ -74,14 +74,14 @@ module _ (p : WholeProgram) (good : GoodProgram p) (f : Originated) (keeps : Kee
   -- what outputs show whose cells are local streams and, over a faithful fabric, the first of the flat form's
   module _ (s : Shape) (inputs : List (List Value)) (fabric : FabricState) (executed : ℕ → ℕ) (got : ℕ → List (List Value)) (least : ℕ → ℕ) (cells : List (List Cell)) where
     abbrev Locals : Type 0
-    Locals = (y n x : ℕ) → y < length l.outs → n < length l.nodes → Gives (part_of l n) (slice_index_or l.outs y 0) x → slice_index_or cells y [] ≡ local_stream l (between s got) n (row_at inputs) (executed n) x
+    Locals = (y n x : ℕ) → y < length l.outs → n < length l.nodes → PartGives (part_of l n) (slice_index_or l.outs y 0) x → slice_index_or cells y [] ≡ local_stream l (payloads_between s got) n (row_at inputs) (executed n) x
 
     abbrev Fronts : Type 0
     Fronts =
-        IsTrue fabric.faithful → (y n x : ℕ) → y < length l.outs → n < length l.nodes → Gives (part_of l n) (slice_index_or l.outs y 0) x →
+        IsTrue fabric.faithful → (y n x : ℕ) → y < length l.outs → n < length l.nodes → PartGives (part_of l n) (slice_index_or l.outs y 0) x →
         slice_index_or cells y [] ≡ take (executed n) (stream_of [] f.func inputs (slice_index_or l.outs y 0))
 
-    whole : Fronts → IsTrue fabric.faithful → (y n x : ℕ) → y < length l.outs → n < length l.nodes → Gives (part_of l n) (slice_index_or l.outs y 0) x →
+    whole : Fronts → IsTrue fabric.faithful → (y n x : ℕ) → y < length l.outs → n < length l.nodes → PartGives (part_of l n) (slice_index_or l.outs y 0) x →
         slice_index_or cells y [] ≡ take (executed n) (slice_index_or (output_streams p inputs) y [])
     whole fronts faithful y n x inside below gives = fronts faithful y n x inside below gives ∙ ap (take (executed n)) (output_stream inputs y inside)
 

@@ -12,51 +12,52 @@ use Rattle.lt_io.specs.Visits.{Errand}
 use Rattle.lt_io.proofs.Visiting.{visited_any}
 use Rattle.lt_io.specs.FilesState.{FilesState}
 use Rattle.lt_io.specs.FabricState.{FabricState}
-use Rattle.lt_config.specs.declared.pace.Pace.{Pace}
+use Rattle.lt_arch.specs.declared.pace.Pace.{Pace}
 use Rattle.lt_answer.specs.World.{World}
 use Rattle.lt_answer.specs.Answered.{Answered, RefusesReading}
 use Rattle.lt_answer.proofs.Stages.{opens_none, runs_short}
-use Rattle.lt_replay.specs.Played.{world}
-use Rattle.lt_replay.specs.declared.replayed.Replayed.{Replayed}
-use Rattle.lt_replay.specs.declared.setup.Setup.{Setup}
+use Rattle.lt_net_start.specs.Outside.{world}
+use Rattle.lt_net.specs.declared.replayed.Replayed.{Replayed}
+use Rattle.lt_net_start.specs.declared.plan.NetPlan.{NetPlan}
 use Rattle.lt_front.specs.Checked.{IsChecked}
-use Rattle.lt_fit.specs.Main.{main_in}
+use Rattle.lt_load_fit.specs.Main.{main_in}
 use Rattle.lt_load.specs.Plan.{LoadedPlan, IsLoaded}
-use Rattle.lt_stream.specs.Main.{output_names}
+use Rattle.lt_evaluate.specs.Main.{output_names}
 use Rattle.lt_run.specs.declared.fault.RunFault.{RunFault}
 use Rattle.lt_run.specs.declared.fault.RunFault.TheVariants.{Read}
 use Rattle.lt_run.specs.declared.printed.Printed.{Printed}
 use Rattle.lt_run.specs.Fault.{run_blame}
-use Rattle.lt_run.specs.Kinds.{EventsBy, EndsBy, HasStepsBy, fault_by, file_verdict, got_by, verdict_by}
+use Rattle.lt_run.specs.Kinds.{EventsBy, RunEndsBy, HasStepsBy, fault_by, run_file_verdict, got_by, verdict_by}
 use Rattle.lt_run.specs.Printed.{HasPrinted, HasTaken, IsReplayBy, ReplayShows, ShowsAt}
 use Rattle.lt_run.proofs.Prefixes.{columns, shows}
+use Rattle.lt_machine.specs.declared.machine.Machine.{Ghosts as Machines}
 
 module _ {E F T U : Type 0} (raise : F → RunFault) (end : E → T → Type 0) (end' : E → U → Type 0) where
-  ends_with : (v : Result E F) (x : T) (y : U) → ((events : E) → end events x → end' events y) → EndsBy raise end v (Ok x) → EndsBy raise end' v (Ok y)
+  ends_with : (v : Result E F) (x : T) (y : U) → ((events : E) → end events x → end' events y) → RunEndsBy raise end v (Ok x) → RunEndsBy raise end' v (Ok y)
   ends_with (Ok events) x y too ends = too events ends
   ends_with (Err f) x y too ends = absurd (cc)
 
-  refused_with : (v : Result E F) (e : RunFault) → EndsBy raise end v (Err e) → EndsBy raise end' v (Err e)
+  refused_with : (v : Result E F) (e : RunFault) → RunEndsBy raise end v (Err e) → RunEndsBy raise end' v (Err e)
   refused_with (Ok events) e ends = ends
   refused_with (Err f) e ends = let same : e ≡ raise f = cc in ap (λ (d : RunFault). Err d) same
 
 module _ {T U : Type 0} (pace : Pace) (end : EventsBy pace → T → Type 0) (end' : EventsBy pace → U → Type 0) (s : Shape) (t : Timing) (rows : ℕ) where
-  value_too : (file : Option (List ℕ)) (x : T) (y : U) → ((events : EventsBy pace) → end events x → end' events y) → file_verdict pace end s t rows file (Ok x) → file_verdict pace end' s t rows file (Ok y)
-  unfolding file_verdict
+  value_too : (file : Option (List ℕ)) (x : T) (y : U) → ((events : EventsBy pace) → end events x → end' events y) → run_file_verdict pace end s t rows file (Ok x) → run_file_verdict pace end' s t rows file (Ok y)
+  unfolding run_file_verdict
   value_too None x y too right = absurd (cc)
   value_too (Some bytes) x y too right = ends_with (fault_by pace) end end' (verdict_by pace s t rows bytes) x y too right
 
-  fault_too : (file : Option (List ℕ)) (e : RunFault) → file_verdict pace end s t rows file (Err e) → file_verdict pace end' s t rows file (Err e)
-  unfolding file_verdict
+  fault_too : (file : Option (List ℕ)) (e : RunFault) → run_file_verdict pace end s t rows file (Err e) → run_file_verdict pace end' s t rows file (Err e)
+  unfolding run_file_verdict
   fault_too None e right = let same : e ≡ Read = cc in ap (λ (d : RunFault). Err d) same
   fault_too (Some bytes) e right = refused_with (fault_by pace) end end' (verdict_by pace s t rows bytes) e right
 
   module _ (file : Option (List ℕ)) (a b : World) where
-    reading_too : RefusesReading run_blame (file_verdict pace end s t rows file) → RefusesReading run_blame (file_verdict pace end' s t rows file)
+    reading_too : RefusesReading run_blame (run_file_verdict pace end s t rows file) → RefusesReading run_blame (run_file_verdict pace end' s t rows file)
     reading_too reading = (reading.0, reading.1, fault_too file reading.0 reading.2)
 
     -- another value of which the same events say what it shows
-    pub answered_value : {es : List Errand} (x : T) (y : U) → ((events : EventsBy pace) → end events x → end' events y) → Answered run_blame es (file_verdict pace end s t rows file) a b (Ok x) → Answered run_blame es (file_verdict pace end' s t rows file) a b (Ok y)
+    pub answered_value : {es : List Errand} (x : T) (y : U) → ((events : EventsBy pace) → end events x → end' events y) → Answered run_blame es (run_file_verdict pace end s t rows file) a b (Ok x) → Answered run_blame es (run_file_verdict pace end' s t rows file) a b (Ok y)
     answered_value x y too first = record {
       keeps = first.keeps;
       visits = first.visits;
@@ -66,11 +67,11 @@ module _ {T U : Type 0} (pace : Pace) (end : EventsBy pace → T → Type 0) (en
     }
 
     -- no memory for it
-    pub answered_short : {es : List Errand} (x : T) → Answered run_blame es (file_verdict pace end s t rows file) a b (Ok x) → Answered run_blame es (file_verdict pace end' s t rows file) a b (Err Memory)
+    pub answered_short : {es : List Errand} (x : T) → Answered run_blame es (run_file_verdict pace end s t rows file) a b (Ok x) → Answered run_blame es (run_file_verdict pace end' s t rows file) a b (Err Memory)
     answered_short {es} x first = record { keeps = first.keeps; visits = visited_any es a.files.visits b.files.visits false first.visits; cause = first.cause; exact = λ told calm. tt; sound = λ told sound rose. reading_too (first.sound told sound rose) }
 
     -- a refusal
-    pub answered_fault : {es : List Errand} (e : Or RunFault) → Answered run_blame es (file_verdict pace end s t rows file) a b (Err e) → Answered run_blame es (file_verdict pace end' s t rows file) a b (Err e)
+    pub answered_fault : {es : List Errand} (e : Or RunFault) → Answered run_blame es (run_file_verdict pace end s t rows file) a b (Err e) → Answered run_blame es (run_file_verdict pace end' s t rows file) a b (Err e)
     answered_fault (Fault e) first = record {
       keeps = first.keeps;
       visits = first.visits;
@@ -82,18 +83,18 @@ module _ {T U : Type 0} (pace : Pace) (end : EventsBy pace → T → Type 0) (en
 
 -- a replay of what was loaded
 
-module _ {M : Type 0} (stands : M → Function → List (List Value) → Type 0) (made : M → ℕ) (k : LoadedPlan) (name : List ℕ) (files files' : FilesState) (fabric fabric' : FabricState) where
+module _ {M : Type 0} (mch : Machines M) (k : LoadedPlan) (name : List ℕ) (files files' : FilesState) (fabric fabric' : FabricState) where
   abbrev Takes : Result (Replayed M) (Or RunFault) → Type 0
-  Takes r = HasTaken stands made k.pace k.layout k.shape k.timing k.inputs.rows name files files' fabric fabric' r
+  Takes r = HasTaken mch k.pace k.layout k.shape k.timing k.inputs.rows name files files' fabric fabric' r
 
   abbrev Prints : Result (Printed M) (Or RunFault) → Type 0
-  Prints r = HasPrinted stands made k name files files' fabric fabric' r
+  Prints r = HasPrinted mch k name files files' fabric fabric' r
 
   abbrev taken_end : EventsBy k.pace → Replayed M → Type 0
-  taken_end = IsReplayBy stands made k.pace k.layout k.shape k.timing k.inputs.rows fabric'
+  taken_end = IsReplayBy mch k.pace k.layout k.shape k.timing k.inputs.rows fabric'
 
   abbrev printed_end : EventsBy k.pace → Printed M → Type 0
-  printed_end = ReplayShows stands made k.checked.program k.layout k.shape k.timing k.pace k.inputs.rows fabric'
+  printed_end = ReplayShows mch k.checked.program k.layout k.shape k.timing k.pace k.inputs.rows fabric'
 
   -- it was refused
   pub not_replayed : (e : Or RunFault) (r : Result (Printed M) (Or RunFault)) → IsErrAnd r (λ f. f ≡ e) → Takes (Err e) → Prints r
@@ -132,35 +133,35 @@ module _ {M : Type 0} (stands : M → Function → List (List Value) → Type 0)
   }
 
 -- the setup of what was loaded
-abbrev pub setup_in : LoadedPlan → Setup
+abbrev pub setup_in : LoadedPlan → NetPlan
 setup_in k = record { layout = k.layout; shape = k.shape; timing = k.timing }
 
 -- with an equal setup it is the same
-pub with_setup : (k : LoadedPlan) (s : Setup) → s ≡ setup_in k → record { checked = k.checked; layout = s.layout; shape = s.shape; timing = s.timing; inputs = k.inputs; pace = k.pace } ≡ k
-with_setup k s is = ap (λ (z : Setup). record { checked = k.checked; layout = z.layout; shape = z.shape; timing = z.timing; inputs = k.inputs; pace = k.pace }) is
+pub with_setup : (k : LoadedPlan) (s : NetPlan) → s ≡ setup_in k → record { checked = k.checked; layout = s.layout; shape = s.shape; timing = s.timing; inputs = k.inputs; pace = k.pace } ≡ k
+with_setup k s is = ap (λ (z : NetPlan). record { checked = k.checked; layout = z.layout; shape = z.shape; timing = z.timing; inputs = k.inputs; pace = k.pace }) is
 
 -- no memory was found for a setup
-pub not_set_up : {M : Type 0} (stands : M → Function → List (List Value) → Type 0) (made : M → ℕ) (k : LoadedPlan) (name : List ℕ) (files : FilesState) (fabric : FabricState) (r : Result (Printed M) (Or RunFault))
-    → IsErrAnd r (λ f. f ≡ Memory) → HasPrinted stands made k name files files fabric fabric r
-not_set_up stands made k name files fabric (Ok x) is = absurd is
-not_set_up stands made k name files fabric (Err f) is =
-    subst (λ (g : Or RunFault). HasPrinted stands made k name files files fabric fabric (Err g)) (sym is) (record { answered = runs_short (world files fabric); ended = tt; near = λ told. tt; opens = record { calls = opens_none fabric; done = tt }; layout = tt })
+pub not_set_up : {M : Type 0} (mch : Machines M) (k : LoadedPlan) (name : List ℕ) (files : FilesState) (fabric : FabricState) (r : Result (Printed M) (Or RunFault))
+    → IsErrAnd r (λ f. f ≡ Memory) → HasPrinted mch k name files files fabric fabric r
+not_set_up mch k name files fabric (Ok x) is = absurd is
+not_set_up mch k name files fabric (Err f) is =
+    subst (λ (g : Or RunFault). HasPrinted mch k name files files fabric fabric (Err g)) (sym is) (record { answered = runs_short (world files fabric); ended = tt; near = λ told. tt; opens = record { calls = opens_none fabric; done = tt }; layout = tt })
 
 -- the same of an equal plan
-pub prints_at : {M : Type 0} (stands : M → Function → List (List Value) → Type 0) (made : M → ℕ) (k l : LoadedPlan) → k ≡ l → (name : List ℕ) (files files' : FilesState) (fabric fabric' : FabricState) (r : Result (Printed M) (Or RunFault))
-    → HasPrinted stands made k name files files' fabric fabric' r → HasPrinted stands made l name files files' fabric fabric' r
-prints_at stands made k l is name files files' fabric fabric' r has = subst (λ (m : LoadedPlan). HasPrinted stands made m name files files' fabric fabric' r) is has
+pub prints_at : {M : Type 0} (mch : Machines M) (k l : LoadedPlan) → k ≡ l → (name : List ℕ) (files files' : FilesState) (fabric fabric' : FabricState) (r : Result (Printed M) (Or RunFault))
+    → HasPrinted mch k name files files' fabric fabric' r → HasPrinted mch l name files files' fabric fabric' r
+prints_at mch k l is name files files' fabric fabric' r has = subst (λ (m : LoadedPlan). HasPrinted mch m name files files' fabric fabric' r) is has
 
 -- what a replay's cells show by the names of the outputs
 
-module _ {M : Type 0} (stands : M → Function → List (List Value) → Type 0) (made : M → ℕ) (k : LoadedPlan) (good : GoodProgram k.checked.program) (checked : IsChecked k.checked) (loaded : IsLoaded k) (fabric : FabricState) where
+module _ {M : Type 0} (mch : Machines M) (k : LoadedPlan) (good : GoodProgram k.checked.program) (checked : IsChecked k.checked) (loaded : IsLoaded k) (fabric : FabricState) where
   abbrev outputs_shown : (events : EventsBy k.pace) (names : List (List ℕ)) (machines : List M) (cells : List (List Cell)) (horizon : ℕ) → Type 0
   outputs_shown events names machines cells horizon =
       (shown : ShowsAt k.checked.program k.layout k.shape k.timing k.pace k.inputs.rows fabric events names cells horizon)
-      × HasStepsBy stands made k.pace k.layout k.shape k.timing k.inputs.rows events shown.got machines
+      × HasStepsBy mch k.pace k.layout k.shape k.timing k.inputs.rows events shown.got machines
 
-  pub shows_too : (x : Replayed M) (y : Printed M) → y.names ≡ output_names k.checked.program → y.cells ≡ x.cells → y.horizon ≡ x.horizon → y.machines ≡ x.machines → (events : EventsBy k.pace) → IsReplayBy stands made k.pace k.layout k.shape k.timing k.inputs.rows fabric events x
-      → ReplayShows stands made k.checked.program k.layout k.shape k.timing k.pace k.inputs.rows fabric events y
+  pub shows_too : (x : Replayed M) (y : Printed M) → y.names ≡ output_names k.checked.program → y.cells ≡ x.cells → y.horizon ≡ x.horizon → y.machines ≡ x.machines → (events : EventsBy k.pace) → IsReplayBy mch k.pace k.layout k.shape k.timing k.inputs.rows fabric events x
+      → ReplayShows mch k.checked.program k.layout k.shape k.timing k.pace k.inputs.rows fabric events y
   shows_too x y names cells horizon machines events r =
       let here : outputs_shown events y.names x.machines x.cells x.horizon = (
         record { run = r.run; got = got_by k.pace k.layout k.shape k.timing k.inputs.rows fabric events x.cells x.horizon r.run; got_is = refl; shown = shows k.checked.program good k.checked.flat checked.keeps k.layout loaded.placed k.shape k.timing k.inputs.rows loaded.rows_fit fabric k.pace loaded.paced events x.cells x.horizon r.run y.names names },
@@ -172,6 +173,6 @@ module _ {M : Type 0} (stands : M → Function → List (List Value) → Type 0)
       record { shows = there.0; steps = there.1 }
 
   -- there is a column for each output
-  pub has_columns : (x : Replayed M) → ((events : EventsBy k.pace) × IsReplayBy stands made k.pace k.layout k.shape k.timing k.inputs.rows fabric events x) → length x.cells ≡ length (main_in k.checked.program).outs
+  pub has_columns : (x : Replayed M) → ((events : EventsBy k.pace) × IsReplayBy mch k.pace k.layout k.shape k.timing k.inputs.rows fabric events x) → length x.cells ≡ length (main_in k.checked.program).outs
   has_columns x ended =
       columns k.checked.program good k.checked.flat checked.keeps k.layout loaded.placed k.shape k.timing k.inputs.rows loaded.rows_fit fabric k.pace ended.0 x.cells x.horizon ended.1.run

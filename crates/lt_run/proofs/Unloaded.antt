@@ -4,8 +4,8 @@ use Rattle.std.specs.Prelude.{IsTrue}
 use Rattle.lt_io.specs.FilesState.{FilesState}
 use Rattle.lt_answer.specs.World.{alone}
 use Rattle.lt_answer.specs.Answered.{Answered}
-use Rattle.lt_verdict.proofs.Decided.{HasOneOutcome}
-use Rattle.lt_fit.specs.declared.fault.CommandFault.{CommandFault}
+use Rattle.lt_answer.proofs.Decided.{HasOneOutcome}
+use Rattle.lt_load_fit.specs.declared.fault.CommandFault.{CommandFault}
 use Rattle.lt_load.specs.Blamed.{command_blame}
 use Rattle.lt_load.specs.Errands.{load_errands}
 use Rattle.lt_load.specs.Plan.{LoadedPlan, Loads, load_verdict}

@@ -10,22 +10,23 @@ use Rattle.lt_arch.specs.State.{executed_of}
 use Rattle.lt_arch.specs.Schedule.{reached}
 use Rattle.lt_io.specs.FabricState.{FabricState}
 use Rattle.lt_place.specs.declared.layout.Layout.{Layout}
-use Rattle.lt_config.specs.declared.pace.Pace.{Pace}
-use Rattle.lt_config.specs.declared.pace.Pace.TheVariants.{Plain, Lossy, Leader}
+use Rattle.lt_arch.specs.declared.pace.Pace.{Pace}
+use Rattle.lt_arch.specs.declared.pace.Pace.TheVariants.{Plain, Lossy, Leader}
 use Rattle.lt_answer.specs.Answered.{OfFile, Verdict}
-use Rattle.lt_judge.specs.declared.fault.ScheduleFault.{ScheduleFault}
-use Rattle.lt_judge.specs.declared.halt.Refusal.{Refusal}
-use Rattle.lt_judge.specs.Rules.{file_judged_by}
-use Rattle.lt_judge.specs.Verdict.{verdict}
+use Rattle.lt_schedule.specs.declared.fault.ScheduleFault.{ScheduleFault}
+use Rattle.lt_schedule.specs.declared.halt.ScheduleRefusal.{ScheduleRefusal}
+use Rattle.lt_schedule.specs.Rules.{file_judged_by}
+use Rattle.lt_schedule.specs.Verdict.{verdict}
 use Rattle.lt_lossy.specs.declared.event.LossyEvent.{LossyEvent}
 use Rattle.lt_lossy.specs.declared.event.LossyOffence.{LossyOffence}
 use Rattle.lt_lossy.specs.Schedule.{lossy_reached}
-use Rattle.lt_replay.specs.Rules.{lossy_rules_of}
-use Rattle.lt_replay.specs.LossyRun.{IsLossyRun, HasLossySteps, executed_in}
-use Rattle.lt_replay.specs.Run.{IsRun, HasSteps}
+use Rattle.lt_net_lossy.specs.Rules.{lossy_rules_of}
+use Rattle.lt_net_lossy.specs.LossyRun.{IsLossyRun, HasLossySteps, executed_in}
+use Rattle.lt_net_replay.specs.Run.{IsRun, HasSteps}
 use Rattle.lt_run.specs.declared.fault.RunFault.{RunFault}
 use Rattle.lt_run.specs.declared.fault.RunFault.TheVariants.{Read}
 use Rattle.lt_run.specs.Fault.{of_refusal, of_schedule}
+use Rattle.lt_machine.specs.declared.machine.Machine.{Ghosts as Machines}
 
 -- lists of events
 abbrev pub EventsBy : Pace → Type 0
@@ -36,7 +37,7 @@ EventsBy (Leader leader) = List Event
 -- refusals of schedules
 abbrev pub RefusalBy : Pace → Type 0
 RefusalBy Plain = ScheduleFault
-RefusalBy (Lossy losses) = Refusal LossyOffence
+RefusalBy (Lossy losses) = ScheduleRefusal LossyOffence
 RefusalBy (Leader leader) = ScheduleFault
 
 -- what the bytes of a schedule read as: its events, or the first row or event that is refused
@@ -70,17 +71,17 @@ got_by (Lossy losses) l s t inputs fabric events cells horizon run = run.got
 got_by (Leader leader) l s t inputs fabric events cells horizon run = run.lists.got
 
 -- there is a machine for each node, and it has run its part on the node's inputs and on what was delivered
-abbrev pub HasStepsBy : {M : Type 0} (stands : M → Function → List (List Value) → Type 0) (made : M → ℕ) (pace : Pace) → Layout → Shape → Timing → (inputs : List (List Value)) → EventsBy pace → (got : ℕ → List (List Value)) → List M → Type 0
-HasStepsBy stands made Plain l s t inputs events got machines = HasSteps stands made l s t inputs events got machines
-HasStepsBy stands made (Lossy losses) l s t inputs events got machines = HasLossySteps stands made l s t inputs events got machines
-HasStepsBy stands made (Leader leader) l s t inputs events got machines = HasSteps stands made l s t inputs events got machines
+abbrev pub HasStepsBy : {M : Type 0} (mch : Machines M) (pace : Pace) → Layout → Shape → Timing → (inputs : List (List Value)) → EventsBy pace → (got : ℕ → List (List Value)) → List M → Type 0
+HasStepsBy mch Plain l s t inputs events got machines = HasSteps mch l s t inputs events got machines
+HasStepsBy mch (Lossy losses) l s t inputs events got machines = HasLossySteps mch l s t inputs events got machines
+HasStepsBy mch (Leader leader) l s t inputs events got machines = HasSteps mch l s t inputs events got machines
 
 -- what is right of a schedule that reads as events, or is refused: what they come to, or that refusal
-abbrev pub EndsBy : {E F T : Type 0} → (raise : F → RunFault) → (end : E → T → Type 0) → Result E F → Verdict T RunFault
-EndsBy raise end (Ok events) (Ok x) = end events x
-EndsBy raise end (Ok events) (Err fault) = ⊥
-EndsBy raise end (Err refused) outcome = outcome ≡ Err (raise refused)
+abbrev pub RunEndsBy : {E F T : Type 0} → (raise : F → RunFault) → (end : E → T → Type 0) → Result E F → Verdict T RunFault
+RunEndsBy raise end (Ok events) (Ok x) = end events x
+RunEndsBy raise end (Ok events) (Err fault) = ⊥
+RunEndsBy raise end (Err refused) outcome = outcome ≡ Err (raise refused)
 
 -- what is right of a schedule file, with so many rows of inputs
-unfoldable pub file_verdict : {T : Type 0} → (pace : Pace) → (end : EventsBy pace → T → Type 0) → Shape → Timing → (rows : ℕ) → Option (List ℕ) → Verdict T RunFault
-file_verdict pace end s t rows file = OfFile Read file (λ bytes outcome. EndsBy (fault_by pace) end (verdict_by pace s t rows bytes) outcome)
+unfoldable pub run_file_verdict : {T : Type 0} → (pace : Pace) → (end : EventsBy pace → T → Type 0) → Shape → Timing → (rows : ℕ) → Option (List ℕ) → Verdict T RunFault
+run_file_verdict pace end s t rows file = OfFile Read file (λ bytes outcome. RunEndsBy (fault_by pace) end (verdict_by pace s t rows bytes) outcome)

@@ -10,22 +10,23 @@ use Rattle.lt_arch.specs.Readers.{node_count}
 use Rattle.lt_io.specs.FilesState.{FilesState}
 use Rattle.lt_io.specs.FabricState.{FabricState, OpensOnce}
 use Rattle.lt_place.specs.declared.layout.Layout.{Layout}
-use Rattle.lt_place.specs.Layout.{Gives, part_of}
-use Rattle.lt_config.specs.declared.pace.Pace.{Pace}
+use Rattle.lt_place.specs.Layout.{PartGives, part_of}
+use Rattle.lt_arch.specs.declared.pace.Pace.{Pace}
 use Rattle.lt_lead.specs.Paced.{bound_by}
-use Rattle.lt_node.specs.Local.{local_stream}
-use Rattle.lt_node.specs.Payloads.{between, row_at}
+use Rattle.lt_net_node.specs.Local.{local_stream}
+use Rattle.lt_net_node.specs.Payloads.{payloads_between, row_at}
 use Rattle.lt_answer.specs.Answered.{Answered, Verdict}
-use Rattle.lt_judge.specs.Errand.{schedule_errand}
-use Rattle.lt_replay.specs.Played.{world}
-use Rattle.lt_replay.specs.declared.replayed.Replayed.{Replayed}
-use Rattle.lt_fit.specs.Main.{main_in}
+use Rattle.lt_schedule.specs.Errand.{schedule_errand}
+use Rattle.lt_net_start.specs.Outside.{world}
+use Rattle.lt_net.specs.declared.replayed.Replayed.{Replayed}
+use Rattle.lt_load_fit.specs.Main.{main_in}
 use Rattle.lt_load.specs.Plan.{LoadedPlan}
-use Rattle.lt_stream.specs.Main.{output_names, output_streams}
+use Rattle.lt_evaluate.specs.Main.{output_names, output_streams}
 use Rattle.lt_run.specs.declared.fault.RunFault.{RunFault}
 use Rattle.lt_run.specs.declared.printed.Printed.{Printed}
 use Rattle.lt_run.specs.Fault.{run_blame, IsNearRun}
-use Rattle.lt_run.specs.Kinds.{EventsBy, executed_by, IsRunBy, got_by, HasStepsBy, file_verdict}
+use Rattle.lt_run.specs.Kinds.{EventsBy, executed_by, IsRunBy, got_by, HasStepsBy, run_file_verdict}
+use Rattle.lt_machine.specs.declared.machine.Machine.{Ghosts as Machines}
 
 -- what outputs of these names and cells show, where each node has executed so many instants, each channel has delivered these payloads
 -- and the protocol promises at least so many instants
@@ -35,12 +36,12 @@ pub record AreShown (p : WholeProgram) (l : Layout) (s : Shape) (inputs : List (
   pub outputs_are : l.outs ≡ (main_in p).outs
   pub columns : length cells ≡ length l.outs
   -- each output is on a node
-  pub home : (y : ℕ) → y < length l.outs → (n : ℕ) × (n < length l.nodes) × (x : ℕ) × Gives (part_of l n) (slice_index_or l.outs y 0) x
+  pub home : (y : ℕ) → y < length l.outs → (n : ℕ) × (n < length l.nodes) × (x : ℕ) × PartGives (part_of l n) (slice_index_or l.outs y 0) x
   -- its cells are the stream of the node's part on what was delivered to it, one for each instant that the node has executed
-  pub local : (y n x : ℕ) → y < length l.outs → n < length l.nodes → Gives (part_of l n) (slice_index_or l.outs y 0) x →
-      slice_index_or cells y [] ≡ local_stream l (between s got) n (row_at inputs) (executed n) x
+  pub local : (y n x : ℕ) → y < length l.outs → n < length l.nodes → PartGives (part_of l n) (slice_index_or l.outs y 0) x →
+      slice_index_or cells y [] ≡ local_stream l (payloads_between s got) n (row_at inputs) (executed n) x
   -- over a faithful fabric they are the first of its stream in the whole program
-  pub whole : IsTrue fabric.faithful → (y n x : ℕ) → y < length l.outs → n < length l.nodes → Gives (part_of l n) (slice_index_or l.outs y 0) x →
+  pub whole : IsTrue fabric.faithful → (y n x : ℕ) → y < length l.outs → n < length l.nodes → PartGives (part_of l n) (slice_index_or l.outs y 0) x →
       slice_index_or cells y [] ≡ take (executed n) (slice_index_or (output_streams p inputs) y [])
   -- each node has executed as many instants as are promised, or one for each row of inputs
   pub enough : (n : ℕ) → n < node_count s → min (least n) (length inputs) ≤ executed n
@@ -57,26 +58,26 @@ pub record ShowsAt (p : WholeProgram) (l : Layout) (s : Shape) (t : Timing) (pac
   pub shown : AreShown p l s inputs fabric (executed_by pace s t (length inputs) events) got (λ n. bound_by pace t n horizon) names cells
 
 -- the cells and the machines are those to which these events lead
-pub record IsReplayBy {M : Type 0} (stands : M → Function → List (List Value) → Type 0) (made : M → ℕ) (pace : Pace) (l : Layout) (s : Shape) (t : Timing) (inputs : List (List Value)) (fabric : FabricState) (events : EventsBy pace) (taken : Replayed M) : Type 0 where
+pub record IsReplayBy {M : Type 0} (mch : Machines M) (pace : Pace) (l : Layout) (s : Shape) (t : Timing) (inputs : List (List Value)) (fabric : FabricState) (events : EventsBy pace) (taken : Replayed M) : Type 0 where
   pub run : IsRunBy pace l s t inputs fabric events taken.cells taken.horizon
-  pub steps : HasStepsBy stands made pace l s t inputs events (got_by pace l s t inputs fabric events taken.cells taken.horizon run) taken.machines
+  pub steps : HasStepsBy mch pace l s t inputs events (got_by pace l s t inputs fabric events taken.cells taken.horizon run) taken.machines
 
 -- so does what a replay answers, and its machines made the steps
-pub record ReplayShows {M : Type 0} (stands : M → Function → List (List Value) → Type 0) (made : M → ℕ) (p : WholeProgram) (l : Layout) (s : Shape) (t : Timing) (pace : Pace) (inputs : List (List Value)) (fabric : FabricState) (events : EventsBy pace) (printed : Printed M) : Type 0 where
+pub record ReplayShows {M : Type 0} (mch : Machines M) (p : WholeProgram) (l : Layout) (s : Shape) (t : Timing) (pace : Pace) (inputs : List (List Value)) (fabric : FabricState) (events : EventsBy pace) (printed : Printed M) : Type 0 where
   pub shows : ShowsAt p l s t pace inputs fabric events printed.names printed.cells printed.horizon
-  pub steps : HasStepsBy stands made pace l s t inputs events shows.got printed.machines
+  pub steps : HasStepsBy mch pace l s t inputs events shows.got printed.machines
 
 -- what is right of a schedule file along which a loaded program is run
-abbrev pub loaded_verdict : {T : Type 0} (k : LoadedPlan) (end : EventsBy k.pace → T → Type 0) → (schedule : Option (List ℕ)) → Verdict T RunFault
-loaded_verdict k end file = file_verdict k.pace end k.shape k.timing (length k.inputs.rows) file
+abbrev pub run_loaded_verdict : {T : Type 0} (k : LoadedPlan) (end : EventsBy k.pace → T → Type 0) → (schedule : Option (List ℕ)) → Verdict T RunFault
+run_loaded_verdict k end file = run_file_verdict k.pace end k.shape k.timing (length k.inputs.rows) file
 
 -- a network took the file of this name to its end, or a fault stands against it
-pub record HasTaken {M : Type 0} (stands : M → Function → List (List Value) → Type 0) (made : M → ℕ) (pace : Pace) (l : Layout) (s : Shape) (t : Timing) (inputs : List (List Value))
+pub record HasTaken {M : Type 0} (mch : Machines M) (pace : Pace) (l : Layout) (s : Shape) (t : Timing) (inputs : List (List Value))
     (name : List ℕ) (files files' : FilesState) (fabric fabric' : FabricState) (result : Result (Replayed M) (Or RunFault)) : Type 0 where
   -- by the verdict of the file
-  pub answered : Answered run_blame (schedule_errand name) (file_verdict pace (IsReplayBy stands made pace l s t inputs fabric') s t (length inputs) (files.named name)) (world files fabric) (world files' fabric') result
+  pub answered : Answered run_blame (schedule_errand name) (run_file_verdict pace (IsReplayBy mch pace l s t inputs fabric') s t (length inputs) (files.named name)) (world files fabric) (world files' fabric') result
   -- whether or not the files tell their bytes
-  pub ended : IfOk result (λ taken. (events : EventsBy pace) × IsReplayBy stands made pace l s t inputs fabric' events taken)
+  pub ended : IfOk result (λ taken. (events : EventsBy pace) × IsReplayBy mch pace l s t inputs fabric' events taken)
   -- a refused file was read to at most a piece past the row that is refused
   pub near : IsTrue files.told → IfErr result (IsNearRun (files.named name) files'.place)
   -- the fabric was opened at most once, and once where the file was taken
@@ -85,10 +86,10 @@ pub record HasTaken {M : Type 0} (stands : M → Function → List (List Value) 
   pub layout : IfOk result (λ taken. taken.layout ≡ l)
 
 -- a replay of a loaded program along the file of this name
-pub record HasPrinted {M : Type 0} (stands : M → Function → List (List Value) → Type 0) (made : M → ℕ) (k : LoadedPlan) (name : List ℕ) (files files' : FilesState) (fabric fabric' : FabricState) (result : Result (Printed M) (Or RunFault)) : Type 0 where
-  pub answered : Answered run_blame (schedule_errand name) (loaded_verdict k (ReplayShows stands made k.checked.program k.layout k.shape k.timing k.pace k.inputs.rows fabric') (files.named name)) (world files fabric) (world files' fabric') result
+pub record HasPrinted {M : Type 0} (mch : Machines M) (k : LoadedPlan) (name : List ℕ) (files files' : FilesState) (fabric fabric' : FabricState) (result : Result (Printed M) (Or RunFault)) : Type 0 where
+  pub answered : Answered run_blame (schedule_errand name) (run_loaded_verdict k (ReplayShows mch k.checked.program k.layout k.shape k.timing k.pace k.inputs.rows fabric') (files.named name)) (world files fabric) (world files' fabric') result
   -- whether or not the files tell their bytes
-  pub ended : IfOk result (λ printed. (events : EventsBy k.pace) × ReplayShows stands made k.checked.program k.layout k.shape k.timing k.pace k.inputs.rows fabric' events printed)
+  pub ended : IfOk result (λ printed. (events : EventsBy k.pace) × ReplayShows mch k.checked.program k.layout k.shape k.timing k.pace k.inputs.rows fabric' events printed)
   -- a refused file was read to at most a piece past the row that is refused
   pub near : IsTrue files.told → IfErr result (IsNearRun (files.named name) files'.place)
   -- the fabric was opened at most once, and once where the file was taken

@@ -3,13 +3,13 @@ ghost use Rattle.std.specs.Prelude.{◌≡◌, ◌^◌, ℤ, length, IfOk, FitsS
 ghost use Rattle.std.specs.Int.{w64};
 ghost use Rattle.lt_base.specs.declared.operators.Imp.{Imp as Operator};
 ghost use Rattle.lt_base.specs.Operators.{imp as imported};
-ghost use Rattle.lt_plant.specs.Starts.{AreReady};
+ghost use Rattle.lt_net_bench.specs.Starts.{AreReady};
 
 use lt_arch::Shape;
 use lt_base::{Imp, Memory};
+use lt_compile::compile_nodes;
 use lt_load::Loaded;
 use lt_machine::{Import, Machine, StepMachine};
-use lt_ready::machines_of;
 use std::alloc::Global;
 
 /// A machine of step code for each node, and a copy of the shape, whose nodes a fault names.
@@ -28,7 +28,7 @@ pub(crate) fn equip(
     requires callable { IsAlwaysCallable operator }
     requires answers { (o : Operator) (a b r : ℤ) → FitsSigned w64 a → FitsSigned w64 b → post operator o a b r → r ≡ imported o a b }
     ensures shape { IfOk result (λ equipment. equipment.shape ≡ loaded.now.shape) }
-    ensures machines { IfOk result (λ equipment. AreReady ⟦<StepMachine as Machine>⟧.stands ⟦<StepMachine as Machine>⟧.made ⟦<StepMachine as Machine>⟧.left loaded.now.layout (length loaded.now.inputs.rows) equipment.machines.items) }
+    ensures machines { IfOk result (λ equipment. AreReady ⟦<StepMachine as Machine>⟧ loaded.now.layout (length loaded.now.inputs.rows) equipment.machines.items) }
 {
     let shape = loaded.shape.copy()?;
     let machines = code_machines(alloc, loaded, operator)?;
@@ -43,13 +43,13 @@ pub(crate) fn code_machines(
 ) -> Result<Vec<StepMachine>, Memory>
     requires callable { IsAlwaysCallable operator }
     requires answers { (o : Operator) (a b r : ℤ) → FitsSigned w64 a → FitsSigned w64 b → post operator o a b r → r ≡ imported o a b }
-    ensures { IfOk result (λ machines. AreReady ⟦<StepMachine as Machine>⟧.stands ⟦<StepMachine as Machine>⟧.made ⟦<StepMachine as Machine>⟧.left loaded.now.layout (length loaded.now.inputs.rows) machines.items) }
+    ensures { IfOk result (λ machines. AreReady ⟦<StepMachine as Machine>⟧ loaded.now.layout (length loaded.now.inputs.rows) machines.items) }
 {
-    loaded.kept();
+    loaded.invariant_holds();
     let nodes = loaded.layout.nodes.len();
     let mut imports = Vec::with_capacity(alloc, nodes)?;
     for _node in 0..nodes {
         imports.push(Import::new(operator))?;
     }
-    machines_of(alloc, &loaded.layout, imports, loaded.inputs.rows())
+    compile_nodes(alloc, &loaded.layout, imports, loaded.inputs.rows())
 }

@@ -1,12 +1,12 @@
 // Why a loaded program is not run to the end of a schedule.
 ghost use Rattle.std.specs.Prelude.{◌≡◌};
-ghost use Rattle.lt_run.specs.Fault.{of_lossy, of_play, of_refusal, of_schedule};
+ghost use Rattle.lt_run.specs.Fault.{of_lossy, of_plain, of_play, of_refusal};
 
 use lt_arch::Offence;
-use lt_judge::{Refusal, ScheduleFault};
 use lt_lossy::LossyOffence;
-use lt_replay::{LossyPlayFault, PlayFault};
+use lt_net_start::PlayFault;
 use lt_rows::RowFault;
+use lt_schedule::ScheduleRefusal;
 
 /// Why the nodes of a loaded program do not take a schedule file to its end. Rows and events are counted from 1, and the header is row 0.
 #[derive(Clone, Copy)]
@@ -26,43 +26,43 @@ pub enum RunFault {
 }
 
 /// The fault of a network's play as one of a run.
-pub(crate) fn of_play(fault: PlayFault) -> RunFault
+pub(crate) fn of_play(fault: PlayFault<Offence>) -> RunFault
     ensures { result ≡ of_play fault }
 {
     match fault {
-        PlayFault::Schedule(fault) => of_schedule(fault),
+        PlayFault::Refused(refusal) => of_plain(refusal),
+        PlayFault::Read => RunFault::Read,
         PlayFault::Link => RunFault::Link,
     }
 }
 
-fn of_schedule(fault: ScheduleFault) -> RunFault
-    ensures { result ≡ of_schedule fault }
+fn of_plain(refusal: ScheduleRefusal<Offence>) -> RunFault
+    ensures { result ≡ of_plain refusal }
 {
-    match fault {
-        ScheduleFault::Row { row, fault } => RunFault::Row { row, fault },
-        ScheduleFault::Offence { event, offence } => RunFault::Offence { event, offence },
-        ScheduleFault::Bytes => RunFault::Bytes,
-        ScheduleFault::Read => RunFault::Read,
+    match refusal {
+        ScheduleRefusal::Row { row, fault } => RunFault::Row { row, fault },
+        ScheduleRefusal::Offence { event, offence } => RunFault::Offence { event, offence },
+        ScheduleRefusal::Bytes => RunFault::Bytes,
     }
 }
 
 /// The fault of a network's play over links that lose messages as one of a run.
-pub(crate) fn of_lossy(fault: LossyPlayFault) -> RunFault
+pub(crate) fn of_lossy(fault: PlayFault<LossyOffence>) -> RunFault
     ensures { result ≡ of_lossy fault }
 {
     match fault {
-        LossyPlayFault::Refused(refusal) => of_refusal(refusal),
-        LossyPlayFault::Read => RunFault::Read,
-        LossyPlayFault::Link => RunFault::Link,
+        PlayFault::Refused(refusal) => of_refusal(refusal),
+        PlayFault::Read => RunFault::Read,
+        PlayFault::Link => RunFault::Link,
     }
 }
 
-fn of_refusal(refusal: Refusal<LossyOffence>) -> RunFault
+fn of_refusal(refusal: ScheduleRefusal<LossyOffence>) -> RunFault
     ensures { result ≡ of_refusal refusal }
 {
     match refusal {
-        Refusal::Row { row, fault } => RunFault::Row { row, fault },
-        Refusal::Offence { event, offence } => RunFault::Lossy { event, offence },
-        Refusal::Bytes => RunFault::Bytes,
+        ScheduleRefusal::Row { row, fault } => RunFault::Row { row, fault },
+        ScheduleRefusal::Offence { event, offence } => RunFault::Lossy { event, offence },
+        ScheduleRefusal::Bytes => RunFault::Bytes,
     }
 }

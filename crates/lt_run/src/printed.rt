@@ -1,11 +1,11 @@
 // What a replay of a loaded program answers.
 ghost use Rattle.std.specs.Prelude.{◌≡◌, IfOk, length, map};
-ghost use Rattle.lt_stream.specs.Main.{name_in};
+ghost use Rattle.lt_evaluate.specs.Main.{written_name};
 
 use lt_base::{Cell, Func, List, Memory, Name};
+use lt_evaluate::{Outputs, output_names};
+use lt_net::Replayed;
 use lt_place::Layout;
-use lt_replay::Replayed;
-use lt_stream::{Outputs, output_names};
 use std::alloc::Global;
 use std::mem::forget;
 
@@ -34,7 +34,7 @@ impl<M: Drop> Printed<M> {
     }
 
     /// The outputs alone, at the end of a call: neither the machines nor the trees of the layout are taken apart.
-    pub(crate) fn shown(self) -> Outputs
+    pub(crate) fn into_outputs(self) -> Outputs
         ensures names { result.names ≡ self.names }
         ensures cells { result.cells ≡ self.cells }
     {
@@ -58,7 +58,7 @@ pub(crate) fn name_outputs<M: Drop>(
     replayed: Replayed<M>,
 ) -> Result<Printed<M>, Memory>
     requires width { length replayed.cells ≡ length main.now.outs }
-    ensures names { IfOk result (λ printed. printed.names ≡ map (name_in main.now) main.now.outs) }
+    ensures names { IfOk result (λ printed. printed.names ≡ map (written_name main.now) main.now.outs) }
     ensures cells { IfOk result (λ printed. printed.cells ≡ replayed.cells) }
     ensures horizon { IfOk result (λ printed. printed.horizon ≡ replayed.horizon) }
     ensures machines { IfOk result (λ printed. printed.machines ≡ replayed.machines) }

@@ -1,16 +1,17 @@
 // A loaded program along a schedule.
 ghost use Rattle.std.specs.Prelude.{◌≡◌, ◌<◌, ◌≤◌, ◌-◌, ◌^◌, [], length, None};
+ghost use Rattle.lt_io.specs.Counts.{MayFail};
 ghost use Rattle.lt_base.specs.Behaviour.{RowsFit};
 ghost use Rattle.lt_norm.specs.Flat.{Originated};
 ghost use Rattle.lt_timing.specs.Accepts.{Accepts};
 ghost use Rattle.lt_step.specs.Run.{HasRowValues};
 ghost use Rattle.lt_place.specs.Layout.{IsPlaced};
 ghost use Rattle.lt_place.specs.Sizes.{HasCodeRoom};
-ghost use Rattle.lt_plant.specs.Starts.{AreReady};
-ghost use Rattle.lt_config.specs.declared.pace.Pace.TheVariants.{Lossy};
-ghost use Rattle.lt_config.specs.Paced.{allowed_of};
+ghost use Rattle.lt_net_bench.specs.Starts.{AreReady};
+ghost use Rattle.lt_arch.specs.declared.pace.Pace.TheVariants.{Lossy};
+ghost use Rattle.lt_arch.specs.Paced.{allowed_of};
 ghost use Rattle.lt_lead.specs.Paced.{KeepsPace};
-ghost use Rattle.lt_fit.specs.Fits.{HasWindowBy};
+ghost use Rattle.lt_load_fit.specs.Fits.{HasWindowBy};
 ghost use Rattle.lt_load.specs.Plan.{IsLoaded};
 ghost use Rattle.lt_run.specs.Printed.{HasPrinted, HasTaken};
 ghost use Rattle.lt_run.specs.Run.{HasOutputs};
@@ -22,14 +23,15 @@ use crate::{Printed, RunFault};
 use lt_base::tables::imp;
 use lt_base::{Inputs, Or};
 use lt_config::Pace;
+use lt_evaluate::Outputs;
 use lt_front::Checked;
 use lt_io::{Fabric, Files};
 use lt_load::{Loaded, main_of};
 use lt_machine::Machine;
+use lt_net::Replayed;
+use lt_net_lossy::replay_lossy;
+use lt_net_start::{NetPlan, copies};
 use lt_norm::Flat;
-use lt_replay::setup::{Setup, copies};
-use lt_replay::{Replayed, replay_lossy};
-use lt_stream::Outputs;
 use std::alloc::Global;
 use std::mem::forget;
 
@@ -45,11 +47,11 @@ pub fn replay<F: Files, W: Fabric, M: Machine>(
     fabric: &mut W,
     machines: Vec<M>,
 ) -> Result<Printed<M>, Or<RunFault>>
-    requires count { (F.state files.old).faults < 2 ^ 64 - 1 }
-    requires link_count { (W.state fabric.old).faults < 2 ^ 64 - 1 }
+    requires count { MayFail (F.state files.old).faults }
+    requires link_count { MayFail (W.state fabric.old).faults }
     requires empty { (W.state fabric.old).kinds ≡ [] }
-    requires machines { AreReady M.stands M.made M.left loaded.now.layout (length loaded.now.inputs.rows) machines.items }
-    ensures { HasPrinted M.stands M.made loaded.now schedule.now (F.state files.old) (F.state files.new) (W.state fabric.old) (W.state fabric.new) result }
+    requires machines { AreReady M.Machine loaded.now.layout (length loaded.now.inputs.rows) machines.items }
+    ensures { HasPrinted M.Machine loaded.now schedule.now (F.state files.old) (F.state files.new) (W.state fabric.old) (W.state fabric.new) result }
 {
     let setup = copies(&loaded.layout, &loaded.shape, &loaded.timing)?;
     replay_setup(
@@ -70,7 +72,7 @@ fn replay_setup<F: Files, W: Fabric, M: Machine>(
     alloc: Global,
     checked: &Checked,
     pace: Pace,
-    setup: Setup,
+    setup: NetPlan,
     inputs: &Inputs,
     files: &mut F,
     schedule: &str,
@@ -78,14 +80,14 @@ fn replay_setup<F: Files, W: Fabric, M: Machine>(
     machines: Vec<M>,
 ) -> Result<Printed<M>, Or<RunFault>>
     requires loaded { IsLoaded (record { checked = checked.now; layout = setup.layout; shape = setup.shape; timing = setup.timing; inputs = inputs.now; pace = pace }) }
-    requires count { (F.state files.old).faults < 2 ^ 64 - 1 }
-    requires link_count { (W.state fabric.old).faults < 2 ^ 64 - 1 }
+    requires count { MayFail (F.state files.old).faults }
+    requires link_count { MayFail (W.state fabric.old).faults }
     requires empty { (W.state fabric.old).kinds ≡ [] }
-    requires machines { AreReady M.stands M.made M.left setup.layout (length inputs.now.rows) machines.items }
-    ensures { HasPrinted M.stands M.made (record { checked = checked.now; layout = setup.layout; shape = setup.shape; timing = setup.timing; inputs = inputs.now; pace = pace }) schedule.now
+    requires machines { AreReady M.Machine setup.layout (length inputs.now.rows) machines.items }
+    ensures { HasPrinted M.Machine (record { checked = checked.now; layout = setup.layout; shape = setup.shape; timing = setup.timing; inputs = inputs.now; pace = pace }) schedule.now
         (F.state files.old) (F.state files.new) (W.state fabric.old) (W.state fabric.new) result }
 {
-    checked.program.kept();
+    checked.program.invariant_holds();
     let width = width_of(&checked.flat);
     let replayed = take(
         alloc, pace, setup, inputs, width, files, schedule, fabric, machines,
@@ -97,7 +99,7 @@ fn replay_setup<F: Files, W: Fabric, M: Machine>(
 fn take<F: Files, W: Fabric, M: Machine>(
     alloc: Global,
     pace: Pace,
-    setup: Setup,
+    setup: NetPlan,
     inputs: &Inputs,
     width: u32,
     files: &mut F,
@@ -105,8 +107,8 @@ fn take<F: Files, W: Fabric, M: Machine>(
     fabric: &mut W,
     machines: Vec<M>,
 ) -> Result<Replayed<M>, Or<RunFault>>
-    requires count { (F.state files.old).faults < 2 ^ 64 - 1 }
-    requires link_count { (W.state fabric.old).faults < 2 ^ 64 - 1 }
+    requires count { MayFail (F.state files.old).faults }
+    requires link_count { MayFail (W.state fabric.old).faults }
     requires empty { (W.state fabric.old).kinds ≡ [] }
     requires placed { (f : Originated) × IsPlaced f setup.layout × HasCodeRoom f.func × RowsFit f.func inputs.now.rows }
     requires paced { KeepsPace setup.layout setup.shape setup.timing pace }
@@ -116,8 +118,8 @@ fn take<F: Files, W: Fabric, M: Machine>(
     requires few { length setup.layout.names ≤ 32 }
     requires width { inputs.now.width ≡ width }
     requires wide { HasRowValues width inputs.now.rows }
-    requires machines { AreReady M.stands M.made M.left setup.layout (length inputs.now.rows) machines.items }
-    ensures { HasTaken M.stands M.made pace setup.layout setup.shape setup.timing inputs.now.rows schedule.now (F.state files.old) (F.state files.new) (W.state fabric.old) (W.state fabric.new) result }
+    requires machines { AreReady M.Machine setup.layout (length inputs.now.rows) machines.items }
+    ensures { HasTaken M.Machine pace setup.layout setup.shape setup.timing inputs.now.rows schedule.now (F.state files.old) (F.state files.new) (W.state fabric.old) (W.state fabric.new) result }
 {
     match pace {
         Pace::Lossy(losses) => take_lossy(
@@ -133,7 +135,7 @@ fn take<F: Files, W: Fabric, M: Machine>(
 fn take_plain<F: Files, W: Fabric, M: Machine>(
     alloc: Global,
     pace: Pace,
-    setup: Setup,
+    setup: NetPlan,
     inputs: &Inputs,
     width: u32,
     files: &mut F,
@@ -142,8 +144,8 @@ fn take_plain<F: Files, W: Fabric, M: Machine>(
     machines: Vec<M>,
 ) -> Result<Replayed<M>, Or<RunFault>>
     requires lossless { allowed_of pace ≡ None }
-    requires count { (F.state files.old).faults < 2 ^ 64 - 1 }
-    requires link_count { (W.state fabric.old).faults < 2 ^ 64 - 1 }
+    requires count { MayFail (F.state files.old).faults }
+    requires link_count { MayFail (W.state fabric.old).faults }
     requires empty { (W.state fabric.old).kinds ≡ [] }
     requires placed { (f : Originated) × IsPlaced f setup.layout × HasCodeRoom f.func × RowsFit f.func inputs.now.rows }
     requires paced { KeepsPace setup.layout setup.shape setup.timing pace }
@@ -152,10 +154,10 @@ fn take_plain<F: Files, W: Fabric, M: Machine>(
     requires few { length setup.layout.names ≤ 32 }
     requires width { inputs.now.width ≡ width }
     requires wide { HasRowValues width inputs.now.rows }
-    requires machines { AreReady M.stands M.made M.left setup.layout (length inputs.now.rows) machines.items }
-    ensures { HasTaken M.stands M.made pace setup.layout setup.shape setup.timing inputs.now.rows schedule.now (F.state files.old) (F.state files.new) (W.state fabric.old) (W.state fabric.new) result }
+    requires machines { AreReady M.Machine setup.layout (length inputs.now.rows) machines.items }
+    ensures { HasTaken M.Machine pace setup.layout setup.shape setup.timing inputs.now.rows schedule.now (F.state files.old) (F.state files.new) (W.state fabric.old) (W.state fabric.new) result }
 {
-    match lt_replay::replay(
+    match lt_net_replay::replay(
         alloc, files, schedule, fabric, setup, inputs, width, machines,
     ) {
         Ok(replayed) => Ok(replayed),
@@ -167,7 +169,7 @@ fn take_plain<F: Files, W: Fabric, M: Machine>(
 fn take_lossy<F: Files, W: Fabric, M: Machine>(
     alloc: Global,
     losses: u64,
-    setup: Setup,
+    setup: NetPlan,
     inputs: &Inputs,
     width: u32,
     files: &mut F,
@@ -175,8 +177,8 @@ fn take_lossy<F: Files, W: Fabric, M: Machine>(
     fabric: &mut W,
     machines: Vec<M>,
 ) -> Result<Replayed<M>, Or<RunFault>>
-    requires count { (F.state files.old).faults < 2 ^ 64 - 1 }
-    requires link_count { (W.state fabric.old).faults < 2 ^ 64 - 1 }
+    requires count { MayFail (F.state files.old).faults }
+    requires link_count { MayFail (W.state fabric.old).faults }
     requires empty { (W.state fabric.old).kinds ≡ [] }
     requires placed { (f : Originated) × IsPlaced f setup.layout × HasCodeRoom f.func × RowsFit f.func inputs.now.rows }
     requires paced { KeepsPace setup.layout setup.shape setup.timing (Lossy losses) }
@@ -185,8 +187,8 @@ fn take_lossy<F: Files, W: Fabric, M: Machine>(
     requires few { length setup.layout.names ≤ 32 }
     requires width { inputs.now.width ≡ width }
     requires wide { HasRowValues width inputs.now.rows }
-    requires machines { AreReady M.stands M.made M.left setup.layout (length inputs.now.rows) machines.items }
-    ensures { HasTaken M.stands M.made (Lossy losses) setup.layout setup.shape setup.timing inputs.now.rows schedule.now (F.state files.old) (F.state files.new) (W.state fabric.old) (W.state fabric.new) result }
+    requires machines { AreReady M.Machine setup.layout (length inputs.now.rows) machines.items }
+    ensures { HasTaken M.Machine (Lossy losses) setup.layout setup.shape setup.timing inputs.now.rows schedule.now (F.state files.old) (F.state files.new) (W.state fabric.old) (W.state fabric.new) result }
 {
     match replay_lossy(
         alloc, files, schedule, fabric, setup, losses, inputs, width, machines,
@@ -212,8 +214,8 @@ pub(crate) fn replay_code<F: Files, W: Fabric>(
     schedule: &str,
     fabric: &mut W,
 ) -> Result<Outputs, Or<RunFault>>
-    requires count { (F.state files.old).faults < 2 ^ 64 - 1 }
-    requires link_count { (W.state fabric.old).faults < 2 ^ 64 - 1 }
+    requires count { MayFail (F.state files.old).faults }
+    requires link_count { MayFail (W.state fabric.old).faults }
     requires empty { (W.state fabric.old).kinds ≡ [] }
     ensures { HasOutputs loaded.now schedule.now (F.state files.old) (F.state files.new) (W.state fabric.old) (W.state fabric.new) result }
 {
@@ -231,13 +233,13 @@ pub(crate) fn replay_given<F: Files, W: Fabric, M: Machine>(
     fabric: &mut W,
     machines: Vec<M>,
 ) -> Result<Printed<M>, Or<RunFault>>
-    requires count { (F.state files.old).faults < 2 ^ 64 - 1 }
-    requires link_count { (W.state fabric.old).faults < 2 ^ 64 - 1 }
+    requires count { MayFail (F.state files.old).faults }
+    requires link_count { MayFail (W.state fabric.old).faults }
     requires empty { (W.state fabric.old).kinds ≡ [] }
-    requires machines { AreReady M.stands M.made M.left loaded.layout (length loaded.inputs.rows) machines.items }
-    ensures { HasPrinted M.stands M.made loaded schedule.now (F.state files.old) (F.state files.new) (W.state fabric.old) (W.state fabric.new) result }
+    requires machines { AreReady M.Machine loaded.layout (length loaded.inputs.rows) machines.items }
+    ensures { HasPrinted M.Machine loaded schedule.now (F.state files.old) (F.state files.new) (W.state fabric.old) (W.state fabric.new) result }
 {
-    loaded.kept();
+    loaded.invariant_holds();
     let Loaded {
         checked,
         layout,
@@ -246,7 +248,7 @@ pub(crate) fn replay_given<F: Files, W: Fabric, M: Machine>(
         inputs,
         pace,
     } = loaded;
-    let setup = Setup {
+    let setup = NetPlan {
         layout,
         shape,
         timing,

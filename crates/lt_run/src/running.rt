@@ -1,11 +1,12 @@
 // A run of a program along a schedule.
 ghost use Rattle.std.specs.Prelude.{◌≡◌, ◌<◌, ◌-◌, ◌^◌, [], length, IfErr, IsTrue, option_map};
+ghost use Rattle.lt_io.specs.Counts.{MayFail};
 ghost use Rattle.lt_io.specs.FabricState.{OpensOnce};
 ghost use Rattle.lt_answer.specs.Answered.{Answered};
-ghost use Rattle.lt_plant.specs.Starts.{AreReady};
-ghost use Rattle.lt_replay.specs.Played.{world};
+ghost use Rattle.lt_net_bench.specs.Starts.{AreReady};
+ghost use Rattle.lt_net_start.specs.Outside.{world};
 ghost use Rattle.lt_load.specs.Blamed.{command_blame};
-ghost use Rattle.lt_judge.specs.Errand.{schedule_errand};
+ghost use Rattle.lt_schedule.specs.Errand.{schedule_errand};
 ghost use Rattle.lt_run.specs.Errands.{run_errands};
 ghost use Rattle.lt_run.specs.Near.{IsNearCommand};
 ghost use Rattle.lt_run.specs.Run.{AsCommand, LeavesUnloaded, along_loaded, run_verdict};
@@ -16,10 +17,10 @@ use crate::replaying::{replay_code, replay_given};
 use lt_arch::Shape;
 use lt_base::tables::imp;
 use lt_base::{Memory, Or};
+use lt_evaluate::Outputs;
 use lt_io::{Fabric, Files};
 use lt_load::{CommandFault, Loaded, What, load};
 use lt_machine::Machine;
-use lt_stream::Outputs;
 use std::alloc::Global;
 
 /// Runs a program on the nodes of a setup, or on one node without a setup: each node's machine makes a step for each instant that
@@ -35,8 +36,8 @@ pub fn run<F: Files, W: Fabric>(
     schedule: &str,
     config: Option<&str>,
 ) -> Result<Outputs, Or<CommandFault>>
-    requires count { (F.state files.old).faults < 2 ^ 64 - 1 }
-    requires link_count { (W.state fabric.old).faults < 2 ^ 64 - 1 }
+    requires count { MayFail (F.state files.old).faults }
+    requires link_count { MayFail (W.state fabric.old).faults }
     requires empty { (W.state fabric.old).kinds ≡ [] }
     ensures answered { Answered command_blame (run_errands program.now inputs.now schedule.now (option_map (λ s. s.now) config.entry)) (run_verdict (F.state files.old).named program.now inputs.now schedule.now (option_map (λ s. s.now) config.entry) (world (F.state files.new) (W.state fabric.new)))
         (world (F.state files.old) (W.state fabric.old)) (world (F.state files.new) (W.state fabric.new)) result }
@@ -55,8 +56,8 @@ fn run_whole<F: Files, W: Fabric>(
     loaded: Loaded,
     schedule: &str,
 ) -> Result<Outputs, Or<CommandFault>>
-    requires count { (F.state files.old).faults < 2 ^ 64 - 1 }
-    requires link_count { (W.state fabric.old).faults < 2 ^ 64 - 1 }
+    requires count { MayFail (F.state files.old).faults }
+    requires link_count { MayFail (W.state fabric.old).faults }
     requires empty { (W.state fabric.old).kinds ≡ [] }
     ensures answered { Answered command_blame (schedule_errand schedule.now) (along_loaded (W.state fabric.new) loaded ((F.state files.old).named schedule.now))
         (world (F.state files.old) (W.state fabric.old)) (world (F.state files.new) (W.state fabric.new)) result }
@@ -82,9 +83,9 @@ fn run_with<F: Files, W: Fabric, M: Machine>(
     schedule: &str,
 ) -> Result<Outputs, Or<CommandFault>>
     requires same { equipment.shape ≡ loaded.shape }
-    requires machines { AreReady M.stands M.made M.left loaded.layout (length loaded.inputs.rows) equipment.machines.items }
-    requires count { (F.state files.old).faults < 2 ^ 64 - 1 }
-    requires link_count { (W.state fabric.old).faults < 2 ^ 64 - 1 }
+    requires machines { AreReady M.Machine loaded.layout (length loaded.inputs.rows) equipment.machines.items }
+    requires count { MayFail (F.state files.old).faults }
+    requires link_count { MayFail (W.state fabric.old).faults }
     requires empty { (W.state fabric.old).kinds ≡ [] }
     ensures answered { Answered command_blame (schedule_errand schedule.now) (along_loaded (W.state fabric.new) loaded ((F.state files.old).named schedule.now))
         (world (F.state files.old) (W.state fabric.old)) (world (F.state files.new) (W.state fabric.new)) result }
@@ -92,7 +93,7 @@ fn run_with<F: Files, W: Fabric, M: Machine>(
     ensures opens { OpensOnce (W.state fabric.old) (W.state fabric.new) result }
 {
     match replay_given(alloc, loaded, files, schedule, fabric, equipment.machines) {
-        Ok(printed) => Ok(printed.shown()),
+        Ok(printed) => Ok(printed.into_outputs()),
         Err(fault) => Err(as_command(&equipment.shape, fault)),
     }
 }
@@ -105,8 +106,8 @@ pub fn run_loaded<F: Files, W: Fabric>(
     loaded: &Loaded,
     schedule: &str,
 ) -> Result<Outputs, Or<CommandFault>>
-    requires count { (F.state files.old).faults < 2 ^ 64 - 1 }
-    requires link_count { (W.state fabric.old).faults < 2 ^ 64 - 1 }
+    requires count { MayFail (F.state files.old).faults }
+    requires link_count { MayFail (W.state fabric.old).faults }
     requires empty { (W.state fabric.old).kinds ≡ [] }
     ensures answered { Answered command_blame (schedule_errand schedule.now) (along_loaded (W.state fabric.new) loaded.now ((F.state files.old).named schedule.now))
         (world (F.state files.old) (W.state fabric.old)) (world (F.state files.new) (W.state fabric.new)) result }

@@ -20,18 +20,19 @@ use Rattle.lt_sim.specs.declared.progress.Progress.{Progress}
 use Rattle.rand_core.specs.Steps.{stream_of}
 use Rattle.rand_xoshiro.specs.SplitMix64.{splitmix_steps}
 use Rattle.lt_sim.specs.Words.{left_after}
-use Rattle.lt_sim.specs.Drawn.{Draw, pending_at, how_many, sends, gap, delay, activated, delivered}
-use Rattle.lt_sim.specs.Tallies.{leads_from}
-use Rattle.lt_sim.specs.Progress.{IsAt, HasNode, IsNoneAhead}
+use Rattle.lt_sim.specs.Drawn.{Draw, pending_at, sends, gap, delay, activated, delivered}
+use Rattle.lt_base.specs.Truths.{how_many}
+use Rattle.lt_sim.specs.Tallies.{leads_kind_from}
+use Rattle.lt_sim.specs.Progress.{ProgressIsAt, HasNode, IsNoneAhead}
 use Rattle.lt_sim.specs.Controlled.{Controlled, no_controller, controller_of, controlled_after, IsControlled, AreControlled}
 use Rattle.lt_sim.specs.Spans.{AreSpans, DrawsDelays}
-use Rattle.lt_sim.specs.Standing.{IsTransitPending, IsPending, Stands}
+use Rattle.lt_sim.specs.Standing.{IsTransitPending, IsPending, DrawingStands}
 use Rattle.lt_sim.proofs.Counting.{how_many-same}
 use Rattle.lt_sim.proofs.Dues.{pending-node, pending-chan}
 use Rattle.lt_sim.proofs.Controls.{controlled_on}
 
 -- What is kept has each node.
-pub has_node : (p : Progress) (s : Shape) (e d : ℕ → ℕ) (n : ℕ) → IsAt p s e d → n < node_count s → HasNode p n
+pub has_node : (p : Progress) (s : Shape) (e d : ℕ → ℕ) (n : ℕ) → ProgressIsAt p s e d → n < node_count s → HasNode p n
 has_node p s e d n at lt =
     let a = at.executed_length in
     let m = at.messages in
@@ -92,11 +93,11 @@ module _ (s : Shape) (t : Timing) (rows : ℕ) (st : State) (n at : ℕ) where
       and_no true = refl
       and_no false = refl
 
-pub at_same : (p : Progress) (s : Shape) (e f d g : ℕ → ℕ) → ((n : ℕ) → f n ≡ e n) → ((c : ℕ) → g c ≡ d c) → IsAt p s e d → IsAt p s f g
+pub at_same : (p : Progress) (s : Shape) (e f d g : ℕ → ℕ) → ((n : ℕ) → f n ≡ e n) → ((c : ℕ) → g c ≡ d c) → ProgressIsAt p s e d → ProgressIsAt p s f g
 at_same p s e f d g he hd h =
     let pe : e ≡ f = λ i n. sym (he n) i in
     let pd : d ≡ g = λ i c. sym (hd c) i in
-    subst (λ (g : ℕ → ℕ). IsAt p s f g) pd (subst (λ (f : ℕ → ℕ). IsAt p s f d) pe h)
+    subst (λ (g : ℕ → ℕ). ProgressIsAt p s f g) pd (subst (λ (f : ℕ → ℕ). ProgressIsAt p s f d) pe h)
 
 -- On which channels a deed sends.
 
@@ -107,11 +108,11 @@ or_no false = refl
 pub sends-nothing : (s : Shape) (t : Timing) (rows : ℕ) (st : State) (n : ℕ) → deed_at s rows st n ≡ Nothing → (c : ℕ) → sends s t rows st n c ≡ false
 sends-nothing s t rows st n is c = ap (λ (d : Deed). sends_on s t n d c) is
 
-pub sends-data : (s : Shape) (t : Timing) (rows : ℕ) (st : State) (n : ℕ) → deed_at s rows st n ≡ Send → (c : ℕ) → sends s t rows st n c ≡ leads_from s.channels true n c
+pub sends-data : (s : Shape) (t : Timing) (rows : ℕ) (st : State) (n : ℕ) → deed_at s rows st n ≡ Send → (c : ℕ) → sends s t rows st n c ≡ leads_kind_from s.channels true n c
 unfolding chan_of
 sends-data s t rows st n is c = ap (λ (d : Deed). sends_on s t n d c) is ∙ or_no (data_from s n c)
 
-pub sends-acks : (s : Shape) (t : Timing) (rows : ℕ) (st : State) (n : ℕ) → deed_at s rows st n ≡ Execute → is_back_pressure t.protocol ≡ true → (c : ℕ) → sends s t rows st n c ≡ leads_from s.channels false n c
+pub sends-acks : (s : Shape) (t : Timing) (rows : ℕ) (st : State) (n : ℕ) → deed_at s rows st n ≡ Execute → is_back_pressure t.protocol ≡ true → (c : ℕ) → sends s t rows st n c ≡ leads_kind_from s.channels false n c
 unfolding chan_of
 sends-acks s t rows st n is pressure c = ap (λ (d : Deed). sends_on s t n d c) is ∙ ap (λ (b : Bool). b && ack_from s n c) pressure
 
@@ -120,7 +121,7 @@ sends-none s t rows st n is pressure c = ap (λ (d : Deed). sends_on s t n d c) 
 
 -- An activation.
 
-module _ (k : Drawing) (s : Shape) (t : Timing) (rows seed : ℕ) (d : Draw) (stands : Stands k s t seed d) (n at : ℕ) (lt : n < node_count s) where
+module _ (k : Drawing) (s : Shape) (t : Timing) (rows seed : ℕ) (d : Draw) (stands : DrawingStands k s t seed d) (n at : ℕ) (lt : n < node_count s) where
   next : ℕ
   next = at + gap t seed n (d.words + 1)
 
@@ -192,9 +193,9 @@ module _ (k : Drawing) (s : Shape) (t : Timing) (rows seed : ℕ) (d : Draw) (st
       → gap_drawn ≡ gap t seed n (d.words + 1) → mid ≡ slice_set k.pending n (Some (at + gap_drawn)) → DrawsDelays s t seed (d.words + 1) at (chan_count s) on mid new.pending
       → stream_of splitmix_steps new.generator ≡ left_after seed (d.words + 1 + how_many on (chan_count s))
       → new.controllers ≡ slice_set k.controllers n (controlled_after (controller_of k.controllers n) deed)
-      → IsAt new.progress s (executed_of (after s t rows d.state (Act n at))) (λ c. (d.state.chan c).delivered)
+      → ProgressIsAt new.progress s (executed_of (after s t rows d.state (Act n at))) (λ c. (d.state.chan c).delivered)
       → new.messages.items ≡ k.messages.items → new.acks.items ≡ k.acks.items
-      → Stands new s t seed (activated s t rows seed d n at)
+      → DrawingStands new s t seed (activated s t rows seed d n at)
   unfolding next
   stands-act new deed mid gap_drawn on deed_is on_is gap_is mid_is draws left controllers progress messages acks =
       let mid' : mid ≡ slice_set k.pending n (Some next) = mid_is ∙ ap (λ v. slice_set k.pending n (Some (at + v))) gap_is in
@@ -219,7 +220,7 @@ transit_one dmin dmax [] (Some p) at h is = absurd h
 transit_one dmin dmax (sent ∷ []) pending at h is = (sent, refl)
 transit_one dmin dmax (sent ∷ more ∷ later) pending at h is = absurd h
 
-module _ (k : Drawing) (s : Shape) (t : Timing) (rows seed : ℕ) (d : Draw) (stands : Stands k s t seed d) (pending : IsPending s t d) (c at : ℕ) (lt : c < chan_count s) (due : d.delivery c ≡ Some at) where
+module _ (k : Drawing) (s : Shape) (t : Timing) (rows seed : ℕ) (d : Draw) (stands : DrawingStands k s t seed d) (pending : IsPending s t d) (c at : ℕ) (lt : c < chan_count s) (due : d.delivery c ≡ Some at) where
   delivered-more : (i : ℕ) → ((after s t rows d.state (Del c at)).chan i).delivered ≡ updated (λ i. (d.state.chan i).delivered) c ((d.state.chan c).delivered + 1) i
   unfolding after
   delivered-more i =
@@ -249,8 +250,8 @@ module _ (k : Drawing) (s : Shape) (t : Timing) (rows seed : ℕ) (d : Draw) (st
   ]
 
   pub stands-del : (new : Drawing) (place : ℕ) → place ≡ node_count s + c → stream_of splitmix_steps new.generator ≡ stream_of splitmix_steps k.generator → new.pending ≡ slice_set k.pending place None → new.controllers ≡ k.controllers
-      → IsAt new.progress s (executed_of d.state) (updated (λ i. (d.state.chan i).delivered) c ((d.state.chan c).delivered + 1)) → new.messages.items ≡ k.messages.items → new.acks.items ≡ k.acks.items
-      → Stands new s t seed (delivered s t rows d c at)
+      → ProgressIsAt new.progress s (executed_of d.state) (updated (λ i. (d.state.chan i).delivered) c ((d.state.chan c).delivered + 1)) → new.messages.items ≡ k.messages.items → new.acks.items ≡ k.acks.items
+      → DrawingStands new s t seed (delivered s t rows d c at)
   unfolding after
   stands-del new place there generator set_is controllers progress messages acks =
       let is : new.pending ≡ slice_set k.pending (node_count s + c) None = set_is ∙ ap (λ p. slice_set k.pending p None) there in

@@ -12,17 +12,18 @@ use Rattle.lt_arch.proofs.Changes.{at_updated}
 use Rattle.lt_arch.proofs.Facts.{ends-of}
 use Rattle.lt_sim.specs.declared.tally.Tally.{Tally}
 use Rattle.lt_sim.specs.declared.progress.Progress.{Progress}
-use Rattle.lt_sim.specs.Tallies.{leads_to, raised, same_truth}
-use Rattle.lt_sim.specs.Progress.{fresh_by, early_by, IsTallied, IsAt, IsNoneAhead}
+use Rattle.lt_sim.specs.Tallies.{leads_kind_to, raised}
+use Rattle.lt_base.specs.Truths.{same_truth}
+use Rattle.lt_sim.specs.Progress.{fresh_by, early_by, IsTallied, ProgressIsAt, IsNoneAhead}
 use Rattle.lt_sim.proofs.Counting.{how_many-most}
 use Rattle.lt_sim.proofs.Tallying.{tally_arrives, tally_stays, tally_executes}
 
 -- no count is large
 pub fresh_few : (w : Tally) (s : Shape) (k : Bool) (e d : ℕ → ℕ) (n : ℕ) → IsTallied w s k e d → chan_count s < 2147483648 → n < node_count s → slice_index_or w.fresh.items n 0 < 4294967295
-fresh_few w s k e d n h few lt = let is = h.fresh n lt in let most = how_many-most (λ c. leads_to s.channels k n c && fresh_by s e d c) (chan_count s) in omega (arith, is, most, few)
+fresh_few w s k e d n h few lt = let is = h.fresh n lt in let most = how_many-most (λ c. leads_kind_to s.channels k n c && fresh_by s e d c) (chan_count s) in omega (arith, is, most, few)
 
 pub early_few : (w : Tally) (s : Shape) (k : Bool) (e d : ℕ → ℕ) (n : ℕ) → IsTallied w s k e d → chan_count s < 2147483648 → n < node_count s → slice_index_or w.early.items n 0 < 4294967295
-early_few w s k e d n h few lt = let is = h.early n lt in let most = how_many-most (λ c. leads_to s.channels k n c && early_by s e d c) (chan_count s) in omega (arith, is, most, few)
+early_few w s k e d n h few lt = let is = h.early n lt in let most = how_many-most (λ c. leads_kind_to s.channels k n c && early_by s e d c) (chan_count s) in omega (arith, is, most, few)
 
 pub chan_to : (s : Shape) (channels : List Chan) (c : ℕ) → channels ≡ s.channels → (slice_index_or channels c no_chan).to ≡ to_of s c
 unfolding chan_of
@@ -37,7 +38,7 @@ to_in s c lt = (ends-of s c lt).to_in
 
 -- A delivery.
 
-module _ (p : Progress) (s : Shape) (e d : ℕ → ℕ) (c : ℕ) (at : IsAt p s e d) (lt : c < chan_count s) (channels : List Chan) (is : channels ≡ s.channels) (executed delivered : ℕ)
+module _ (p : Progress) (s : Shape) (e d : ℕ → ℕ) (c : ℕ) (at : ProgressIsAt p s e d) (lt : c < chan_count s) (channels : List Chan) (is : channels ≡ s.channels) (executed delivered : ℕ)
     (read_executed : executed ≡ slice_index_or p.executed.items (slice_index_or channels c no_chan).to executed) (read_delivered : delivered ≡ slice_index_or p.delivered.items c delivered) where
   executed_now : executed ≡ e (to_of s c)
   executed_now =
@@ -58,7 +59,7 @@ module _ (p : Progress) (s : Shape) (e d : ℕ → ℕ) (c : ℕ) (at : IsAt p s
       (early ∙ (λ i. raised (delivered_now i + 1 == executed_now i + 1) w.early.items (chan_to s channels c is i)))
 
   moved : (new : Progress) → new.executed.items ≡ p.executed.items → new.delivered.items ≡ set p.delivered.items c (delivered + 1) → IsTallied new.messages s true e (updated d c (d c + 1)) → IsTallied new.acks s false e (updated d c (d c + 1))
-      → IsAt new s e (updated d c (d c + 1))
+      → ProgressIsAt new s e (updated d c (d c + 1))
   moved new executed_same delivered_set messages acks = record {
     few = at.few;
     executed_length = ap length executed_same ∙ at.executed_length;
@@ -74,7 +75,7 @@ module _ (p : Progress) (s : Shape) (e d : ℕ → ℕ) (c : ℕ) (at : IsAt p s
   module _ (new : Progress) (executed_same : new.executed.items ≡ p.executed.items) (delivered_set : new.delivered.items ≡ set p.delivered.items c (delivered + 1)) where
     pub data_arrives : (slice_index_or channels c no_chan).kind ≡ Data → new.acks ≡ p.acks → new.messages.wanted.items ≡ p.messages.wanted.items
         → new.messages.fresh.items ≡ raised (delivered + 1 == executed) p.messages.fresh.items (slice_index_or channels c no_chan).to → new.messages.early.items ≡ raised (delivered + 1 == executed + 1) p.messages.early.items (slice_index_or channels c no_chan).to
-        → IsAt new s e (updated d c (d c + 1))
+        → ProgressIsAt new s e (updated d c (d c + 1))
     data_arrives kind acks wanted fresh early =
         let kind' : (chan_of s c).kind ≡ Data = chan_kind s channels c is ∙ kind in
         moved new executed_same delivered_set (grown p.messages new.messages true at.messages (ap (λ (x : ChanKind). is_data x) kind') wanted fresh early)
@@ -82,7 +83,7 @@ module _ (p : Progress) (s : Shape) (e d : ℕ → ℕ) (c : ℕ) (at : IsAt p s
 
     pub ack_arrives : (slice_index_or channels c no_chan).kind ≡ Ack → new.messages ≡ p.messages → new.acks.wanted.items ≡ p.acks.wanted.items
         → new.acks.fresh.items ≡ raised (delivered + 1 == executed) p.acks.fresh.items (slice_index_or channels c no_chan).to → new.acks.early.items ≡ raised (delivered + 1 == executed + 1) p.acks.early.items (slice_index_or channels c no_chan).to
-        → IsAt new s e (updated d c (d c + 1))
+        → ProgressIsAt new s e (updated d c (d c + 1))
     ack_arrives kind messages wanted fresh early =
         let kind' : (chan_of s c).kind ≡ Ack = chan_kind s channels c is ∙ kind in
         moved new executed_same delivered_set
@@ -91,11 +92,11 @@ module _ (p : Progress) (s : Shape) (e d : ℕ → ℕ) (c : ℕ) (at : IsAt p s
 
 -- An instant.
 
-pub executed_on : (p new : Progress) (s : Shape) (e d : ℕ → ℕ) (n x : ℕ) → IsAt p s e d → n < node_count s → IsNoneAhead s e d n → x ≡ slice_index_or p.executed.items n x
+pub executed_on : (p new : Progress) (s : Shape) (e d : ℕ → ℕ) (n x : ℕ) → ProgressIsAt p s e d → n < node_count s → IsNoneAhead s e d n → x ≡ slice_index_or p.executed.items n x
     → new.executed.items ≡ set p.executed.items n (x + 1) → new.delivered.items ≡ p.delivered.items
     → new.messages.wanted.items ≡ p.messages.wanted.items → new.messages.fresh.items ≡ slice_set p.messages.fresh.items n (slice_index_or p.messages.early.items n 0) → new.messages.early.items ≡ slice_set p.messages.early.items n 0
     → new.acks.wanted.items ≡ p.acks.wanted.items → new.acks.fresh.items ≡ slice_set p.acks.fresh.items n (slice_index_or p.acks.early.items n 0) → new.acks.early.items ≡ slice_set p.acks.early.items n 0
-    → IsAt new s (updated e n (e n + 1)) d
+    → ProgressIsAt new s (updated e n (e n + 1)) d
 executed_on p new s e d n x at lt none read executed delivered wanted fresh early wanted_acks fresh_acks early_acks =
     let size = at.executed_length in
     let now : x ≡ e n = get_or_read p.executed.items n x (omega (arith, lt, size)) read 0 ∙ at.executed_is n lt in
@@ -114,7 +115,7 @@ executed_on p new s e d n x at lt none read executed delivered wanted fresh earl
 -- The start.
 
 pub at_first : (p : Progress) (s : Shape) → 2 * (node_count s + chan_count s) < 2 ^ 32 → p.executed.items ≡ replicate (node_count s) 0 → p.delivered.items ≡ replicate (chan_count s) 0
-    → IsTallied p.messages s true (λ n. 0) (λ c. 0) → IsTallied p.acks s false (λ n. 0) (λ c. 0) → IsAt p s (λ n. 0) (λ c. 0)
+    → IsTallied p.messages s true (λ n. 0) (λ c. 0) → IsTallied p.acks s false (λ n. 0) (λ c. 0) → ProgressIsAt p s (λ n. 0) (λ c. 0)
 at_first p s numbered executed delivered messages acks = record {
   few = omega (arith, numbered);
   executed_length = ap length executed ∙ length-replicate (node_count s) 0;

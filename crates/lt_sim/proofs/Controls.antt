@@ -12,8 +12,8 @@ use Rattle.lt_arch.specs.Readers.{send_of, execute_of}
 use Rattle.lt_arch.specs.Deeds.{phase_after}
 use Rattle.lt_arch.proofs.Changes.{same_or_not}
 use Rattle.lt_tb.specs.Countdown.{phase_of}
-use Rattle.lt_judge.specs.declared.controller.NodeController.{NodeController}
-use Rattle.lt_judge.specs.Chosen.{of_either}
+use Rattle.lt_lead.specs.declared.controller.NodeController.{NodeController}
+use Rattle.lt_lead.specs.Chosen.{of_either}
 use Rattle.lt_sim.specs.Controlled.{Controlled, no_controller, controller_of, controlled_after, IsUncounted, IsControlled}
 
 abbrev pub controlled : NodeController → Controlled

@@ -3,7 +3,7 @@ use Rattle.std.proofs.Common.{◌≡◌, ◌≢◌, ℕ, zero, suc, ◌+◌, ◌
 use Rattle.std.proofs.Math.Nat.{suc-mul}
 use Rattle.lt_arch.specs.Deeds.{all_below, some_below}
 use Rattle.lt_arch.proofs.Changes.{same_or_not}
-use Rattle.lt_sim.specs.Drawn.{how_many}
+use Rattle.lt_base.specs.Truths.{how_many}
 
 -- the sum of what f gives below n
 abbrev pub sum_below : (f : ℕ → ℕ) (n : ℕ) → ℕ

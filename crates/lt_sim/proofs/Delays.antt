@@ -11,16 +11,17 @@ use Rattle.lt_arch.specs.Readers.{node_count, chan_count, chan_of, no_chan, from
 use Rattle.lt_arch.proofs.Ranges.{dmin-dmax}
 use Rattle.lt_arch.proofs.Changes.{same_or_not}
 use Rattle.lt_sim.specs.declared.sending.Span.{Span}
-use Rattle.lt_sim.specs.Words.{left_after, word, number_in}
-use Rattle.lt_sim.specs.Drawn.{how_many, delay}
-use Rattle.lt_sim.specs.Tallies.{leads_from}
+use Rattle.lt_sim.specs.Words.{left_after, drawn_word, number_in}
+use Rattle.lt_sim.specs.Drawn.{delay}
+use Rattle.lt_base.specs.Truths.{how_many}
+use Rattle.lt_sim.specs.Tallies.{leads_kind_from}
 use Rattle.lt_sim.specs.Spans.{IsSpanBelow, DrawsDelays}
 use Rattle.lt_sim.proofs.Counting.{how_many_yes, how_many_no}
 
 -- Words.
 
-pub word-next : (seed k : ℕ) → word seed (k + 1) ≡ (next_u64 (left_after seed k)).0
-unfolding word
+pub word-next : (seed k : ℕ) → drawn_word seed (k + 1) ≡ (next_u64 (left_after seed k)).0
+unfolding drawn_word
 word-next seed k = let same : k + 1 - 1 ≡ k = omega arith in ap (λ n. (next_u64 (left_after seed n)).0) same
 
 pub left-next : (seed k : ℕ) → left_after seed (k + 1) ≡ (next_u64 (left_after seed k)).1
@@ -28,7 +29,7 @@ unfolding left_after
 left-next seed k = rw (add-one k) refl
 
 module _ (seed k low high result : ℕ) (old new : Stream) (is : old ≡ left_after seed k) where
-  pub number_drawn : result ≡ number_in low high (next_u64 old).0 → result ≡ number_in low high (word seed (k + 1))
+  pub number_drawn : result ≡ number_in low high (next_u64 old).0 → result ≡ number_in low high (drawn_word seed (k + 1))
   number_drawn h = h ∙ ap (λ w. number_in low high w) (ap (λ (x : Stream). (next_u64 x).0) is ∙ sym (word-next seed k))
 
   pub left_drawn : new ≡ (next_u64 old).1 → new ≡ left_after seed (k + 1)
@@ -39,12 +40,12 @@ module _ (seed k low high result : ℕ) (old new : Stream) (is : old ≡ left_af
 pub span_none : (cs : List Chan) (k : Bool) (n : ℕ) (span : Span) → span.first ≡ 0 → span.end ≡ 0 → IsSpanBelow cs k n 0 span
 span_none cs k n span first end = record { within = omega (arith, end); first_within = omega (arith, first); holds = λ c lt on. absurd (omega (arith, lt)) }
 
-pub span_skip : (cs : List Chan) (k : Bool) (n i : ℕ) (span : Span) → IsSpanBelow cs k n i span → leads_from cs k n i ≡ false → IsSpanBelow cs k n (i + 1) span
+pub span_skip : (cs : List Chan) (k : Bool) (n i : ℕ) (span : Span) → IsSpanBelow cs k n i span → leads_kind_from cs k n i ≡ false → IsSpanBelow cs k n (i + 1) span
 span_skip cs k n i span h off = record {
   within = let w = h.within in omega (arith, w);
   first_within = let w = h.first_within in omega (arith, w);
   holds = λ c lt on. elim (same_or_not c i) [
-    | inl e ↦ let clash : true ≡ false = sym on ∙ (ap (leads_from cs k n) e ∙ off) in absurd cc
+    | inl e ↦ let clash : true ≡ false = sym on ∙ (ap (leads_kind_from cs k n) e ∙ off) in absurd cc
     | inr ne ↦ h.holds c (omega (arith, lt, ne)) on
   ];
 }
@@ -154,10 +155,10 @@ how_many-all on i n le off =
     ap (how_many on) is ∙ how_many-past on i (n - i) (λ c low high. off c low (omega (arith, high, le)))
 
 -- outside its span no channel is the node's
-pub off_outside : (cs : List Chan) (k : Bool) (n below : ℕ) (span : Span) (c : ℕ) → IsSpanBelow cs k n below span → c < below → (c < span.first) ⊎ (span.end ≤ c) → leads_from cs k n c ≡ false
-off_outside cs k n below span c h lt outside = by (leads_from cs k n c) refl
+pub off_outside : (cs : List Chan) (k : Bool) (n below : ℕ) (span : Span) (c : ℕ) → IsSpanBelow cs k n below span → c < below → (c < span.first) ⊎ (span.end ≤ c) → leads_kind_from cs k n c ≡ false
+off_outside cs k n below span c h lt outside = by (leads_kind_from cs k n c) refl
   where
-    by : (b : Bool) → leads_from cs k n c ≡ b → b ≡ false
+    by : (b : Bool) → leads_kind_from cs k n c ≡ b → b ≡ false
     by true on = let inside = h.holds c lt on in let a = inside.0 in let b = inside.1 in elim outside [ inl x ↦ absurd (omega (arith, x, a)) | inr x ↦ absurd (omega (arith, x, b)) ]
     by false on = refl
 
@@ -175,29 +176,29 @@ unfolding chan_of
 chan_to s channels c is = ap (λ (cs : List Chan). (slice_index_or cs c no_chan).to) is
 
 module _ (s : Shape) (t : Timing) (seed words at : ℕ) (k : Bool) (n : ℕ) (channels : List Chan) (is : channels ≡ s.channels) (old mid : List (Option ℕ)) (before : Stream) (c : ℕ)
-    (left : before ≡ left_after seed (words + how_many (leads_from s.channels k n) c)) (h : DrawsDelays s t seed words at c (leads_from s.channels k n) old mid) where
+    (left : before ≡ left_after seed (words + how_many (leads_kind_from s.channels k n) c)) (h : DrawsDelays s t seed words at c (leads_kind_from s.channels k n) old mid) where
   pub step_drawn : (nodes x y result : ℕ) → nodes ≡ node_count s → x ≡ dmin_of t (slice_index_or channels c no_chan).from (slice_index_or channels c no_chan).to → y ≡ dmax_of t (slice_index_or channels c no_chan).from (slice_index_or channels c no_chan).to
-      → result ≡ number_in x y (next_u64 before).0 → leads_from channels k n c ≡ true → c < chan_count s → length old ≡ node_count s + chan_count s
-      → DrawsDelays s t seed words at (c + 1) (leads_from s.channels k n) old (set mid (nodes + c) (Some (at + result)))
+      → result ≡ number_in x y (next_u64 before).0 → leads_kind_from channels k n c ≡ true → c < chan_count s → length old ≡ node_count s + chan_count s
+      → DrawsDelays s t seed words at (c + 1) (leads_kind_from s.channels k n) old (set mid (nodes + c) (Some (at + result)))
   step_drawn nodes x y result nodes_is low high drawn on lt size =
-      let number = number_drawn seed (words + how_many (leads_from s.channels k n) c) x y result before before left drawn in
+      let number = number_drawn seed (words + how_many (leads_kind_from s.channels k n) c) x y result before before left drawn in
       let low' : x ≡ dmin_of t (from_of s c) (to_of s c) = low ∙ (λ i. dmin_of t (chan_from s channels c is i) (chan_to s channels c is i)) in
       let high' : y ≡ dmax_of t (from_of s c) (to_of s c) = high ∙ (λ i. dmax_of t (chan_from s channels c is i) (chan_to s channels c is i)) in
-      let place : words + how_many (leads_from s.channels k n) c + 1 ≡ words + 1 + how_many (leads_from s.channels k n) c = omega arith in
-      let value : at + result ≡ at + delay s t seed c (words + 1 + how_many (leads_from s.channels k n) c) = ap (λ v. at + v) (number ∙ (λ i. number_in (low' i) (high' i) (word seed (place i)))) in
-      let on' : leads_from s.channels k n c ≡ true = subst (λ (cs : List Chan). leads_from cs k n c ≡ true) is on in
-      subst (λ m. DrawsDelays s t seed words at (c + 1) (leads_from s.channels k n) old (set mid (m + c) (Some (at + result)))) (sym nodes_is)
-      (delays_more s t seed words at (leads_from s.channels k n) old c mid h (at + result) on' lt size value)
+      let place : words + how_many (leads_kind_from s.channels k n) c + 1 ≡ words + 1 + how_many (leads_kind_from s.channels k n) c = omega arith in
+      let value : at + result ≡ at + delay s t seed c (words + 1 + how_many (leads_kind_from s.channels k n) c) = ap (λ v. at + v) (number ∙ (λ i. number_in (low' i) (high' i) (drawn_word seed (place i)))) in
+      let on' : leads_kind_from s.channels k n c ≡ true = subst (λ (cs : List Chan). leads_kind_from cs k n c ≡ true) is on in
+      subst (λ m. DrawsDelays s t seed words at (c + 1) (leads_kind_from s.channels k n) old (set mid (m + c) (Some (at + result)))) (sym nodes_is)
+      (delays_more s t seed words at (leads_kind_from s.channels k n) old c mid h (at + result) on' lt size value)
 
-  pub step_left : (now : Stream) → now ≡ (next_u64 before).1 → leads_from channels k n c ≡ true → now ≡ left_after seed (words + how_many (leads_from s.channels k n) (c + 1))
+  pub step_left : (now : Stream) → now ≡ (next_u64 before).1 → leads_kind_from channels k n c ≡ true → now ≡ left_after seed (words + how_many (leads_kind_from s.channels k n) (c + 1))
   step_left now drawn on =
-      let on' : leads_from s.channels k n c ≡ true = subst (λ (cs : List Chan). leads_from cs k n c ≡ true) is on in
-      let more = how_many_yes (leads_from s.channels k n) c on' in
-      let place : words + how_many (leads_from s.channels k n) c + 1 ≡ words + how_many (leads_from s.channels k n) (c + 1) = omega (arith, more) in
-      left_drawn seed (words + how_many (leads_from s.channels k n) c) 0 0 0 before now left drawn ∙ ap (left_after seed) place
+      let on' : leads_kind_from s.channels k n c ≡ true = subst (λ (cs : List Chan). leads_kind_from cs k n c ≡ true) is on in
+      let more = how_many_yes (leads_kind_from s.channels k n) c on' in
+      let place : words + how_many (leads_kind_from s.channels k n) c + 1 ≡ words + how_many (leads_kind_from s.channels k n) (c + 1) = omega (arith, more) in
+      left_drawn seed (words + how_many (leads_kind_from s.channels k n) c) 0 0 0 before now left drawn ∙ ap (left_after seed) place
 
-  pub step_skips : leads_from channels k n c ≡ false → DrawsDelays s t seed words at (c + 1) (leads_from s.channels k n) old mid
-  step_skips off = delays_skip s t seed words at (leads_from s.channels k n) old c mid h (subst (λ (cs : List Chan). leads_from cs k n c ≡ false) is off)
+  pub step_skips : leads_kind_from channels k n c ≡ false → DrawsDelays s t seed words at (c + 1) (leads_kind_from s.channels k n) old mid
+  step_skips off = delays_skip s t seed words at (leads_kind_from s.channels k n) old c mid h (subst (λ (cs : List Chan). leads_kind_from cs k n c ≡ false) is off)
 
-  pub step_stays : leads_from channels k n c ≡ false → before ≡ left_after seed (words + how_many (leads_from s.channels k n) (c + 1))
-  step_stays off = left ∙ ap (λ m. left_after seed (words + m)) (sym (how_many_no (leads_from s.channels k n) c (subst (λ (cs : List Chan). leads_from cs k n c ≡ false) is off)))
+  pub step_stays : leads_kind_from channels k n c ≡ false → before ≡ left_after seed (words + how_many (leads_kind_from s.channels k n) (c + 1))
+  step_stays off = left ∙ ap (λ m. left_after seed (words + m)) (sym (how_many_no (leads_kind_from s.channels k n) c (subst (λ (cs : List Chan). leads_kind_from cs k n c ≡ false) is off)))

@@ -7,7 +7,7 @@ use Rattle.lt_arch.specs.declared.shape.Shape.{Shape}
 use Rattle.lt_arch.specs.Readers.{node_count, chan_count}
 use Rattle.lt_arch.specs.Deadline.{IsFirst}
 use Rattle.lt_arch.proofs.Winners.{least_below-first}
-use Rattle.lt_sim.specs.Drawn.{Draw, pending_at, next_due, event_of}
+use Rattle.lt_sim.specs.Drawn.{Draw, pending_at, next_due, due_event}
 
 pub pending-node : (s : Shape) (d : Draw) (n : ℕ) → n < node_count s → pending_at s d n ≡ Some (d.activation n)
 unfolding pending_at
@@ -22,14 +22,14 @@ pub record IsActivation (s : Shape) (d : Draw) (due : ℕ × ℕ) (n : ℕ) : Ty
   pub place : due.1 ≡ n
   pub within : n < node_count s
   pub at : d.activation n ≡ due.0
-  pub event : event_of s due ≡ Act n due.0
+  pub event : due_event s due ≡ Act n due.0
 
 -- or a channel delivers
 pub record IsDelivery (s : Shape) (d : Draw) (due : ℕ × ℕ) (c : ℕ) : Type 0 where
   pub place : due.1 ≡ node_count s + c
   pub within : c < chan_count s
   pub at : d.delivery c ≡ Some due.0
-  pub event : event_of s due ≡ Del c due.0
+  pub event : due_event s due ≡ Del c due.0
 
 some_is : (a b : ℕ) → Some a ≡ Some b → a ≡ b
 some_is a b h = cc

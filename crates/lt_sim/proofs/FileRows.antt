@@ -18,15 +18,15 @@ use Rattle.lt_arch.specs.declared.shape.Shape.{Shape}
 use Rattle.lt_arch.specs.declared.timing.Timing.{Timing}
 use Rattle.lt_arch.specs.Readers.{chan_of}
 use Rattle.lt_arch.specs.Schedule.{IsEventOf, IsAdmissible}
-use Rattle.lt_rows.specs.Rows.{Row as FileRow, is_line_feed, lines_of, is_blank, bytes_held, rows_from, rows_of}
+use Rattle.lt_rows.specs.Rows.{FileRow, is_line_feed, lines_of, is_blank_line, bytes_held, rows_from, rows_of}
 use Rattle.lt_rows.specs.Events.{node_name, ends_text}
 use Rattle.lt_rows.specs.Fields.{fields_of}
 use Rattle.lt_rows.specs.Texts.{event_text, kind_text}
 use Rattle.lt_rows.proofs.Cuts.{rows_over, rows_cons, held_short, some_lines}
 use Rattle.lt_rows.proofs.Readback.{Lacks, named, lacks_word, digits_of, chan_ends, ends_short, reads_back}
-use Rattle.lt_judge.specs.Verdict.{verdict}
-use Rattle.lt_judge.specs.Settled.{IsWithin, event_in_row, read_event, ReadAs, settled}
-use Rattle.lt_judge.proofs.Settling.{settles_rows}
+use Rattle.lt_schedule.specs.Verdict.{verdict}
+use Rattle.lt_schedule.specs.Settled.{RowIsWithin, event_in_row, read_event, ReadAs, settled}
+use Rattle.lt_schedule.proofs.Settling.{settles_rows}
 use Rattle.lt_sim.specs.File.{rows_text, header_text, file_text}
 
 -- A row is not blank, is short and holds no line feed.
@@ -91,7 +91,7 @@ line_is s (Del c at) is =
     (All-append (λ b. (b == 10) ≡ false) (kind_text kind) (44 ∷ ends) (kind_lacks kind) (All-cons (λ b. (b == 10) ≡ false) 44 ends refl (ends_lack s c is.placed)))
 line_is s (End at) is = timed_line at (codes "end,") is.timely (lit≤ tt) (lit≤ tt) (lacks_codes (codes "end,") refl)
 
-not_blank : (line : List ℕ) → 2 ≤ length line → is_blank line ≡ false
+not_blank : (line : List ℕ) → 2 ≤ length line → is_blank_line line ≡ false
 not_blank [] some = absurd (omega (arith, some))
 not_blank (b ∷ []) some = absurd (omega (arith, some))
 not_blank (b ∷ c ∷ line) some = refl
@@ -141,13 +141,13 @@ module _ (s : Shape) where
       let row = length-append (event_text s e) (10 ∷ []) in
       omega (arith, rest, short, size, row)
 
-  rows-within : (p : ℕ) (es : List Event) → p + length (rows_text s es) ≤ 1073741824 → All IsWithin (rows_at s p es)
+  rows-within : (p : ℕ) (es : List Event) → p + length (rows_text s es) ≤ 1073741824 → All RowIsWithin (rows_at s p es)
   unfolding rows_at
-  rows-within p [] few = All-nil IsWithin
+  rows-within p [] few = All-nil RowIsWithin
   rows-within p (e ∷ es) few =
       let size = length-append (event_text s e ++ 10 ∷ []) (rows_text s es) in
       let row = length-append (event_text s e) (10 ∷ []) in
-      All-cons IsWithin (record { line = event_text s e; ends = p + (length (event_text s e) + 1) }) (rows_at s (p + (length (event_text s e) + 1)) es) (omega (arith, few, size, row)) (rows-within (p + (length (event_text s e) + 1)) es (omega (arith, few, size, row)))
+      All-cons RowIsWithin (record { line = event_text s e; ends = p + (length (event_text s e) + 1) }) (rows_at s (p + (length (event_text s e) + 1)) es) (omega (arith, few, size, row)) (rows-within (p + (length (event_text s e) + 1)) es (omega (arith, few, size, row)))
 
 header_is : IsLine (codes "time,event,place")
 header_is = record { some = lit≤ tt; short = lit≤ tt; lacks = lacks_codes (codes "time,event,place") refl }
@@ -168,7 +168,7 @@ file_reads s es all few =
       header_reads = refl;
       events_read = rows-read s 17 es all;
       few = let n = rows-length s 17 es in omega (arith, n, few);
-      rows_within = subst (All IsWithin) (sym left) (All-cons IsWithin (record { line = codes "time,event,place"; ends = 17 }) (rows_at s 17 es) (lit≤ tt) (rows-within s 17 es (omega (arith, size, within))));
+      rows_within = subst (All RowIsWithin) (sym left) (All-cons RowIsWithin (record { line = codes "time,event,place"; ends = 17 }) (rows_at s 17 es) (lit≤ tt) (rows-within s 17 es (omega (arith, size, within))));
       end_within = within;
     }
 

@@ -8,8 +8,8 @@ use Rattle.lt_arch.specs.declared.shape.Shape.{Shape}
 use Rattle.lt_arch.specs.declared.timing.Timing.{Timing}
 use Rattle.lt_arch.specs.Schedule.{OnePlace, IsEventOf}
 use Rattle.lt_sim.specs.declared.drawing.Drawing.{Drawing}
-use Rattle.lt_sim.specs.Drawn.{Draw, next_due, event_of, beginning, drawn_on, unless_past, drawn}
-use Rattle.lt_sim.specs.Standing.{Stands, Keeps, IsDue, unless_later}
+use Rattle.lt_sim.specs.Drawn.{Draw, next_due, due_event, beginning, drawn_on, unless_past, drawn}
+use Rattle.lt_sim.specs.Standing.{DrawingStands, DrawKeeps, IsDue, unless_later}
 use Rattle.lt_sim.specs.Recorded.{IsCountOf}
 use Rattle.lt_sim.proofs.Measure.{rest, rest-is, drawn-is}
 use Rattle.lt_sim.proofs.Keeping.{keeps_first, keeps_on}
@@ -18,8 +18,8 @@ use Rattle.lt_sim.proofs.Ending.{placed-next}
 -- behind these events it stands for what is left of the drawn list
 pub record Follows (k : Drawing) (s : Shape) (t : Timing) (rows seed horizon : ℕ) (front : List Event) : Type 0 where
   pub draw : Draw
-  pub stands : Stands k s t seed draw
-  pub keeps : Keeps s t rows front draw
+  pub stands : DrawingStands k s t seed draw
+  pub keeps : DrawKeeps s t rows front draw
   pub list_is : drawn s t rows seed horizon ≡ front ++ rest s t rows seed horizon draw
 
 later_none : (horizon : ℕ) (o : Option (ℕ × ℕ)) (later : ℕ × ℕ → List Event) → unless_later horizon o ≡ None → unless_past horizon o later ≡ End horizon ∷ []
@@ -48,7 +48,7 @@ some_list true e f later = omega arith
 some_list false e f later = omega arith
 
 module _ (s : Shape) (t : Timing) (rows seed horizon : ℕ) (one_place : OnePlace s t rows) (near : horizon ≤ GREATEST_TIME) where
-  pub follows_first : (k : Drawing) → Stands k s t seed (beginning s t seed) → Follows k s t rows seed horizon []
+  pub follows_first : (k : Drawing) → DrawingStands k s t seed (beginning s t seed) → Follows k s t rows seed horizon []
   follows_first k stands = record { draw = beginning s t seed; stands = stands; keeps = keeps_first s t rows seed one_place; list_is = drawn-is s t rows seed horizon }
 
   module _ (k : Drawing) (front : List Event) (h : Follows k s t rows seed horizon front) where
@@ -65,38 +65,38 @@ module _ (s : Shape) (t : Timing) (rows seed horizon : ℕ) (one_place : OnePlac
       pub is_due : IsDue k s t rows due
       is_due = record { seed = seed; draw = h.draw; stands = h.stands; front = front; keeps = h.keeps; next = next_is }
 
-      pub is_placed : IsEventOf s (event_of s due)
+      pub is_placed : IsEventOf s (due_event s due)
       is_placed = placed-next s t rows seed horizon one_place near h.draw due next_is due_near
 
-      list_on : rest s t rows seed horizon h.draw ≡ event_of s due ∷ rest s t rows seed horizon (drawn_on s t rows seed h.draw (event_of s due))
+      list_on : rest s t rows seed horizon h.draw ≡ due_event s due ∷ rest s t rows seed horizon (drawn_on s t rows seed h.draw (due_event s due))
       list_on =
-          let later : ℕ × ℕ → List Event = λ due. event_of s due ∷ rest s t rows seed horizon (drawn_on s t rows seed h.draw (event_of s due)) in
+          let later : ℕ × ℕ → List Event = λ due. due_event s due ∷ rest s t rows seed horizon (drawn_on s t rows seed h.draw (due_event s due)) in
           rest-is s t rows seed horizon h.draw
           ∙ (ap (λ (o : Option (ℕ × ℕ)). unless_past horizon o later) next_is
           ∙ ap (λ (b : Bool). if b then End horizon ∷ [] else later due) (later_some horizon (next_due s h.draw) due is).test)
 
-      pub follows_on : (new : Drawing) → Stands new s t seed (drawn_on s t rows seed h.draw (event_of s due)) → Follows new s t rows seed horizon (front ++ event_of s due ∷ [])
+      pub follows_on : (new : Drawing) → DrawingStands new s t seed (drawn_on s t rows seed h.draw (due_event s due)) → Follows new s t rows seed horizon (front ++ due_event s due ∷ [])
       follows_on new stands = record {
-        draw = drawn_on s t rows seed h.draw (event_of s due);
+        draw = drawn_on s t rows seed h.draw (due_event s due);
         stands = stands;
         keeps = keeps_on s t rows seed one_place front h.draw h.keeps due next_is due_timely;
-        list_is = h.list_is ∙ (ap (λ (es : List Event). front ++ es) list_on ∙ sym (append_assoc front (event_of s due ∷ []) (rest s t rows seed horizon (drawn_on s t rows seed h.draw (event_of s due)))));
+        list_is = h.list_is ∙ (ap (λ (es : List Event). front ++ es) list_on ∙ sym (append_assoc front (due_event s due ∷ []) (rest s t rows seed horizon (drawn_on s t rows seed h.draw (due_event s due)))));
       }
 
       -- there is more of the list behind this event
-      pub list_more : (later : List Event) × (drawn s t rows seed horizon ≡ front ++ event_of s due ∷ later)
-      list_more = (rest s t rows seed horizon (drawn_on s t rows seed h.draw (event_of s due)), h.list_is ∙ ap (λ (es : List Event). front ++ es) list_on)
+      pub list_more : (later : List Event) × (drawn s t rows seed horizon ≡ front ++ due_event s due ∷ later)
+      list_more = (rest s t rows seed horizon (drawn_on s t rows seed h.draw (due_event s due)), h.list_is ∙ ap (λ (es : List Event). front ++ es) list_on)
 
     pub follows_end : unless_later horizon (next_due s h.draw) ≡ None → drawn s t rows seed horizon ≡ front ++ End horizon ∷ []
     follows_end is = h.list_is ∙ ap (λ (es : List Event). front ++ es)
-        (rest-is s t rows seed horizon h.draw ∙ later_none horizon (next_due s h.draw) (λ due. event_of s due ∷ rest s t rows seed horizon (drawn_on s t rows seed h.draw (event_of s due))) is)
+        (rest-is s t rows seed horizon h.draw ∙ later_none horizon (next_due s h.draw) (λ due. due_event s due ∷ rest s t rows seed horizon (drawn_on s t rows seed h.draw (due_event s due))) is)
 
     rest_some : 1 ≤ length (rest s t rows seed horizon h.draw)
     rest_some = subst (λ (es : List Event). 1 ≤ length es) (sym (rest-is s t rows seed horizon h.draw)) (by (next_due s h.draw))
       where
-        by : (o : Option (ℕ × ℕ)) → 1 ≤ length (unless_past horizon o (λ due. event_of s due ∷ rest s t rows seed horizon (drawn_on s t rows seed h.draw (event_of s due))))
+        by : (o : Option (ℕ × ℕ)) → 1 ≤ length (unless_past horizon o (λ due. due_event s due ∷ rest s t rows seed horizon (drawn_on s t rows seed h.draw (due_event s due))))
         by None = omega arith
-        by (Some due) = some_list (nat_lt horizon due.0) (End horizon) (event_of s due) (rest s t rows seed horizon (drawn_on s t rows seed h.draw (event_of s due)))
+        by (Some due) = some_list (nat_lt horizon due.0) (End horizon) (due_event s due) (rest s t rows seed horizon (drawn_on s t rows seed h.draw (due_event s due)))
 
     pub list_longer : length front < length (drawn s t rows seed horizon)
     list_longer = let some = rest_some in let size = ap (λ (es : List Event). length es) h.list_is ∙ length-append front (rest s t rows seed horizon h.draw) in omega (arith, some, size)

@@ -15,25 +15,26 @@ use Rattle.lt_arch.specs.State.{State, ChanState, Phase, Wait, Ready, First, Sen
 use Rattle.lt_arch.specs.Readers.{node_count, chan_count, from_of, to_of, tmin_of, tmax_of, dmin_of, dmax_of}
 use Rattle.lt_arch.specs.Deeds.{deed_of, deed_at, all_in, any_in, all_ack, more}
 use Rattle.lt_arch.specs.Deadline.{after_last, after_oldest, node_deadline, chan_deadline, deadline_of, first_due, IsFirst}
-use Rattle.lt_arch.specs.Step.{time_of, is_late, is_backwards, overdue_by, too_soon, too_early, own_offence, or_else, where_true, offence_of, after, is_execute, updated, with_sent, with_delivered}
+use Rattle.lt_arch.specs.Step.{time_of, is_late, is_backwards, overdue_by, too_soon, too_early, own_offence, offence_or_else, where_true, offence_of, after, is_execute, updated, with_sent, with_delivered}
 use Rattle.lt_arch.specs.Schedule.{after_all, reached, HasNoOffence, IsOffenceFree, AreUpTo, IsOnePlace, OnePlace}
 use Rattle.lt_arch.proofs.Changes.{one_if, executed-act}
 use Rattle.lt_arch.proofs.Ranges.{tmin-tmax, dmin-dmax}
 use Rattle.lt_arch.proofs.Winners.{least_below-first}
-use Rattle.lt_judge.proofs.Pushed.{after_push}
-use Rattle.lt_sim.specs.Words.{word, number_in}
-use Rattle.lt_sim.specs.Drawn.{Draw, pending_at, next_due, event_of, beginning, how_many, sends, gap, delay, activated, delivered, drawn_on}
-use Rattle.lt_sim.specs.Standing.{IsRestPending, IsTransitPending, IsNotBefore, IsPending, Keeps}
+use Rattle.lt_schedule.proofs.Pushed.{after_push}
+use Rattle.lt_sim.specs.Words.{drawn_word, number_in}
+use Rattle.lt_sim.specs.Drawn.{Draw, pending_at, next_due, due_event, beginning, sends, gap, delay, activated, delivered, drawn_on}
+use Rattle.lt_base.specs.Truths.{how_many}
+use Rattle.lt_sim.specs.Standing.{IsRestPending, IsTransitPending, IsNotBefore, IsPending, DrawKeeps}
 use Rattle.lt_sim.proofs.Dues.{pending-node, pending-chan, IsActivation, IsDelivery, which, least}
 
 -- A number that is drawn is in its range.
 
-module _ (low high word : ℕ) (order : low ≤ high) where
-  pub number-low : low ≤ number_in low high word
+module _ (low high drawn_word : ℕ) (order : low ≤ high) where
+  pub number-low : low ≤ number_in low high drawn_word
   number-low = omega arith
 
-  pub number-high : number_in low high word ≤ high
-  number-high = let m : word % (high - low + 1) < high - low + 1 = mod-lt word (omega arith) in omega (arith, m, order)
+  pub number-high : number_in low high drawn_word ≤ high
+  number-high = let m : drawn_word % (high - low + 1) < high - low + 1 = mod-lt drawn_word (omega arith) in omega (arith, m, order)
 
 -- Deadlines come no earlier than what is pending.
 
@@ -72,7 +73,7 @@ not_back (Some latest) at h = le-ltb at latest h
 
 free-from : (s : Shape) (t : Timing) (st : State) (e : Event) → is_some st.horizon ≡ false → is_backwards (time_of e) st.latest ≡ false → overdue_by s e (first_due s t st) ≡ None → own_offence s t st e ≡ None → offence_of s t st e ≡ None
 unfolding offence_of
-free-from s t st e a b c d = λ i. or_else (where_true (a i) AfterEnd) (or_else (where_true (b i) Backwards) (or_else (c i) (d i)))
+free-from s t st e a b c d = λ i. offence_or_else (where_true (a i) AfterEnd) (offence_or_else (where_true (b i) Backwards) (offence_or_else (c i) (d i)))
 
 open_is : (horizon : Option ℕ) → horizon ≡ None → is_some horizon ≡ false
 open_is None h = refl
@@ -124,7 +125,7 @@ module _ (s : Shape) (t : Timing) (d : Draw) (p : IsPending s t d) where
         (transit_rested c (dmin_of t (from_of s c) (to_of s c)) (dmax_of t (from_of s c) (to_of s c)) (d.state.chan c).transit (d.delivery c) due.0 a.at (p.deliveries c a.within))
 
     -- what happens next has no offence
-    pub next_free : offence_of s t d.state (event_of s due) ≡ None
+    pub next_free : offence_of s t d.state (due_event s due) ≡ None
     next_free = elim (which s d due is) [ inl a ↦ rw a.1.event (free-act a.0 a.1) | inr a ↦ rw a.1.event (free-del a.0 a.1) ]
 
   -- nor has the end, where all that is pending comes after it
@@ -182,11 +183,11 @@ module _ (s : Shape) (t : Timing) (rows seed : ℕ) (d : Draw) (p : IsPending s 
 
     gap-low : tmin_of t n ≤ next_gap
     unfolding next_gap
-    gap-low = number-low (tmin_of t n) (tmax_of t n) (word seed (d.words + 1)) (tmin-tmax t n)
+    gap-low = number-low (tmin_of t n) (tmax_of t n) (drawn_word seed (d.words + 1)) (tmin-tmax t n)
 
     gap-high : next_gap ≤ tmax_of t n
     unfolding next_gap
-    gap-high = number-high (tmin_of t n) (tmax_of t n) (word seed (d.words + 1)) (tmin-tmax t n)
+    gap-high = number-high (tmin_of t n) (tmax_of t n) (drawn_word seed (d.words + 1)) (tmin-tmax t n)
 
     act-nodes : (i : ℕ) → i < node_count s → IsRestPending (tmin_of t i) (tmax_of t i) ((after s t rows d.state (Act n due.0)).node i).last (updated d.activation n (due.0 + next_gap) i)
     unfolding after
@@ -199,7 +200,7 @@ module _ (s : Shape) (t : Timing) (rows seed : ℕ) (d : Draw) (p : IsPending s 
     unfolding after new
     act-chans c lt =
         let order = dmin-dmax t (from_of s c) (to_of s c) in
-        let w : ℕ = word seed (d.words + 2 + how_many (sends s t rows d.state n) c) in
+        let w : ℕ = drawn_word seed (d.words + 2 + how_many (sends s t rows d.state n) c) in
         sent_pending (sends s t rows d.state n c) due.0 (number_in (dmin_of t (from_of s c) (to_of s c)) (dmax_of t (from_of s c) (to_of s c)) w) (dmin_of t (from_of s c) (to_of s c)) (dmax_of t (from_of s c) (to_of s c))
         (d.state.chan c) (d.state.chan c).transit (d.delivery c) refl (p.deliveries c lt) (one c lt) (number-low _ _ w order) (number-high _ _ w order)
 
@@ -302,7 +303,7 @@ up_to_push limit [] e h le = (le, tt)
 up_to_push limit (x ∷ es) e h le = (h.0, up_to_push limit es e h.1 le)
 
 module _ (s : Shape) (t : Timing) (rows seed : ℕ) (one_place : OnePlace s t rows) where
-  pub keeps_first : Keeps s t rows [] (beginning s t seed)
+  pub keeps_first : DrawKeeps s t rows [] (beginning s t seed)
   keeps_first = record {
     state_is = refl;
     timely = tt;
@@ -311,14 +312,14 @@ module _ (s : Shape) (t : Timing) (rows seed : ℕ) (one_place : OnePlace s t ro
     within = λ n lt. omega arith;
     pending = record {
       open_end = refl;
-      activations = λ n lt. number-high 0 (tmax_of t n) (word seed (n + 1)) (omega arith);
+      activations = λ n lt. number-high 0 (tmax_of t n) (drawn_word seed (n + 1)) (omega arith);
       deliveries = λ c lt. tt;
       forward = λ place at lt is. tt;
     };
   }
 
-  module _ (front : List Event) (d : Draw) (k : Keeps s t rows front d) (due : ℕ × ℕ) (is : next_due s d ≡ Some due) (near : due.0 ≤ GREATEST_TIME) where
-    module _ (e : Event) (here : event_of s due ≡ e) (time : time_of e ≤ GREATEST_TIME) where
+  module _ (front : List Event) (d : Draw) (k : DrawKeeps s t rows front d) (due : ℕ × ℕ) (is : next_due s d ≡ Some due) (near : due.0 ≤ GREATEST_TIME) where
+    module _ (e : Event) (here : due_event s due ≡ e) (time : time_of e ≤ GREATEST_TIME) where
       free : offence_of s t d.state e ≡ None
       free = subst (λ (e : Event). offence_of s t d.state e ≡ None) here (next_free s t d k.pending due is)
 
@@ -335,7 +336,7 @@ module _ (s : Shape) (t : Timing) (rows seed : ℕ) (one_place : OnePlace s t ro
       one = subst (IsOnePlace s) (sym reaches) (one_place (front ++ e ∷ []) timely longer)
 
     -- and after what happens next the list keeps to them
-    pub keeps_on : Keeps s t rows (front ++ event_of s due ∷ []) (drawn_on s t rows seed d (event_of s due))
+    pub keeps_on : DrawKeeps s t rows (front ++ due_event s due ∷ []) (drawn_on s t rows seed d (due_event s due))
     unfolding drawn_on
     keeps_on = elim (which s d due is) [
       | inl a ↦ rw a.1.event (record {

@@ -9,7 +9,7 @@ use Rattle.lt_arch.specs.Readers.{node_count, chan_count, tmin_of}
 use Rattle.lt_arch.specs.Step.{updated}
 use Rattle.lt_arch.proofs.Changes.{updated-here, updated-other}
 use Rattle.lt_arch.proofs.Ranges.{tmin-some}
-use Rattle.lt_sim.specs.Drawn.{Draw, next_due, event_of, beginning, gap, activated, delivered, drawn_on, unless_past, events_to, most_to, drawn}
+use Rattle.lt_sim.specs.Drawn.{Draw, next_due, due_event, beginning, gap, activated, delivered, drawn_on, unless_past, events_to, most_to, drawn}
 use Rattle.lt_sim.proofs.Counting.{sum_below, sum_less, sum_most, sum_none}
 use Rattle.lt_sim.proofs.Dues.{which}
 
@@ -65,7 +65,7 @@ module _ (s : Shape) (t : Timing) (rows seed horizon : ℕ) (d : Draw) where
       omega (arith, chans)
 
   -- with each event up to the horizon there are fewer
-  pub less : (due : ℕ × ℕ) → next_due s d ≡ Some due → due.0 ≤ horizon → room s horizon (drawn_on s t rows seed d (event_of s due)) + 1 ≤ room s horizon d
+  pub less : (due : ℕ × ℕ) → next_due s d ≡ Some due → due.0 ≤ horizon → room s horizon (drawn_on s t rows seed d (due_event s due)) + 1 ≤ room s horizon d
   unfolding drawn_on
   less due is near = elim (which s d due is) [
     | inl a ↦ rw a.1.event (less-act a.0 due.0 a.1.within a.1.at near)
@@ -86,12 +86,12 @@ module _ (s : Shape) (t : Timing) (rows seed horizon : ℕ) where
   pub same_rest : (f g : ℕ) (d : Draw) → room s horizon d ≤ f → room s horizon d ≤ g → events_to s t rows seed horizon f d ≡ events_to s t rows seed horizon g d
   unfolding events_to
   same_rest zero zero d hf hg = refl
-  same_rest zero (suc g) d hf hg = sym (ends-by d (next_due s d) (λ due. event_of s due ∷ events_to s t rows seed horizon g (drawn_on s t rows seed d (event_of s due))) refl (omega (arith, hf)))
-  same_rest (suc f) zero d hf hg = ends-by d (next_due s d) (λ due. event_of s due ∷ events_to s t rows seed horizon f (drawn_on s t rows seed d (event_of s due))) refl (omega (arith, hg))
+  same_rest zero (suc g) d hf hg = sym (ends-by d (next_due s d) (λ due. due_event s due ∷ events_to s t rows seed horizon g (drawn_on s t rows seed d (due_event s due))) refl (omega (arith, hf)))
+  same_rest (suc f) zero d hf hg = ends-by d (next_due s d) (λ due. due_event s due ∷ events_to s t rows seed horizon f (drawn_on s t rows seed d (due_event s due))) refl (omega (arith, hg))
   same_rest (suc f) (suc g) d hf hg = by (λ e he ge. same_rest f g e he ge) (next_due s d) refl
     where
       next : ℕ → ℕ × ℕ → List Event
-      next k due = event_of s due ∷ events_to s t rows seed horizon k (drawn_on s t rows seed d (event_of s due))
+      next k due = due_event s due ∷ events_to s t rows seed horizon k (drawn_on s t rows seed d (due_event s due))
 
       at_due : ((e : Draw) → room s horizon e ≤ f → room s horizon e ≤ g → events_to s t rows seed horizon f e ≡ events_to s t rows seed horizon g e)
           → (due : ℕ × ℕ) → next_due s d ≡ Some due → (b : Bool) → nat_lt horizon due.0 ≡ b → (if b then End horizon ∷ [] else next f due) ≡ (if b then End horizon ∷ [] else next g due)
@@ -99,7 +99,7 @@ module _ (s : Shape) (t : Timing) (rows seed horizon : ℕ) where
       at_due again due is false past =
           let le = ltb-false horizon due.0 past in
           let fewer = less s t rows seed horizon d due is le in
-          ap (λ (es : List Event). event_of s due ∷ es) (again (drawn_on s t rows seed d (event_of s due)) (omega (arith, fewer, hf)) (omega (arith, fewer, hg)))
+          ap (λ (es : List Event). due_event s due ∷ es) (again (drawn_on s t rows seed d (due_event s due)) (omega (arith, fewer, hf)) (omega (arith, fewer, hg)))
 
       by : ((e : Draw) → room s horizon e ≤ f → room s horizon e ≤ g → events_to s t rows seed horizon f e ≡ events_to s t rows seed horizon g e)
           → (o : Option (ℕ × ℕ)) → next_due s d ≡ o → unless_past horizon o (next f) ≡ unless_past horizon o (next g)
@@ -131,25 +131,25 @@ module _ (s : Shape) (t : Timing) (rows seed horizon : ℕ) where
 
   module _ (d : Draw) where
     rest-by : (o : Option (ℕ × ℕ)) → next_due s d ≡ o → (n : ℕ) → room s horizon d ≤ n
-        → events_to s t rows seed horizon n d ≡ unless_past horizon o (λ due. event_of s due ∷ rest (drawn_on s t rows seed d (event_of s due)))
+        → events_to s t rows seed horizon n d ≡ unless_past horizon o (λ due. due_event s due ∷ rest (drawn_on s t rows seed d (due_event s due)))
     unfolding events_to rest
-    rest-by o is zero le = sym (ends-by d o (λ due. event_of s due ∷ rest (drawn_on s t rows seed d (event_of s due))) is (omega (arith, le)))
-    rest-by None is (suc n) le = ap (λ (o : Option (ℕ × ℕ)). unless_past horizon o (λ due. event_of s due ∷ events_to s t rows seed horizon n (drawn_on s t rows seed d (event_of s due)))) is
+    rest-by o is zero le = sym (ends-by d o (λ due. due_event s due ∷ rest (drawn_on s t rows seed d (due_event s due))) is (omega (arith, le)))
+    rest-by None is (suc n) le = ap (λ (o : Option (ℕ × ℕ)). unless_past horizon o (λ due. due_event s due ∷ events_to s t rows seed horizon n (drawn_on s t rows seed d (due_event s due)))) is
     rest-by (Some due) is (suc n) le =
-        ap (λ (o : Option (ℕ × ℕ)). unless_past horizon o (λ due. event_of s due ∷ events_to s t rows seed horizon n (drawn_on s t rows seed d (event_of s due)))) is
+        ap (λ (o : Option (ℕ × ℕ)). unless_past horizon o (λ due. due_event s due ∷ events_to s t rows seed horizon n (drawn_on s t rows seed d (due_event s due)))) is
         ∙ by (nat_lt horizon due.0) refl
       where
         next : Draw
-        next = drawn_on s t rows seed d (event_of s due)
+        next = drawn_on s t rows seed d (due_event s due)
 
-        by : (b : Bool) → nat_lt horizon due.0 ≡ b → (if b then End horizon ∷ [] else event_of s due ∷ events_to s t rows seed horizon n next) ≡ (if b then End horizon ∷ [] else event_of s due ∷ rest next)
+        by : (b : Bool) → nat_lt horizon due.0 ≡ b → (if b then End horizon ∷ [] else due_event s due ∷ events_to s t rows seed horizon n next) ≡ (if b then End horizon ∷ [] else due_event s due ∷ rest next)
         by true past = refl
         by false past =
             let near = ltb-false horizon due.0 past in
             let fewer = less s t rows seed horizon d due is near in
-            ap (λ (es : List Event). event_of s due ∷ es) (same_rest n (room s horizon next) next (omega (arith, fewer, le)) (omega arith))
+            ap (λ (es : List Event). due_event s due ∷ es) (same_rest n (room s horizon next) next (omega (arith, fewer, le)) (omega arith))
 
     -- it is the end, or the event of what happens next and what comes behind it
-    pub rest-is : rest d ≡ unless_past horizon (next_due s d) (λ due. event_of s due ∷ rest (drawn_on s t rows seed d (event_of s due)))
+    pub rest-is : rest d ≡ unless_past horizon (next_due s d) (λ due. due_event s due ∷ rest (drawn_on s t rows seed d (due_event s due)))
     unfolding rest
     rest-is = rest-by (next_due s d) refl (room s horizon d) (omega arith)

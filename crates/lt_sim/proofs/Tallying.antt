@@ -8,8 +8,9 @@ use Rattle.lt_arch.specs.Readers.{node_count, chan_count, chan_of, to_of, is_dat
 use Rattle.lt_arch.specs.Step.{updated}
 use Rattle.lt_arch.proofs.Changes.{same_or_not, updated-here, updated-other}
 use Rattle.lt_sim.specs.declared.tally.Tally.{Tally}
-use Rattle.lt_sim.specs.Drawn.{how_many}
-use Rattle.lt_sim.specs.Tallies.{leads_to, raised, same_truth}
+use Rattle.lt_base.specs.Truths.{how_many}
+use Rattle.lt_sim.specs.Tallies.{leads_kind_to, raised}
+use Rattle.lt_base.specs.Truths.{same_truth}
 use Rattle.lt_sim.specs.Progress.{fresh_by, early_by, IsTallied, IsNoneAhead}
 use Rattle.lt_sim.proofs.Counting.{how_many-same, how_many-one, how_many-none}
 
@@ -29,18 +30,18 @@ true_or_not true = inl refl
 true_or_not false = inr refl
 
 -- a channel that leads to node n has it as its end
-pub leads_end : (s : Shape) (k : Bool) (n c : ℕ) → leads_to s.channels k n c ≡ true → to_of s c ≡ n
+pub leads_end : (s : Shape) (k : Bool) (n c : ℕ) → leads_kind_to s.channels k n c ≡ true → to_of s c ≡ n
 unfolding chan_of
 leads_end s k n c h = elim (eqb_tells (to_of s c) n) [
   | inl e ↦ e.1
   | inr e ↦ let b = both_true (to_of s c == n) (same_truth k (is_data (chan_of s c).kind)) h in let clash : true ≡ false = sym b.0 ∙ e.0 in absurd cc
 ]
 
-pub leads_here : (s : Shape) (k : Bool) (c : ℕ) → same_truth k (is_data (chan_of s c).kind) ≡ true → leads_to s.channels k (to_of s c) c ≡ true
+pub leads_here : (s : Shape) (k : Bool) (c : ℕ) → same_truth k (is_data (chan_of s c).kind) ≡ true → leads_kind_to s.channels k (to_of s c) c ≡ true
 unfolding chan_of
 leads_here s k c h = rw (eq-eqb (to_of s c) (to_of s c) refl, h) refl
 
-pub leads_off : (s : Shape) (k : Bool) (n c : ℕ) → same_truth k (is_data (chan_of s c).kind) ≡ false → leads_to s.channels k n c ≡ false
+pub leads_off : (s : Shape) (k : Bool) (n c : ℕ) → same_truth k (is_data (chan_of s c).kind) ≡ false → leads_kind_to s.channels k n c ≡ false
 unfolding chan_of
 leads_off s k n c h = rw h (and_false (to_of s c == n))
 
@@ -60,7 +61,7 @@ raised-length false xs n = refl
 -- Of the channels that lead to a node, those that have delivered at least so many messages.
 module _ (s : Shape) (k : Bool) (level : ℕ → ℕ) where
   pub passes : (delivered : ℕ → ℕ) (n c : ℕ) → Bool
-  passes delivered n c = leads_to s.channels k n c && nat_le (level (to_of s c)) (delivered c)
+  passes delivered n c = leads_kind_to s.channels k n c && nat_le (level (to_of s c)) (delivered c)
 
   module _ (d : ℕ → ℕ) (c : ℕ) (lt : c < chan_count s) (xs : List ℕ) (each : (n : ℕ) → n < node_count s → slice_index_or xs n 0 ≡ how_many (passes d n) (chan_count s)) where
     abbrev pub next : ℕ → ℕ
@@ -68,17 +69,17 @@ module _ (s : Shape) (k : Bool) (level : ℕ → ℕ) where
 
     same_elsewhere : (n i : ℕ) → i ≢ c → passes d n i ≡ passes next n i
     unfolding passes
-    same_elsewhere n i ne = λ j. leads_to s.channels k n i && nat_le (level (to_of s i)) (sym (updated-other d c (d c + 1) i ne) j)
+    same_elsewhere n i ne = λ j. leads_kind_to s.channels k n i && nat_le (level (to_of s i)) (sym (updated-other d c (d c + 1) i ne) j)
 
     -- a channel of the other kind, or to another node
-    pub unmoved : (n : ℕ) → n < node_count s → leads_to s.channels k n c ≡ false → slice_index_or xs n 0 ≡ how_many (passes next n) (chan_count s)
+    pub unmoved : (n : ℕ) → n < node_count s → leads_kind_to s.channels k n c ≡ false → slice_index_or xs n 0 ≡ how_many (passes next n) (chan_count s)
     unfolding passes
     unmoved n within off = each n within ∙ how_many-same (passes d n) (passes next n) (chan_count s) (λ i below. elim (same_or_not i c) [
       | inl e ↦ subst (λ i. passes d n i ≡ passes next n i) (sym e) ((λ j. off j && nat_le (level (to_of s c)) (d c)) ∙ (λ j. sym off j && nat_le (level (to_of s c)) (next c)))
       | inr ne ↦ same_elsewhere n i ne
     ])
 
-    module _ (on : leads_to s.channels k (to_of s c) c ≡ true) (inside : to_of s c < node_count s) (size : to_of s c < length xs) where
+    module _ (on : leads_kind_to s.channels k (to_of s c) c ≡ true) (inside : to_of s c < node_count s) (size : to_of s c < length xs) where
       at_next : next c ≡ d c + 1
       at_next = updated-here d c (d c + 1) c refl
 
@@ -96,7 +97,7 @@ module _ (s : Shape) (k : Bool) (level : ℕ → ℕ) where
       missed differ = how_many-same (passes d (to_of s c)) (passes next (to_of s c)) (chan_count s) (λ i below. elim (same_or_not i c) [
         | inl e ↦ subst (λ i. passes d (to_of s c) i ≡ passes next (to_of s c) i) (sym e)
             (let now : nat_le (level (to_of s c)) (next c) ≡ nat_le (level (to_of s c)) (d c + 1) = ap (λ v. nat_le (level (to_of s c)) v) at_next in
-            λ j. leads_to s.channels k (to_of s c) c && (same_test (level (to_of s c)) (d c) differ ∙ sym now) j)
+            λ j. leads_kind_to s.channels k (to_of s c) c && (same_test (level (to_of s c)) (d c) differ ∙ sym now) j)
         | inr ne ↦ same_elsewhere (to_of s c) i ne
       ])
         where
@@ -116,8 +117,8 @@ module _ (s : Shape) (k : Bool) (level : ℕ → ℕ) where
         | inr ne ↦ raised-other hits xs (to_of s c) n ne ∙ unmoved n within (off n ne)
       ]
         where
-          off : (n : ℕ) → n ≢ to_of s c → leads_to s.channels k n c ≡ false
-          off n ne = elim (true_or_not (leads_to s.channels k n c)) [ inl h ↦ absurd (ne (sym (leads_end s k n c h))) | inr h ↦ h ]
+          off : (n : ℕ) → n ≢ to_of s c → leads_kind_to s.channels k n c ≡ false
+          off n ne = elim (true_or_not (leads_kind_to s.channels k n c)) [ inl h ↦ absurd (ne (sym (leads_end s k n c h))) | inr h ↦ h ]
 
 -- Messages of one kind.
 module _ (w : Tally) (s : Shape) (k : Bool) (e d : ℕ → ℕ) (h : IsTallied w s k e d) where
@@ -153,25 +154,25 @@ module _ (w : Tally) (s : Shape) (k : Bool) (e d : ℕ → ℕ) (h : IsTallied w
     after : ℕ → ℕ
     after = updated e m (e m + 1)
 
-    at_other : (level : ℕ → ℕ) (n c : ℕ) → n ≢ m → (leads_to s.channels k n c && nat_le (level (e (to_of s c))) (d c)) ≡ (leads_to s.channels k n c && nat_le (level (after (to_of s c))) (d c))
+    at_other : (level : ℕ → ℕ) (n c : ℕ) → n ≢ m → (leads_kind_to s.channels k n c && nat_le (level (e (to_of s c))) (d c)) ≡ (leads_kind_to s.channels k n c && nat_le (level (after (to_of s c))) (d c))
     unfolding after
-    at_other level n c ne = elim (true_or_not (leads_to s.channels k n c)) [
-      | inl on ↦ let to = leads_end s k n c on in let e' = updated-other e m (e m + 1) (to_of s c) (λ same. ne (sym to ∙ same)) in λ j. leads_to s.channels k n c && nat_le (level (sym e' j)) (d c)
+    at_other level n c ne = elim (true_or_not (leads_kind_to s.channels k n c)) [
+      | inl on ↦ let to = leads_end s k n c on in let e' = updated-other e m (e m + 1) (to_of s c) (λ same. ne (sym to ∙ same)) in λ j. leads_kind_to s.channels k n c && nat_le (level (sym e' j)) (d c)
       | inr off ↦ (λ j. off j && nat_le (level (e (to_of s c))) (d c)) ∙ (λ j. sym off j && nat_le (level (after (to_of s c))) (d c))
     ]
 
-    at_here : (c : ℕ) → leads_to s.channels k m c ≡ true → after (to_of s c) ≡ suc (e (to_of s c))
+    at_here : (c : ℕ) → leads_kind_to s.channels k m c ≡ true → after (to_of s c) ≡ suc (e (to_of s c))
     unfolding after
     at_here c on = let to = leads_end s k m c on in updated-here e m (e m + 1) (to_of s c) to ∙ (add-one (e m) ∙ ap (λ i. suc (e i)) (sym to))
 
-    fresh_here : (c : ℕ) → (leads_to s.channels k m c && early_by s e d c) ≡ (leads_to s.channels k m c && fresh_by s after d c)
-    fresh_here c = elim (true_or_not (leads_to s.channels k m c)) [
-      | inl on ↦ λ j. leads_to s.channels k m c && nat_le (sym (at_here c on) j) (d c)
+    fresh_here : (c : ℕ) → (leads_kind_to s.channels k m c && early_by s e d c) ≡ (leads_kind_to s.channels k m c && fresh_by s after d c)
+    fresh_here c = elim (true_or_not (leads_kind_to s.channels k m c)) [
+      | inl on ↦ λ j. leads_kind_to s.channels k m c && nat_le (sym (at_here c on) j) (d c)
       | inr off ↦ (λ j. off j && early_by s e d c) ∙ (λ j. sym off j && fresh_by s after d c)
     ]
 
-    early_here : (c : ℕ) → c < chan_count s → (leads_to s.channels k m c && early_by s after d c) ≡ false
-    early_here c lt = elim (true_or_not (leads_to s.channels k m c)) [
+    early_here : (c : ℕ) → c < chan_count s → (leads_kind_to s.channels k m c && early_by s after d c) ≡ false
+    early_here c lt = elim (true_or_not (leads_kind_to s.channels k m c)) [
       | inl on ↦
           let to = leads_end s k m c on in
           let low = none c lt to in
@@ -189,33 +190,33 @@ module _ (w : Tally) (s : Shape) (k : Bool) (e d : ℕ → ℕ) (h : IsTallied w
       early_length = ap length early ∙ (length-set w.early.items m 0 ∙ h.early_length);
       wanted = λ n within. ap (λ (xs : List ℕ). slice_index_or xs n 0) wanted ∙ h.wanted n within;
       fresh = λ n within. ap (λ (xs : List ℕ). slice_index_or xs n 0) fresh ∙ elim (same_or_not n m) [
-        | inl q ↦ subst (λ n. slice_index_or (set w.fresh.items m (slice_index_or w.early.items m 0)) n 0 ≡ how_many (λ c. leads_to s.channels k n c && fresh_by s after d c) (chan_count s)) (sym q)
+        | inl q ↦ subst (λ n. slice_index_or (set w.fresh.items m (slice_index_or w.early.items m 0)) n 0 ≡ how_many (λ c. leads_kind_to s.channels k n c && fresh_by s after d c) (chan_count s)) (sym q)
             (get_or-set_same w.fresh.items m (slice_index_or w.early.items m 0) 0 (let size = h.fresh_length in omega (arith, size, inside)) ∙ (h.early m inside
-            ∙ how_many-same (λ c. leads_to s.channels k m c && early_by s e d c) (λ c. leads_to s.channels k m c && fresh_by s after d c) (chan_count s) (λ c lt. fresh_here c)))
+            ∙ how_many-same (λ c. leads_kind_to s.channels k m c && early_by s e d c) (λ c. leads_kind_to s.channels k m c && fresh_by s after d c) (chan_count s) (λ c lt. fresh_here c)))
         | inr ne ↦ get_or-set_other w.fresh.items m n (slice_index_or w.early.items m 0) 0 ne ∙ (h.fresh n within
-            ∙ how_many-same (λ c. leads_to s.channels k n c && fresh_by s e d c) (λ c. leads_to s.channels k n c && fresh_by s after d c) (chan_count s) (λ c lt. at_other (λ v. v) n c ne))
+            ∙ how_many-same (λ c. leads_kind_to s.channels k n c && fresh_by s e d c) (λ c. leads_kind_to s.channels k n c && fresh_by s after d c) (chan_count s) (λ c lt. at_other (λ v. v) n c ne))
       ];
       early = λ n within. ap (λ (xs : List ℕ). slice_index_or xs n 0) early ∙ elim (same_or_not n m) [
-        | inl q ↦ subst (λ n. slice_index_or (set w.early.items m 0) n 0 ≡ how_many (λ c. leads_to s.channels k n c && early_by s after d c) (chan_count s)) (sym q)
+        | inl q ↦ subst (λ n. slice_index_or (set w.early.items m 0) n 0 ≡ how_many (λ c. leads_kind_to s.channels k n c && early_by s after d c) (chan_count s)) (sym q)
             (get_or-set_same w.early.items m 0 0 (let size = h.early_length in omega (arith, size, inside))
-            ∙ sym (how_many-none (λ c. leads_to s.channels k m c && early_by s after d c) (chan_count s) early_here))
+            ∙ sym (how_many-none (λ c. leads_kind_to s.channels k m c && early_by s after d c) (chan_count s) early_here))
         | inr ne ↦ get_or-set_other w.early.items m n 0 0 ne ∙ (h.early n within
-            ∙ how_many-same (λ c. leads_to s.channels k n c && early_by s e d c) (λ c. leads_to s.channels k n c && early_by s after d c) (chan_count s) (λ c lt. at_other suc n c ne))
+            ∙ how_many-same (λ c. leads_kind_to s.channels k n c && early_by s e d c) (λ c. leads_kind_to s.channels k n c && early_by s after d c) (chan_count s) (λ c lt. at_other suc n c ne))
       ];
     }
 
 -- Before the first event.
 pub tally_first : (w : Tally) (s : Shape) (k : Bool) → (length w.wanted.items ≡ node_count s) × (length w.fresh.items ≡ node_count s) × (length w.early.items ≡ node_count s)
-    → ((n : ℕ) → n < node_count s → slice_index_or w.wanted.items n 0 ≡ how_many (leads_to s.channels k n) (chan_count s))
-    → ((n : ℕ) → n < node_count s → slice_index_or w.fresh.items n 0 ≡ how_many (leads_to s.channels k n) (chan_count s))
+    → ((n : ℕ) → n < node_count s → slice_index_or w.wanted.items n 0 ≡ how_many (leads_kind_to s.channels k n) (chan_count s))
+    → ((n : ℕ) → n < node_count s → slice_index_or w.fresh.items n 0 ≡ how_many (leads_kind_to s.channels k n) (chan_count s))
     → w.early.items ≡ replicate (node_count s) 0 → IsTallied w s k (λ n. 0) (λ c. 0)
 tally_first w s k lengths wanted fresh early = record {
   wanted_length = lengths.0;
   fresh_length = lengths.1;
   early_length = lengths.2;
   wanted = wanted;
-  fresh = λ n within. fresh n within ∙ how_many-same (leads_to s.channels k n) (λ c. leads_to s.channels k n c && true) (chan_count s) (λ c lt. sym (and_true (leads_to s.channels k n c)));
-  early = λ n within. ap (λ (xs : List ℕ). slice_index_or xs n 0) early ∙ (get_or-replicate (node_count s) n 0 0 within ∙ sym (how_many-none (λ c. leads_to s.channels k n c && false) (chan_count s) (λ c lt. and_false (leads_to s.channels k n c))));
+  fresh = λ n within. fresh n within ∙ how_many-same (leads_kind_to s.channels k n) (λ c. leads_kind_to s.channels k n c && true) (chan_count s) (λ c lt. sym (and_true (leads_kind_to s.channels k n c)));
+  early = λ n within. ap (λ (xs : List ℕ). slice_index_or xs n 0) early ∙ (get_or-replicate (node_count s) n 0 0 within ∙ sym (how_many-none (λ c. leads_kind_to s.channels k n c && false) (chan_count s) (λ c lt. and_false (leads_kind_to s.channels k n c))));
 }
   where
     and_true : (a : Bool) → (a && true) ≡ a

@@ -6,10 +6,10 @@ use Rattle.lt_arch.specs.State.{State, executed_of}
 use Rattle.lt_arch.specs.Readers.{node_count, chan_count, chan_of}
 use Rattle.lt_arch.specs.Deeds.{all_in, any_in, all_ack, more, data_to, ack_to, is_fresh}
 use Rattle.lt_sim.specs.declared.progress.Progress.{Progress}
-use Rattle.lt_sim.specs.Progress.{IsAt}
+use Rattle.lt_sim.specs.Progress.{ProgressIsAt}
 use Rattle.lt_sim.proofs.Counting.{all_by_count, some_by_count}
 
-module _ (p : Progress) (s : Shape) (st : State) (n : ℕ) (at : IsAt p s (executed_of st) (λ c. (st.chan c).delivered)) (lt : n < node_count s) where
+module _ (p : Progress) (s : Shape) (st : State) (n : ℕ) (at : ProgressIsAt p s (executed_of st) (λ c. (st.chan c).delivered)) (lt : n < node_count s) where
   pub all_in-is : (slice_index_or p.messages.fresh.items n 0 == slice_index_or p.messages.wanted.items n 0) ≡ all_in s st n
   unfolding all_in chan_of
   all_in-is = (λ i. at.messages.fresh n lt i == at.messages.wanted n lt i) ∙ sym (all_by_count (data_to s n) (is_fresh s st) (chan_count s))

@@ -10,9 +10,10 @@ use Rattle.lt_arch.specs.Readers.{chan_count, from_of, to_of, tmax_of, dmin_of, 
 use Rattle.lt_arch.specs.Step.{after, updated}
 use Rattle.lt_arch.specs.Schedule.{OnePlace, after_all, reached}
 use Rattle.lt_arch.proofs.Changes.{one_if, transit-act, updated-here, updated-other}
-use Rattle.lt_sim.specs.Words.{word, number_in}
-use Rattle.lt_sim.specs.Drawn.{Draw, next_due, event_of, beginning, how_many, sends, gap, delay, activated, delivered, drawn_on, unless_past, drawn}
-use Rattle.lt_sim.specs.Standing.{IsTransitPending, Keeps}
+use Rattle.lt_sim.specs.Words.{drawn_word, number_in}
+use Rattle.lt_sim.specs.Drawn.{Draw, next_due, due_event, beginning, sends, gap, delay, activated, delivered, drawn_on, unless_past, drawn}
+use Rattle.lt_base.specs.Truths.{how_many}
+use Rattle.lt_sim.specs.Standing.{IsTransitPending, DrawKeeps}
 use Rattle.lt_sim.specs.Numbers.{words_by, words_before, HasNoActivation, HasNoDelivery, AreDrawn}
 use Rattle.lt_sim.proofs.Dues.{IsActivation, IsDelivery, which}
 use Rattle.lt_sim.proofs.Measure.{rest, rest-is, drawn-is}
@@ -35,8 +36,8 @@ record IsNext (s : Shape) (t : Timing) (rows seed horizon : ℕ) (d : Draw) (e :
   due : ℕ × ℕ
   next : next_due s d ≡ Some due
   near : due.0 ≤ horizon
-  event : event_of s due ≡ e
-  left : rest s t rows seed horizon (drawn_on s t rows seed d (event_of s due)) ≡ later
+  event : due_event s due ≡ e
+  left : rest s t rows seed horizon (drawn_on s t rows seed d (due_event s due)) ≡ later
 
 module _ (s : Shape) (t : Timing) (rows seed horizon : ℕ) (d : Draw) (e : Event) (later : List Event) where
   -- an event that is no end, or that others follow
@@ -44,7 +45,7 @@ module _ (s : Shape) (t : Timing) (rows seed horizon : ℕ) (d : Draw) (e : Even
   next_by more is = by (next_due s d) refl (sym (rest-is s t rows seed horizon d) ∙ is)
     where
       following : ℕ × ℕ → List Event
-      following due = event_of s due ∷ rest s t rows seed horizon (drawn_on s t rows seed d (event_of s due))
+      following due = due_event s due ∷ rest s t rows seed horizon (drawn_on s t rows seed d (due_event s due))
 
       at_due : (due : ℕ × ℕ) → next_due s d ≡ Some due → (b : Bool) → nat_lt horizon due.0 ≡ b → (if b then End horizon ∷ [] else following due) ≡ e ∷ later → IsNext s t rows seed horizon d e later
       at_due due next true test is = absurd (more is)
@@ -52,8 +53,8 @@ module _ (s : Shape) (t : Timing) (rows seed horizon : ℕ) (d : Draw) (e : Even
         due = due;
         next = next;
         near = ltb-false horizon due.0 test;
-        event = head_of (event_of s due) e (rest s t rows seed horizon (drawn_on s t rows seed d (event_of s due))) later is;
-        left = tail_of (event_of s due) e (rest s t rows seed horizon (drawn_on s t rows seed d (event_of s due))) later is;
+        event = head_of (due_event s due) e (rest s t rows seed horizon (drawn_on s t rows seed d (due_event s due))) later is;
+        left = tail_of (due_event s due) e (rest s t rows seed horizon (drawn_on s t rows seed d (due_event s due))) later is;
       }
 
       by : (o : Option (ℕ × ℕ)) → next_due s d ≡ o → unless_past horizon o following ≡ e ∷ later → IsNext s t rows seed horizon d e later
@@ -89,8 +90,8 @@ record Leaves (s : Shape) (t : Timing) (rows : ℕ) (d new : Draw) (xs : List Ev
   activations : (n : ℕ) → HasNoActivation n xs → new.activation n ≡ d.activation n
   deliveries : (c at : ℕ) → c < chan_count s → d.delivery c ≡ Some at → HasNoDelivery c xs → new.delivery c ≡ Some at
 
-module _ (s : Shape) (t : Timing) (rows seed : ℕ) (one_place : OnePlace s t rows) (front : List Event) (d : Draw) (k : Keeps s t rows front d) (due : ℕ × ℕ) (is : next_due s d ≡ Some due) (near : due.0 ≤ GREATEST_TIME) where
-  leaves-act : (n : ℕ) → IsActivation s d due n → Keeps s t rows (front ++ Act n due.0 ∷ []) (activated s t rows seed d n due.0) → Leaves s t rows d (activated s t rows seed d n due.0) (Act n due.0 ∷ [])
+module _ (s : Shape) (t : Timing) (rows seed : ℕ) (one_place : OnePlace s t rows) (front : List Event) (d : Draw) (k : DrawKeeps s t rows front d) (due : ℕ × ℕ) (is : next_due s d ≡ Some due) (near : due.0 ≤ GREATEST_TIME) where
+  leaves-act : (n : ℕ) → IsActivation s d due n → DrawKeeps s t rows (front ++ Act n due.0 ∷ []) (activated s t rows seed d n due.0) → Leaves s t rows d (activated s t rows seed d n due.0) (Act n due.0 ∷ [])
   leaves-act n a after_it = record {
     state_is = refl;
     words_is = omega arith;
@@ -115,7 +116,7 @@ module _ (s : Shape) (t : Timing) (rows seed : ℕ) (one_place : OnePlace s t ro
     deliveries = λ i at lt pending none. updated-other d.delivery c None i (λ same. none.0 (sym same)) ∙ pending;
   }
 
-  leaves_next : (e : Event) → event_of s due ≡ e → Leaves s t rows d (drawn_on s t rows seed d e) (e ∷ [])
+  leaves_next : (e : Event) → due_event s due ≡ e → Leaves s t rows d (drawn_on s t rows seed d e) (e ∷ [])
   unfolding drawn_on
   leaves_next e here = subst (λ (e : Event). Leaves s t rows d (drawn_on s t rows seed d e) (e ∷ [])) here (elim (which s d due is) [
     | inl a ↦ rw a.1.event (leaves-act a.0 a.1 (rw a.1.event at (keeps_on s t rows seed one_place front d k due is near)))
@@ -165,12 +166,12 @@ leaves_more s t rows d mid new e xs a b = record {
 record Walks (s : Shape) (t : Timing) (rows seed horizon : ℕ) (d : Draw) (xs : List Event) (e : Event) (later : List Event) : Type 0 where
   to : Draw
   front : List Event
-  keeps : Keeps s t rows front to
+  keeps : DrawKeeps s t rows front to
   leaves : Leaves s t rows d to xs
   left : rest s t rows seed horizon to ≡ e ∷ later
 
 module _ (s : Shape) (t : Timing) (rows seed horizon : ℕ) (one_place : OnePlace s t rows) (near : horizon ≤ GREATEST_TIME) where
-  walk : (front : List Event) (d : Draw) (xs : List Event) (e : Event) (later : List Event) → Keeps s t rows front d → rest s t rows seed horizon d ≡ xs ++ e ∷ later → Walks s t rows seed horizon d xs e later
+  walk : (front : List Event) (d : Draw) (xs : List Event) (e : Event) (later : List Event) → DrawKeeps s t rows front d → rest s t rows seed horizon d ≡ xs ++ e ∷ later → Walks s t rows seed horizon d xs e later
   walk front d [] e later k is = record {
     to = d;
     front = front;
@@ -181,13 +182,13 @@ module _ (s : Shape) (t : Timing) (rows seed horizon : ℕ) (one_place : OnePlac
   walk front d (x ∷ xs) e later k is =
       let h = next_by s t rows seed horizon d x (xs ++ e ∷ later) (λ end. not_nil xs e later (tail_of (End horizon) x [] (xs ++ e ∷ later) end)) is in
       let timely : h.due.0 ≤ GREATEST_TIME = let n = h.near in omega (arith, n, near) in
-      let next = walk (front ++ event_of s h.due ∷ []) (drawn_on s t rows seed d (event_of s h.due)) xs e later (keeps_on s t rows seed one_place front d k h.due h.next timely) h.left in
-      let first = leaves_next s t rows seed one_place front d k h.due h.next timely (event_of s h.due) refl in
+      let next = walk (front ++ due_event s h.due ∷ []) (drawn_on s t rows seed d (due_event s h.due)) xs e later (keeps_on s t rows seed one_place front d k h.due h.next timely) h.left in
+      let first = leaves_next s t rows seed one_place front d k h.due h.next timely (due_event s h.due) refl in
       record {
         to = next.to;
         front = next.front;
         keeps = next.keeps;
-        leaves = subst (λ (y : Event). Leaves s t rows d next.to (y ∷ xs)) h.event (leaves_more s t rows d (drawn_on s t rows seed d (event_of s h.due)) next.to (event_of s h.due) xs first next.leaves);
+        leaves = subst (λ (y : Event). Leaves s t rows d next.to (y ∷ xs)) h.event (leaves_more s t rows d (drawn_on s t rows seed d (due_event s h.due)) next.to (due_event s h.due) xs first next.leaves);
         left = next.left;
       }
 
@@ -215,22 +216,22 @@ module _ (s : Shape) (t : Timing) (rows seed horizon : ℕ) (one_place : OnePlac
   -- behind an activation
   record Activates (d : Draw) (n at : ℕ) (later : List Event) : Type 0 where
     front : List Event
-    keeps : Keeps s t rows front (activated s t rows seed d n at)
+    keeps : DrawKeeps s t rows front (activated s t rows seed d n at)
     left : rest s t rows seed horizon (activated s t rows seed d n at) ≡ later
 
-  activates : (front : List Event) (d : Draw) (n at : ℕ) (later : List Event) → Keeps s t rows front d → rest s t rows seed horizon d ≡ Act n at ∷ later → Activates d n at later
+  activates : (front : List Event) (d : Draw) (n at : ℕ) (later : List Event) → DrawKeeps s t rows front d → rest s t rows seed horizon d ≡ Act n at ∷ later → Activates d n at later
   unfolding drawn_on
   activates front d n at later k is =
       let h = next_by s t rows seed horizon d (Act n at) later (λ end. let clash = head_of (End horizon) (Act n at) [] later end in absurd cc) is in
       let timely : h.due.0 ≤ GREATEST_TIME = let m = h.near in omega (arith, m, near) in
-      let keeps : Keeps s t rows (front ++ Act n at ∷ []) (drawn_on s t rows seed d (Act n at)) = subst (λ (e : Event). Keeps s t rows (front ++ e ∷ []) (drawn_on s t rows seed d e)) h.event (keeps_on s t rows seed one_place front d k h.due h.next timely) in
+      let keeps : DrawKeeps s t rows (front ++ Act n at ∷ []) (drawn_on s t rows seed d (Act n at)) = subst (λ (e : Event). DrawKeeps s t rows (front ++ e ∷ []) (drawn_on s t rows seed d e)) h.event (keeps_on s t rows seed one_place front d k h.due h.next timely) in
       let left : rest s t rows seed horizon (drawn_on s t rows seed d (Act n at)) ≡ later = subst (λ (e : Event). rest s t rows seed horizon (drawn_on s t rows seed d e) ≡ later) h.event h.left in
       record { front = front ++ Act n at ∷ []; keeps = keeps; left = left }
 
   from_start : (front : List Event) (e : Event) (later : List Event) → drawn s t rows seed horizon ≡ front ++ e ∷ later → Walks s t rows seed horizon (beginning s t seed) front e later
   from_start front e later is = walk [] (beginning s t seed) front e later (keeps_first s t rows seed one_place) (sym (drawn-is s t rows seed horizon) ∙ is)
 
-  first_time : (n at : ℕ) (front later : List Event) → drawn s t rows seed horizon ≡ front ++ Act n at ∷ later → HasNoActivation n front → at ≡ number_in 0 (tmax_of t n) (word seed (n + 1))
+  first_time : (n at : ℕ) (front later : List Event) → drawn s t rows seed horizon ≡ front ++ Act n at ∷ later → HasNoActivation n front → at ≡ number_in 0 (tmax_of t n) (drawn_word seed (n + 1))
   first_time n at front later is none =
       let w = from_start front (Act n at) later is in
       time_of_act w.to n at later w.left ∙ w.leaves.activations n none

@@ -9,7 +9,8 @@ use Rattle.lt_arch.specs.Readers.{node_count, chan_count, from_of, to_of, tmin_o
 use Rattle.lt_arch.specs.Deeds.{deed_at}
 use Rattle.lt_arch.specs.Deadline.{least_below}
 use Rattle.lt_arch.specs.Step.{after, sends_on, updated}
-use Rattle.lt_sim.specs.Words.{word, number_in}
+use Rattle.lt_sim.specs.Words.{drawn_word, number_in}
+use Rattle.lt_base.specs.Truths.{how_many}
 
 -- a list that is being drawn
 pub record Draw : Type 0 where
@@ -31,22 +32,17 @@ abbrev pub next_due : Shape → Draw → Option (ℕ × ℕ)
 next_due s d = least_below (pending_at s d) (node_count s + chan_count s)
 
 -- the event of a place at its time
-abbrev pub event_of : Shape → (due : ℕ × ℕ) → Event
-event_of s due = if nat_lt due.1 (node_count s) then Act due.1 due.0 else Del (due.1 - node_count s) due.0
+abbrev pub due_event : Shape → (due : ℕ × ℕ) → Event
+due_event s due = if nat_lt due.1 (node_count s) then Act due.1 due.0 else Del (due.1 - node_count s) due.0
 
 -- before the first event: the first words draw the times of the nodes' first activations, from 0 to the greatest period
 abbrev pub beginning : Shape → Timing → (seed : ℕ) → Draw
 beginning s t seed = record {
   state = start t.protocol;
-  activation = λ n. number_in 0 (tmax_of t n) (word seed (n + 1));
+  activation = λ n. number_in 0 (tmax_of t n) (drawn_word seed (n + 1));
   delivery = λ c. None;
   words = node_count s;
 }
-
--- how many numbers below n pass a test
-abbrev pub how_many : (p : ℕ → Bool) (n : ℕ) → ℕ
-how_many p zero = 0
-how_many p (suc k) = how_many p k + (if p k then 1 else 0)
 
 -- whether node n sends on channel c when it is activated
 abbrev pub sends : Shape → Timing → (rows : ℕ) → State → (n c : ℕ) → Bool
@@ -54,11 +50,11 @@ sends s t rows st n c = sends_on s t n (deed_at s rows st n) c
 
 -- the gap to node n's next activation, drawn with the word of this number
 abbrev pub gap : Timing → (seed : ℕ) → (n number : ℕ) → ℕ
-gap t seed n number = number_in (tmin_of t n) (tmax_of t n) (word seed number)
+gap t seed n number = number_in (tmin_of t n) (tmax_of t n) (drawn_word seed number)
 
 -- the delay of a message on channel c, drawn with the word of this number
 abbrev pub delay : Shape → Timing → (seed : ℕ) → (c number : ℕ) → ℕ
-delay s t seed c number = number_in (dmin_of t (from_of s c) (to_of s c)) (dmax_of t (from_of s c) (to_of s c)) (word seed number)
+delay s t seed c number = number_in (dmin_of t (from_of s c) (to_of s c)) (dmax_of t (from_of s c) (to_of s c)) (drawn_word seed number)
 
 -- after an activation of node n: the next word draws the gap to its next one, and the words behind it the delays of the
 -- messages that it sends, in the order of their channels
@@ -94,7 +90,7 @@ unless_past horizon (Some due) later = if nat_lt horizon due.0 then End horizon 
 unfoldable pub events_to : Shape → Timing → (rows seed horizon : ℕ) → (most : ℕ) → Draw → List Event
 events_to s t rows seed horizon zero d = End horizon ∷ []
 events_to s t rows seed horizon (suc most) d =
-    unless_past horizon (next_due s d) (λ due. event_of s due ∷ events_to s t rows seed horizon most (drawn_on s t rows seed d (event_of s due)))
+    unless_past horizon (next_due s d) (λ due. due_event s due ∷ events_to s t rows seed horizon most (drawn_on s t rows seed d (due_event s due)))
 
 -- no more events than these can come up to the horizon: each node is activated at most once a tick, and each channel
 -- delivers at most once for an activation

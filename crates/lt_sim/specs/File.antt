@@ -18,5 +18,5 @@ abbrev pub file_text : Shape → List Event → List ℕ
 file_text s es = header_text ++ rows_text s es
 
 -- what is written of a list: its file, or nothing where it has more events than a schedule may have
-abbrev pub text_of : Shape → List Event → List ℕ
-text_of s es = if nat_lt most_events (length es) then [] else file_text s es
+abbrev pub schedule_text : Shape → List Event → List ℕ
+schedule_text s es = if nat_lt most_events (length es) then [] else file_text s es

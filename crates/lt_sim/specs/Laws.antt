@@ -7,7 +7,7 @@ use Rattle.lt_arch.specs.declared.shape.Shape.{Shape}
 use Rattle.lt_arch.specs.declared.timing.Timing.{Timing}
 use Rattle.lt_arch.specs.Schedule.{IsAdmissible, EndsAt, IsEventOf, OnePlace}
 use Rattle.lt_rows.specs.Limits.{most_events}
-use Rattle.lt_judge.specs.Verdict.{verdict}
+use Rattle.lt_schedule.specs.Verdict.{verdict}
 use Rattle.lt_sim.specs.Drawn.{beginning, events_to, most_to, drawn}
 use Rattle.lt_sim.specs.File.{file_text}
 
@@ -18,7 +18,7 @@ IsNeverCut =
     events_to s t rows seed horizon most (beginning s t seed) ≡ drawn s t rows seed horizon
 
 -- these events keep to the bounds and end at this horizon, and each is one of the shape
-pub record IsSound (s : Shape) (t : Timing) (rows horizon : ℕ) (es : List Event) : Type 0 where
+pub record ScheduleIsSound (s : Shape) (t : Timing) (rows horizon : ℕ) (es : List Event) : Type 0 where
   pub admissible : IsAdmissible s t rows es
   pub ends : EndsAt s t rows es horizon
   pub placed : All (IsEventOf s) es
@@ -26,7 +26,7 @@ pub record IsSound (s : Shape) (t : Timing) (rows horizon : ℕ) (es : List Even
 -- where one place in each channel is enough, each drawn list is so
 abbrev pub DrawsSound : Type 0
 DrawsSound =
-    (s : Shape) (t : Timing) (rows seed horizon : ℕ) → OnePlace s t rows → horizon ≤ GREATEST_TIME → IsSound s t rows horizon (drawn s t rows seed horizon)
+    (s : Shape) (t : Timing) (rows seed horizon : ℕ) → OnePlace s t rows → horizon ≤ GREATEST_TIME → ScheduleIsSound s t rows horizon (drawn s t rows seed horizon)
 
 -- and where it has no more events than a schedule may have, its file reads back to it
 abbrev pub ReadsBack : Type 0

@@ -9,8 +9,9 @@ use Rattle.lt_arch.specs.State.{State, start}
 use Rattle.lt_arch.specs.Readers.{node_count, chan_count, tmax_of}
 use Rattle.lt_arch.specs.Step.{after}
 use Rattle.lt_arch.specs.Schedule.{OnePlace, reached}
-use Rattle.lt_sim.specs.Words.{word, number_in}
-use Rattle.lt_sim.specs.Drawn.{how_many, sends, gap, delay, drawn}
+use Rattle.lt_sim.specs.Words.{drawn_word, number_in}
+use Rattle.lt_sim.specs.Drawn.{sends, gap, delay, drawn}
+use Rattle.lt_base.specs.Truths.{how_many}
 
 -- how many words some events draw, from a state on: an activation one for the gap, and one for each message that it sends
 abbrev pub words_by : Shape → Timing → (rows : ℕ) → State → List Event → ℕ
@@ -40,7 +41,7 @@ HasNoDelivery c (End at ∷ es) = HasNoDelivery c es
 -- which word each time of a list is drawn with
 pub record AreDrawn (s : Shape) (t : Timing) (rows seed : ℕ) (es : List Event) : Type 0 where
   -- a node's first activation
-  pub first : (n at : ℕ) (front later : List Event) → es ≡ front ++ Act n at ∷ later → HasNoActivation n front → at ≡ number_in 0 (tmax_of t n) (word seed (n + 1))
+  pub first : (n at : ℕ) (front later : List Event) → es ≡ front ++ Act n at ∷ later → HasNoActivation n front → at ≡ number_in 0 (tmax_of t n) (drawn_word seed (n + 1))
   -- the next one after an activation
   pub next : (n at then_at : ℕ) (front between later : List Event) → es ≡ front ++ Act n at ∷ (between ++ Act n then_at ∷ later) → HasNoActivation n between →
       then_at ≡ at + gap t seed n (words_before s t rows front + 1)

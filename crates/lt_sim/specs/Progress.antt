@@ -4,8 +4,8 @@ use Rattle.lt_arch.specs.declared.shape.Shape.{Shape}
 use Rattle.lt_arch.specs.Readers.{node_count, chan_count, to_of}
 use Rattle.lt_sim.specs.declared.tally.Tally.{Tally}
 use Rattle.lt_sim.specs.declared.progress.Progress.{Progress}
-use Rattle.lt_sim.specs.Drawn.{how_many}
-use Rattle.lt_sim.specs.Tallies.{leads_to}
+use Rattle.lt_base.specs.Truths.{how_many}
+use Rattle.lt_sim.specs.Tallies.{leads_kind_to}
 
 -- channel c has delivered at least as many messages as its receiver has executed instants, or more than that
 abbrev pub fresh_by : Shape → (executed delivered : ℕ → ℕ) → (c : ℕ) → Bool
@@ -19,12 +19,12 @@ pub record IsTallied (w : Tally) (s : Shape) (data_kind : Bool) (executed delive
   pub wanted_length : length w.wanted.items ≡ node_count s
   pub fresh_length : length w.fresh.items ≡ node_count s
   pub early_length : length w.early.items ≡ node_count s
-  pub wanted : (n : ℕ) → n < node_count s → slice_index_or w.wanted.items n 0 ≡ how_many (leads_to s.channels data_kind n) (chan_count s)
-  pub fresh : (n : ℕ) → n < node_count s → slice_index_or w.fresh.items n 0 ≡ how_many (λ c. leads_to s.channels data_kind n c && fresh_by s executed delivered c) (chan_count s)
-  pub early : (n : ℕ) → n < node_count s → slice_index_or w.early.items n 0 ≡ how_many (λ c. leads_to s.channels data_kind n c && early_by s executed delivered c) (chan_count s)
+  pub wanted : (n : ℕ) → n < node_count s → slice_index_or w.wanted.items n 0 ≡ how_many (leads_kind_to s.channels data_kind n) (chan_count s)
+  pub fresh : (n : ℕ) → n < node_count s → slice_index_or w.fresh.items n 0 ≡ how_many (λ c. leads_kind_to s.channels data_kind n c && fresh_by s executed delivered c) (chan_count s)
+  pub early : (n : ℕ) → n < node_count s → slice_index_or w.early.items n 0 ≡ how_many (λ c. leads_kind_to s.channels data_kind n c && early_by s executed delivered c) (chan_count s)
 
 -- what is kept is how far they are
-pub record IsAt (p : Progress) (s : Shape) (executed delivered : ℕ → ℕ) : Type 0 where
+pub record ProgressIsAt (p : Progress) (s : Shape) (executed delivered : ℕ → ℕ) : Type 0 where
   pub few : chan_count s < 2147483648
   pub executed_length : length p.executed.items ≡ node_count s
   pub executed_is : (n : ℕ) → n < node_count s → slice_index_or p.executed.items n 0 ≡ executed n
@@ -37,7 +37,7 @@ pub record IsAt (p : Progress) (s : Shape) (executed delivered : ℕ → ℕ) : 
 pub record CanArrive (p : Progress) (s : Shape) (c : ℕ) : Type 0 where
   pub executed : ℕ → ℕ
   pub delivered : ℕ → ℕ
-  pub is_at : IsAt p s executed delivered
+  pub is_at : ProgressIsAt p s executed delivered
   pub channel : c < chan_count s
   pub room : delivered c ≤ 4294967296
 

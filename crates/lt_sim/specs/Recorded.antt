@@ -9,7 +9,7 @@ use Rattle.lt_arch.specs.declared.shape.Shape.{Shape}
 use Rattle.lt_rows.specs.Limits.{most_events}
 use Rattle.lt_sim.specs.declared.fault.SimFault.{SimFault}
 use Rattle.lt_sim.specs.declared.fault.SimFault.TheVariants.{Write, TooMany}
-use Rattle.lt_sim.specs.File.{file_text, text_of}
+use Rattle.lt_sim.specs.File.{file_text, schedule_text}
 
 -- the sink did not fail, and where it tells its bytes, it took this text
 pub record TakesText (text : List ℕ) (old new : SinkState) : Type 0 where
@@ -38,7 +38,7 @@ pub record IsBroken (s : Shape) (es : List Event) (old new : SinkState) : Type 0
   pub written : FailsAfter (file_text s es) old new
 
 -- there are more events than a schedule may have, and nothing was written
-pub record IsTooMany (es : List Event) (old new : SinkState) : Type 0 where
+pub record AreTooManyEvents (es : List Event) (old new : SinkState) : Type 0 where
   pub many : most_events < length es
   pub unchanged : new ≡ old
 
@@ -46,8 +46,8 @@ pub record IsTooMany (es : List Event) (old new : SinkState) : Type 0 where
 abbrev pub Records : Shape → List Event → (old new : SinkState) → Result ℕ (Or SimFault) → Type 0
 Records s es old new (Ok count) = IsRecorded s es old new count
 Records s es old new (Err (Fault Write)) = IsBroken s es old new
-Records s es old new (Err (Fault TooMany)) = IsTooMany es old new
-Records s es old new (Err Memory) = TakesFront (text_of s es) old new
+Records s es old new (Err (Fault TooMany)) = AreTooManyEvents es old new
+Records s es old new (Err Memory) = TakesFront (schedule_text s es) old new
 
 -- How a text reaches the sink, page by page.
 

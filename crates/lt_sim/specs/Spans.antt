@@ -5,14 +5,15 @@ use Rattle.lt_arch.specs.declared.shape.Shape.{Shape}
 use Rattle.lt_arch.specs.declared.timing.Timing.{Timing}
 use Rattle.lt_arch.specs.Readers.{node_count, chan_count}
 use Rattle.lt_sim.specs.declared.sending.Span.{Span}
-use Rattle.lt_sim.specs.Drawn.{how_many, delay}
-use Rattle.lt_sim.specs.Tallies.{leads_from}
+use Rattle.lt_sim.specs.Drawn.{delay}
+use Rattle.lt_base.specs.Truths.{how_many}
+use Rattle.lt_sim.specs.Tallies.{leads_kind_from}
 
 -- the channels of a kind from node n that stand below a number are all in the span
 pub record IsSpanBelow (cs : List Chan) (data_kind : Bool) (n below : ℕ) (span : Span) : Type 0 where
   pub within : span.end ≤ below
   pub first_within : span.first ≤ below
-  pub holds : (c : ℕ) → c < below → leads_from cs data_kind n c ≡ true → (span.first ≤ c) × (c < span.end)
+  pub holds : (c : ℕ) → c < below → leads_kind_from cs data_kind n c ≡ true → (span.first ≤ c) × (c < span.end)
 
 -- each node has its span
 pub record AreSpans (cs : List Chan) (data_kind : Bool) (count : ℕ) (spans : List Span) : Type 0 where

@@ -14,7 +14,7 @@ use Rattle.lt_rows.specs.Limits.{most_events}
 use Rattle.lt_sim.specs.declared.drawing.Drawing.{Drawing}
 use Rattle.lt_sim.specs.Words.{left_after}
 use Rattle.lt_sim.specs.Drawn.{Draw, pending_at, next_due, beginning, drawn}
-use Rattle.lt_sim.specs.Progress.{IsAt}
+use Rattle.lt_sim.specs.Progress.{ProgressIsAt}
 use Rattle.lt_sim.specs.Controlled.{AreControlled}
 use Rattle.lt_sim.specs.Spans.{AreSpans}
 
@@ -46,7 +46,7 @@ pub record IsPending (s : Shape) (t : Timing) (d : Draw) : Type 0 where
   pub forward : (place at : ℕ) → place < node_count s + chan_count s → pending_at s d place ≡ Some at → IsNotBefore d.state.latest at
 
 -- it is where these events without an offence lead, and keeps to the bounds
-pub record Keeps (s : Shape) (t : Timing) (rows : ℕ) (front : List Event) (d : Draw) : Type 0 where
+pub record DrawKeeps (s : Shape) (t : Timing) (rows : ℕ) (front : List Event) (d : Draw) : Type 0 where
   pub state_is : d.state ≡ reached s t rows front
   pub timely : AreUpTo GREATEST_TIME front
   pub free : IsOffenceFree s t rows front
@@ -55,14 +55,14 @@ pub record Keeps (s : Shape) (t : Timing) (rows : ℕ) (front : List Event) (d :
   pub pending : IsPending s t d
 
 -- a drawing has the words, the pending times and the counts of such a list
-pub record Stands (k : Drawing) (s : Shape) (t : Timing) (seed : ℕ) (d : Draw) : Type 0 where
+pub record DrawingStands (k : Drawing) (s : Shape) (t : Timing) (seed : ℕ) (d : Draw) : Type 0 where
   pub same : HaveSameNodes s t
   pub numbered : 2 * (node_count s + chan_count s) < 2 ^ 32
   pub left : stream_of splitmix_steps k.generator ≡ left_after seed d.words
   pub places : length k.pending ≡ node_count s + chan_count s
   pub pending : (place : ℕ) → place < node_count s + chan_count s → slice_index_or k.pending place None ≡ pending_at s d place
   pub controllers : AreControlled t (node_count s) (λ n. (d.state.node n).phase) k.controllers
-  pub progress : IsAt k.progress s (executed_of d.state) (λ c. (d.state.chan c).delivered)
+  pub progress : ProgressIsAt k.progress s (executed_of d.state) (λ c. (d.state.chan c).delivered)
   pub messages : AreSpans s.channels true (node_count s) k.messages.items
   pub acks : AreSpans s.channels false (node_count s) k.acks.items
 
@@ -75,17 +75,17 @@ unless_later horizon (Some due) = if nat_lt horizon due.0 then None else Some du
 pub record IsDue (k : Drawing) (s : Shape) (t : Timing) (rows : ℕ) (due : ℕ × ℕ) : Type 0 where
   pub seed : ℕ
   pub draw : Draw
-  pub stands : Stands k s t seed draw
+  pub stands : DrawingStands k s t seed draw
   pub front : List Event
-  pub keeps : Keeps s t rows front draw
+  pub keeps : DrawKeeps s t rows front draw
   pub next : next_due s draw ≡ Some due
 
 -- it stands for a list of which nothing is drawn but the first activations
-abbrev pub Starts : Drawing → Shape → Timing → (seed : ℕ) → Type 0
-Starts k s t seed = Stands k s t seed (beginning s t seed)
+abbrev pub DrawingStarts : Drawing → Shape → Timing → (seed : ℕ) → Type 0
+DrawingStarts k s t seed = DrawingStands k s t seed (beginning s t seed)
 
 -- and the list of that seed is not too long
-pub record IsShort (k : Drawing) (s : Shape) (t : Timing) (rows horizon : ℕ) : Type 0 where
+pub record DrawsFewEvents (k : Drawing) (s : Shape) (t : Timing) (rows horizon : ℕ) : Type 0 where
   pub seed : ℕ
-  pub starts : Starts k s t seed
+  pub starts : DrawingStarts k s t seed
   pub few : length (drawn s t rows seed horizon) ≤ most_events

@@ -2,18 +2,14 @@
 use Rattle.std.specs.Prelude.{ℕ, ◌+◌, ◌==◌, ◌&&◌, Bool, not, List, slice_set, slice_index_or, if◌then◌else◌}
 use Rattle.lt_arch.specs.declared.chan.Chan.{Chan}
 use Rattle.lt_arch.specs.Readers.{is_data, no_chan}
-
--- the two are equal
-abbrev pub same_truth : Bool → Bool → Bool
-same_truth Bool.true b = b
-same_truth Bool.false b = not b
+use Rattle.lt_base.specs.Truths.{same_truth}
 
 -- channel c leads to node n, or from it, and carries data, or acknowledgements
-abbrev pub leads_to : List Chan → (data_kind : Bool) → (n c : ℕ) → Bool
-leads_to cs data_kind n c = ((slice_index_or cs c no_chan).to == n) && same_truth data_kind (is_data (slice_index_or cs c no_chan).kind)
+abbrev pub leads_kind_to : List Chan → (data_kind : Bool) → (n c : ℕ) → Bool
+leads_kind_to cs data_kind n c = ((slice_index_or cs c no_chan).to == n) && same_truth data_kind (is_data (slice_index_or cs c no_chan).kind)
 
-abbrev pub leads_from : List Chan → (data_kind : Bool) → (n c : ℕ) → Bool
-leads_from cs data_kind n c = ((slice_index_or cs c no_chan).from == n) && same_truth data_kind (is_data (slice_index_or cs c no_chan).kind)
+abbrev pub leads_kind_from : List Chan → (data_kind : Bool) → (n c : ℕ) → Bool
+leads_kind_from cs data_kind n c = ((slice_index_or cs c no_chan).from == n) && same_truth data_kind (is_data (slice_index_or cs c no_chan).kind)
 
 -- a list with one number raised by one, or as it was
 abbrev pub raised : Bool → List ℕ → (n : ℕ) → List ℕ

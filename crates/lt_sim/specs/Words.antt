@@ -15,9 +15,9 @@ left_after seed zero = generator seed
 left_after seed (suc drawn) = (next_u64 (left_after seed drawn)).1
 
 -- the word of this number, counted from 1 in the order of drawing
-unfoldable pub word : (seed : ℕ) → (number : ℕ) → ℕ
-word seed number = (next_u64 (left_after seed (number - 1))).0
+unfoldable pub drawn_word : (seed : ℕ) → (number : ℕ) → ℕ
+drawn_word seed number = (next_u64 (left_after seed (number - 1))).0
 
 -- the number from low to high that is drawn with a word
-abbrev pub number_in : (low high word : ℕ) → ℕ
-number_in low high word = low + word % (high - low + 1)
+abbrev pub number_in : (low high drawn_word : ℕ) → ℕ
+number_in low high drawn_word = low + drawn_word % (high - low + 1)

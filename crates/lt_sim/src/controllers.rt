@@ -6,7 +6,7 @@ ghost use Rattle.lt_sim.specs.Controlled.{controller_of, controlled_after, AreCo
 
 use lt_arch::{Controller, Deed, Timing};
 use lt_base::Memory;
-use lt_judge::NodeController;
+use lt_lead::NodeController;
 use std::alloc::Global;
 use std::marker::Model;
 

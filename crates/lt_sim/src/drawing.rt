@@ -11,10 +11,10 @@ ghost use Rattle.lt_arch.specs.Deeds.{deed_at};
 ghost use Rattle.lt_arch.specs.State.{first_phase};
 ghost use Rattle.lt_arch.specs.Shapes.{HaveSameNodes};
 ghost use Rattle.lt_sim.specs.Words.{generator, left_after};
-ghost use Rattle.lt_sim.specs.Drawn.{Draw, beginning, activated, drawn_on, next_due, pending_at, event_of};
-ghost use Rattle.lt_sim.specs.Progress.{IsAt, HasNode};
+ghost use Rattle.lt_sim.specs.Drawn.{Draw, beginning, activated, drawn_on, next_due, pending_at, due_event};
+ghost use Rattle.lt_sim.specs.Progress.{ProgressIsAt, HasNode};
 ghost use Rattle.lt_sim.specs.Controlled.{AreControlled, controller_of, controlled_after};
-ghost use Rattle.lt_sim.specs.Standing.{Stands, Keeps, IsDue, unless_later};
+ghost use Rattle.lt_sim.specs.Standing.{DrawingStands, DrawKeeps, IsDue, unless_later};
 
 use crate::controllers::Controllers;
 use crate::pending::{first_pending, set_pending};
@@ -49,7 +49,7 @@ impl Drawing {
     ) -> Result<Drawing, Memory>
         requires same { HaveSameNodes shape.now timing.now }
         requires numbered { 2 * (node_count shape.now + chan_count shape.now) < 2 ^ 32 }
-        ensures { IfOk result (λ drawing. Stands drawing shape.now timing.now seed (beginning shape.now timing.now seed)) }
+        ensures { IfOk result (λ drawing. DrawingStands drawing shape.now timing.now seed (beginning shape.now timing.now seed)) }
     {
         let mut generator = generator_of(seed);
         let pending = first_activations(alloc, &mut generator, shape, timing)?;
@@ -67,7 +67,7 @@ impl Drawing {
 
     /// The time of what happens next and its place, where it is not past the horizon.
     pub fn next(&self, horizon: u64) -> Option<(u64, u32)>
-        ensures { (s : OfShape) (t : OfTiming) (seed : ℕ) (d : Draw) → Stands self.now s t seed d → result ≡ unless_later horizon (next_due s d) }
+        ensures { (s : OfShape) (t : OfTiming) (seed : ℕ) (d : Draw) → DrawingStands self.now s t seed d → result ≡ unless_later horizon (next_due s d) }
     {
         let (at, place) = first_pending(&self.pending)?;
         if horizon < at {
@@ -80,8 +80,8 @@ impl Drawing {
     pub fn take(&mut self, shape: &Shape, timing: &Timing, rows: u32, at: u64, place: u32)
         requires due { IsDue self.old shape.now timing.now rows (at, place) }
         requires time { at ≤ GREATEST_TIME }
-        ensures { (seed : ℕ) (front : List OfEvent) (d : Draw) → Stands self.old shape.now timing.now seed d → Keeps shape.now timing.now rows front d → next_due shape.now d ≡ Some (at, place)
-            → Stands self.new shape.now timing.now seed (drawn_on shape.now timing.now rows seed d (event_of shape.now (at, place))) }
+        ensures { (seed : ℕ) (front : List OfEvent) (d : Draw) → DrawingStands self.old shape.now timing.now seed d → DrawKeeps shape.now timing.now rows front d → next_due shape.now d ≡ Some (at, place)
+            → DrawingStands self.new shape.now timing.now seed (drawn_on shape.now timing.now rows seed d (due_event shape.now (at, place))) }
     {
         let nodes = shape.nodes.len() as u32;
         if place < nodes {
@@ -97,8 +97,8 @@ impl Drawing {
         requires node { node < node_count shape.now }
         requires due { IsDue self.old shape.now timing.now rows (at, node) }
         requires time { at ≤ GREATEST_TIME }
-        ensures { (seed : ℕ) (front : List OfEvent) (d : Draw) → Stands self.old shape.now timing.now seed d → Keeps shape.now timing.now rows front d
-            → Stands self.new shape.now timing.now seed (activated shape.now timing.now rows seed d node at) }
+        ensures { (seed : ℕ) (front : List OfEvent) (d : Draw) → DrawingStands self.old shape.now timing.now seed d → DrawKeeps shape.now timing.now rows front d
+            → DrawingStands self.new shape.now timing.now seed (activated shape.now timing.now rows seed d node at) }
     {
         let deed = wake(&self.progress, &mut self.controllers, rows, node);
         let gap = draw(
@@ -152,7 +152,7 @@ fn is_back_pressure(protocol: Protocol) -> bool
 fn wake(progress: &Progress, controllers: &mut Controllers, rows: u32, node: u32) -> Deed
     requires node { HasNode progress.now node }
     requires controller { node < length controllers.old }
-    ensures deed { (s : OfShape) (t : OfTiming) (seed : ℕ) (d : Draw) → IsAt progress.now s (λ n. (d.state.node n).executed) (λ c. (d.state.chan c).delivered)
+    ensures deed { (s : OfShape) (t : OfTiming) (seed : ℕ) (d : Draw) → ProgressIsAt progress.now s (λ n. (d.state.node n).executed) (λ c. (d.state.chan c).delivered)
         → AreControlled t (node_count s) (λ n. (d.state.node n).phase) controllers.old → node < node_count s → result ≡ deed_at s rows d.state node }
     ensures controllers { controllers.new ≡ slice_set controllers.old node (controlled_after (controller_of controllers.old node) result) }
 {
@@ -171,7 +171,7 @@ fn at_start(
 ) -> Result<(Controllers, Progress), Memory>
     requires { 2 * (node_count shape.now + chan_count shape.now) < 2 ^ 32 }
     ensures controllers { IfOk result (λ first. AreControlled timing.now (length timing.now.nodes) (λ n. first_phase timing.now.protocol) first.0) }
-    ensures progress { IfOk result (λ first. IsAt first.1 shape.now (λ n. 0) (λ c. 0)) }
+    ensures progress { IfOk result (λ first. ProgressIsAt first.1 shape.now (λ n. 0) (λ c. 0)) }
 {
     let controllers = Controllers::start(alloc, timing)?;
     let progress = Progress::start(alloc, shape)?;
@@ -204,7 +204,7 @@ fn first_activations(
 /// The event of a place at a time.
 pub fn event_at(shape: &Shape, at: u64, place: u32) -> Event
     requires { node_count shape.now < 2 ^ 32 }
-    ensures { result ≡ event_of shape.now (at, place) }
+    ensures { result ≡ due_event shape.now (at, place) }
 {
     let nodes = shape.nodes.len() as u32;
     if place < nodes {

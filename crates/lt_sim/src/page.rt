@@ -1,5 +1,6 @@
 // The part of a file that is not written yet.
 ghost use Rattle.std.specs.Prelude.{◌≡◌, ◌<◌, ◌-◌, ◌^◌, ◌++◌, ◌∷◌, [], IsTrue, IfOk, OnOk, length};
+ghost use Rattle.lt_io.specs.Counts.{MayFail};
 ghost use Rattle.lt_arch.specs.Schedule.{IsEventOf};
 ghost use Rattle.lt_rows.specs.Texts.{event_text};
 ghost use Rattle.lt_io.specs.SinkState.{KeepsSink};
@@ -34,7 +35,7 @@ pub fn write_out<O: Sink>(
     page: &mut List<u8>,
     sink: &mut O,
 ) -> Result<(), Or<SimFault>>
-    requires { (O.state sink.old).faults < 2 ^ 64 - 1 }
+    requires { MayFail (O.state sink.old).faults }
     ensures written { WritesText page.old (O.state sink.old) (O.state sink.new) result }
     ensures empty { OnOk result (page.new ≡ []) }
     ensures keeps { KeepsSink (O.state sink.old) (O.state sink.new) }
@@ -69,7 +70,7 @@ pub fn put_row<O: Sink>(
     sink: &mut O,
 ) -> Result<(), Or<SimFault>>
     requires event { IsEventOf shape.now e.now }
-    requires count { (O.state sink.old).faults < 2 ^ 64 - 1 }
+    requires count { MayFail (O.state sink.old).faults }
     ensures written { WritesPart (event_text shape.now e.now ++ 10 ∷ []) page.old page.new (O.state sink.old) (O.state sink.new) result }
     ensures short { OnOk result (length page.new < 65280) }
     ensures keeps { KeepsSink (O.state sink.old) (O.state sink.new) }

@@ -1,6 +1,6 @@
 // When each place happens next, kept in order. The steps that it takes are counted in ledgers of their own.
 ghost use Rattle.std.specs.Prelude.{◌≡◌, ◌<◌, length, slice_set};
-ghost use Rattle.lt_arch.specs.Queue.{first_of};
+ghost use Rattle.lt_arch.specs.Queue.{least_deadline};
 
 use lt_arch::Deadlines;
 use lt_base::Steps;
@@ -28,7 +28,7 @@ fn set_counted<L: Ledger>(pending: &mut Deadlines, place: u32, at: Option<u64>, 
 
 /// The least pending time, and the lowest place that has it.
 pub fn first_pending(pending: &Deadlines) -> Option<(u64, u32)>
-    ensures { result ≡ first_of pending.now }
+    ensures { result ≡ least_deadline pending.now }
 {
     first_counted::<Brand>(pending, Blank::new(1))
 }
@@ -37,7 +37,7 @@ fn first_counted<L: Ledger>(pending: &Deadlines, blank: Blank) -> Option<(u64, u
     requires name { blank.name ≡ L.name }
     requires parts { blank.parts ≡ L.parts }
     requires some { 0 < blank.parts }
-    ensures { result ≡ first_of pending.now }
+    ensures { result ≡ least_deadline pending.now }
 {
     let mut steps = Steps::<L>::new(blank);
     pending.first(&mut steps)

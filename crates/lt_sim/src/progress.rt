@@ -3,7 +3,7 @@ ghost use Rattle.std.specs.Prelude.{◌≡◌, ◌<◌, ◌≤◌, ◌+◌, ◌-
 ghost use Rattle.lt_arch.specs.declared.shape.Shape.{Shape as OfShape};
 ghost use Rattle.lt_arch.specs.Readers.{chan_count, node_count};
 ghost use Rattle.lt_arch.specs.Step.{updated};
-ghost use Rattle.lt_sim.specs.Progress.{IsAt, CanArrive, HasNode, IsNoneAhead};
+ghost use Rattle.lt_sim.specs.Progress.{ProgressIsAt, CanArrive, HasNode, IsNoneAhead};
 
 use crate::tally::{Tally, none};
 use lt_arch::{ChanKind, Shape};
@@ -24,7 +24,7 @@ impl Progress {
     /// Before the first event.
     pub fn start(alloc: Global, shape: &Shape) -> Result<Progress, Memory>
         requires { 2 * (node_count shape.now + chan_count shape.now) < 2 ^ 32 }
-        ensures { IfOk result (λ progress. IsAt progress shape.now (λ n. 0) (λ c. 0)) }
+        ensures { IfOk result (λ progress. ProgressIsAt progress shape.now (λ n. 0) (λ c. 0)) }
     {
         let executed = none(alloc, shape.nodes.len())?;
         let delivered = none_delivered(alloc, shape.channels.len())?;
@@ -39,7 +39,7 @@ impl Progress {
     /// The channel has delivered one message more.
     pub fn arrive(&mut self, shape: &Shape, ch: u32)
         requires { CanArrive self.old shape.now ch }
-        ensures { (e d : ℕ → ℕ) → IsAt self.old shape.now e d → IsAt self.new shape.now e (updated d ch (d ch + 1)) }
+        ensures { (e d : ℕ → ℕ) → ProgressIsAt self.old shape.now e d → ProgressIsAt self.new shape.now e (updated d ch (d ch + 1)) }
     {
         let c = ch as usize;
         let channel = shape.channels.as_slice()[c];
@@ -56,7 +56,7 @@ impl Progress {
     pub fn execute(&mut self, node: u32)
         requires node { HasNode self.old node }
         requires room { slice_index_or self.old.executed.items node 0 < 2 ^ 32 - 1 }
-        ensures { (s : OfShape) (e d : ℕ → ℕ) → IsAt self.old s e d → node < node_count s → IsNoneAhead s e d node → IsAt self.new s (updated e node (e node + 1)) d }
+        ensures { (s : OfShape) (e d : ℕ → ℕ) → ProgressIsAt self.old s e d → node < node_count s → IsNoneAhead s e d node → ProgressIsAt self.new s (updated e node (e node + 1)) d }
     {
         self.executed[node as usize] += 1;
         self.messages.execute(node);

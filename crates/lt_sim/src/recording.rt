@@ -1,5 +1,6 @@
 // A drawn list of events, written as a schedule file.
 ghost use Rattle.std.specs.Prelude.{ℕ, ◌≡◌, ◌<◌, ◌≤◌, ◌+◌, ◌*◌, ◌-◌, ◌^◌, ◌++◌, ◌∷◌, [], IsTrue, IfOk, length};
+ghost use Rattle.lt_io.specs.Counts.{MayFail};
 ghost use Rattle.lt_arch.specs.declared.limits.TheConstants.{GREATEST_TIME};
 ghost use Rattle.lt_arch.specs.Readers.{node_count, chan_count};
 ghost use Rattle.lt_arch.specs.Schedule.{OnePlace};
@@ -9,7 +10,7 @@ ghost use Rattle.lt_sim.specs.Drawn.{drawn};
 ghost use Rattle.lt_rows.specs.Texts.{event_text};
 ghost use Rattle.lt_arch.specs.declared.event.Event.TheVariants.{End};
 ghost use Rattle.lt_sim.specs.File.{header_text, file_text};
-ghost use Rattle.lt_sim.specs.Standing.{Starts, IsShort};
+ghost use Rattle.lt_sim.specs.Standing.{DrawingStarts, DrawsFewEvents};
 ghost use Rattle.lt_sim.specs.Recorded.{Records, WritesText, IsCountOf};
 
 use crate::SimFault;
@@ -39,14 +40,14 @@ pub fn record<O: Sink>(
     requires one_place { OnePlace shape.now timing.now rows }
     requires numbered { 2 * (node_count shape.now + chan_count shape.now) < 2 ^ 32 }
     requires horizon { horizon ≤ GREATEST_TIME }
-    requires count { (O.state sink.old).faults < 2 ^ 64 - 1 }
+    requires count { MayFail (O.state sink.old).faults }
     ensures records { Records shape.now (drawn shape.now timing.now rows seed horizon) (O.state sink.old) (O.state sink.new) result }
     ensures keeps { KeepsSink (O.state sink.old) (O.state sink.new) }
     ensures sound { IsTrue (O.state sink.old).sound → (O.state sink.new).faults ≡ (O.state sink.old).faults }
 {
-    match counted(alloc, shape, timing, rows, seed, horizon)? {
+    match count_events(alloc, shape, timing, rows, seed, horizon)? {
         Some(count) => {
-            written(alloc, shape, timing, rows, seed, horizon, sink)?;
+            write_events(alloc, shape, timing, rows, seed, horizon, sink)?;
             Ok(count as u64)
         }
         None => Err(Or::Fault(SimFault::TooMany)),
@@ -54,7 +55,7 @@ pub fn record<O: Sink>(
 }
 
 // The number of events of the list, where it is within the limit.
-fn counted(
+fn count_events(
     alloc: Global,
     shape: &Shape,
     timing: &Timing,
@@ -81,8 +82,8 @@ fn count(
 ) -> Option<u32>
     requires one_place { OnePlace shape.now timing.now rows }
     requires horizon { horizon ≤ GREATEST_TIME }
-    requires starts { (seed : ℕ) × Starts drawing.old shape.now timing.now seed }
-    ensures { (seed : ℕ) → Starts drawing.old shape.now timing.now seed → IsCountOf (drawn shape.now timing.now rows seed horizon) result }
+    requires starts { (seed : ℕ) × DrawingStarts drawing.old shape.now timing.now seed }
+    ensures { (seed : ℕ) → DrawingStarts drawing.old shape.now timing.now seed → IsCountOf (drawn shape.now timing.now rows seed horizon) result }
 {
     for number in 0..MOST_EVENTS {
         match drawing.next(horizon) {
@@ -94,7 +95,7 @@ fn count(
 }
 
 // Writes the list, which is within the limit.
-fn written<O: Sink>(
+fn write_events<O: Sink>(
     alloc: Global,
     shape: &Shape,
     timing: &Timing,
@@ -108,7 +109,7 @@ fn written<O: Sink>(
     requires numbered { 2 * (node_count shape.now + chan_count shape.now) < 2 ^ 32 }
     requires horizon { horizon ≤ GREATEST_TIME }
     requires few { length (drawn shape.now timing.now rows seed horizon) ≤ 5000000 }
-    requires count { (O.state sink.old).faults < 2 ^ 64 - 1 }
+    requires count { MayFail (O.state sink.old).faults }
     ensures written { WritesText (file_text shape.now (drawn shape.now timing.now rows seed horizon)) (O.state sink.old) (O.state sink.new) result }
     ensures keeps { KeepsSink (O.state sink.old) (O.state sink.new) }
     ensures sound { IsTrue (O.state sink.old).sound → (O.state sink.new).faults ≡ (O.state sink.old).faults }
@@ -140,9 +141,9 @@ fn write<O: Sink>(
     requires one_place { OnePlace shape.now timing.now rows }
     requires horizon { horizon ≤ GREATEST_TIME }
     requires page { page.old ≡ header_text }
-    requires starts { IsShort drawing.old shape.now timing.now rows horizon }
-    requires count { (O.state sink.old).faults < 2 ^ 64 - 1 }
-    ensures written { (seed : ℕ) → Starts drawing.old shape.now timing.now seed → WritesText (file_text shape.now (drawn shape.now timing.now rows seed horizon)) (O.state sink.old) (O.state sink.new) result }
+    requires starts { DrawsFewEvents drawing.old shape.now timing.now rows horizon }
+    requires count { MayFail (O.state sink.old).faults }
+    ensures written { (seed : ℕ) → DrawingStarts drawing.old shape.now timing.now seed → WritesText (file_text shape.now (drawn shape.now timing.now rows seed horizon)) (O.state sink.old) (O.state sink.new) result }
     ensures keeps { KeepsSink (O.state sink.old) (O.state sink.new) }
     ensures sound { IsTrue (O.state sink.old).sound → (O.state sink.new).faults ≡ (O.state sink.old).faults }
 {
@@ -167,7 +168,7 @@ fn write_end<O: Sink>(
     sink: &mut O,
 ) -> Result<(), Or<SimFault>>
     requires horizon { horizon ≤ GREATEST_TIME }
-    requires count { (O.state sink.old).faults < 2 ^ 64 - 1 }
+    requires count { MayFail (O.state sink.old).faults }
     ensures written { WritesText (page.old ++ (event_text shape.now (End horizon) ++ 10 ∷ [])) (O.state sink.old) (O.state sink.new) result }
     ensures keeps { KeepsSink (O.state sink.old) (O.state sink.new) }
     ensures sound { IsTrue (O.state sink.old).sound → (O.state sink.new).faults ≡ (O.state sink.old).faults }

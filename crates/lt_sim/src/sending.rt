@@ -6,8 +6,8 @@ ghost use Rattle.lt_arch.specs.declared.limits.TheConstants.{GREATEST_TIME};
 ghost use Rattle.lt_arch.specs.Readers.{chan_count, node_count};
 ghost use Rattle.lt_arch.specs.Shapes.{HaveSameNodes};
 ghost use Rattle.lt_sim.specs.Words.{left_after};
-ghost use Rattle.lt_sim.specs.Drawn.{how_many};
-ghost use Rattle.lt_sim.specs.Tallies.{leads_from};
+ghost use Rattle.lt_base.specs.Truths.{how_many};
+ghost use Rattle.lt_sim.specs.Tallies.{leads_kind_from};
 ghost use Rattle.lt_sim.specs.Spans.{IsSpanBelow, AreSpans, DrawsDelays};
 
 use crate::pending::set_pending;
@@ -58,14 +58,14 @@ fn span_of(channels: &[Chan], node: u32, data_kind: bool) -> Span
     for c in 0..channels.len() {
         let has = is_outgoing(channels[c], node, data_kind);
         if has {
-            span = widened(span, c as u32);
+            span = widen(span, c as u32);
         }
     }
     span
 }
 
 // With one more channel behind those that it holds.
-fn widened(span: Span, c: u32) -> Span
+fn widen(span: Span, c: u32) -> Span
     requires { c < 2 ^ 32 - 1 }
     ensures first { (span.end ≡ 0 → result.first ≡ c) × (0 < span.end → result.first ≡ span.first) }
     ensures end { result.end ≡ c + 1 }
@@ -93,9 +93,9 @@ pub fn draw_delays(
     requires span { IsSpanBelow shape.now.channels data_kind node (chan_count shape.now) span }
     requires time { at ≤ GREATEST_TIME }
     ensures left { (seed words : ℕ) → stream_of splitmix_steps generator.old ≡ left_after seed words
-        → stream_of splitmix_steps generator.new ≡ left_after seed (words + how_many (leads_from shape.now.channels data_kind node) (chan_count shape.now)) }
+        → stream_of splitmix_steps generator.new ≡ left_after seed (words + how_many (leads_kind_from shape.now.channels data_kind node) (chan_count shape.now)) }
     ensures drawn { (seed words : ℕ) → stream_of splitmix_steps generator.old ≡ left_after seed words
-        → DrawsDelays shape.now timing.now seed words at (chan_count shape.now) (leads_from shape.now.channels data_kind node) pending.old pending.new }
+        → DrawsDelays shape.now timing.now seed words at (chan_count shape.now) (leads_kind_from shape.now.channels data_kind node) pending.old pending.new }
 {
     let channels = shape.channels.as_slice();
     let nodes = shape.nodes.len() as u32;

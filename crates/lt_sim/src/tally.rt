@@ -1,8 +1,9 @@
 // Of the channels of one kind that lead to each node, how many are fresh.
 ghost use Rattle.std.specs.Prelude.{◌≡◌, ◌<◌, ◌≤◌, ◌+◌, ◌-◌, ◌*◌, ◌^◌, ◌==◌, ◌&&◌, nat_lt, ℕ, IfOk, length, replicate, slice_set, slice_index_or};
 ghost use Rattle.lt_arch.specs.Readers.{is_data, chan_count, node_count};
-ghost use Rattle.lt_sim.specs.Drawn.{how_many};
-ghost use Rattle.lt_sim.specs.Tallies.{leads_to, raised, same_truth};
+ghost use Rattle.lt_base.specs.Truths.{how_many};
+ghost use Rattle.lt_sim.specs.Tallies.{leads_kind_to, raised};
+ghost use Rattle.lt_base.specs.Truths.{same_truth};
 
 use lt_arch::{Chan, ChanKind, Shape};
 use lt_base::Memory;
@@ -22,8 +23,8 @@ impl Tally {
     pub fn start(alloc: Global, shape: &Shape, data_kind: bool) -> Result<Tally, Memory>
         requires { 2 * (node_count shape.now + chan_count shape.now) < 2 ^ 32 }
         ensures lengths { IfOk result (λ tally. (length tally.wanted.items ≡ node_count shape.now) × (length tally.fresh.items ≡ node_count shape.now) × (length tally.early.items ≡ node_count shape.now)) }
-        ensures wanted { IfOk result (λ tally. (n : ℕ) → n < node_count shape.now → slice_index_or tally.wanted.items n 0 ≡ how_many (leads_to shape.now.channels data_kind n) (chan_count shape.now)) }
-        ensures fresh { IfOk result (λ tally. (n : ℕ) → n < node_count shape.now → slice_index_or tally.fresh.items n 0 ≡ how_many (leads_to shape.now.channels data_kind n) (chan_count shape.now)) }
+        ensures wanted { IfOk result (λ tally. (n : ℕ) → n < node_count shape.now → slice_index_or tally.wanted.items n 0 ≡ how_many (leads_kind_to shape.now.channels data_kind n) (chan_count shape.now)) }
+        ensures fresh { IfOk result (λ tally. (n : ℕ) → n < node_count shape.now → slice_index_or tally.fresh.items n 0 ≡ how_many (leads_kind_to shape.now.channels data_kind n) (chan_count shape.now)) }
         ensures early { IfOk result (λ tally. tally.early.items ≡ replicate (node_count shape.now) 0) }
     {
         let wanted = counts_to(alloc, shape, data_kind)?;
@@ -121,7 +122,7 @@ pub fn is_outgoing(channel: Chan, node: u32, data_kind: bool) -> bool
 #[tactic(auto, using(crate::proofs::Counting::how_many_yes, crate::proofs::Counting::how_many_no))]
 fn count_to(channels: &[Chan], node: u32, data_kind: bool) -> u32
     requires { length channels.now < 2 ^ 32 }
-    ensures { result ≡ how_many (leads_to channels.now data_kind node) (length channels.now) }
+    ensures { result ≡ how_many (leads_kind_to channels.now data_kind node) (length channels.now) }
 {
     let mut count = 0;
     for c in 0..channels.len() {
@@ -136,7 +137,7 @@ fn count_to(channels: &[Chan], node: u32, data_kind: bool) -> u32
 fn counts_to(alloc: Global, shape: &Shape, data_kind: bool) -> Result<Vec<u32>, Memory>
     requires { 2 * (node_count shape.now + chan_count shape.now) < 2 ^ 32 }
     ensures length { IfOk result (λ counts. length counts.items ≡ node_count shape.now) }
-    ensures each { IfOk result (λ counts. (n : ℕ) → n < node_count shape.now → slice_index_or counts.items n 0 ≡ how_many (leads_to shape.now.channels data_kind n) (chan_count shape.now)) }
+    ensures each { IfOk result (λ counts. (n : ℕ) → n < node_count shape.now → slice_index_or counts.items n 0 ≡ how_many (leads_kind_to shape.now.channels data_kind n) (chan_count shape.now)) }
 {
     let channels = shape.channels.as_slice();
     let mut counts = Vec::new(alloc);

@@ -103,11 +103,11 @@ impl Code {
     pub fn lets_size(&self) -> u64
         ensures { result ≡ cut (sum_by let_size self.now.lets) }
     {
-        lets_size(self.lets.as_slice())
+        lets_size(&self.lets)
     }
 
     /// What the type keeps, for callers.
-    pub fn kept(&self)
+    pub fn invariant_holds(&self)
         ensures good { GoodCode self.now }
         ensures numbers { self.now.slots < 2 ^ 32 }
     {

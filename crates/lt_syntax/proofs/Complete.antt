@@ -6,10 +6,10 @@ use Rattle.lt_tokens.specs.declared.token.Infix.{Infix}
 use Rattle.lt_tokens.specs.declared.token.Infix.TheVariants as meet
 use Rattle.lt_tokens.specs.declared.token.Token.{Token}
 use Rattle.lt_tokens.specs.declared.token.Token.TheVariants as token
-use Rattle.lt_syntax.specs.Levels.{Line, Expr, Impl, Disj, Conj, Comp, Sum, Product, line, level, left, right}
+use Rattle.lt_syntax.specs.Levels.{Line, Expr, Impl, Disj, Conj, Comp, Sum, Product, infix_line, level, left_level, right_level}
 use Rattle.lt_syntax.specs.Grammar as form
 use Rattle.lt_syntax.specs.Grammar.{Form, Forms, IsAt, AreExprs, polarity, tokens, arguments, literal, joined, left_height, height, heights, meaning, meanings}
-use Rattle.lt_syntax.specs.Machine.{Operand, Frame, AfterMinus, AfterNot, InParen, AfterInfix, AfterIf, AfterThen, AfterElse, Sampling, AfterMerge, FirstPart, SecondPart, InCall, Want, Named, Next, Go, name_of, part, hole, ends, complete, close, stop, has, go}
+use Rattle.lt_syntax.specs.Machine.{Operand, Frame, AfterMinus, AfterNot, InParen, AfterInfix, AfterIf, AfterThen, AfterElse, Sampling, AfterMerge, FirstPart, SecondPart, InCall, Want, Named, Next, Go, name_operand, part_level, hole, ends, complete, close, stop, has_operand, go}
 
 abbrev pub operand : Form → Operand
 operand a = record { tree = meaning a; height = height a; lead = literal a }
@@ -64,10 +64,10 @@ literal_low meet.Arrow a = arrow_low a
 pub record Table (k : Line) : Type 0 where
   pub low : 1 ≤ level k
   pub high : level k ≤ 8
-  pub lefts : level k ≤ left k
-  pub rights : level k ≤ right k
-  pub left_high : left k ≤ 8
-  pub right_high : right k ≤ 9
+  pub lefts : level k ≤ left_level k
+  pub rights : level k ≤ right_level k
+  pub left_high : left_level k ≤ 8
+  pub right_high : right_level k ≤ 9
 
 pub table : (k : Line) → Table k
 table Expr = record { low = omega arith; high = omega arith; lefts = omega arith; rights = omega arith; left_high = omega arith; right_high = omega arith }
@@ -79,10 +79,10 @@ table Sum = record { low = omega arith; high = omega arith; lefts = omega arith;
 table Product = record { low = omega arith; high = omega arith; lefts = omega arith; rights = omega arith; left_high = omega arith; right_high = omega arith }
 
 -- two lines: a form whose right part stands at the other's level is not completed by it
-lines_apart : (j k : Line) → right j ≤ level k → level j < left k
+lines_apart : (j k : Line) → right_level j ≤ level k → level j < left_level k
 lines_apart Expr k h = let t = table k in lines_expr k
   where
-    lines_expr : (k : Line) → 1 < left k
+    lines_expr : (k : Line) → 1 < left_level k
     lines_expr Expr = omega arith
     lines_expr Impl = omega arith
     lines_expr Disj = omega arith
@@ -104,11 +104,11 @@ lines_apart Sum k h = let t = table k in omega (arith, h, t.lefts)
 lines_apart Product k h = let t = table k in omega (arith, h, t.lefts)
 
 -- the next part of a form is at its level or above
-pub ends_part : (f : Frame) → ends f ≤ part f
+pub ends_part : (f : Frame) → ends f ≤ part_level f
 ends_part AfterMinus = omega arith
 ends_part AfterNot = omega arith
 ends_part InParen = omega arith
-ends_part (AfterInfix o a) = (table (line o)).rights
+ends_part (AfterInfix o a) = (table (infix_line o)).rights
 ends_part AfterIf = omega arith
 ends_part (AfterThen c) = omega arith
 ends_part (AfterElse c a) = omega arith
@@ -119,11 +119,11 @@ ends_part (SecondPart c a) = omega arith
 ends_part (InCall f xs h) = omega arith
 
 -- a form that waits for a part at the operator's level or below isn't completed by it
-pub below_left : (f : Frame) (k : Line) → part f ≤ level k → ends f < left k
+pub below_left : (f : Frame) (k : Line) → part_level f ≤ level k → ends f < left_level k
 below_left AfterMinus k h = let t = table k in absurd (omega (arith, h, t.high))
 below_left AfterNot k h = let t = table k in omega (arith, h, t.lefts, below_five k h)
   where
-    below_five : (k : Line) → 5 ≤ level k → 5 < left k
+    below_five : (k : Line) → 5 ≤ level k → 5 < left_level k
     below_five Expr h = absurd (omega (arith, h))
     below_five Impl h = absurd (omega (arith, h))
     below_five Disj h = absurd (omega (arith, h))
@@ -132,7 +132,7 @@ below_left AfterNot k h = let t = table k in omega (arith, h, t.lefts, below_fiv
     below_five Sum h = omega arith
     below_five Product h = omega arith
 below_left InParen k h = let t = table k in omega (arith, t.low, t.lefts)
-below_left (AfterInfix o a) k h = lines_apart (line o) k h
+below_left (AfterInfix o a) k h = lines_apart (infix_line o) k h
 below_left AfterIf k h = let t = table k in omega (arith, t.low, t.lefts)
 below_left (AfterThen c) k h = let t = table k in omega (arith, t.low, t.lefts)
 below_left (AfterElse c a) k h = lines_apart Expr k h
@@ -142,11 +142,11 @@ below_left (FirstPart c) k h = let t = table k in omega (arith, t.low, t.lefts)
 below_left (SecondPart c a) k h = let t = table k in absurd (omega (arith, h, t.high))
 below_left (InCall f xs m) k h = let t = table k in omega (arith, t.low, t.lefts)
 
-pub below_nine : (f : Frame) → part f ≤ 9 → ends f < 9
+pub below_nine : (f : Frame) → part_level f ≤ 9 → ends f < 9
 below_nine AfterMinus h = absurd (omega (arith, h))
 below_nine AfterNot h = omega arith
 below_nine InParen h = omega arith
-below_nine (AfterInfix o a) h = let t = table (line o) in omega (arith, t.high)
+below_nine (AfterInfix o a) h = let t = table (infix_line o) in omega (arith, t.high)
 below_nine AfterIf h = omega arith
 below_nine (AfterThen c) h = omega arith
 below_nine (AfterElse c a) h = omega arith
@@ -160,7 +160,7 @@ pub ends_high : (f : Frame) → ends f < 12
 ends_high AfterMinus = omega arith
 ends_high AfterNot = omega arith
 ends_high InParen = omega arith
-ends_high (AfterInfix o a) = let t = table (line o) in omega (arith, t.high)
+ends_high (AfterInfix o a) = let t = table (infix_line o) in omega (arith, t.high)
 ends_high AfterIf = omega arith
 ends_high (AfterThen c) = omega arith
 ends_high (AfterElse c a) = omega arith
@@ -171,15 +171,15 @@ ends_high (SecondPart c a) = omega arith
 ends_high (InCall f xs m) = omega arith
 
 -- no form is completed
-pub kept : (l : ℕ) (fs : List Frame) (a : Operand) (k : List Frame → Operand → Next) → ((f : Frame) → part f ≤ hole fs → hole fs ≤ part f → ends f < l) → close l fs a k ≡ k fs a
+pub kept : (l : ℕ) (fs : List Frame) (a : Operand) (k : List Frame → Operand → Next) → ((f : Frame) → part_level f ≤ hole fs → hole fs ≤ part_level f → ends f < l) → close l fs a k ≡ k fs a
 kept l [] a k h = refl
 kept l (f ∷ fs) a k h = ap (λ b. if b then close l fs (complete f a) k else k (f ∷ fs) a) (lt-leb l (ends f) (h f (omega arith) (omega arith)))
 
 pub kept_high : (fs : List Frame) (a : Operand) (k : List Frame → Operand → Next) → close 12 fs a k ≡ k fs a
 kept_high fs a k = kept 12 fs a k (λ f g h. ends_high f)
 
-pub kept_infix : (j : Line) (fs : List Frame) (a : Operand) (k : List Frame → Operand → Next) → hole fs ≤ level j → close (left j) fs a k ≡ k fs a
-kept_infix j fs a k h = kept (left j) fs a k (λ f p q. below_left f j (omega (arith, p, h)))
+pub kept_infix : (j : Line) (fs : List Frame) (a : Operand) (k : List Frame → Operand → Next) → hole fs ≤ level j → close (left_level j) fs a k ≡ k fs a
+kept_infix j fs a k h = kept (left_level j) fs a k (λ f p q. below_left f j (omega (arith, p, h)))
 
 pub kept_when : (fs : List Frame) (a : Operand) (k : List Frame → Operand → Next) → hole fs ≤ 9 → close 9 fs a k ≡ k fs a
 kept_when fs a k h = kept 9 fs a k (λ f p q. below_nine f (omega (arith, p, h)))
@@ -189,8 +189,8 @@ pub ended : (l : ℕ) (f : Frame) (fs : List Frame) (a : Operand) (k : List Fram
 ended l f fs a k h = ap (λ b. if b then close l fs (complete f a) k else k (f ∷ fs) a) (le-leb l (ends f) h)
 
 -- a name that is no call's
-pub not_call : (x : List ℕ) (fs : List Frame) (t : Token) → stop t ≤ max 11 (hole fs) → go (Named x) fs t ≡ has fs (name_of x) t
-not_call x fs token.Open h = ap (λ b. if b then Go (InCall x [] 0 ∷ fs) Want else has fs (name_of x) token.Open) (lt-leb (hole fs) 11 (omega (arith, h)))
+pub not_call : (x : List ℕ) (fs : List Frame) (t : Token) → stop t ≤ max 11 (hole fs) → go (Named x) fs t ≡ has_operand fs (name_operand x) t
+not_call x fs token.Open h = ap (λ b. if b then Go (InCall x [] 0 ∷ fs) Want else has_operand fs (name_operand x) token.Open) (lt-leb (hole fs) 11 (omega (arith, h)))
 not_call x fs _ h = refl
 
 -- - before a form

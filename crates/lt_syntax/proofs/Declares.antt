@@ -10,7 +10,7 @@ use Rattle.lt_syntax.specs.declared.header.Phase.TheVariants as phase
 use Rattle.lt_syntax.specs.Machine as machine
 use Rattle.lt_syntax.specs.Program.{declared}
 use Rattle.lt_syntax.specs.Parser.{move, finish, step_on}
-use Rattle.lt_syntax.specs.Phases.{phase_of, IsIn}
+use Rattle.lt_syntax.specs.Phases.{parser_phase_of, IsIn}
 
 declared_snoc : (xs : List (List ℕ)) (x : List ℕ) (ty : Ty) (c : List (List ℕ × Bool)) → declared xs ty c ++ record { name = x; ty = ty; clock = c } ∷ [] ≡ declared (xs ++ x ∷ []) ty c
 declared_snoc [] x ty c = refl
@@ -24,7 +24,7 @@ declare_more old d0 d1 xs x ty c c' p q r =
     ∙ ap (λ z. old ++ z) (declared_snoc xs x ty c)
 
 -- where no equation may begin or goes on, a token only moves on
-pub elsewhere : (p : Phase) (fs : List machine.Frame) (m : machine.Mode) → ((n : Box NodeText) (x : List ℕ) → p ≡ phase.In n x → ⊥) → ((n : Box NodeText) → p ≡ phase.Body n → ⊥) → (done : List NodeText) (t : Token) → finish done (move 200 (phase_of p [] machine.Want) t) ≡ step_on 200 done (phase_of p fs m) t
+pub elsewhere : (p : Phase) (fs : List machine.Frame) (m : machine.Mode) → ((n : Box NodeText) (x : List ℕ) → p ≡ phase.In n x → ⊥) → ((n : Box NodeText) → p ≡ phase.Body n → ⊥) → (done : List NodeText) (t : Token) → finish done (move 200 (parser_phase_of p [] machine.Want) t) ≡ step_on 200 done (parser_phase_of p fs m) t
 elsewhere (phase.In n x) fs m g h done t = absurd (g n x refl)
 elsewhere (phase.Body n) fs m g h done t = absurd (h n refl)
 elsewhere phase.Idle fs m g h done t = refl

@@ -9,8 +9,8 @@ use Rattle.lt_syntax.specs.declared.tree.NodeText.{NodeText}
 use Rattle.lt_syntax.specs.declared.section.Section.{Section}
 use Rattle.lt_syntax.specs.declared.section.Section.TheVariants.{Ins, Outs, Locals}
 use Rattle.lt_syntax.specs.Grammar.{Form, meaning}
-use Rattle.lt_syntax.specs.Program.{Group, Node, each, between, optional, ident, group, local, locals, equation, node, NotEmpty, Each, IsGroup, IsPlain, IsEquation, declared, decls, node_tree}
-use Rattle.lt_syntax.specs.Parser.{Phase, Idle, Told, WantNode, HasNode, Opened, WantName, HasName, WantType, HasGroup, WantPolarity, WantVariable, HasIns, Returning, HasOuts, HasHead, HasLocals, Body, HasLeft, In, empty_node}
+use Rattle.lt_syntax.specs.Program.{Group, Node, each, separated_by, optional, ident, group, local, locals, equation, node, NotEmpty, Each, IsGroup, IsPlain, IsEquation, declared, decls, node_tree}
+use Rattle.lt_syntax.specs.Parser.{ParserPhase, Idle, Told, WantNode, HasNode, Opened, WantName, HasName, WantType, HasGroup, WantPolarity, WantVariable, HasIns, Returning, HasOuts, HasHead, HasLocals, Body, HasLeft, In, empty_node}
 use Rattle.lt_syntax.proofs.Zipper.{Begun, Holding, stack, mode, all_opened, held}
 use Rattle.lt_syntax.proofs.Sound.{AreBegun, Fit}
 
@@ -34,10 +34,10 @@ abbrev pub head : List ℕ → List Token → List Token
 head x r = token.Node ∷ token.Ident x ∷ token.Open ∷ r
 
 abbrev pub with_ins : List ℕ → List Group → List Token → List Token
-with_ins x ins r = head x (between token.Semicolon group ins (token.Close ∷ r))
+with_ins x ins r = head x (separated_by token.Semicolon group ins (token.Close ∷ r))
 
 abbrev pub with_outs : List ℕ → List Group → List Group → List Token → List Token
-with_outs x ins outs r = with_ins x ins (token.Returns ∷ token.Open ∷ between token.Semicolon group outs (token.Close ∷ r))
+with_outs x ins outs r = with_ins x ins (token.Returns ∷ token.Open ∷ separated_by token.Semicolon group outs (token.Close ∷ r))
 
 abbrev pub lead : Draft → List Token → List Token
 lead (d_ins x gs) r = head x (each local gs r)
@@ -98,7 +98,7 @@ whole_node x ins outs b ls es last = record { name = x; ins = ins; outs = outs; 
 abbrev pub body_tree : List ℕ → List Group → List Group → List Group → Eqs → NodeText
 body_tree x ins outs ls es = record { name = x; ins = decls ins; outs = decls outs; locals = decls ls; eqs = map (λ e. (e.0, meaning e.1)) es }
 
-abbrev pub phase : Spot → Phase
+abbrev pub phase : Spot → ParserPhase
 phase s_idle = Idle
 phase (s_told x ins outs b ls es) = Told
 phase s_node = WantNode
@@ -127,8 +127,8 @@ spot_text s_node r = token.Node ∷ r
 spot_text (s_name x) r = token.Node ∷ token.Ident x ∷ r
 spot_text (s_opened x) r = head x r
 spot_text (s_want d xs) r = lead d (each name_comma xs r)
-spot_text (s_has d xs) r = lead d (between token.Comma ident xs r)
-spot_text (s_type d xs) r = lead d (between token.Comma ident xs (token.Colon ∷ r))
+spot_text (s_has d xs) r = lead d (separated_by token.Comma ident xs r)
+spot_text (s_type d xs) r = lead d (separated_by token.Comma ident xs (token.Colon ∷ r))
 spot_text (s_group d xs ty c) r = lead d (group (group_of xs ty c) r)
 spot_text (s_polarity d xs ty c) r = lead d (group (group_of xs ty c) (token.When ∷ r))
 spot_text (s_variable d xs ty c) r = lead d (group (group_of xs ty c) (token.When ∷ token.Not ∷ r))
@@ -179,16 +179,16 @@ pub each_snoc : {A : Type 0} → (f : A → List Token → List Token) (xs : Lis
 each_snoc f [] x r = refl
 each_snoc f (y ∷ xs) x r = ap (f y) (each_snoc f xs x r)
 
-pub between_snoc : {A : Type 0} → (s : Token) (f : A → List Token → List Token) (xs : List A) (x : A) (r : List Token) → between s f (xs ++ x ∷ []) r ≡ each (λ y w. f y (s ∷ w)) xs (f x r)
+pub between_snoc : {A : Type 0} → (s : Token) (f : A → List Token → List Token) (xs : List A) (x : A) (r : List Token) → separated_by s f (xs ++ x ∷ []) r ≡ each (λ y w. f y (s ∷ w)) xs (f x r)
 between_snoc s f [] x r = refl
 between_snoc s f (y ∷ []) x r = refl
 between_snoc s f (y ∷ z ∷ xs) x r = ap (λ w. f y (s ∷ w)) (between_snoc s f (z ∷ xs) x r)
 
 -- what follows the names of a group begins behind a comma as behind the names
-pub each_between : (xs : List (List ℕ)) (x : List ℕ) (r : List Token) → between token.Comma ident (xs ++ x ∷ []) r ≡ each name_comma xs (token.Ident x ∷ r)
+pub each_between : (xs : List (List ℕ)) (x : List ℕ) (r : List Token) → separated_by token.Comma ident (xs ++ x ∷ []) r ≡ each name_comma xs (token.Ident x ∷ r)
 each_between xs x r = between_snoc token.Comma ident xs x r
 
-pub between_comma : (xs : List (List ℕ)) (r : List Token) → NotEmpty xs → between token.Comma ident xs (token.Comma ∷ r) ≡ each name_comma xs r
+pub between_comma : (xs : List (List ℕ)) (r : List Token) → NotEmpty xs → separated_by token.Comma ident xs (token.Comma ∷ r) ≡ each name_comma xs r
 between_comma [] r e = absurd e
 between_comma (x ∷ []) r e = refl
 between_comma (x ∷ y ∷ xs) r e = ap (λ w. token.Ident x ∷ token.Comma ∷ w) (between_comma (y ∷ xs) r tt)

@@ -5,10 +5,10 @@ use Rattle.lt_base.specs.declared.memory.Or.TheVariants as or
 use Rattle.lt_tokens.specs.Text.{front, skip}
 use Rattle.lt_syntax.specs.declared.fault.SyntaxFault.{SyntaxFault}
 use Rattle.lt_syntax.specs.Machine.{Roomy, Held}
-use Rattle.lt_syntax.specs.Parser.{State}
+use Rattle.lt_syntax.specs.Parser.{ParserState}
 use Rattle.lt_syntax.specs.Phases.{Fits}
 use Rattle.lt_syntax.specs.Program.{Spells}
-use Rattle.lt_syntax.specs.Reads.{Answers, Takes}
+use Rattle.lt_syntax.specs.Reads.{AnswersSyntax, TakesToken}
 use Rattle.lt_syntax.proofs.Zipper.{Begun, Holding, z_want, z_named, z_has, z_clock, stack, mode}
 use Rattle.lt_syntax.proofs.Sound.{AreBegun, Fit}
 use Rattle.lt_syntax.proofs.Drafts.{Spot, s_in, phase, GoodSpot}
@@ -30,24 +30,24 @@ spot_fits limit (s_in x ins outs b ls es y zs h) g = held_fits limit zs h g.2 g.
 spot_fits limit _ g = tt
 
 -- what is begun fits the limit
-pub fits_here : (limit : ℕ) → 1 ≤ limit → (bytes rest : List ℕ) (s : State) → SoFar limit bytes rest s → Fits limit s.phase
+pub fits_here : (limit : ℕ) → 1 ≤ limit → (bytes rest : List ℕ) (s : ParserState) → SoFar limit bytes rest s → Fits limit s.phase
 fits_here limit one bytes rest s g = let d = reached limit one g.tokens s g.ran in subst (Fits limit) d.phase_is (spot_fits limit d.spot d.good)
 
 -- its place
 place : (bytes rest here : List ℕ) (at : ℕ) → here ≡ skip rest → length here ≤ length bytes → at ≡ length bytes - length here → at + length (skip rest) ≡ length bytes
 place bytes rest here at s h a = omega (arith, ap length s)
 
-module _ (limit : ℕ) (one : 1 ≤ limit) (bytes rest here : List ℕ) (s s' : State) (g : SoFar limit bytes rest s) (e : here ≡ skip rest) (h : length here ≤ length bytes) where
+module _ (limit : ℕ) (one : 1 ≤ limit) (bytes rest here : List ℕ) (s s' : ParserState) (g : SoFar limit bytes rest s) (e : here ≡ skip rest) (h : length here ≤ length bytes) where
   -- one more token is taken
-  pub goes_on : (n : ℕ) → Takes limit (length bytes - length here) here s s' (Ok (Some n)) → SoFar limit bytes (drop n here) s'
+  pub goes_on : (n : ℕ) → TakesToken limit (length bytes - length here) here s s' (Ok (Some n)) → SoFar limit bytes (drop n here) s'
   goes_on n t = goes limit bytes rest s t.0 (drop n here) s' g (ap front (sym e) ∙ t.1) t.2
 
   -- the text is taken
-  pub ends_here : Takes limit (length bytes - length here) here s s' (Ok None) → Spells limit bytes s'.done
+  pub ends_here : TakesToken limit (length bytes - length here) here s s' (Ok None) → Spells limit bytes s'.done
   ends_here t = subst (λ z. Spells limit bytes z.done) (sym t.2) (over limit one bytes rest s g t.1 (ap front (sym e) ∙ t.0))
 
   -- its first fault is found
-  pub fails_here : (f : Or SyntaxFault) → Takes limit (length bytes - length here) here s s' (Err f) → Answers limit bytes (Err f)
+  pub fails_here : (f : Or SyntaxFault) → TakesToken limit (length bytes - length here) here s s' (Err f) → AnswersSyntax limit bytes (Err f)
   fails_here or.Memory t = tt
   fails_here (or.Fault f) t = wrong limit one bytes rest s g f (front here) (ap front (sym e)) (place bytes rest here f.at e h t.0) t.1
 

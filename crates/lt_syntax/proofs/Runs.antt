@@ -8,11 +8,11 @@ use Rattle.lt_tokens.specs.declared.token.Token.TheVariants as token
 use Rattle.lt_syntax.specs.declared.tree.NodeText.{NodeText}
 use Rattle.lt_syntax.specs.Tree as tree
 use Rattle.lt_syntax.specs.Tree.{Tm, tms}
-use Rattle.lt_syntax.specs.Levels.{line, level, left, right}
+use Rattle.lt_syntax.specs.Levels.{infix_line, level, left_level, right_level}
 use Rattle.lt_syntax.specs.Grammar as form
 use Rattle.lt_syntax.specs.Grammar.{Form, Forms, IsAt, AreExprs, polarity, tokens, arguments, literal, joined, left_height, height, heights, meaning, meanings}
-use Rattle.lt_syntax.specs.Machine.{Operand, Frame, AfterMinus, AfterNot, InParen, AfterInfix, AfterIf, AfterThen, AfterElse, Sampling, AfterMerge, FirstPart, SecondPart, InCall, Mode, Want, Named, Has, WantClock, Bad, Go, number_of, truth_of, name_of, call_of, hole, ends, complete, stop, want, after, has, go, need}
-use Rattle.lt_syntax.specs.Parser.{In, State, Kind, TooDeep, checked, finish, on, run}
+use Rattle.lt_syntax.specs.Machine.{Operand, Frame, AfterMinus, AfterNot, InParen, AfterInfix, AfterIf, AfterThen, AfterElse, Sampling, AfterMerge, FirstPart, SecondPart, InCall, Mode, Want, Named, Has, WantClock, Bad, Go, number_operand, truth_operand, name_operand, call_of, hole, ends, complete, stop, want, after_operand, has_operand, go, need}
+use Rattle.lt_syntax.specs.Parser.{In, ParserState, Kind, TooDeep, checked, finish, on, parser_run}
 use Rattle.lt_syntax.proofs.Complete.{operand, height_pos, left_pos, literal_low, table, kept_infix, kept_when, ended, not_call, negative_of}
 
 -- the trees of arguments, as a list
@@ -30,7 +30,7 @@ pub record Starts (ts : List Token) : Type 0 where
   pub more : List Token
   pub is : ts ≡ first ∷ more
   pub level : stop first ≤ 12
-  pub begins : (c : List ℕ) (a : Operand) (fs : List Frame) → has (FirstPart c ∷ fs) a first ≡ want first (SecondPart c a ∷ fs)
+  pub begins : (c : List ℕ) (a : Operand) (fs : List Frame) → has_operand (FirstPart c ∷ fs) a first ≡ want first (SecondPart c a ∷ fs)
 
 pub starts : (b : Form) → IsAt 12 b → (ts : List Token) → Starts (tokens b ts)
 starts (form.number n) at ts = record { first = token.Number n; more = ts; is = refl; level = omega arith; begins = λ c a fs. refl }
@@ -39,55 +39,55 @@ starts (form.name x) at ts = record { first = token.Ident x; more = ts; is = ref
 starts (form.paren b) at ts = record { first = token.Open; more = tokens b (token.Close ∷ ts); is = refl; level = omega arith; begins = λ c a fs. refl }
 starts (form.minus b) at ts = absurd (omega (arith, at.0))
 starts (form.negated b) at ts = absurd (omega (arith, at.0))
-starts (form.binary o a b) at ts = let t = table (line o) in absurd (omega (arith, at.0, t.high))
+starts (form.binary o a b) at ts = let t = table (infix_line o) in absurd (omega (arith, at.0, t.high))
 starts (form.choice c a b) at ts = absurd (omega (arith, at.0))
 starts (form.sampled a c b) at ts = absurd (omega (arith, at.0))
 starts (form.merged c a b) at ts = absurd (omega (arith, at.0))
 starts (form.call f xs) at ts = absurd (omega (arith, at.0))
 
 module _ (limit : ℕ) (done : List NodeText) (n : NodeText) (x : List ℕ) where
-  abbrev pub from : List Frame → Mode → List Token → Result State Kind
-  from fs m ts = run limit (record { done = done; phase = In n x fs m }) ts
+  abbrev pub from : List Frame → Mode → List Token → Result ParserState Kind
+  from fs m ts = parser_run limit (record { done = done; phase = In n x fs m }) ts
 
-  abbrev state : List Frame → Mode → Result State Kind
+  abbrev state : List Frame → Mode → Result ParserState Kind
   state fs m = Ok (record { done = done; phase = In n x fs m })
 
   -- one step that begins a form or its next part
   moves : (fs : List Frame) (m : Mode) (t : Token) (fs' : List Frame) (w : List Token) → go m fs t ≡ Go fs' Want → need fs' ≤ limit → from fs m (t ∷ w) ≡ from fs' Want w
   moves fs m t fs' w e h =
-      ap (λ z. on (finish done (checked limit n x z)) (λ s. run limit s w)) e
-      ∙ ap (λ b. on (finish done (if b then Ok (In n x fs' Want) else Err TooDeep)) (λ s. run limit s w)) (le-leb (need fs') limit h)
+      ap (λ z. on (finish done (checked limit n x z)) (λ s. parser_run limit s w)) e
+      ∙ ap (λ b. on (finish done (if b then Ok (In n x fs' Want) else Err TooDeep)) (λ s. parser_run limit s w)) (le-leb (need fs') limit h)
 
   -- one step behind which a clock's variable must come
   clocks : (fs : List Frame) (m : Mode) (t : Token) (fs' : List Frame) (w : List Token) → go m fs t ≡ Go fs' WantClock → need fs' ≤ limit → from fs m (t ∷ w) ≡ from fs' WantClock w
   clocks fs m t fs' w e h =
-      ap (λ z. on (finish done (checked limit n x z)) (λ s. run limit s w)) e
-      ∙ ap (λ b. on (finish done (if b then Ok (In n x fs' WantClock) else Err TooDeep)) (λ s. run limit s w)) (le-leb (need fs') limit h)
+      ap (λ z. on (finish done (checked limit n x z)) (λ s. parser_run limit s w)) e
+      ∙ ap (λ b. on (finish done (if b then Ok (In n x fs' WantClock) else Err TooDeep)) (λ s. parser_run limit s w)) (le-leb (need fs') limit h)
 
   -- two states that take the next token alike
   alike : (fs : List Frame) (m : Mode) (t : Token) (fs' : List Frame) (m' : Mode) (w : List Token) → go m fs t ≡ go m' fs' t → from fs m (t ∷ w) ≡ from fs' m' (t ∷ w)
-  alike fs m t fs' m' w e = ap (λ z. on (finish done (checked limit n x z)) (λ s. run limit s w)) e
+  alike fs m t fs' m' w e = ap (λ z. on (finish done (checked limit n x z)) (λ s. parser_run limit s w)) e
 
   -- one step that ends a form
   lands : (fs : List Frame) (m : Mode) (t : Token) (fs' : List Frame) (b : Operand) (w : List Token) → go m fs t ≡ Go fs' (Has b) → from fs m (t ∷ w) ≡ from fs' (Has b) w
-  lands fs m t fs' b w e = ap (λ z. on (finish done (checked limit n x z)) (λ s. run limit s w)) e
+  lands fs m t fs' b w e = ap (λ z. on (finish done (checked limit n x z)) (λ s. parser_run limit s w)) e
 
   -- the next token completes the newest form
   finishes : (f : Frame) (fs : List Frame) (a : Operand) (t : Token) (w : List Token) → stop t ≤ ends f → from (f ∷ fs) (Has a) (t ∷ w) ≡ from fs (Has (complete f a)) (t ∷ w)
-  finishes f fs a t w h = alike (f ∷ fs) (Has a) t fs (Has (complete f a)) w (ended (stop t) f fs a (after t) h)
+  finishes f fs a t w h = alike (f ∷ fs) (Has a) t fs (Has (complete f a)) w (ended (stop t) f fs a (after_operand t) h)
 
   -- the form is read, where a token that ends it follows
   pub record Runs (a : Form) : Type 0 where
     pub by : (l : ℕ) → IsAt l a → (fs : List Frame) (t : Token) (w : List Token) → hole fs ≤ l → stop t ≤ l → stop t ≤ max 11 (hole fs) → need fs ≤ limit → length fs + height a ≤ limit → from fs Want (tokens a (t ∷ w)) ≡ from fs (Has (operand a)) (t ∷ w)
 
   runs_number : (v : ℕ) → Runs (form.number v)
-  runs_number v = record { by = λ l at fs t w hl st sh nd hh. lands fs Want (token.Number v) fs (number_of v) (t ∷ w) refl }
+  runs_number v = record { by = λ l at fs t w hl st sh nd hh. lands fs Want (token.Number v) fs (number_operand v) (t ∷ w) refl }
 
   runs_truth : (b : Bool) → Runs (form.truth b)
-  runs_truth b = record { by = λ l at fs t w hl st sh nd hh. lands fs Want (token.Truth b) fs (truth_of b) (t ∷ w) refl }
+  runs_truth b = record { by = λ l at fs t w hl st sh nd hh. lands fs Want (token.Truth b) fs (truth_operand b) (t ∷ w) refl }
 
   runs_name : (y : List ℕ) → Runs (form.name y)
-  runs_name y = record { by = λ l at fs t w hl st sh nd hh. alike fs (Named y) t fs (Has (name_of y)) w (not_call y fs t sh) }
+  runs_name y = record { by = λ l at fs t w hl st sh nd hh. alike fs (Named y) t fs (Has (name_operand y)) w (not_call y fs t sh) }
 
   runs_paren : (a : Form) → Runs a → Runs (form.paren a)
   runs_paren a ra = record {
@@ -122,7 +122,7 @@ module _ (limit : ℕ) (done : List NodeText) (n : NodeText) (x : List ℕ) wher
   runs_binary : (o : Infix) (a b : Form) → Runs a → Runs b → Runs (form.binary o a b)
   runs_binary o a b ra rb = record {
     by = λ l at fs t w hl st sh nd hh.
-        let k = line o in
+        let k = infix_line o in
         let tt' = table k in
         let f = AfterInfix o (operand a) in
         let pa = height_pos a in
@@ -130,10 +130,10 @@ module _ (limit : ℕ) (done : List NodeText) (n : NodeText) (x : List ℕ) wher
         let h : need (f ∷ fs) ≤ limit = omega arith in
         let hl' : hole fs ≤ level k = omega arith in
         let e : go (Has (operand a)) fs (token.Infix o) ≡ Go (f ∷ fs) Want =
-        kept_infix k fs (operand a) (after (token.Infix o)) hl' ∙ ap (λ b. if b then Go (f ∷ fs) Want else Bad) (le-leb (hole fs) (level k) hl') in
-        ra.by (left k) at.1 fs (token.Infix o) (tokens b (t ∷ w)) (omega (arith, tt'.lefts)) (omega arith) (omega (arith, tt'.left_high)) nd (omega (arith, literal_low o a))
+        kept_infix k fs (operand a) (after_operand (token.Infix o)) hl' ∙ ap (λ b. if b then Go (f ∷ fs) Want else Bad) (le-leb (hole fs) (level k) hl') in
+        ra.by (left_level k) at.1 fs (token.Infix o) (tokens b (t ∷ w)) (omega (arith, tt'.lefts)) (omega arith) (omega (arith, tt'.left_high)) nd (omega (arith, literal_low o a))
         ∙ moves fs (Has (operand a)) (token.Infix o) (f ∷ fs) (tokens b (t ∷ w)) e h
-        ∙ rb.by (right k) at.2 (f ∷ fs) t w (omega arith) (omega (arith, tt'.rights)) (omega (arith, tt'.high)) h (omega arith)
+        ∙ rb.by (right_level k) at.2 (f ∷ fs) t w (omega arith) (omega (arith, tt'.rights)) (omega (arith, tt'.high)) h (omega arith)
         ∙ finishes f fs (operand b) t w (omega arith);
   }
 
@@ -163,7 +163,7 @@ module _ (limit : ℕ) (done : List NodeText) (n : NodeText) (x : List ℕ) wher
         let h : need (f ∷ fs) ≤ limit = omega arith in
         let hl' : hole fs ≤ 9 = omega arith in
         let e : go (Has (operand a)) fs token.When ≡ Go (f ∷ fs) WantClock =
-        kept_when fs (operand a) (after token.When) hl' ∙ ap (λ b. if b then Go (f ∷ fs) WantClock else Bad) (le-leb (hole fs) 9 hl') in
+        kept_when fs (operand a) (after_operand token.When) hl' ∙ ap (λ b. if b then Go (f ∷ fs) WantClock else Bad) (le-leb (hole fs) 9 hl') in
         ra.by 9 at.1 fs token.When (polarity b (token.Ident c ∷ t ∷ w)) (omega arith) (omega arith) (omega arith) nd (omega arith)
         ∙ clocks fs (Has (operand a)) token.When (f ∷ fs) (polarity b (token.Ident c ∷ t ∷ w)) e h
         ∙ elim b as (λ b. from (f ∷ fs) WantClock (polarity b (token.Ident c ∷ t ∷ w)) ≡ from fs (Has (operand (form.sampled a c b))) (t ∷ w)) [
@@ -220,14 +220,14 @@ module _ (limit : ℕ) (done : List NodeText) (n : NodeText) (x : List ℕ) wher
   runs_call f form.nil r = record {
     by = λ l at fs t w hl st sh nd hh.
         let h : need (InCall f [] 0 ∷ fs) ≤ limit = omega arith in
-        let e : go (Named f) fs token.Open ≡ Go (InCall f [] 0 ∷ fs) Want = ap (λ b. if b then Go (InCall f [] 0 ∷ fs) Want else has fs (name_of f) token.Open) (le-leb (hole fs) 11 (omega arith)) in
+        let e : go (Named f) fs token.Open ≡ Go (InCall f [] 0 ∷ fs) Want = ap (λ b. if b then Go (InCall f [] 0 ∷ fs) Want else has_operand fs (name_operand f) token.Open) (le-leb (hole fs) 11 (omega arith)) in
         moves fs (Named f) token.Open (InCall f [] 0 ∷ fs) (token.Close ∷ t ∷ w) e h
         ∙ lands (InCall f [] 0 ∷ fs) Want token.Close fs (operand (form.call f form.nil)) (t ∷ w) refl;
   }
   runs_call f (form.cons a xs) r = record {
     by = λ l at fs t w hl st sh nd hh.
         let h : need (InCall f [] 0 ∷ fs) ≤ limit = omega arith in
-        let e : go (Named f) fs token.Open ≡ Go (InCall f [] 0 ∷ fs) Want = ap (λ b. if b then Go (InCall f [] 0 ∷ fs) Want else has fs (name_of f) token.Open) (le-leb (hole fs) 11 (omega arith)) in
+        let e : go (Named f) fs token.Open ≡ Go (InCall f [] 0 ∷ fs) Want = ap (λ b. if b then Go (InCall f [] 0 ∷ fs) Want else has_operand fs (name_operand f) token.Open) (le-leb (hole fs) 11 (omega arith)) in
         let m : max 0 (heights (form.cons a xs)) ≡ heights (form.cons a xs) = omega arith in
         moves fs (Named f) token.Open (InCall f [] 0 ∷ fs) (arguments (form.cons a xs) (token.Close ∷ t ∷ w)) e h
         ∙ args_run f [] 0 a xs r.0 r.1 at.1.0 at.1.1 fs (t ∷ w) (omega arith)

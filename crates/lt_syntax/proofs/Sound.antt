@@ -4,10 +4,10 @@ use Rattle.lt_base.specs.declared.operators.Bin.TheVariants.{Sub}
 use Rattle.lt_tokens.specs.declared.token.Infix.TheVariants as meet
 use Rattle.lt_tokens.specs.declared.token.Token.{Token}
 use Rattle.lt_tokens.specs.declared.token.Token.TheVariants as token
-use Rattle.lt_syntax.specs.Levels.{line, level}
+use Rattle.lt_syntax.specs.Levels.{infix_line, level}
 use Rattle.lt_syntax.specs.Grammar as form
 use Rattle.lt_syntax.specs.Grammar.{Form, Forms, IsAt, AreExprs, polarity, tokens, arguments, literal, joined, left_height, height, heights, meaning, meanings}
-use Rattle.lt_syntax.specs.Machine.{Operand, Frame, InCall, Mode, Want, Named, Has, WantClock, Next, Bad, Go, Done, name_of, call_of, part, hole, ends, complete, close, stop, want, second, after, has, clock, named, go, need}
+use Rattle.lt_syntax.specs.Machine.{Operand, Frame, InCall, Mode, Want, Named, Has, WantClock, Next, Bad, Go, Done, name_operand, call_of, part_level, hole, ends, complete, close, stop, want, second, after_operand, has_operand, clock, named, go, need}
 use Rattle.lt_syntax.proofs.Complete.{operand, height_pos, left_pos, table, kept_high}
 use Rattle.std.proofs.Common.{leb-true}
 use Rattle.lt_syntax.proofs.Zipper.{Begun, z_minus, z_not, z_paren, z_infix, z_if, z_then, z_else, z_sampling, z_merge, z_first, z_second, z_call, Holding, z_want, z_named, z_has, z_clock, tallest, frame, stack, mode, commas, opened, all_opened, held, IsBegun, Waits, Ready, closing, forms, at_lower, hole_le, meanings_snoc, tallest_snoc, commas_snoc, exprs_snoc, arguments_snoc, forms_exprs, call_more, completes, room_for}
@@ -90,7 +90,7 @@ module _ (limit : ℕ) where
       elim (nat_le l (ends f)) as (λ t. nat_le l (ends f) ≡ t → Closed l (z ∷ zs) b) [
         | true ↦ λ is.
             let le : l ≤ ends f = leb-true l (ends f) is in
-            let c = completes z (hole (stack zs)) b g.1 (at_lower b (part f) m hm at) (omega arith) in
+            let c = completes z (hole (stack zs)) b g.1 (at_lower b (part_level f) m hm at) (omega arith) in
             let d = closed l pos zs (ends f) (closing z b) g.0 g.3 c.at c.below le (room_for limit z (length (stack zs)) b g.2 (omega arith) (omega arith)) in
             record {
               begun = d.begun;
@@ -136,8 +136,8 @@ module _ (limit : ℕ) where
       subst (λ f'. Rest (f' ∷ stack zs) Want text) s
       (begins z zs text g.0 g.3 tt (g.1.0, exprs_snoc xs a g.1.1 at) nd' (λ r. e r ∙ ap (λ z. all_opened zs (token.Ident f ∷ token.Open ∷ z)) (sym (commas_snoc xs a r))))
 
-  after_fine : (t : Token) (zs : List Begun) (b : Form) → AreBegun zs → Ready zs → IsAt (stop t) b → stop t ≤ 9 → length (stack zs) + height b ≤ limit → Fine (after t (stack zs) (operand b)) (λ r. all_opened zs (tokens b (t ∷ r)))
-  after_fine (token.Infix o) zs b g rd at lo rm = tested (hole (stack zs)) (level (line o)) (stack (z_infix o b ∷ zs)) _ (λ le nd. begins (z_infix o b) zs _ g rd tt (le, at) nd (λ r. refl))
+  after_fine : (t : Token) (zs : List Begun) (b : Form) → AreBegun zs → Ready zs → IsAt (stop t) b → stop t ≤ 9 → length (stack zs) + height b ≤ limit → Fine (after_operand t (stack zs) (operand b)) (λ r. all_opened zs (tokens b (t ∷ r)))
+  after_fine (token.Infix o) zs b g rd at lo rm = tested (hole (stack zs)) (level (infix_line o)) (stack (z_infix o b ∷ zs)) _ (λ le nd. begins (z_infix o b) zs _ g rd tt (le, at) nd (λ r. refl))
   after_fine token.When zs b g rd at lo rm = tested_clock (hole (stack zs)) 9 (stack (z_sampling b true ∷ zs)) _ (λ le nd. record { begun = z_sampling b true ∷ zs; holding = z_clock; stacked = refl; held_is = refl; good = (g, (le, at), nd, rd); fit = tt; written = λ r. refl })
   after_fine token.Close (z_paren ∷ zs) b g rd at lo rm = whole zs (form.paren b) 12 _ g.0 g.3 (omega arith) (hole_le (stack zs)) (omega arith, at) (omega arith) (λ r. refl)
   after_fine token.Close (z_call f xs ∷ zs) b g rd at lo rm = call_rest zs f xs b _ g at rm (λ r. refl)
@@ -191,17 +191,17 @@ module _ (limit : ℕ) where
   fine_text (Go fs (Has a)) f g e r = record { begun = r.begun; holding = r.holding; stacked = r.stacked; held_is = r.held_is; good = r.good; fit = r.fit; written = λ z. e z ∙ r.written z }
   fine_text (Done a) f g e d = record { form = d.form; is = d.is; at = d.at; room = d.room; written = λ z. e z ∙ d.written z }
 
-  ended_fine : (t : Token) → 1 ≤ stop t → stop t ≤ 9 → (zs : List Begun) (b : Form) → AreBegun zs → Whole zs b → Fine (has (stack zs) (operand b) t) (λ r. all_opened zs (tokens b (t ∷ r)))
+  ended_fine : (t : Token) → 1 ≤ stop t → stop t ≤ 9 → (zs : List Begun) (b : Form) → AreBegun zs → Whole zs b → Fine (has_operand (stack zs) (operand b) t) (λ r. all_opened zs (tokens b (t ∷ r)))
   ended_fine t lo hi zs b g w =
       let c = closed (stop t) lo zs w.level b g w.ready w.at w.stands (omega (arith, w.nine)) w.room in
-      fine_is (after t (stack c.begun) (operand c.form)) (has (stack zs) (operand b) t) _ (c.is (after t))
-      (fine_text (after t (stack c.begun) (operand c.form)) (λ r. all_opened zs (tokens b (t ∷ r))) (λ r. all_opened c.begun (tokens c.form (t ∷ r))) (λ r. c.text (t ∷ r)) (after_fine t c.begun c.form c.good c.ready c.at hi c.room))
+      fine_is (after_operand t (stack c.begun) (operand c.form)) (has_operand (stack zs) (operand b) t) _ (c.is (after_operand t))
+      (fine_text (after_operand t (stack c.begun) (operand c.form)) (λ r. all_opened zs (tokens b (t ∷ r))) (λ r. all_opened c.begun (tokens c.form (t ∷ r))) (λ r. c.text (t ∷ r)) (after_fine t c.begun c.form c.good c.ready c.at hi c.room))
 
-  high_fine : (t : Token) → stop t ≡ 12 → (zs : List Begun) (b : Form) (text : List Token → List Token) → Fine (after t (stack zs) (operand b)) text → Fine (has (stack zs) (operand b) t) text
-  high_fine t e zs b text f = fine_is (after t (stack zs) (operand b)) (has (stack zs) (operand b) t) text (ap (λ l. close l (stack zs) (operand b) (after t)) e ∙ kept_high (stack zs) (operand b) (after t)) f
+  high_fine : (t : Token) → stop t ≡ 12 → (zs : List Begun) (b : Form) (text : List Token → List Token) → Fine (after_operand t (stack zs) (operand b)) text → Fine (has_operand (stack zs) (operand b) t) text
+  high_fine t e zs b text f = fine_is (after_operand t (stack zs) (operand b)) (has_operand (stack zs) (operand b) t) text (ap (λ l. close l (stack zs) (operand b) (after_operand t)) e ∙ kept_high (stack zs) (operand b) (after_operand t)) f
 
-  has_fine : (t : Token) (zs : List Begun) (b : Form) → AreBegun zs → Whole zs b → Fine (has (stack zs) (operand b) t) (λ r. all_opened zs (tokens b (t ∷ r)))
-  has_fine (token.Infix o) zs b g w = let k = table (line o) in ended_fine (token.Infix o) (omega (arith, k.low, k.lefts)) (omega (arith, k.left_high)) zs b g w
+  has_fine : (t : Token) (zs : List Begun) (b : Form) → AreBegun zs → Whole zs b → Fine (has_operand (stack zs) (operand b) t) (λ r. all_opened zs (tokens b (t ∷ r)))
+  has_fine (token.Infix o) zs b g w = let k = table (infix_line o) in ended_fine (token.Infix o) (omega (arith, k.low, k.lefts)) (omega (arith, k.left_high)) zs b g w
   has_fine token.When zs b g w = ended_fine token.When (omega arith) (omega arith) zs b g w
   has_fine token.Close zs b g w = ended_fine token.Close (omega arith) (omega arith) zs b g w
   has_fine token.Comma zs b g w = ended_fine token.Comma (omega arith) (omega arith) zs b g w
@@ -230,7 +230,7 @@ module _ (limit : ℕ) where
   named_fine x token.Open zs g rm =
       let text : List Token → List Token = λ r. all_opened zs (token.Ident x ∷ token.Open ∷ r) in
       let h = hole (stack zs) in
-      elim (nat_le h 11) as (λ b. nat_le h 11 ≡ b → Fine (if b then Go (InCall x [] 0 ∷ stack zs) Want else has (stack zs) (name_of x) token.Open) text) [
+      elim (nat_le h 11) as (λ b. nat_le h 11 ≡ b → Fine (if b then Go (InCall x [] 0 ∷ stack zs) Want else has_operand (stack zs) (name_operand x) token.Open) text) [
         | true ↦ λ is. λ nd. begins (z_call x []) zs text g rm.1 tt (leb-true h 11 is, tt) nd (λ r. refl)
         | false ↦ λ is. has_fine token.Open zs (form.name x) g (name_whole x zs rm)
       ] refl

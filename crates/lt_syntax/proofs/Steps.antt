@@ -7,15 +7,15 @@ use Rattle.lt_tokens.specs.declared.token.Token.{Token}
 use Rattle.lt_tokens.specs.declared.token.Token.TheVariants as token
 use Rattle.lt_syntax.specs.declared.section.Section.TheVariants.{Ins, Outs}
 use Rattle.lt_syntax.specs.Grammar.{Form, meaning}
-use Rattle.lt_syntax.specs.Program.{Group, Node, each, between, optional, ident, clause, group, local, equation, node, NotEmpty, Each, IsGroup, IsPlain, IsEquation, IsNode, decls, node_tree}
+use Rattle.lt_syntax.specs.Program.{Group, Node, each, separated_by, optional, ident, clause, group, local, equation, node, NotEmpty, Each, IsGroup, IsPlain, IsEquation, IsNode, decls, node_tree}
 use Rattle.lt_syntax.specs.Machine.{Frame, Mode, Want, Named, Has, WantClock, Next, Bad, Go, Done, need, go}
-use Rattle.lt_syntax.specs.Parser.{WantName, HasGroup, HasIns, HasOuts, HasLocals, Body, In, State, Kind, Unexpected, TooDeep, end_group, checked, finish, step_on}
+use Rattle.lt_syntax.specs.Parser.{WantName, HasGroup, HasIns, HasOuts, HasLocals, Body, In, ParserState, Kind, Unexpected, TooDeep, end_group, checked, finish, step_on}
 use Rattle.lt_syntax.proofs.Zipper.{Begun, Holding, z_want, z_named, z_has, z_clock, stack, mode, all_opened, held}
 use Rattle.lt_syntax.proofs.Sound.{AreBegun, Fit, Rest, Fine, go_fine}
 use Rattle.lt_syntax.proofs.Drafts.{Draft, d_ins, d_outs, d_locals, section, draft_tree, head, with_ins, with_outs, lead, with_locals, GoodDraft, MayClock, ClockFits, group_of, Eqs, Spot, s_idle, s_told, s_node, s_name, s_opened, s_want, s_has, s_type, s_group, s_polarity, s_variable, s_ins, s_returning, s_outs, s_head, s_locals, s_body, s_left, s_in, whole_node, body_tree, phase, spot_text, all_done, GoodHead, GoodSpot, each_snoc, between_snoc, each_between, between_comma, not_empty_snoc, each_all_snoc, decls_snoc, map_snoc, locals_some}
 
 -- the tokens of the text so far, and then any tokens, are written by whole nodes and a spot
-pub record Good (limit : ℕ) (s : State) (text : List Token → List Token) : Type 0 where
+pub record Good (limit : ℕ) (s : ParserState) (text : List Token → List Token) : Type 0 where
   pub nodes : List Node
   pub spot : Spot
   pub done_is : all_done nodes spot ≡ s.done
@@ -25,10 +25,10 @@ pub record Good (limit : ℕ) (s : State) (text : List Token → List Token) : T
   pub written : (r : List Token) → text r ≡ each node nodes (spot_text spot r)
 
 -- what a step answers
-abbrev pub StepIs : ℕ → Result State Kind → (List Token → List Token) → Type 0
+abbrev pub StepIs : ℕ → Result ParserState Kind → (List Token → List Token) → Type 0
 StepIs limit (Ok s) text = Good limit s text
 StepIs limit (Err Unexpected) text = Unit {0}
-StepIs limit (Err TooDeep) text = (more : ℕ) × (limit ≤ more) × (s : State) × Good more s text
+StepIs limit (Err TooDeep) text = (more : ℕ) × (limit ≤ more) × (s : ParserState) × Good more s text
 
 -- a higher limit
 equations_more : (l m : ℕ) → l ≤ m → (es : Eqs) → Each (IsEquation l) es → Each (IsEquation m) es
@@ -182,7 +182,7 @@ module _ (limit : ℕ) (one : 1 ≤ limit) where
         phase_is = refl;
         whole = w;
         good = (g.0, g.1, fits d g.2);
-        written = λ r. ap (λ z. each node ds (lead d (between token.Comma ident xs (token.Colon ∷ token.Type ty ∷ z)))) (sym (each_snoc clause c (v, b) r));
+        written = λ r. ap (λ z. each node ds (lead d (separated_by token.Comma ident xs (token.Colon ∷ token.Type ty ∷ z)))) (sym (each_snoc clause c (v, b) r));
       }
     where
       fits : (d : Draft) → MayClock d → ClockFits d (c ++ (v, b) ∷ [])

@@ -5,9 +5,9 @@ use Rattle.lt_tokens.specs.declared.token.Infix.TheVariants as meet
 use Rattle.lt_tokens.specs.declared.token.Token.{Token}
 use Rattle.lt_tokens.specs.declared.token.Token.TheVariants as token
 use Rattle.lt_syntax.specs.Grammar.{Form, IsAt, polarity, tokens, height, meaning}
-use Rattle.lt_syntax.specs.Program.{Group, Node, each, between, optional, ident, clause, group, local, equation, node, Each, IsGroup, IsPlain, IsEquation, IsNode, node_tree}
+use Rattle.lt_syntax.specs.Program.{Group, Node, each, separated_by, optional, ident, clause, group, local, equation, node, Each, IsGroup, IsPlain, IsEquation, IsNode, node_tree}
 use Rattle.lt_syntax.specs.Machine.{hole}
-use Rattle.lt_syntax.specs.Parser.{State}
+use Rattle.lt_syntax.specs.Parser.{ParserState}
 use Rattle.lt_syntax.proofs.Complete.{height_pos}
 use Rattle.lt_syntax.proofs.Zipper.{Begun, Holding, z_want, stack, all_opened, held}
 use Rattle.lt_syntax.proofs.Sound.{AreBegun, Fit}
@@ -15,8 +15,8 @@ use Rattle.std.specs.Prelude.{codes}
 use Rattle.lt_base.specs.declared.value.Ty.TheVariants as ty
 use Rattle.lt_syntax.specs.Grammar as form
 use Rattle.lt_syntax.specs.Grammar.{literal, left_height}
-use Rattle.lt_syntax.specs.Faults.{Begins}
-use Rattle.lt_syntax.specs.Levels.{line, level, right}
+use Rattle.lt_syntax.specs.Faults.{ProgramBegins}
+use Rattle.lt_syntax.specs.Levels.{infix_line, level, right_level}
 use Rattle.lt_syntax.proofs.Complete.{table}
 use Rattle.lt_syntax.proofs.Zipper.{z_minus, z_not, z_paren, z_infix, z_if, z_then, z_else, z_sampling, z_merge, z_first, z_second, z_call, z_named, z_has, z_clock, tallest, Ready, closing, forms, at_lower, hole_le, tallest_snoc, forms_tall, exprs_snoc, arguments_snoc, forms_exprs, completes, room_for}
 use Rattle.lt_syntax.proofs.Sound.{top_room}
@@ -78,11 +78,11 @@ module _ (limit : ℕ) where
       behind (z_not ∷ zs) zs b (closing z_not b) (λ r. r) (λ r. ap (all_opened zs) (c.text r))
       (finishes zs 5 (closing z_not b) g.0 g.3 c.at c.below (room_for limit z_not (length (stack zs)) b g.2 (omega arith) (omega arith)))
   finishes (z_infix o a ∷ zs) m b g rd at hm rm =
-      let k = table (line o) in
+      let k = table (infix_line o) in
       let z = z_infix o a in
-      let c = completes z (hole (stack zs)) b g.1 (at_lower b (right (line o)) m hm at) k.low in
+      let c = completes z (hole (stack zs)) b g.1 (at_lower b (right_level (infix_line o)) m hm at) k.low in
       behind (z ∷ zs) zs b (closing z b) (λ r. r) (λ r. ap (all_opened zs) (c.text r))
-      (finishes zs (level (line o)) (closing z b) g.0 g.3 c.at c.below (room_for limit z (length (stack zs)) b g.2 (omega arith) k.low))
+      (finishes zs (level (infix_line o)) (closing z b) g.0 g.3 c.at c.below (room_for limit z (length (stack zs)) b g.2 (omega arith) k.low))
   finishes (z_else d a ∷ zs) m b g rd at hm rm =
       let z = z_else d a in
       let c = completes z (hole (stack zs)) b g.1 (at_lower b 1 m hm at) (omega arith) in
@@ -193,7 +193,7 @@ module _ (limit : ℕ) where
         more = token.Ident some_name ∷ rest_of d;
         whole = q.whole;
         good = q.good;
-        text = ap (λ z. lead d (between token.Comma ident xs (token.Colon ∷ token.Type t ∷ z))) (sym (each_snoc clause c (some_name, true) (rest_of d))) ∙ q.text;
+        text = ap (λ z. lead d (separated_by token.Comma ident xs (token.Colon ∷ token.Type t ∷ z))) (sym (each_snoc clause c (some_name, true) (rest_of d))) ∙ q.text;
       }
   spot_ends (s_variable d xs t c) one g =
       let q = grown d (group_of xs t (c ++ (some_name, false) ∷ [])) g.0 g.1 (may d _ g.2) in
@@ -201,7 +201,7 @@ module _ (limit : ℕ) where
         more = token.Ident some_name ∷ rest_of d;
         whole = q.whole;
         good = q.good;
-        text = ap (λ z. lead d (between token.Comma ident xs (token.Colon ∷ token.Type t ∷ z))) (sym (each_snoc clause c (some_name, false) (rest_of d))) ∙ q.text;
+        text = ap (λ z. lead d (separated_by token.Comma ident xs (token.Colon ∷ token.Type t ∷ z))) (sym (each_snoc clause c (some_name, false) (rest_of d))) ∙ q.text;
       }
   spot_ends (s_ins x ins) one g = record { more = token.Returns ∷ token.Open ∷ token.Ident some_name ∷ token.Colon ∷ token.Type ty.Int ∷ token.Close ∷ token.Let ∷ token.Tel ∷ []; whole = whole_node x ins (some_group ∷ []) false [] [] false; good = (g, tt, (tt, tt), tt, tt); text = refl }
   spot_ends (s_returning x ins) one g = record { more = token.Open ∷ token.Ident some_name ∷ token.Colon ∷ token.Type ty.Int ∷ token.Close ∷ token.Let ∷ token.Tel ∷ []; whole = whole_node x ins (some_group ∷ []) false [] [] false; good = (g, tt, (tt, tt), tt, tt); text = refl }
@@ -234,7 +234,7 @@ module _ (limit : ℕ) where
       }
 
   -- what is taken begins a program
-  pub good_begins : (s : State) (ts : List Token) → 1 ≤ limit → Good limit s (λ r. ts ++ r) → Begins limit ts
+  pub good_begins : (s : ParserState) (ts : List Token) → 1 ≤ limit → Good limit s (λ r. ts ++ r) → ProgramBegins limit ts
   good_begins s ts one g =
       let d = spot_ends g.spot one g.good in (
         d.more,

@@ -6,19 +6,19 @@ use Rattle.lt_tokens.specs.Text as text
 use Rattle.lt_tokens.specs.Text.{Front, Cuts, front, skip}
 use Rattle.lt_syntax.specs.declared.tree.NodeText.{NodeText}
 use Rattle.lt_syntax.specs.Program.{Node, each, node, NotEmpty, Each, IsNode, node_tree, Program, Spells}
-use Rattle.lt_syntax.specs.Faults.{Begins, Breaks, Exceeds}
+use Rattle.lt_syntax.specs.Faults.{ProgramBegins, ProgramBreaks, ProgramExceeds}
 use Rattle.lt_syntax.specs.Machine.{Want, Named, Has, WantClock, Next, Bad, Go, Done, need, go}
-use Rattle.lt_syntax.specs.Parser.{Phase, Idle, Told, WantNode, HasNode, Opened, WantName, HasName, WantType, HasGroup, WantPolarity, WantVariable, HasIns, Returning, HasOuts, HasHead, HasLocals, Body, HasLeft, In, State, Kind, Unexpected, TooDeep, checked, move, finish, step_on, step, on, run, start, Ends}
+use Rattle.lt_syntax.specs.Parser.{ParserPhase, Idle, Told, WantNode, HasNode, Opened, WantName, HasName, WantType, HasGroup, WantPolarity, WantVariable, HasIns, Returning, HasOuts, HasHead, HasLocals, Body, HasLeft, In, ParserState, Kind, Unexpected, TooDeep, checked, move, finish, step_on, parser_step, on, parser_run, parser_start, PhaseEnds}
 use Rattle.lt_syntax.proofs.Nodes.{behind, ends_behind, program_runs}
 use Rattle.lt_syntax.proofs.Drafts.{Spot, s_idle, s_told, whole_node, phase, spot_text, all_done, GoodSpot, each_snoc, not_empty_snoc, each_all_snoc, map_snoc}
 use Rattle.lt_syntax.proofs.Steps.{Good, StepIs, nodes_more, step_good}
 use Rattle.lt_syntax.proofs.Viable.{good_begins}
 
 -- a run over a front, and then the rest
-pub run_on : (limit : ℕ) (p ts : List Token) (s0 s : State) → run limit s0 p ≡ Ok s → run limit s0 (p ++ ts) ≡ run limit s ts
-run_on limit [] ts s0 s h = let e : s0 ≡ s = cc in ap (λ z. run limit z ts) e
+pub run_on : (limit : ℕ) (p ts : List Token) (s0 s : ParserState) → parser_run limit s0 p ≡ Ok s → parser_run limit s0 (p ++ ts) ≡ parser_run limit s ts
+run_on limit [] ts s0 s h = let e : s0 ≡ s = cc in ap (λ z. parser_run limit z ts) e
 run_on limit (t ∷ p) ts s0 s h =
-    elim (step limit s0 t) as (λ a. on a (λ s'. run limit s' p) ≡ Ok s → on a (λ s'. run limit s' (p ++ ts)) ≡ run limit s ts) [
+    elim (parser_step limit s0 t) as (λ a. on a (λ s'. parser_run limit s' p) ≡ Ok s → on a (λ s'. parser_run limit s' (p ++ ts)) ≡ parser_run limit s ts) [
       | Ok s' ↦ λ e. run_on limit p ts s' s e
       | Err k ↦ λ e. cc
     ] h
@@ -45,17 +45,17 @@ checked_grows l m h n x (Go fs (Named y)) = refl
 checked_grows l m h n x (Go fs (Has a)) = refl
 checked_grows l m h n x (Done a) = refl
 
-finish_grows : (done : List NodeText) (a b : Result Phase Kind) → Grows a b → Grows (finish done a) (finish done b)
+finish_grows : (done : List NodeText) (a b : Result ParserPhase Kind) → Grows a b → Grows (finish done a) (finish done b)
 finish_grows done (Ok p) b g = ap (finish done) g
 finish_grows done (Err Unexpected) b g = ap (finish done) g
 finish_grows done (Err TooDeep) b g = tt
 
-same : (r : Result Phase Kind) → Grows r r
+same : (r : Result ParserPhase Kind) → Grows r r
 same (Ok p) = refl
 same (Err Unexpected) = refl
 same (Err TooDeep) = tt
 
-move_grows : (l m : ℕ) → l ≤ m → (p : Phase) (t : Token) → Grows (move l p t) (move m p t)
+move_grows : (l m : ℕ) → l ≤ m → (p : ParserPhase) (t : Token) → Grows (move l p t) (move m p t)
 move_grows l m h (In n x fs k) t = checked_grows l m h n x (go k fs t)
 move_grows l m h Idle t = same (move l Idle t)
 move_grows l m h Told t = same (move l Told t)
@@ -76,41 +76,41 @@ move_grows l m h (HasLocals n) t = same (move l (HasLocals n) t)
 move_grows l m h (Body n) t = same (move l (Body n) t)
 move_grows l m h (HasLeft n x) t = same (move l (HasLeft n x) t)
 
-step_grows : (l m : ℕ) → l ≤ m → (s : State) (t : Token) → Grows (step l s t) (step m s t)
+step_grows : (l m : ℕ) → l ≤ m → (s : ParserState) (t : Token) → Grows (parser_step l s t) (parser_step m s t)
 step_grows l m h s t = step_on_grows s.done s.phase t
   where
-    step_on_grows : (done : List NodeText) (p : Phase) (t : Token) → Grows (step_on l done p t) (step_on m done p t)
+    step_on_grows : (done : List NodeText) (p : ParserPhase) (t : Token) → Grows (step_on l done p t) (step_on m done p t)
     step_on_grows done (Body n) token.Tel = refl
     step_on_grows done p t = finish_grows done (move l p t) (move m p t) (move_grows l m h p t)
 
-run_grows : (l m : ℕ) → l ≤ m → (p : List Token) (s0 s : State) → run l s0 p ≡ Ok s → run m s0 p ≡ Ok s
+run_grows : (l m : ℕ) → l ≤ m → (p : List Token) (s0 s : ParserState) → parser_run l s0 p ≡ Ok s → parser_run m s0 p ≡ Ok s
 run_grows l m h [] s0 s e = e
 run_grows l m h (t ∷ p) s0 s e =
-    elim (step l s0 t) as (λ a. Grows a (step m s0 t) → on a (λ s'. run l s' p) ≡ Ok s → on (step m s0 t) (λ s'. run m s' p) ≡ Ok s) [
-      | Ok s' ↦ λ g e. ap (λ z. on z (λ s'. run m s' p)) g ∙ run_grows l m h p s' s e
+    elim (parser_step l s0 t) as (λ a. Grows a (parser_step m s0 t) → on a (λ s'. parser_run l s' p) ≡ Ok s → on (parser_step m s0 t) (λ s'. parser_run m s' p) ≡ Ok s) [
+      | Ok s' ↦ λ g e. ap (λ z. on z (λ s'. parser_run m s' p)) g ∙ run_grows l m h p s' s e
       | Err k ↦ λ g e. cc
     ] (step_grows l m h s0 t) e
 
 -- a program is not stopped at one of its tokens
-not_stopped : (limit : ℕ) (p : List Token) (t : Token) (s : State) (k : Kind) → run limit start p ≡ Ok s → step limit s t ≡ Err k → Begins limit (p ++ t ∷ []) → ⊥
+not_stopped : (limit : ℕ) (p : List Token) (t : Token) (s : ParserState) (k : Kind) → parser_run limit parser_start p ≡ Ok s → parser_step limit s t ≡ Err k → ProgramBegins limit (p ++ t ∷ []) → ⊥
 not_stopped limit p t s k rp st b =
     let c = (program_runs limit ((p ++ t ∷ []) ++ b.0) b.1 b.2).1 in
-    let d = run_on limit p (t ∷ b.0) start s rp in
-    let f = ap (λ r. on r (λ s'. run limit s' b.0)) st in
-    let g = ap (run limit start) (append_assoc p (t ∷ []) b.0) in
+    let d = run_on limit p (t ∷ b.0) parser_start s rp in
+    let f = ap (λ r. on r (λ s'. parser_run limit s' b.0)) st in
+    let g = ap (parser_run limit parser_start) (append_assoc p (t ∷ []) b.0) in
     cc
 
 program_more : (l m : ℕ) → l ≤ m → (ts : List Token) (t : List NodeText) → Program l ts t → Program m ts t
 program_more l m h ts t p = record { nodes = p.nodes; some = p.some; good = nodes_more l m h p.nodes p.good; spelled = p.spelled; meant = p.meant }
 
-begins_more : (l m : ℕ) → l ≤ m → (ts : List Token) → Begins l ts → Begins m ts
+begins_more : (l m : ℕ) → l ≤ m → (ts : List Token) → ProgramBegins l ts → ProgramBegins m ts
 begins_more l m h ts b = (b.0, b.1, program_more l m h (ts ++ b.0) b.1 b.2)
 
-retext : (limit : ℕ) (s : State) (f g : List Token → List Token) → ((r : List Token) → f r ≡ g r) → Good limit s g → Good limit s f
+retext : (limit : ℕ) (s : ParserState) (f g : List Token → List Token) → ((r : List Token) → f r ≡ g r) → Good limit s g → Good limit s f
 retext limit s f g e d = record { nodes = d.nodes; spot = d.spot; done_is = d.done_is; phase_is = d.phase_is; whole = d.whole; good = d.good; written = λ r. e r ∙ d.written r }
 
 -- the text ends behind whole nodes
-ended : (limit : ℕ) (p : List Token) (spot : Spot) (nodes : List Node) (done : List NodeText) (ph : Phase) → all_done nodes spot ≡ done → phase spot ≡ ph → Ends ph → NotEmpty done → Each (IsNode limit) nodes → GoodSpot limit spot → ((r : List Token) → p ++ r ≡ each node nodes (spot_text spot r)) → Program limit p done
+ended : (limit : ℕ) (p : List Token) (spot : Spot) (nodes : List Node) (done : List NodeText) (ph : ParserPhase) → all_done nodes spot ≡ done → phase spot ≡ ph → PhaseEnds ph → NotEmpty done → Each (IsNode limit) nodes → GoodSpot limit spot → ((r : List Token) → p ++ r ≡ each node nodes (spot_text spot r)) → Program limit p done
 ended limit p s_idle nodes done ph d q e n w g t = record { nodes = nodes; some = some_nodes nodes (subst NotEmpty (sym d) n); good = w; spelled = sym (append-nil p) ∙ t []; meant = d }
   where
     some_nodes : (nodes : List Node) → NotEmpty (map node_tree nodes) → NotEmpty nodes
@@ -125,9 +125,9 @@ ended limit p (s_told x ins outs b ls es) nodes done ph d q e n w g t =
       spelled = sym (append-nil p) ∙ t [] ∙ sym (each_snoc node nodes k []);
       meant = sym (map_snoc node_tree nodes k) ∙ d;
     }
-ended limit p spot nodes done ph d q e n w g t = let f = subst Ends (sym q) e in absurd f
+ended limit p spot nodes done ph d q e n w g t = let f = subst PhaseEnds (sym q) e in absurd f
 
-abbrev done_of : Result State Kind → List NodeText
+abbrev done_of : Result ParserState Kind → List NodeText
 done_of (Ok s) = s.done
 done_of (Err k) = []
 
@@ -139,22 +139,22 @@ some_trees limit ts t p = subst NotEmpty p.meant (by p.nodes p.some)
     by (x ∷ xs) h = tt
 
 module _ (limit : ℕ) (one : 1 ≤ limit) where
-  step_text : (z : Result State Kind) (f g : List Token → List Token) → ((r : List Token) → f r ≡ g r) → StepIs limit z g → StepIs limit z f
+  step_text : (z : Result ParserState Kind) (f g : List Token → List Token) → ((r : List Token) → f r ≡ g r) → StepIs limit z g → StepIs limit z f
   step_text (Ok s) f g e d = retext limit s f g e d
   step_text (Err Unexpected) f g e d = tt
   step_text (Err TooDeep) f g e d = (d.0, d.1, d.2, retext d.0 d.2 f g e d.3)
 
-  state_good : (s : State) (t : Token) (text : List Token → List Token) → Good limit s text → StepIs limit (step limit s t) (λ r. text (t ∷ r))
+  state_good : (s : ParserState) (t : Token) (text : List Token → List Token) → Good limit s text → StepIs limit (parser_step limit s t) (λ r. text (t ∷ r))
   state_good s t text g =
       let goal : List Token → List Token = λ r. each node g.nodes (spot_text g.spot (t ∷ r)) in
-      step_text (step limit s t) (λ r. text (t ∷ r)) goal (λ r. g.written (t ∷ r))
+      step_text (parser_step limit s t) (λ r. text (t ∷ r)) goal (λ r. g.written (t ∷ r))
       (subst (λ z. StepIs limit z goal) (ap₂ (λ a b. step_on limit a b t) g.done_is g.phase_is) (step_good limit one g.nodes g.spot t g.whole g.good))
 
   -- what is reached is good
-  reached_on : (ts p : List Token) (s s' : State) → Good limit s (λ r. p ++ r) → run limit s ts ≡ Ok s' → Good limit s' (λ r. (p ++ ts) ++ r)
+  reached_on : (ts p : List Token) (s s' : ParserState) → Good limit s (λ r. p ++ r) → parser_run limit s ts ≡ Ok s' → Good limit s' (λ r. (p ++ ts) ++ r)
   reached_on [] p s s' g r = let e : s ≡ s' = cc in subst (λ z. Good limit z (λ r. (p ++ []) ++ r)) e (retext limit s (λ r. (p ++ []) ++ r) (λ r. p ++ r) (λ r. ap (λ z. z ++ r) (append-nil p)) g)
   reached_on (t ∷ ts) p s s' g r =
-      elim (step limit s t) as (λ a. step limit s t ≡ a → on a (λ z. run limit z ts) ≡ Ok s' → Good limit s' (λ r. (p ++ t ∷ ts) ++ r)) [
+      elim (parser_step limit s t) as (λ a. parser_step limit s t ≡ a → on a (λ z. parser_run limit z ts) ≡ Ok s' → Good limit s' (λ r. (p ++ t ∷ ts) ++ r)) [
         | Ok z ↦ λ e r.
             let d : Good limit z (λ r. p ++ t ∷ r) = subst (λ a. StepIs limit a (λ r. p ++ t ∷ r)) e (state_good s t (λ r. p ++ r) g) in
             let d' = retext limit z (λ r. (p ++ t ∷ []) ++ r) (λ r. p ++ t ∷ r) (λ r. append_assoc p (t ∷ []) r) d in
@@ -162,34 +162,34 @@ module _ (limit : ℕ) (one : 1 ≤ limit) where
         | Err k ↦ λ e r. cc
       ] refl r
 
-  pub reached : (p : List Token) (s : State) → run limit start p ≡ Ok s → Good limit s (λ r. p ++ r)
-  reached p s r = reached_on p [] start s (record { nodes = []; spot = s_idle; done_is = refl; phase_is = refl; whole = tt; good = tt; written = λ r. refl }) r
+  pub reached : (p : List Token) (s : ParserState) → parser_run limit parser_start p ≡ Ok s → Good limit s (λ r. p ++ r)
+  reached p s r = reached_on p [] parser_start s (record { nodes = []; spot = s_idle; done_is = refl; phase_is = refl; whole = tt; good = tt; written = λ r. refl }) r
 
-  pub begins_at : (p : List Token) (s : State) → run limit start p ≡ Ok s → Begins limit p
+  pub begins_at : (p : List Token) (s : ParserState) → parser_run limit parser_start p ≡ Ok s → ProgramBegins limit p
   begins_at p s r = good_begins limit s p one (reached p s r)
 
-  pub breaks_at : (p : List Token) (s : State) (t : Token) → run limit start p ≡ Ok s → step limit s t ≡ Err Unexpected → Breaks (p ++ t ∷ [])
+  pub breaks_at : (p : List Token) (s : ParserState) (t : Token) → parser_run limit parser_start p ≡ Ok s → parser_step limit s t ≡ Err Unexpected → ProgramBreaks (p ++ t ∷ [])
   breaks_at p s t r e more b =
       let m = max limit more in
       let g : limit ≤ m = omega arith in
-      let e' : step m s t ≡ Err Unexpected = subst (λ z. Grows z (step m s t)) e (step_grows limit m g s t) in
-      not_stopped m p t s Unexpected (run_grows limit m g p start s r) e' (begins_more more m (omega arith) (p ++ t ∷ []) b)
+      let e' : parser_step m s t ≡ Err Unexpected = subst (λ z. Grows z (parser_step m s t)) e (step_grows limit m g s t) in
+      not_stopped m p t s Unexpected (run_grows limit m g p parser_start s r) e' (begins_more more m (omega arith) (p ++ t ∷ []) b)
 
-  pub exceeds_at : (p : List Token) (s : State) (t : Token) → run limit start p ≡ Ok s → step limit s t ≡ Err TooDeep → Exceeds limit (p ++ t ∷ [])
+  pub exceeds_at : (p : List Token) (s : ParserState) (t : Token) → parser_run limit parser_start p ≡ Ok s → parser_step limit s t ≡ Err TooDeep → ProgramExceeds limit (p ++ t ∷ [])
   exceeds_at p s t r e =
       let d = subst (λ z. StepIs limit z (λ r. p ++ t ∷ r)) e (state_good s t (λ r. p ++ r) (reached p s r)) in
       let g : Good d.0 d.2 (λ r. (p ++ t ∷ []) ++ r) = retext d.0 d.2 (λ r. (p ++ t ∷ []) ++ r) (λ r. p ++ t ∷ r) (λ r. append_assoc p (t ∷ []) r) d.3 in
       (not_stopped limit p t s TooDeep r e, (d.0, good_begins d.0 d.2 (p ++ t ∷ []) (omega (arith, d.1)) g))
 
-  pub program_at : (p : List Token) (s : State) → run limit start p ≡ Ok s → Ends s.phase → NotEmpty s.done → Program limit p s.done
+  pub program_at : (p : List Token) (s : ParserState) → parser_run limit parser_start p ≡ Ok s → PhaseEnds s.phase → NotEmpty s.done → Program limit p s.done
   program_at p s r e n = let g = reached p s r in ended limit p g.spot g.nodes s.done s.phase g.done_is g.phase_is e n g.whole g.good g.written
 
-  pub none_at : (p : List Token) (s : State) → run limit start p ≡ Ok s → (Ends s.phase → NotEmpty s.done → ⊥) → (t : List NodeText) → Program limit p t → ⊥
+  pub none_at : (p : List Token) (s : ParserState) → parser_run limit parser_start p ≡ Ok s → (PhaseEnds s.phase → NotEmpty s.done → ⊥) → (t : List NodeText) → Program limit p t → ⊥
   none_at p s r h t q =
       let c = program_runs limit p t q in
-      let k : State = record { done = t; phase = behind c.0 } in
+      let k : ParserState = record { done = t; phase = behind c.0 } in
       let e : k ≡ s = cc in
-      h (subst (λ z. Ends z.phase) e (ends_behind c.0)) (subst (λ z. NotEmpty z.done) e (some_trees limit p t q))
+      h (subst (λ z. PhaseEnds z.phase) e (ends_behind c.0)) (subst (λ z. NotEmpty z.done) e (some_trees limit p t q))
 
   pub one_program : (ts : List Token) (t u : List NodeText) → Program limit ts t → Program limit ts u → t ≡ u
   one_program ts t u p q =

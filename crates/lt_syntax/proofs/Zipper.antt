@@ -7,10 +7,10 @@ use Rattle.lt_tokens.specs.declared.token.Token.{Token}
 use Rattle.lt_tokens.specs.declared.token.Token.TheVariants as token
 use Rattle.lt_syntax.specs.Tree as tree
 use Rattle.lt_syntax.specs.Tree.{Tm, tms}
-use Rattle.lt_syntax.specs.Levels.{line, level, left}
+use Rattle.lt_syntax.specs.Levels.{infix_line, level, left_level}
 use Rattle.lt_syntax.specs.Grammar as form
 use Rattle.lt_syntax.specs.Grammar.{Form, Forms, IsAt, AreExprs, polarity, tokens, arguments, literal, joined, left_height, height, heights, meaning, meanings}
-use Rattle.lt_syntax.specs.Machine.{Frame, AfterMinus, AfterNot, InParen, AfterInfix, AfterIf, AfterThen, AfterElse, Sampling, AfterMerge, FirstPart, SecondPart, InCall, Mode, Want, Named, Has, WantClock, call_of, part, hole, ends, complete, least}
+use Rattle.lt_syntax.specs.Machine.{Frame, AfterMinus, AfterNot, InParen, AfterInfix, AfterIf, AfterThen, AfterElse, Sampling, AfterMerge, FirstPart, SecondPart, InCall, Mode, Want, Named, Has, WantClock, call_of, part_level, hole, ends, complete, least_height}
 use Rattle.lt_syntax.proofs.Complete.{operand, table, negative_of}
 
 -- a form that is begun, with its parts as they are written
@@ -100,7 +100,7 @@ abbrev pub IsBegun : ℕ → Begun → Type 0
 IsBegun l z_minus = l ≤ 10
 IsBegun l z_not = l ≤ 5
 IsBegun l z_paren = l ≤ 12
-IsBegun l (z_infix o a) = (l ≤ level (line o)) × IsAt (left (line o)) a
+IsBegun l (z_infix o a) = (l ≤ level (infix_line o)) × IsAt (left_level (infix_line o)) a
 IsBegun l z_if = l ≤ 1
 IsBegun l (z_then c) = (l ≤ 1) × IsAt 1 c
 IsBegun l (z_else c a) = (l ≤ 1) × IsAt 1 c × IsAt 1 a
@@ -147,10 +147,10 @@ at_lower (form.sampled a c b) l m h at = (omega arith, at.1)
 at_lower (form.merged c a b) l m h at = (omega arith, at.1, at.2)
 at_lower (form.call f xs) l m h at = (omega arith, at.1)
 
-part_le : (f : Frame) → part f ≤ 12
+part_le : (f : Frame) → part_level f ≤ 12
 part_le AfterMinus = omega arith
 part_le AfterNot = omega arith
-part_le (AfterInfix o a) = omega (arith, (table (line o)).right_high)
+part_le (AfterInfix o a) = omega (arith, (table (infix_line o)).right_high)
 part_le (FirstPart c) = omega arith
 part_le (SecondPart c a) = omega arith
 part_le _ = omega arith
@@ -209,10 +209,10 @@ pub record Completes (z : Begun) (l : ℕ) (b : Form) : Type 0 where
 le_refl : (n : ℕ) → n ≤ n
 le_refl n = omega arith
 
-pub completes : (z : Begun) (l : ℕ) (b : Form) → IsBegun l z → IsAt (part (frame z)) b → 1 ≤ ends (frame z) → Completes z l b
+pub completes : (z : Begun) (l : ℕ) (b : Form) → IsBegun l z → IsAt (part_level (frame z)) b → 1 ≤ ends (frame z) → Completes z l b
 completes z_minus l b g at h = record { is = negative_of b at; at = (omega arith, at); below = g; text = λ r. refl }
 completes z_not l b g at h = record { is = refl; at = (omega arith, at); below = g; text = λ r. refl }
-completes (z_infix o a) l b g at h = record { is = refl; at = (le_refl (level (line o)), g.1, at); below = g.0; text = λ r. refl }
+completes (z_infix o a) l b g at h = record { is = refl; at = (le_refl (level (infix_line o)), g.1, at); below = g.0; text = λ r. refl }
 completes (z_else c a) l b g at h = record { is = refl; at = (omega arith, g.1, g.2, at); below = g.0; text = λ r. refl }
 completes (z_second c a) l b g at h = record { is = refl; at = (omega arith, g.1, at); below = g.0; text = λ r. refl }
 completes z_paren l b g at h = absurd (omega (arith, h))
@@ -223,7 +223,7 @@ completes z_merge l b g at h = absurd (omega (arith, h))
 completes (z_first c) l b g at h = absurd (omega (arith, h))
 completes (z_call f xs) l b g at h = absurd (omega (arith, h))
 
-pub room_for : (limit : ℕ) (z : Begun) (n : ℕ) (b : Form) → n + least (frame z) ≤ limit → n + 1 + height b ≤ limit → 1 ≤ ends (frame z) → n + height (closing z b) ≤ limit
+pub room_for : (limit : ℕ) (z : Begun) (n : ℕ) (b : Form) → n + least_height (frame z) ≤ limit → n + 1 + height b ≤ limit → 1 ≤ ends (frame z) → n + height (closing z b) ≤ limit
 room_for limit z_minus n b h k e = omega arith
 room_for limit z_not n b h k e = omega arith
 room_for limit (z_infix o a) n b h k e = omega arith

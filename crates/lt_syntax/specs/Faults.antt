@@ -10,25 +10,25 @@ use Rattle.lt_syntax.specs.declared.fault.SyntaxKind.TheVariants.{BadByte, BadNu
 use Rattle.lt_syntax.specs.Program.{Program}
 
 -- these tokens begin a program
-abbrev pub Begins : ℕ → List Token → Type 0
-Begins limit ts = (more : List Token) × (t : List NodeText) × Program limit (ts ++ more) t
+abbrev pub ProgramBegins : ℕ → List Token → Type 0
+ProgramBegins limit ts = (more : List Token) × (t : List NodeText) × Program limit (ts ++ more) t
 
 -- These tokens begin no program, whatever the limit on height.
-abbrev pub Breaks : List Token → Type 0
-Breaks ts = (limit : ℕ) → Begins limit ts → ⊥
+abbrev pub ProgramBreaks : List Token → Type 0
+ProgramBreaks ts = (limit : ℕ) → ProgramBegins limit ts → ⊥
 
 -- they begin one, but none within this limit
-abbrev pub Exceeds : ℕ → List Token → Type 0
-Exceeds limit ts = (Begins limit ts → ⊥) × ((more : ℕ) × Begins more ts)
+abbrev pub ProgramExceeds : ℕ → List Token → Type 0
+ProgramExceeds limit ts = (ProgramBegins limit ts → ⊥) × ((more : ℕ) × ProgramBegins more ts)
 
 -- What stands behind tokens that begin a program is wrong, in this way.
-abbrev pub Offends : ℕ → SyntaxKind → List Token → Front → Type 0
-Offends limit BadByte ts text.BadByte = Unit {0}
-Offends limit BadNumber ts text.BadNumber = Unit {0}
-Offends limit Unexpected ts (text.Begins t after) = Breaks (ts ++ t ∷ [])
-Offends limit Unexpected ts text.Over = (t : List NodeText) → Program limit ts t → ⊥
-Offends limit TooDeep ts (text.Begins t after) = Exceeds limit (ts ++ t ∷ [])
-Offends limit _ ts _ = ⊥
+abbrev pub ProgramOffends : ℕ → SyntaxKind → List Token → Front → Type 0
+ProgramOffends limit BadByte ts text.BadByte = Unit {0}
+ProgramOffends limit BadNumber ts text.BadNumber = Unit {0}
+ProgramOffends limit Unexpected ts (text.Begins t after) = ProgramBreaks (ts ++ t ∷ [])
+ProgramOffends limit Unexpected ts text.Over = (t : List NodeText) → Program limit ts t → ⊥
+ProgramOffends limit TooDeep ts (text.Begins t after) = ProgramExceeds limit (ts ++ t ∷ [])
+ProgramOffends limit _ ts _ = ⊥
 
 -- The first offending place of the bytes, and its kind: the tokens before it begin a program, and what stands there offends.
 pub record IsFault (limit : ℕ) (bytes : List ℕ) (f : SyntaxFault) : Type 0 where
@@ -36,5 +36,5 @@ pub record IsFault (limit : ℕ) (bytes : List ℕ) (f : SyntaxFault) : Type 0 w
   pub rest : List ℕ
   pub cut : Cuts bytes tokens rest
   pub place : f.at + length (skip rest) ≡ length bytes
-  pub before : Begins limit tokens
-  pub offends : Offends limit f.kind tokens (front (skip rest))
+  pub before : ProgramBegins limit tokens
+  pub offends : ProgramOffends limit f.kind tokens (front (skip rest))

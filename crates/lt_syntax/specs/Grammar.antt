@@ -11,7 +11,7 @@ use Rattle.lt_tokens.specs.declared.token.Token.{Token}
 use Rattle.lt_tokens.specs.declared.token.Token.TheVariants as token
 use Rattle.lt_syntax.specs.Tree as tree
 use Rattle.lt_syntax.specs.Tree.{Tm, Tms}
-use Rattle.lt_syntax.specs.Levels.{line, level, left, right}
+use Rattle.lt_syntax.specs.Levels.{infix_line, level, left_level, right_level}
 
 mutual
   pub data Form : Type 0 where
@@ -40,7 +40,7 @@ abbrev mutual
   IsAt l (paren a) = (l ≤ 12) × IsAt 1 a
   IsAt l (minus a) = (l ≤ 10) × IsAt 11 a
   IsAt l (negated a) = (l ≤ 5) × IsAt 5 a
-  IsAt l (binary o a b) = (l ≤ level (line o)) × IsAt (left (line o)) a × IsAt (right (line o)) b
+  IsAt l (binary o a b) = (l ≤ level (infix_line o)) × IsAt (left_level (infix_line o)) a × IsAt (right_level (infix_line o)) b
   IsAt l (choice c a b) = (l ≤ 1) × IsAt 1 c × IsAt 1 a × IsAt 1 b
   IsAt l (sampled a c b) = (l ≤ 9) × IsAt 9 a
   IsAt l (merged c a b) = (l ≤ 11) × IsAt 12 a × IsAt 12 b

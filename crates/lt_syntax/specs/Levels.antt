@@ -15,24 +15,24 @@ pub data Line : Type 0 where
   Sum : Line
   Product : Line
 
-abbrev pub line : Infix → Line
-line Fby = Expr
-line Arrow = Expr
-line (Operator Implies) = Impl
-line (Operator Or) = Disj
-line (Operator Xor) = Disj
-line (Operator And) = Conj
-line (Operator Eq) = Comp
-line (Operator Ne) = Comp
-line (Operator Lt) = Comp
-line (Operator Le) = Comp
-line (Operator Gt) = Comp
-line (Operator Ge) = Comp
-line (Operator Add) = Sum
-line (Operator Sub) = Sum
-line (Operator Mul) = Product
-line (Operator Div) = Product
-line (Operator Mod) = Product
+abbrev pub infix_line : Infix → Line
+infix_line Fby = Expr
+infix_line Arrow = Expr
+infix_line (Operator Implies) = Impl
+infix_line (Operator Or) = Disj
+infix_line (Operator Xor) = Disj
+infix_line (Operator And) = Conj
+infix_line (Operator Eq) = Comp
+infix_line (Operator Ne) = Comp
+infix_line (Operator Lt) = Comp
+infix_line (Operator Le) = Comp
+infix_line (Operator Gt) = Comp
+infix_line (Operator Ge) = Comp
+infix_line (Operator Add) = Sum
+infix_line (Operator Sub) = Sum
+infix_line (Operator Mul) = Product
+infix_line (Operator Div) = Product
+infix_line (Operator Mod) = Product
 
 -- the level of the whole
 abbrev pub level : Line → ℕ
@@ -45,21 +45,21 @@ level Sum = 7
 level Product = 8
 
 -- the level of what stands to the left of it
-abbrev pub left : Line → ℕ
-left Expr = 2
-left Impl = 3
-left Disj = 3
-left Conj = 4
-left Comp = 7
-left Sum = 7
-left Product = 8
+abbrev pub left_level : Line → ℕ
+left_level Expr = 2
+left_level Impl = 3
+left_level Disj = 3
+left_level Conj = 4
+left_level Comp = 7
+left_level Sum = 7
+left_level Product = 8
 
 -- the level of what stands to the right of it
-abbrev pub right : Line → ℕ
-right Expr = 1
-right Impl = 2
-right Disj = 4
-right Conj = 5
-right Comp = 7
-right Sum = 8
-right Product = 9
+abbrev pub right_level : Line → ℕ
+right_level Expr = 1
+right_level Impl = 2
+right_level Disj = 4
+right_level Conj = 5
+right_level Comp = 7
+right_level Sum = 8
+right_level Product = 9

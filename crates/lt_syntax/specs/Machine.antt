@@ -10,7 +10,7 @@ use Rattle.lt_tokens.specs.declared.token.Token.{Token}
 use Rattle.lt_tokens.specs.declared.token.Token.TheVariants as token
 use Rattle.lt_syntax.specs.Tree as tree
 use Rattle.lt_syntax.specs.Tree.{Tm, tms}
-use Rattle.lt_syntax.specs.Levels.{line, level, left, right}
+use Rattle.lt_syntax.specs.Levels.{infix_line, level, left_level, right_level}
 use Rattle.lt_syntax.specs.Grammar.{joined, left_height}
 
 -- a whole operand: its tree, the height of its text, and its value where the text is a literal
@@ -46,14 +46,14 @@ pub data Next : Type 0 where
   Go : List Frame → Mode → Next
   Done : Operand → Next
 
-abbrev pub number_of : ℕ → Operand
-number_of n = record { tree = tree.Lit (Int (pos n)); height = 1; lead = Some (Int (pos n)) }
+abbrev pub number_operand : ℕ → Operand
+number_operand n = record { tree = tree.Lit (Int (pos n)); height = 1; lead = Some (Int (pos n)) }
 
-abbrev pub truth_of : Bool → Operand
-truth_of b = record { tree = tree.Lit (Truth b); height = 1; lead = Some (Truth b) }
+abbrev pub truth_operand : Bool → Operand
+truth_operand b = record { tree = tree.Lit (Truth b); height = 1; lead = Some (Truth b) }
 
-abbrev pub name_of : List ℕ → Operand
-name_of x = record { tree = tree.Var x; height = 1; lead = None }
+abbrev pub name_operand : List ℕ → Operand
+name_operand x = record { tree = tree.Var x; height = 1; lead = None }
 
 abbrev pub paren_of : Operand → Operand
 paren_of a = record { tree = a.tree; height = a.height + 1; lead = None }
@@ -70,23 +70,23 @@ negative (Some (Int (pos n))) = Some (Int (neg_ℤ (pos n)))
 negative _ = None
 
 -- the level that the next part must have
-abbrev pub part : Frame → ℕ
-part AfterMinus = 11
-part AfterNot = 5
-part (AfterInfix o a) = right (line o)
-part (FirstPart c) = 12
-part (SecondPart c a) = 12
-part _ = 1
+abbrev pub part_level : Frame → ℕ
+part_level AfterMinus = 11
+part_level AfterNot = 5
+part_level (AfterInfix o a) = right_level (infix_line o)
+part_level (FirstPart c) = 12
+part_level (SecondPart c a) = 12
+part_level _ = 1
 
 abbrev pub hole : List Frame → ℕ
 hole [] = 1
-hole (f ∷ fs) = part f
+hole (f ∷ fs) = part_level f
 
 -- the level of a form that its next part completes; 0 where a token of its own must follow
 abbrev pub ends : Frame → ℕ
 ends AfterMinus = 10
 ends AfterNot = 5
-ends (AfterInfix o a) = level (line o)
+ends (AfterInfix o a) = level (infix_line o)
 ends (AfterElse c a) = 1
 ends (SecondPart c a) = 11
 ends _ = 0
@@ -107,7 +107,7 @@ close l (f ∷ fs) a k = if nat_le l (ends f) then close l fs (complete f a) k e
 
 -- the level from which on a token completes forms
 abbrev pub stop : Token → ℕ
-stop (token.Infix o) = left (line o)
+stop (token.Infix o) = left_level (infix_line o)
 stop token.When = 9
 stop token.Close = 1
 stop token.Comma = 1
@@ -118,8 +118,8 @@ stop _ = 12
 
 -- a token where an operand must begin
 abbrev pub want : Token → List Frame → Next
-want (token.Number n) fs = Go fs (Has (number_of n))
-want (token.Truth b) fs = Go fs (Has (truth_of b))
+want (token.Number n) fs = Go fs (Has (number_operand n))
+want (token.Truth b) fs = Go fs (Has (truth_operand b))
 want (token.Ident x) fs = Go fs (Named x)
 want token.Open fs = Go (InParen ∷ fs) Want
 want (token.Infix (Operator Sub)) fs = if nat_le (hole fs) 10 then Go (AfterMinus ∷ fs) Want else Bad
@@ -135,23 +135,23 @@ second t (FirstPart c ∷ fs) a = want t (SecondPart c a ∷ fs)
 second t _ a = Bad
 
 -- a token behind an operand, once it has completed forms
-abbrev pub after : Token → List Frame → Operand → Next
-after (token.Infix o) fs a = if nat_le (hole fs) (level (line o)) then Go (AfterInfix o a ∷ fs) Want else Bad
-after token.When fs a = if nat_le (hole fs) 9 then Go (Sampling a true ∷ fs) WantClock else Bad
-after token.Close (InParen ∷ fs) a = Go fs (Has (paren_of a))
-after token.Close (InCall f xs h ∷ fs) a = Go fs (Has (call_of f (xs ++ a.tree ∷ []) (max h a.height)))
-after token.Comma (InCall f xs h ∷ fs) a = Go (InCall f (xs ++ a.tree ∷ []) (max h a.height) ∷ fs) Want
-after token.Then (AfterIf ∷ fs) a = Go (AfterThen a ∷ fs) Want
-after token.Else (AfterThen c ∷ fs) a = Go (AfterElse c a ∷ fs) Want
-after token.Semicolon [] a = Done a
-after (token.Number n) fs a = second (token.Number n) fs a
-after (token.Truth b) fs a = second (token.Truth b) fs a
-after (token.Ident x) fs a = second (token.Ident x) fs a
-after token.Open fs a = second token.Open fs a
-after _ _ a = Bad
+abbrev pub after_operand : Token → List Frame → Operand → Next
+after_operand (token.Infix o) fs a = if nat_le (hole fs) (level (infix_line o)) then Go (AfterInfix o a ∷ fs) Want else Bad
+after_operand token.When fs a = if nat_le (hole fs) 9 then Go (Sampling a true ∷ fs) WantClock else Bad
+after_operand token.Close (InParen ∷ fs) a = Go fs (Has (paren_of a))
+after_operand token.Close (InCall f xs h ∷ fs) a = Go fs (Has (call_of f (xs ++ a.tree ∷ []) (max h a.height)))
+after_operand token.Comma (InCall f xs h ∷ fs) a = Go (InCall f (xs ++ a.tree ∷ []) (max h a.height) ∷ fs) Want
+after_operand token.Then (AfterIf ∷ fs) a = Go (AfterThen a ∷ fs) Want
+after_operand token.Else (AfterThen c ∷ fs) a = Go (AfterElse c a ∷ fs) Want
+after_operand token.Semicolon [] a = Done a
+after_operand (token.Number n) fs a = second (token.Number n) fs a
+after_operand (token.Truth b) fs a = second (token.Truth b) fs a
+after_operand (token.Ident x) fs a = second (token.Ident x) fs a
+after_operand token.Open fs a = second token.Open fs a
+after_operand _ _ a = Bad
 
-abbrev pub has : List Frame → Operand → Token → Next
-has fs a t = close (stop t) fs a (after t)
+abbrev pub has_operand : List Frame → Operand → Token → Next
+has_operand fs a t = close (stop t) fs a (after_operand t)
 
 -- a token where a variable of a clock must come
 abbrev pub clock : Token → List Frame → Next
@@ -167,27 +167,27 @@ opens _ fs = false
 
 -- a token behind a name
 abbrev pub named : List ℕ → List Frame → Token → Next
-named x fs t = if opens t fs then Go (InCall x [] 0 ∷ fs) Want else has fs (name_of x) t
+named x fs t = if opens t fs then Go (InCall x [] 0 ∷ fs) Want else has_operand fs (name_operand x) t
 
 abbrev pub go : Mode → List Frame → Token → Next
 go Want fs t = want t fs
 go (Named x) fs t = named x fs t
-go (Has a) fs t = has fs a t
+go (Has a) fs t = has_operand fs a t
 go WantClock fs t = clock t fs
 
 -- the least height of what the newest form may become
-abbrev pub least : Frame → ℕ
-least (AfterInfix o a) = left_height o a.lead a.height + 1
-least (AfterThen c) = c.height + 1
-least (AfterElse c a) = max c.height a.height + 1
-least (Sampling a b) = a.height + 1
-least (SecondPart c a) = a.height + 1
-least (InCall f xs h) = max 1 h + 1
-least _ = 2
+abbrev pub least_height : Frame → ℕ
+least_height (AfterInfix o a) = left_height o a.lead a.height + 1
+least_height (AfterThen c) = c.height + 1
+least_height (AfterElse c a) = max c.height a.height + 1
+least_height (Sampling a b) = a.height + 1
+least_height (SecondPart c a) = a.height + 1
+least_height (InCall f xs h) = max 1 h + 1
+least_height _ = 2
 
 abbrev pub need : List Frame → ℕ
 need [] = 1
-need (f ∷ fs) = length fs + least f
+need (f ∷ fs) = length fs + least_height f
 
 -- each begun form fits the limit
 abbrev pub Roomy : ℕ → List Frame → Type 0

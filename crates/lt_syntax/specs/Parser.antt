@@ -14,36 +14,36 @@ use Rattle.lt_syntax.specs.Program.{declared}
 use Rattle.lt_syntax.specs.Machine.{Frame, Mode, Want, WantClock, Next, Bad, Go, Done, need, go}
 
 -- where the text is
-pub data Phase : Type 0 where
+pub data ParserPhase : Type 0 where
   -- before a node; behind `tel`; behind `node`; behind its name
-  Idle : Phase
-  Told : Phase
-  WantNode : Phase
-  HasNode : List ℕ → Phase
+  Idle : ParserPhase
+  Told : ParserPhase
+  WantNode : ParserPhase
+  HasNode : List ℕ → ParserPhase
   -- behind the ( of the inputs
-  Opened : NodeText → Phase
+  Opened : NodeText → ParserPhase
   -- a name must come, with the group's earlier names; behind a name; behind the colon
-  WantName : NodeText → Section → List (List ℕ) → Phase
-  HasName : NodeText → Section → List (List ℕ) → Phase
-  WantType : NodeText → Section → List (List ℕ) → Phase
+  WantName : NodeText → Section → List (List ℕ) → ParserPhase
+  HasName : NodeText → Section → List (List ℕ) → ParserPhase
+  WantType : NodeText → Section → List (List ℕ) → ParserPhase
   -- a group may end; behind `when`; behind `when not`
-  HasGroup : NodeText → Section → List (List ℕ) → Ty → List (List ℕ × Bool) → Phase
-  WantPolarity : NodeText → Section → List (List ℕ) → Ty → List (List ℕ × Bool) → Phase
-  WantVariable : NodeText → Section → List (List ℕ) → Ty → List (List ℕ × Bool) → Phase
+  HasGroup : NodeText → Section → List (List ℕ) → Ty → List (List ℕ × Bool) → ParserPhase
+  WantPolarity : NodeText → Section → List (List ℕ) → Ty → List (List ℕ × Bool) → ParserPhase
+  WantVariable : NodeText → Section → List (List ℕ) → Ty → List (List ℕ × Bool) → ParserPhase
   -- behind the inputs; behind `returns`; behind the outputs; and their semicolon
-  HasIns : NodeText → Phase
-  Returning : NodeText → Phase
-  HasOuts : NodeText → Phase
-  HasHead : NodeText → Phase
+  HasIns : NodeText → ParserPhase
+  Returning : NodeText → ParserPhase
+  HasOuts : NodeText → ParserPhase
+  HasHead : NodeText → ParserPhase
   -- behind a group of locals; between equations; behind an equation's name; in its right side
-  HasLocals : NodeText → Phase
-  Body : NodeText → Phase
-  HasLeft : NodeText → List ℕ → Phase
-  In : NodeText → List ℕ → List Frame → Mode → Phase
+  HasLocals : NodeText → ParserPhase
+  Body : NodeText → ParserPhase
+  HasLeft : NodeText → List ℕ → ParserPhase
+  In : NodeText → List ℕ → List Frame → Mode → ParserPhase
 
-pub record State : Type 0 where
+pub record ParserState : Type 0 where
   pub done : List NodeText
-  pub phase : Phase
+  pub phase : ParserPhase
 
 -- why a token is wrong
 pub data Kind : Type 0 where
@@ -63,12 +63,12 @@ abbrev pub add_equation : NodeText → List ℕ → Tm → NodeText
 add_equation n x a = record { name = n.name; ins = n.ins; outs = n.outs; locals = n.locals; eqs = n.eqs ++ (x, a) ∷ [] }
 
 -- behind the semicolon of a group
-abbrev pub next_group : Section → NodeText → Phase
+abbrev pub next_group : Section → NodeText → ParserPhase
 next_group Locals n = HasLocals n
 next_group s n = WantName n s []
 
 -- a token that may end a group
-abbrev pub end_group : Token → NodeText → Section → List (List ℕ) → Ty → List (List ℕ × Bool) → Result Phase Kind
+abbrev pub end_group : Token → NodeText → Section → List (List ℕ) → Ty → List (List ℕ × Bool) → Result ParserPhase Kind
 end_group token.When n Ins xs ty c = Err Unexpected
 end_group token.When n s xs ty c = Ok (WantPolarity n s xs ty c)
 end_group token.Semicolon n s xs ty c = Ok (next_group s (add n s (declared xs ty c)))
@@ -77,14 +77,14 @@ end_group token.Close n Outs xs ty c = Ok (HasOuts (add n Outs (declared xs ty c
 end_group _ n s xs ty c = Err Unexpected
 
 -- the newest form must fit the limit
-abbrev pub checked : ℕ → NodeText → List ℕ → Next → Result Phase Kind
+abbrev pub checked : ℕ → NodeText → List ℕ → Next → Result ParserPhase Kind
 checked limit n x Bad = Err Unexpected
 checked limit n x (Go fs Want) = if nat_le (need fs) limit then Ok (In n x fs Want) else Err TooDeep
 checked limit n x (Go fs WantClock) = if nat_le (need fs) limit then Ok (In n x fs WantClock) else Err TooDeep
 checked limit n x (Go fs m) = Ok (In n x fs m)
 checked limit n x (Done a) = Ok (Body (add_equation n x a.tree))
 
-abbrev pub move : ℕ → Phase → Token → Result Phase Kind
+abbrev pub move : ℕ → ParserPhase → Token → Result ParserPhase Kind
 move limit Idle token.Node = Ok WantNode
 move limit Told token.Node = Ok WantNode
 move limit Told token.Semicolon = Ok Idle
@@ -115,32 +115,32 @@ move limit (In n x fs m) t = checked limit n x (go m fs t)
 move limit _ t = Err Unexpected
 
 -- one token; `tel` ends a node
-abbrev pub finish : List NodeText → Result Phase Kind → Result State Kind
+abbrev pub finish : List NodeText → Result ParserPhase Kind → Result ParserState Kind
 finish done (Ok p) = Ok (record { done = done; phase = p })
 finish done (Err k) = Err k
 
-abbrev pub step_on : ℕ → List NodeText → Phase → Token → Result State Kind
+abbrev pub step_on : ℕ → List NodeText → ParserPhase → Token → Result ParserState Kind
 step_on limit done (Body n) token.Tel = Ok (record { done = done ++ n ∷ []; phase = Told })
 step_on limit done p t = finish done (move limit p t)
 
-abbrev pub step : ℕ → State → Token → Result State Kind
-step limit s t = step_on limit s.done s.phase t
+abbrev pub parser_step : ℕ → ParserState → Token → Result ParserState Kind
+parser_step limit s t = step_on limit s.done s.phase t
 
 -- the machine over all the tokens
-abbrev pub on : Result State Kind → (State → Result State Kind) → Result State Kind
+abbrev pub on : Result ParserState Kind → (ParserState → Result ParserState Kind) → Result ParserState Kind
 on (Ok s) k = k s
 on (Err e) k = Err e
 
-abbrev pub run : ℕ → State → List Token → Result State Kind
-run limit s [] = Ok s
-run limit s (t ∷ ts) = on (step limit s t) (λ s'. run limit s' ts)
+abbrev pub parser_run : ℕ → ParserState → List Token → Result ParserState Kind
+parser_run limit s [] = Ok s
+parser_run limit s (t ∷ ts) = on (parser_step limit s t) (λ s'. parser_run limit s' ts)
 
 -- nothing is read yet
-abbrev pub start : State
-start = record { done = []; phase = Idle }
+abbrev pub parser_start : ParserState
+parser_start = record { done = []; phase = Idle }
 
 -- the text may end here
-abbrev pub Ends : Phase → Type 0
-Ends Idle = Unit {0}
-Ends Told = Unit {0}
-Ends _ = ⊥
+abbrev pub PhaseEnds : ParserPhase → Type 0
+PhaseEnds Idle = Unit {0}
+PhaseEnds Told = Unit {0}
+PhaseEnds _ = ⊥

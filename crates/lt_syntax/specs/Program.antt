@@ -32,10 +32,10 @@ abbrev pub each : {A : Type 0} → (A → List Token → List Token) → List A 
 each f [] ts = ts
 each f (x ∷ xs) ts = f x (each f xs ts)
 
-abbrev pub between : {A : Type 0} → Token → (A → List Token → List Token) → List A → List Token → List Token
-between s f [] ts = ts
-between s f (x ∷ []) ts = f x ts
-between s f (x ∷ y ∷ xs) ts = f x (s ∷ between s f (y ∷ xs) ts)
+abbrev pub separated_by : {A : Type 0} → Token → (A → List Token → List Token) → List A → List Token → List Token
+separated_by s f [] ts = ts
+separated_by s f (x ∷ []) ts = f x ts
+separated_by s f (x ∷ y ∷ xs) ts = f x (s ∷ separated_by s f (y ∷ xs) ts)
 
 abbrev pub optional : Bool → Token → List Token → List Token
 optional true t ts = t ∷ ts
@@ -49,7 +49,7 @@ abbrev pub clause : List ℕ × Bool → List Token → List Token
 clause c ts = token.When ∷ polarity c.1 (token.Ident c.0 ∷ ts)
 
 abbrev pub group : Group → List Token → List Token
-group g ts = between token.Comma ident g.names (token.Colon ∷ token.Type g.ty ∷ each clause g.clock ts)
+group g ts = separated_by token.Comma ident g.names (token.Colon ∷ token.Type g.ty ∷ each clause g.clock ts)
 
 abbrev pub local : Group → List Token → List Token
 local g ts = group g (token.Semicolon ∷ ts)
@@ -65,8 +65,8 @@ equation e ts = token.Ident e.0 ∷ token.Infix (Operator Eq) ∷ tokens e.1 (to
 -- the tokens of a node, and then ts
 abbrev pub node : Node → List Token → List Token
 node n ts =
-    token.Node ∷ token.Ident n.name ∷ token.Open ∷ between token.Semicolon group n.ins
-    (token.Close ∷ token.Returns ∷ token.Open ∷ between token.Semicolon group n.outs
+    token.Node ∷ token.Ident n.name ∷ token.Open ∷ separated_by token.Semicolon group n.ins
+    (token.Close ∷ token.Returns ∷ token.Open ∷ separated_by token.Semicolon group n.outs
     (token.Close ∷ optional n.semicolon token.Semicolon (locals n.locals
     (token.Let ∷ each equation n.eqs (token.Tel ∷ optional n.last token.Semicolon ts)))))
 

@@ -1,5 +1,6 @@
 -- What the values in memory stand for.
-use Rattle.std.specs.Prelude.{ℕ, Bool, true, false, List, [], ◌∷◌, map, reverse, Option, Some, None}
+use Rattle.std.specs.Prelude.{◌≡◌, ℕ, Bool, true, false, List, [], ◌∷◌, map, reverse, Option, Some, None, MatchOption}
+use Rattle.std.specs.Global.{Box, Vec}
 use Rattle.lt_base.specs.declared.operators.Un.TheVariants.{Neg}
 use Rattle.lt_base.specs.declared.value.Value.{Value}
 use Rattle.lt_syntax.specs.declared.term.Term.{Term}
@@ -33,15 +34,28 @@ tm_step (Call f v) = tree.Call f (tms v.items)
 abbrev pub tm_of : Term → Tm
 tm_of = fold-Term Tm tm_step
 
+-- what was copied is this term, these two, this name, these arguments
+abbrev pub IsTerm : Tm → Box Term → Type 0
+IsTerm x t = tm_of t.value ≡ x
+
+abbrev pub AreTerms : (x y : Tm) → Box Term × Box Term → Type 0
+AreTerms x y pair = (tm_of pair.0.value ≡ x) × (tm_of pair.1.value ≡ y)
+
+abbrev pub IsName : (name copy : List ℕ) → Type 0
+IsName name copy = copy ≡ name
+
+abbrev pub AreArguments : List Tm → Vec Term → Type 0
+AreArguments xs copies = map tm_of copies.items ≡ xs
+
 -- the value of a term whose text is a literal
-abbrev pub value_of : Tm → Option Value
-value_of (tree.Lit v) = Some v
-value_of (tree.Unary Neg a) = machine.negative (value_of a)
-value_of _ = None
+abbrev pub literal_value : Tm → Option Value
+literal_value (tree.Lit v) = Some v
+literal_value (tree.Unary Neg a) = machine.negative (literal_value a)
+literal_value _ = None
 
 -- the value, where the text is a literal
 abbrev pub lead_of : Bool → Tm → Option Value
-lead_of true t = value_of t
+lead_of true t = literal_value t
 lead_of false t = None
 
 abbrev pub operand_of : code.Operand → machine.Operand
@@ -70,6 +84,10 @@ mode_of mode.WantClock = machine.WantClock
 -- the begun forms, the newest first; in memory it is the last
 abbrev pub stack_of : List Frame → List machine.Frame
 stack_of fs = map frame_of (reverse fs)
+
+-- the top frame was taken off, or there was none
+abbrev pub TakesTop : (old new : List Frame) → Option Frame → Type 0
+TakesTop old new top = MatchOption top ((stack_of old ≡ []) × (stack_of new ≡ [])) (λ f. stack_of old ≡ frame_of f ∷ stack_of new)
 
 abbrev pub top_ends : List machine.Frame → ℕ
 top_ends [] = 0

@@ -2,15 +2,15 @@
 ghost use Rattle.std.specs.Prelude.{◌≡◌, ◌++◌, ◌∷◌, [], ℕ, List, IfOk, OnOk, map};
 ghost use Rattle.lt_syntax.specs.Tree as tree;
 ghost use Rattle.lt_syntax.specs.Tree.{Tm, tms};
-ghost use Rattle.lt_syntax.specs.Views.{tm_of};
+ghost use Rattle.lt_syntax.specs.Views.{tm_of, IsTerm, AreTerms, IsName, AreArguments};
 
 use crate::term::Term;
 use lt_base::{Bin, Memory, Name, Un, Value};
 use std::alloc::Global;
 
 /// A term in a box of its own.
-pub fn boxed(alloc: Global, term: Result<Term, Memory>) -> Result<Box<Term>, Memory>
-    ensures { (x : Tm) → IfOk term (λ t. tm_of t ≡ x) → IfOk result (λ t. tm_of t.value ≡ x) }
+pub fn box_term(alloc: Global, term: Result<Term, Memory>) -> Result<Box<Term>, Memory>
+    ensures { (x : Tm) → IfOk term (λ t. tm_of t ≡ x) → IfOk result (IsTerm x) }
 {
     Ok(Box::new(alloc, term?)?)
 }
@@ -20,26 +20,26 @@ pub fn both(
     a: Result<Box<Term>, Memory>,
     b: Result<Box<Term>, Memory>,
 ) -> Result<(Box<Term>, Box<Term>), Memory>
-    ensures { (x y : Tm) → IfOk a (λ t. tm_of t.value ≡ x) → IfOk b (λ t. tm_of t.value ≡ y) → IfOk result (λ pair. (tm_of pair.0.value ≡ x) × (tm_of pair.1.value ≡ y)) }
+    ensures { (x y : Tm) → IfOk a (IsTerm x) → IfOk b (IsTerm y) → IfOk result (AreTerms x y) }
 {
     let first = a?;
     Ok((first, b?))
 }
 
 pub fn variable(x: Result<Name, Memory>) -> Result<Term, Memory>
-    ensures { (name : List ℕ) → IfOk x (λ copy. copy ≡ name) → IfOk result (λ t. tm_of t ≡ tree.Var name) }
+    ensures { (name : List ℕ) → IfOk x (IsName name) → IfOk result (λ t. tm_of t ≡ tree.Var name) }
 {
     Ok(Term::Var(x?))
 }
 
 pub fn unary(o: Un, a: Result<Box<Term>, Memory>) -> Result<Term, Memory>
-    ensures { (x : Tm) → IfOk a (λ t. tm_of t.value ≡ x) → IfOk result (λ t. tm_of t ≡ tree.Unary o x) }
+    ensures { (x : Tm) → IfOk a (IsTerm x) → IfOk result (λ t. tm_of t ≡ tree.Unary o x) }
 {
     Ok(Term::Un(o, a?))
 }
 
 pub fn binary(o: Bin, parts: Result<(Box<Term>, Box<Term>), Memory>) -> Result<Term, Memory>
-    ensures { (x y : Tm) → IfOk parts (λ pair. (tm_of pair.0.value ≡ x) × (tm_of pair.1.value ≡ y)) → IfOk result (λ t. tm_of t ≡ tree.Binary o x y) }
+    ensures { (x y : Tm) → IfOk parts (AreTerms x y) → IfOk result (λ t. tm_of t ≡ tree.Binary o x y) }
 {
     let (a, b) = parts?;
     Ok(Term::Bin(o, a, b))
@@ -49,55 +49,58 @@ pub fn choice(
     c: Result<Box<Term>, Memory>,
     parts: Result<(Box<Term>, Box<Term>), Memory>,
 ) -> Result<Term, Memory>
-    ensures { (z x y : Tm) → IfOk c (λ t. tm_of t.value ≡ z) → IfOk parts (λ pair. (tm_of pair.0.value ≡ x) × (tm_of pair.1.value ≡ y)) → IfOk result (λ t. tm_of t ≡ tree.Choice z x y) }
+    ensures { (z x y : Tm) → IfOk c (IsTerm z) → IfOk parts (AreTerms x y) → IfOk result (λ t. tm_of t ≡ tree.Choice z x y) }
 {
     let (a, b) = parts?;
     Ok(Term::If(c?, a, b))
 }
 
-pub fn sampled(
+pub fn sample_term(
     a: Result<Box<Term>, Memory>,
     c: Result<Name, Memory>,
     polarity: bool,
 ) -> Result<Term, Memory>
-    ensures { (x : Tm) (name : List ℕ) → IfOk a (λ t. tm_of t.value ≡ x) → IfOk c (λ copy. copy ≡ name) → IfOk result (λ t. tm_of t ≡ tree.Sampled x name polarity) }
+    ensures { (x : Tm) (name : List ℕ) → IfOk a (IsTerm x) → IfOk c (IsName name) → IfOk result (λ t. tm_of t ≡ tree.Sampled x name polarity) }
 {
     let a = a?;
     Ok(Term::When(a, c?, polarity))
 }
 
-pub fn merged(
+pub fn merge_terms(
     c: Result<Name, Memory>,
     parts: Result<(Box<Term>, Box<Term>), Memory>,
 ) -> Result<Term, Memory>
-    ensures { (name : List ℕ) (x y : Tm) → IfOk c (λ copy. copy ≡ name) → IfOk parts (λ pair. (tm_of pair.0.value ≡ x) × (tm_of pair.1.value ≡ y)) → IfOk result (λ t. tm_of t ≡ tree.Merged name x y) }
+    ensures { (name : List ℕ) (x y : Tm) → IfOk c (IsName name) → IfOk parts (AreTerms x y) → IfOk result (λ t. tm_of t ≡ tree.Merged name x y) }
 {
     let (a, b) = parts?;
     Ok(Term::Merge(c?, a, b))
 }
 
-pub fn delayed(v: Value, a: Result<Box<Term>, Memory>) -> Result<Term, Memory>
-    ensures { (x : Tm) → IfOk a (λ t. tm_of t.value ≡ x) → IfOk result (λ t. tm_of t ≡ tree.Delayed v x) }
+pub fn delay_term(v: Value, a: Result<Box<Term>, Memory>) -> Result<Term, Memory>
+    ensures { (x : Tm) → IfOk a (IsTerm x) → IfOk result (λ t. tm_of t ≡ tree.Delayed v x) }
 {
     Ok(Term::Fby(v, a?))
 }
 
-pub fn followed(parts: Result<(Box<Term>, Box<Term>), Memory>) -> Result<Term, Memory>
-    ensures { (x y : Tm) → IfOk parts (λ pair. (tm_of pair.0.value ≡ x) × (tm_of pair.1.value ≡ y)) → IfOk result (λ t. tm_of t ≡ tree.Followed x y) }
+pub fn follow_terms(parts: Result<(Box<Term>, Box<Term>), Memory>) -> Result<Term, Memory>
+    ensures { (x y : Tm) → IfOk parts (AreTerms x y) → IfOk result (λ t. tm_of t ≡ tree.Followed x y) }
 {
     let (a, b) = parts?;
     Ok(Term::Follow(a, b))
 }
 
 pub fn arrow(parts: Result<(Box<Term>, Box<Term>), Memory>) -> Result<Term, Memory>
-    ensures { (x y : Tm) → IfOk parts (λ pair. (tm_of pair.0.value ≡ x) × (tm_of pair.1.value ≡ y)) → IfOk result (λ t. tm_of t ≡ tree.Arrow x y) }
+    ensures { (x y : Tm) → IfOk parts (AreTerms x y) → IfOk result (λ t. tm_of t ≡ tree.Arrow x y) }
 {
     let (a, b) = parts?;
     Ok(Term::Arrow(a, b))
 }
 
-pub fn called(f: Result<Name, Memory>, arguments: Result<Vec<Term>, Memory>) -> Result<Term, Memory>
-    ensures { (name : List ℕ) (xs : List Tm) → IfOk f (λ copy. copy ≡ name) → IfOk arguments (λ copies. map tm_of copies.items ≡ xs) → IfOk result (λ t. tm_of t ≡ tree.Call name (tms xs)) }
+pub fn call_term(
+    f: Result<Name, Memory>,
+    arguments: Result<Vec<Term>, Memory>,
+) -> Result<Term, Memory>
+    ensures { (name : List ℕ) (xs : List Tm) → IfOk f (IsName name) → IfOk arguments (AreArguments xs) → IfOk result (λ t. tm_of t ≡ tree.Call name (tms xs)) }
 {
     let f = f?;
     Ok(Term::Call(f, arguments?))

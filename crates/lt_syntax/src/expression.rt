@@ -8,7 +8,7 @@ ghost use Rattle.lt_syntax.specs.Machine.{Held, HasRoom};
 ghost use Rattle.lt_syntax.specs.Views.{operand_of, frame_of, stack_of, mode_of, next_of, tm_of};
 
 use crate::frame::{
-    Frame, Mode, Next, Operand, call, complete, number, paren, sampled, truth, variable,
+    Frame, Mode, Next, Operand, call, complete, number, paren, sample_operand, truth, variable,
 };
 use crate::stack::{LIMIT, hole, left, level, newest_ends, pop, push};
 use crate::term::Term;
@@ -43,7 +43,7 @@ fn with_argument(xs: Vec<Term>, b: Box<Term>) -> Result<Vec<Term>, Memory>
 }
 
 fn after_infix(o: Infix, frames: &mut Vec<Frame>, b: Operand) -> Result<Next, Memory>
-    ensures { IfOk result (λ n. next_of n (stack_of frames.new.items) ≡ machine.after (token.Infix o) (stack_of frames.old.items) (operand_of b)) }
+    ensures { IfOk result (λ n. next_of n (stack_of frames.new.items) ≡ machine.after_operand (token.Infix o) (stack_of frames.old.items) (operand_of b)) }
 {
     if hole(frames) > level(o) {
         return Ok(Next::Bad);
@@ -52,7 +52,7 @@ fn after_infix(o: Infix, frames: &mut Vec<Frame>, b: Operand) -> Result<Next, Me
 }
 
 fn after_when(frames: &mut Vec<Frame>, b: Operand) -> Result<Next, Memory>
-    ensures { IfOk result (λ n. next_of n (stack_of frames.new.items) ≡ machine.after token.When (stack_of frames.old.items) (operand_of b)) }
+    ensures { IfOk result (λ n. next_of n (stack_of frames.new.items) ≡ machine.after_operand token.When (stack_of frames.old.items) (operand_of b)) }
 {
     if hole(frames) > 9 {
         return Ok(Next::Bad);
@@ -84,7 +84,7 @@ fn bad(newest: Option<Frame>) -> Result<Next, Memory>
 
 fn after_close(alloc: Global, frames: &mut Vec<Frame>, b: Operand) -> Result<Next, Memory>
     requires { HasRoom LIMIT (stack_of frames.old.items) (operand_of b) }
-    ensures { IfOk result (λ n. next_of n (stack_of frames.new.items) ≡ machine.after token.Close (stack_of frames.old.items) (operand_of b)) }
+    ensures { IfOk result (λ n. next_of n (stack_of frames.new.items) ≡ machine.after_operand token.Close (stack_of frames.old.items) (operand_of b)) }
 {
     match pop(frames) {
         Some(form @ Frame::InParen) => {
@@ -113,7 +113,7 @@ fn next_argument(
 }
 
 fn after_comma(frames: &mut Vec<Frame>, b: Operand) -> Result<Next, Memory>
-    ensures { IfOk result (λ n. next_of n (stack_of frames.new.items) ≡ machine.after token.Comma (stack_of frames.old.items) (operand_of b)) }
+    ensures { IfOk result (λ n. next_of n (stack_of frames.new.items) ≡ machine.after_operand token.Comma (stack_of frames.old.items) (operand_of b)) }
 {
     match pop(frames) {
         Some(Frame::InCall(f, xs, h)) => next_argument(frames, f, xs, h.max(b.height), b.term),
@@ -122,7 +122,7 @@ fn after_comma(frames: &mut Vec<Frame>, b: Operand) -> Result<Next, Memory>
 }
 
 fn after_then(frames: &mut Vec<Frame>, b: Operand) -> Result<Next, Memory>
-    ensures { IfOk result (λ n. next_of n (stack_of frames.new.items) ≡ machine.after token.Then (stack_of frames.old.items) (operand_of b)) }
+    ensures { IfOk result (λ n. next_of n (stack_of frames.new.items) ≡ machine.after_operand token.Then (stack_of frames.old.items) (operand_of b)) }
 {
     match pop(frames) {
         Some(form @ Frame::AfterIf) => {
@@ -134,7 +134,7 @@ fn after_then(frames: &mut Vec<Frame>, b: Operand) -> Result<Next, Memory>
 }
 
 fn after_else(frames: &mut Vec<Frame>, b: Operand) -> Result<Next, Memory>
-    ensures { IfOk result (λ n. next_of n (stack_of frames.new.items) ≡ machine.after token.Else (stack_of frames.old.items) (operand_of b)) }
+    ensures { IfOk result (λ n. next_of n (stack_of frames.new.items) ≡ machine.after_operand token.Else (stack_of frames.old.items) (operand_of b)) }
 {
     match pop(frames) {
         Some(Frame::AfterThen(c)) => begin(frames, Frame::AfterElse(c, b)),
@@ -143,7 +143,7 @@ fn after_else(frames: &mut Vec<Frame>, b: Operand) -> Result<Next, Memory>
 }
 
 fn after_semicolon(frames: &mut Vec<Frame>, b: Operand) -> Next
-    ensures { next_of result (stack_of frames.new.items) ≡ machine.after token.Semicolon (stack_of frames.old.items) (operand_of b) }
+    ensures { next_of result (stack_of frames.new.items) ≡ machine.after_operand token.Semicolon (stack_of frames.old.items) (operand_of b) }
 {
     if frames.is_empty() {
         Next::Done(b)
@@ -176,7 +176,7 @@ fn second(alloc: Global, t: Token, frames: &mut Vec<Frame>, b: Operand) -> Resul
 fn after(alloc: Global, t: Token, frames: &mut Vec<Frame>, b: Operand) -> Result<Next, Memory>
     requires small { IsSmall t }
     requires room { HasRoom LIMIT (stack_of frames.old.items) (operand_of b) }
-    ensures { IfOk result (λ n. next_of n (stack_of frames.new.items) ≡ machine.after t (stack_of frames.old.items) (operand_of b)) }
+    ensures { IfOk result (λ n. next_of n (stack_of frames.new.items) ≡ machine.after_operand t (stack_of frames.old.items) (operand_of b)) }
 {
     match t {
         Token::Infix(o) => after_infix(o, frames, b),
@@ -211,7 +211,7 @@ fn stop(t: &Token) -> u8
 fn has(alloc: Global, t: Token, frames: &mut Vec<Frame>, b: Operand) -> Result<Next, Memory>
     requires small { IsSmall t }
     requires room { HasRoom LIMIT (stack_of frames.old.items) (operand_of b) }
-    ensures { IfOk result (λ n. next_of n (stack_of frames.new.items) ≡ machine.has (stack_of frames.old.items) (operand_of b) t) }
+    ensures { IfOk result (λ n. next_of n (stack_of frames.new.items) ≡ machine.has_operand (stack_of frames.old.items) (operand_of b) t) }
 {
     let b = close(alloc, stop(&t), frames, b)?;
     after(alloc, t, frames, b)
@@ -302,7 +302,7 @@ fn clock_name(alloc: Global, c: Name, frames: &mut Vec<Frame>) -> Result<Next, M
     ensures { IfOk result (λ n. next_of n (stack_of frames.new.items) ≡ machine.clock (token.Ident c) (stack_of frames.old.items)) }
 {
     match pop(frames) {
-        Some(Frame::Sampling(a, b)) => has_operand(sampled(alloc, a, c, b)),
+        Some(Frame::Sampling(a, b)) => has_operand(sample_operand(alloc, a, c, b)),
         Some(form @ Frame::AfterMerge) => {
             drop(form);
             begin(frames, Frame::FirstPart(c))
@@ -334,7 +334,7 @@ fn opens(t: &Token, frames: &[Frame]) -> bool
 }
 
 /// What a token does behind a name.
-fn named(alloc: Global, x: Name, frames: &mut Vec<Frame>, t: Token) -> Result<Next, Memory>
+fn behind_name(alloc: Global, x: Name, frames: &mut Vec<Frame>, t: Token) -> Result<Next, Memory>
     requires small { IsSmall t }
     requires room { Held LIMIT (machine.Named x) (stack_of frames.old.items) }
     ensures { IfOk result (λ n. next_of n (stack_of frames.new.items) ≡ machine.named x (stack_of frames.old.items) t) }
@@ -353,7 +353,7 @@ pub fn go(alloc: Global, m: Mode, frames: &mut Vec<Frame>, t: Token) -> Result<N
 {
     match m {
         Mode::Want => want(alloc, t, frames),
-        Mode::Named(x) => named(alloc, x, frames, t),
+        Mode::Named(x) => behind_name(alloc, x, frames, t),
         Mode::Has(a) => has(alloc, t, frames, a),
         Mode::WantClock => clock(alloc, t, frames),
     }

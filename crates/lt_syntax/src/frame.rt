@@ -1,9 +1,9 @@
 // Operands, and forms that are begun.
 ghost use Rattle.std.specs.Prelude.{◌≡◌, ◌+◌, ◌<◌, ◌≤◌, ◌^◌, IfOk, map};
-ghost use Rattle.lt_tokens.specs.Text.{greatest};
+ghost use Rattle.lt_tokens.specs.Text.{greatest_number};
 ghost use Rattle.lt_syntax.specs.Grammar.{joined, left_height};
 ghost use Rattle.lt_syntax.specs.Machine as machine;
-ghost use Rattle.lt_syntax.specs.Views.{frame_of, operand_of, tm_of, value_of};
+ghost use Rattle.lt_syntax.specs.Views.{frame_of, operand_of, tm_of, literal_value};
 
 use crate::term::Term;
 use lt_base::{Memory, Name, Un, Value};
@@ -53,8 +53,8 @@ pub enum Next {
 }
 
 pub fn number(alloc: Global, n: u64) -> Result<Operand, Memory>
-    requires { n ≤ greatest }
-    ensures { IfOk result (λ r. operand_of r ≡ machine.number_of n) }
+    requires { n ≤ greatest_number }
+    ensures { IfOk result (λ r. operand_of r ≡ machine.number_operand n) }
 {
     Ok(Operand {
         term: Box::new(alloc, Term::Lit(Value::Int(n as i64)))?,
@@ -64,7 +64,7 @@ pub fn number(alloc: Global, n: u64) -> Result<Operand, Memory>
 }
 
 pub fn truth(alloc: Global, b: bool) -> Result<Operand, Memory>
-    ensures { IfOk result (λ r. operand_of r ≡ machine.truth_of b) }
+    ensures { IfOk result (λ r. operand_of r ≡ machine.truth_operand b) }
 {
     Ok(Operand {
         term: Box::new(alloc, Term::Lit(Value::Bool(b)))?,
@@ -74,7 +74,7 @@ pub fn truth(alloc: Global, b: bool) -> Result<Operand, Memory>
 }
 
 pub fn variable(alloc: Global, x: Name) -> Result<Operand, Memory>
-    ensures { IfOk result (λ r. operand_of r ≡ machine.name_of x) }
+    ensures { IfOk result (λ r. operand_of r ≡ machine.name_operand x) }
 {
     Ok(Operand {
         term: Box::new(alloc, Term::Var(x))?,
@@ -107,7 +107,7 @@ fn negative(lead: Option<Value>) -> Option<Value>
 
 /// The value of a term whose text is a literal.
 fn value_of(t: &Term) -> Option<Value>
-    ensures { result ≡ value_of (tm_of t.now) }
+    ensures { result ≡ literal_value (tm_of t.now) }
 {
     match t {
         Term::Lit(v) => Some(*v),
@@ -155,7 +155,7 @@ pub fn left_height(o: Infix, a: &Operand) -> u32
     }
 }
 
-fn joined(alloc: Global, o: Infix, a: Operand, b: Box<Term>) -> Result<Term, Memory>
+fn join_operands(alloc: Global, o: Infix, a: Operand, b: Box<Term>) -> Result<Term, Memory>
     ensures { IfOk result (λ r. tm_of r ≡ joined o (operand_of a).lead (tm_of a.term.value) (tm_of b.value)) }
 {
     match o {
@@ -177,7 +177,7 @@ fn after_infix(alloc: Global, o: Infix, a: Operand, b: Operand) -> Result<Operan
 {
     let height = left_height(o, &a).max(b.height) + 1;
     Ok(Operand {
-        term: Box::new(alloc, joined(alloc, o, a, b.term)?)?,
+        term: Box::new(alloc, join_operands(alloc, o, a, b.term)?)?,
         height,
         literal: false,
     })
@@ -234,7 +234,7 @@ pub fn paren(b: Operand) -> Operand
     }
 }
 
-pub fn sampled(alloc: Global, a: Operand, c: Name, b: bool) -> Result<Operand, Memory>
+pub fn sample_operand(alloc: Global, a: Operand, c: Name, b: bool) -> Result<Operand, Memory>
     requires { a.height + 1 < 2 ^ 32 }
     ensures { IfOk result (λ r. operand_of r ≡ machine.sampled_of (operand_of a) c b) }
 {

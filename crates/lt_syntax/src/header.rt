@@ -11,7 +11,8 @@ ghost use Rattle.lt_syntax.specs.Views.{mode_of, operand_of, stack_of, next_of, 
 ghost use Rattle.std.specs.Global.{Box};
 ghost use Rattle.lt_base.specs.declared.memory.Or.TheVariants as or;
 ghost use Rattle.lt_syntax.specs.declared.header.Kind.TheVariants as kinds;
-ghost use Rattle.lt_syntax.specs.Phases.{phase_of, state_of, IsIn, Moves, Proceeds, Steps, Fits, NeedsNoMemory};
+ghost use Rattle.lt_syntax.specs.Phases.{parser_phase_of, state_of, IsIn, MovesPhase, Proceeds, ParserSteps, Fits};
+ghost use Rattle.lt_base.specs.Memory.{NeedsNoMemory};
 
 use crate::expression::go;
 use crate::frame::{Frame, Mode, Next, Operand};
@@ -66,7 +67,7 @@ pub struct Parser {
 
 /// Nothing is read yet.
 pub fn start(alloc: Global) -> Parser
-    ensures { state_of result ≡ parser.start }
+    ensures { state_of result ≡ parser.parser_start }
 {
     Parser {
         nodes: List::new(alloc),
@@ -78,7 +79,7 @@ pub fn start(alloc: Global) -> Parser
 
 /// The text may end here.
 pub fn may_end(p: &Parser) -> bool
-    ensures { IsTrue result ↔ parser.Ends (state_of p.now).phase }
+    ensures { IsTrue result ↔ parser.PhaseEnds (state_of p.now).phase }
 {
     match &p.phase {
         Phase::Idle | Phase::Told => true,
@@ -149,7 +150,7 @@ fn add(
 }
 
 fn idle(t: Token) -> Result<Phase, Or<Kind>>
-    ensures moves { Moves result (parser.move LIMIT parser.Idle t) }
+    ensures moves { MovesPhase result (parser.move LIMIT parser.Idle t) }
     ensures memory { NeedsNoMemory result }
 {
     match t {
@@ -158,8 +159,8 @@ fn idle(t: Token) -> Result<Phase, Or<Kind>>
     }
 }
 
-fn told(t: Token) -> Result<Phase, Or<Kind>>
-    ensures moves { Moves result (parser.move LIMIT parser.Told t) }
+fn behind_tel(t: Token) -> Result<Phase, Or<Kind>>
+    ensures moves { MovesPhase result (parser.move LIMIT parser.Told t) }
     ensures memory { NeedsNoMemory result }
 {
     match t {
@@ -170,7 +171,7 @@ fn told(t: Token) -> Result<Phase, Or<Kind>>
 }
 
 fn want_node(t: Token) -> Result<Phase, Or<Kind>>
-    ensures moves { Moves result (parser.move LIMIT parser.WantNode t) }
+    ensures moves { MovesPhase result (parser.move LIMIT parser.WantNode t) }
     ensures memory { NeedsNoMemory result }
 {
     match t {
@@ -193,7 +194,7 @@ fn empty_node(alloc: Global, name: Name) -> Result<Box<NodeText>, Memory>
 }
 
 fn has_node(alloc: Global, name: Name, t: Token) -> Result<Phase, Or<Kind>>
-    ensures { Moves result (parser.move LIMIT (parser.HasNode name) t) }
+    ensures { MovesPhase result (parser.move LIMIT (parser.HasNode name) t) }
 {
     match t {
         Token::Open => Ok(Phase::Opened(empty_node(alloc, name)?)),
@@ -201,8 +202,8 @@ fn has_node(alloc: Global, name: Name, t: Token) -> Result<Phase, Or<Kind>>
     }
 }
 
-fn opened(alloc: Global, n: Box<NodeText>, t: Token) -> Result<Phase, Or<Kind>>
-    ensures { Moves result (parser.move LIMIT (parser.Opened n.value) t) }
+fn behind_open(alloc: Global, n: Box<NodeText>, t: Token) -> Result<Phase, Or<Kind>>
+    ensures { MovesPhase result (parser.move LIMIT (parser.Opened n.value) t) }
 {
     match t {
         Token::Ident(x) => Ok(Phase::HasName(n, Section::Ins, one(alloc, x)?)),
@@ -212,7 +213,7 @@ fn opened(alloc: Global, n: Box<NodeText>, t: Token) -> Result<Phase, Or<Kind>>
 }
 
 fn want_name(n: Box<NodeText>, s: Section, xs: List<Name>, t: Token) -> Result<Phase, Or<Kind>>
-    ensures { Moves result (parser.move LIMIT (parser.WantName n.value s xs) t) }
+    ensures { MovesPhase result (parser.move LIMIT (parser.WantName n.value s xs) t) }
 {
     match t {
         Token::Ident(x) => {
@@ -225,7 +226,7 @@ fn want_name(n: Box<NodeText>, s: Section, xs: List<Name>, t: Token) -> Result<P
 }
 
 fn has_name(n: Box<NodeText>, s: Section, xs: List<Name>, t: Token) -> Result<Phase, Or<Kind>>
-    ensures moves { Moves result (parser.move LIMIT (parser.HasName n.value s xs) t) }
+    ensures moves { MovesPhase result (parser.move LIMIT (parser.HasName n.value s xs) t) }
     ensures memory { NeedsNoMemory result }
 {
     match t {
@@ -242,7 +243,7 @@ fn want_type(
     xs: List<Name>,
     t: Token,
 ) -> Result<Phase, Or<Kind>>
-    ensures moves { Moves result (parser.move LIMIT (parser.WantType n.value s xs) t) }
+    ensures moves { MovesPhase result (parser.move LIMIT (parser.WantType n.value s xs) t) }
     ensures memory { NeedsNoMemory result }
 {
     match t {
@@ -258,7 +259,7 @@ fn group_when(
     ty: Ty,
     c: List<(Name, bool)>,
 ) -> Result<Phase, Or<Kind>>
-    ensures moves { Moves result (parser.end_group token.When n.value s xs ty c) }
+    ensures moves { MovesPhase result (parser.end_group token.When n.value s xs ty c) }
     ensures memory { NeedsNoMemory result }
 {
     match s {
@@ -275,7 +276,7 @@ fn group_semicolon(
     ty: Ty,
     c: List<(Name, bool)>,
 ) -> Result<Phase, Or<Kind>>
-    ensures { Moves result (parser.end_group token.Semicolon n.value s xs ty c) }
+    ensures { MovesPhase result (parser.end_group token.Semicolon n.value s xs ty c) }
 {
     let n = add(n, s, xs, ty, c)?;
     match s {
@@ -291,7 +292,7 @@ fn group_close(
     ty: Ty,
     c: List<(Name, bool)>,
 ) -> Result<Phase, Or<Kind>>
-    ensures { Moves result (parser.end_group token.Close n.value s xs ty c) }
+    ensures { MovesPhase result (parser.end_group token.Close n.value s xs ty c) }
 {
     match s {
         Section::Ins => Ok(Phase::HasIns(add(n, s, xs, ty, c)?)),
@@ -309,7 +310,7 @@ fn has_group(
     c: List<(Name, bool)>,
     t: Token,
 ) -> Result<Phase, Or<Kind>>
-    ensures { Moves result (parser.move LIMIT (parser.HasGroup n.value s xs ty c) t) }
+    ensures { MovesPhase result (parser.move LIMIT (parser.HasGroup n.value s xs ty c) t) }
 {
     match t {
         Token::When => group_when(n, s, xs, ty, c),
@@ -329,7 +330,7 @@ fn add_clock(
     x: Name,
     polarity: bool,
 ) -> Result<Phase, Or<Kind>>
-    ensures { Moves result (Ok (parser.HasGroup n.value s xs ty (c ++ (x, polarity) ∷ []))) }
+    ensures { MovesPhase result (Ok (parser.HasGroup n.value s xs ty (c ++ (x, polarity) ∷ []))) }
 {
     let mut c = c;
     c.push((x, polarity))?;
@@ -344,7 +345,7 @@ fn want_polarity(
     c: List<(Name, bool)>,
     t: Token,
 ) -> Result<Phase, Or<Kind>>
-    ensures { Moves result (parser.move LIMIT (parser.WantPolarity n.value s xs ty c) t) }
+    ensures { MovesPhase result (parser.move LIMIT (parser.WantPolarity n.value s xs ty c) t) }
 {
     match t {
         Token::Not => Ok(Phase::WantVariable(n, s, xs, ty, c)),
@@ -361,7 +362,7 @@ fn want_variable(
     c: List<(Name, bool)>,
     t: Token,
 ) -> Result<Phase, Or<Kind>>
-    ensures { Moves result (parser.move LIMIT (parser.WantVariable n.value s xs ty c) t) }
+    ensures { MovesPhase result (parser.move LIMIT (parser.WantVariable n.value s xs ty c) t) }
 {
     match t {
         Token::Ident(x) => add_clock(n, s, xs, ty, c, x, false),
@@ -370,7 +371,7 @@ fn want_variable(
 }
 
 fn has_ins(n: Box<NodeText>, t: Token) -> Result<Phase, Or<Kind>>
-    ensures moves { Moves result (parser.move LIMIT (parser.HasIns n.value) t) }
+    ensures moves { MovesPhase result (parser.move LIMIT (parser.HasIns n.value) t) }
     ensures memory { NeedsNoMemory result }
 {
     match t {
@@ -380,7 +381,7 @@ fn has_ins(n: Box<NodeText>, t: Token) -> Result<Phase, Or<Kind>>
 }
 
 fn returning(alloc: Global, n: Box<NodeText>, t: Token) -> Result<Phase, Or<Kind>>
-    ensures moves { Moves result (parser.move LIMIT (parser.Returning n.value) t) }
+    ensures moves { MovesPhase result (parser.move LIMIT (parser.Returning n.value) t) }
     ensures memory { NeedsNoMemory result }
 {
     match t {
@@ -390,7 +391,7 @@ fn returning(alloc: Global, n: Box<NodeText>, t: Token) -> Result<Phase, Or<Kind
 }
 
 fn has_outs(alloc: Global, n: Box<NodeText>, t: Token) -> Result<Phase, Or<Kind>>
-    ensures moves { Moves result (parser.move LIMIT (parser.HasOuts n.value) t) }
+    ensures moves { MovesPhase result (parser.move LIMIT (parser.HasOuts n.value) t) }
     ensures memory { NeedsNoMemory result }
 {
     match t {
@@ -402,7 +403,7 @@ fn has_outs(alloc: Global, n: Box<NodeText>, t: Token) -> Result<Phase, Or<Kind>
 }
 
 fn has_head(alloc: Global, n: Box<NodeText>, t: Token) -> Result<Phase, Or<Kind>>
-    ensures moves { Moves result (parser.move LIMIT (parser.HasHead n.value) t) }
+    ensures moves { MovesPhase result (parser.move LIMIT (parser.HasHead n.value) t) }
     ensures memory { NeedsNoMemory result }
 {
     match t {
@@ -413,7 +414,7 @@ fn has_head(alloc: Global, n: Box<NodeText>, t: Token) -> Result<Phase, Or<Kind>
 }
 
 fn has_locals(alloc: Global, n: Box<NodeText>, t: Token) -> Result<Phase, Or<Kind>>
-    ensures { Moves result (parser.move LIMIT (parser.HasLocals n.value) t) }
+    ensures { MovesPhase result (parser.move LIMIT (parser.HasLocals n.value) t) }
 {
     match t {
         Token::Ident(x) => Ok(Phase::HasName(n, Section::Locals, one(alloc, x)?)),
@@ -423,7 +424,7 @@ fn has_locals(alloc: Global, n: Box<NodeText>, t: Token) -> Result<Phase, Or<Kin
 }
 
 fn has_left(n: Box<NodeText>, x: Name, t: Token) -> Result<Phase, Or<Kind>>
-    ensures moves { Moves result (parser.move LIMIT (parser.HasLeft n.value x) t) }
+    ensures moves { MovesPhase result (parser.move LIMIT (parser.HasLeft n.value x) t) }
     ensures memory { NeedsNoMemory result }
 {
     match t {
@@ -434,7 +435,7 @@ fn has_left(n: Box<NodeText>, x: Name, t: Token) -> Result<Phase, Or<Kind>>
 
 /// A name begins an equation.
 fn body(n: Box<NodeText>, t: Token) -> Result<Phase, Or<Kind>>
-    ensures moves { Moves result (parser.move LIMIT (parser.Body n.value) t) }
+    ensures moves { MovesPhase result (parser.move LIMIT (parser.Body n.value) t) }
     ensures memory { NeedsNoMemory result }
 {
     match t {
@@ -446,14 +447,14 @@ fn body(n: Box<NodeText>, t: Token) -> Result<Phase, Or<Kind>>
 /// What a token does, but for an equation's right side and `tel` behind equations.
 fn move_on(alloc: Global, phase: Phase, t: Token) -> Result<Phase, Or<Kind>>
     requires { (n : Box NodeText) (x : List ℕ) → phase ≡ phases.In n x → ⊥ }
-    ensures { Moves result (parser.move LIMIT (phase_of phase [] machine.Want) t) }
+    ensures { MovesPhase result (parser.move LIMIT (parser_phase_of phase [] machine.Want) t) }
 {
     match phase {
         Phase::Idle => idle(t),
-        Phase::Told => told(t),
+        Phase::Told => behind_tel(t),
         Phase::WantNode => want_node(t),
         Phase::HasNode(x) => has_node(alloc, x, t),
-        Phase::Opened(n) => opened(alloc, n, t),
+        Phase::Opened(n) => behind_open(alloc, n, t),
         Phase::WantName(n, s, xs) => want_name(n, s, xs, t),
         Phase::HasName(n, s, xs) => has_name(n, s, xs, t),
         Phase::WantType(n, s, xs) => want_type(alloc, n, s, xs, t),
@@ -479,8 +480,8 @@ fn enter(phase: &mut Phase, next: Phase)
 }
 
 /// The next phase, in which no form is begun.
-fn moved(p: &mut Parser, phase: Result<Phase, Or<Kind>>) -> Result<(), Or<Kind>>
-    ensures proceeds { (next : Result parser.Phase parser.Kind) → Moves phase next → Proceeds result (state_of p.new) (parser.finish p.old.nodes next) }
+fn move_to(p: &mut Parser, phase: Result<Phase, Or<Kind>>) -> Result<(), Or<Kind>>
+    ensures proceeds { (next : Result parser.ParserPhase parser.Kind) → MovesPhase phase next → Proceeds result (state_of p.new) (parser.finish p.old.nodes next) }
     ensures same { IfErr result (λ e. phase ≡ Err e) }
 {
     enter(&mut p.phase, phase?);
@@ -504,7 +505,7 @@ fn end_body(p: &mut Parser, n: Box<NodeText>, t: Token) -> Result<(), Or<Kind>>
 {
     match t {
         Token::Tel => end_node(p, n),
-        t => moved(p, body(n, t)),
+        t => move_to(p, body(n, t)),
     }
 }
 
@@ -537,7 +538,7 @@ fn goes_on(p: &mut Parser, mode: Mode) -> Result<(), Or<Kind>>
 
 /// Behind an equation with this right side.
 fn with_equation(n: Box<NodeText>, x: Name, right: Box<Term>) -> Result<Phase, Or<Kind>>
-    ensures { Moves result (Ok (parser.Body (parser.add_equation n.value x (tm_of right.value)))) }
+    ensures { MovesPhase result (Ok (parser.Body (parser.add_equation n.value x (tm_of right.value)))) }
 {
     let mut n = n;
     n.eqs.push(EqText::new(x, Box::into_inner(right)))?;
@@ -550,7 +551,7 @@ fn ends(p: &mut Parser, a: Operand) -> Result<(), Or<Kind>>
     ensures { (n : Box OneNode) (x : List ℕ) → p.old.phase ≡ phases.In n x → Proceeds result (state_of p.new) (parser.finish p.old.nodes (Ok (parser.Body (parser.add_equation n.value x (operand_of a).tree)))) }
 {
     match replace(&mut p.phase, Phase::Told) {
-        Phase::In(n, x) => moved(p, with_equation(n, x, a.term)),
+        Phase::In(n, x) => move_to(p, with_equation(n, x, a.term)),
         _ => unreachable!(),
     }
 }
@@ -560,7 +561,7 @@ fn in_equation(alloc: Global, p: &mut Parser, t: Token) -> Result<(), Or<Kind>>
     requires small { IsSmall t }
     requires inside { IsIn p.old.phase }
     requires room { Fits LIMIT (state_of p.old).phase }
-    ensures { Steps result (state_of p.new) (parser.step LIMIT (state_of p.old) t) }
+    ensures { ParserSteps result (state_of p.new) (parser.parser_step LIMIT (state_of p.old) t) }
 {
     let mode = replace(&mut p.mode, Mode::Want);
     match go(alloc, mode, &mut p.frames, t)? {
@@ -574,7 +575,7 @@ fn in_equation(alloc: Global, p: &mut Parser, t: Token) -> Result<(), Or<Kind>>
 fn name_in_equation(alloc: Global, p: &mut Parser, x: Name) -> Result<(), Or<Kind>>
     requires inside { IsIn p.old.phase }
     requires room { Fits LIMIT (state_of p.old).phase }
-    ensures { Steps result (state_of p.new) (parser.step LIMIT (state_of p.old) (token.Ident x)) }
+    ensures { ParserSteps result (state_of p.new) (parser.parser_step LIMIT (state_of p.old) (token.Ident x)) }
 {
     if let Mode::Want = &p.mode {
         p.mode = Mode::Named(x);
@@ -586,11 +587,11 @@ fn name_in_equation(alloc: Global, p: &mut Parser, x: Name) -> Result<(), Or<Kin
 /// A token outside the right sides of equations.
 fn step_outside(alloc: Global, p: &mut Parser, t: Token) -> Result<(), Or<Kind>>
     requires { IsIn p.old.phase → ⊥ }
-    ensures { Proceeds result (state_of p.new) (parser.step LIMIT (state_of p.old) t) }
+    ensures { Proceeds result (state_of p.new) (parser.parser_step LIMIT (state_of p.old) t) }
 {
     match replace(&mut p.phase, Phase::Told) {
         Phase::Body(n) => end_body(p, n, t),
-        phase => moved(p, move_on(alloc, phase, t)),
+        phase => move_to(p, move_on(alloc, phase, t)),
     }
 }
 
@@ -598,7 +599,7 @@ fn step_outside(alloc: Global, p: &mut Parser, t: Token) -> Result<(), Or<Kind>>
 pub fn step(alloc: Global, p: &mut Parser, t: Token) -> Result<(), Or<Kind>>
     requires small { IsSmall t }
     requires room { Fits LIMIT (state_of p.old).phase }
-    ensures { Steps result (state_of p.new) (parser.step LIMIT (state_of p.old) t) }
+    ensures { ParserSteps result (state_of p.new) (parser.parser_step LIMIT (state_of p.old) t) }
 {
     if let Phase::In(_, _) = &p.phase {
         return match t {

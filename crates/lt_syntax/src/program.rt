@@ -2,7 +2,7 @@
 ghost use Rattle.std.specs.Prelude.{◌≡◌, IfOk, List};
 ghost use Rattle.lt_syntax.specs.declared.tree.NodeText.{NodeText as OneNode};
 ghost use Rattle.lt_syntax.specs.Program.{Spells, IsSpelled};
-ghost use Rattle.lt_syntax.specs.Reads.{Answers, Finds};
+ghost use Rattle.lt_syntax.specs.Reads.{AnswersSyntax, FindsTree};
 
 use crate::fault::SyntaxFault;
 use crate::read::read;
@@ -37,7 +37,7 @@ impl Model for Tree {
 
 impl Tree {
     /// What the type keeps, for callers.
-    pub fn kept(&self)
+    pub fn invariant_holds(&self)
         ensures { IsSpelled self.now }
     {
         let _ = &self.nodes;
@@ -56,9 +56,9 @@ impl Tree {
 /// The tree that the bytes spell, or the first offending place.
 pub fn parse(alloc: Global, bytes: &[u8]) -> Result<Tree, Or<SyntaxFault>>
     // A tree is spelled by the bytes, and a fault is the first one.
-    ensures exact { Answers 200 bytes.now result }
+    ensures exact { AnswersSyntax 200 bytes.now result }
     // What is spelled is found, unless memory runs out.
-    ensures only { (t : List OneNode) → Spells 200 bytes.now t → Finds t result }
+    ensures only { (t : List OneNode) → Spells 200 bytes.now t → FindsTree t result }
 {
     match read(alloc, bytes) {
         Ok(nodes) => Ok(Tree { nodes }),

@@ -4,8 +4,8 @@ ghost use Rattle.lt_tokens.specs.Text as text;
 ghost use Rattle.lt_base.specs.Or.{MapsFault};
 ghost use Rattle.lt_tokens.specs.Fronts.{IsSmall};
 ghost use Rattle.lt_syntax.specs.Parser as parser;
-ghost use Rattle.lt_syntax.specs.Phases.{state_of, kind_of, Fits};
-ghost use Rattle.lt_syntax.specs.Reads.{Answers, StepsAt, Ends, Takes, syntax_kind};
+ghost use Rattle.lt_syntax.specs.Phases.{state_of, parser_kind, Fits};
+ghost use Rattle.lt_syntax.specs.Reads.{AnswersSyntax, ParserStepsAt, TextEnds, TakesToken, syntax_kind};
 
 use crate::fault::{SyntaxFault, SyntaxKind};
 use crate::header::{Kind, Parser, may_end, start, step};
@@ -17,7 +17,7 @@ use std::alloc::Global;
 use std::mem::replace;
 
 fn syntax_kind(kind: Kind) -> SyntaxKind
-    ensures { result ≡ syntax_kind (kind_of kind) }
+    ensures { result ≡ syntax_kind (parser_kind kind) }
 {
     match kind {
         Kind::Unexpected => SyntaxKind::Unexpected,
@@ -26,8 +26,8 @@ fn syntax_kind(kind: Kind) -> SyntaxKind
 }
 
 /// A token's fault at its place.
-fn placed(at: usize, error: Or<Kind>) -> Or<SyntaxFault>
-    ensures { MapsFault error result (λ k f. f ≡ record { at = at; kind = syntax_kind (kind_of k) }) }
+fn place_fault(at: usize, error: Or<Kind>) -> Or<SyntaxFault>
+    ensures { MapsFault error result (λ k f. f ≡ record { at = at; kind = syntax_kind (parser_kind k) }) }
 {
     match error {
         Or::Fault(kind) => {
@@ -41,24 +41,21 @@ fn placed(at: usize, error: Or<Kind>) -> Or<SyntaxFault>
 fn step_at(alloc: Global, p: &mut Parser, t: Token, at: usize) -> Result<(), Or<SyntaxFault>>
     requires small { IsSmall t }
     requires room { Fits LIMIT (state_of p.old).phase }
-    ensures { StepsAt at result (state_of p.new) (parser.step LIMIT (state_of p.old) t) }
+    ensures { ParserStepsAt at result (state_of p.new) (parser.parser_step LIMIT (state_of p.old) t) }
 {
-    match step(alloc, p, t) {
-        Ok(()) => Ok(()),
-        Err(error) => Err(placed(at, error)),
-    }
+    step(alloc, p, t).map_err(|error| place_fault(at, error))
 }
 
 /// The text may end here.
 fn is_whole(p: &Parser) -> bool
-    ensures { IsTrue result ↔ Ends (state_of p.now) }
+    ensures { IsTrue result ↔ TextEnds (state_of p.now) }
 {
     may_end(p) && !p.nodes.is_empty()
 }
 
 /// The end of the text.
 fn end_at(p: &Parser, at: usize) -> Result<Option<usize>, Or<SyntaxFault>>
-    ensures { (here : List ℕ) → text.front here ≡ text.Over → Takes LIMIT at here (state_of p.now) (state_of p.now) result }
+    ensures { (here : List ℕ) → text.front here ≡ text.Over → TakesToken LIMIT at here (state_of p.now) (state_of p.now) result }
 {
     if is_whole(p) {
         return Ok(None);
@@ -75,7 +72,7 @@ fn take_token(
     at: usize,
 ) -> Result<Option<usize>, Or<SyntaxFault>>
     requires { Fits LIMIT (state_of p.old).phase }
-    ensures { Takes LIMIT at here.now (state_of p.old) (state_of p.new) result }
+    ensures { TakesToken LIMIT at here.now (state_of p.old) (state_of p.new) result }
 {
     match read_front(alloc, here)? {
         Front::Begins(t, n) => {
@@ -100,8 +97,8 @@ fn take_tokens(
     p: &mut Parser,
     bytes: &[u8],
 ) -> Result<List<NodeText>, Or<SyntaxFault>>
-    requires { state_of p.old ≡ parser.start }
-    ensures { Answers LIMIT bytes.now result }
+    requires { state_of p.old ≡ parser.parser_start }
+    ensures { AnswersSyntax LIMIT bytes.now result }
 {
     let mut rest = bytes;
     'text: loop {
@@ -115,7 +112,7 @@ fn take_tokens(
 
 /// The nodes that the bytes spell, or the first offending place.
 pub fn read(alloc: Global, bytes: &[u8]) -> Result<List<NodeText>, Or<SyntaxFault>>
-    ensures { Answers LIMIT bytes.now result }
+    ensures { AnswersSyntax LIMIT bytes.now result }
 {
     let mut p = start(alloc);
     let answer = take_tokens(alloc, &mut p, bytes);

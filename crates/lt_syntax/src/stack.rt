@@ -1,8 +1,8 @@
 // The stack of begun forms, and the levels of the grammar.
 ghost use Rattle.std.specs.Prelude.{◌≡◌, ◌≤◌, ◌↔◌, [], ◌∷◌, OnOk, OnErr, MatchOption, IfSome, IsTrue, vec_len, ◌+◌, ◌^◌};
-ghost use Rattle.lt_syntax.specs.Levels.{line, level, left, right};
+ghost use Rattle.lt_syntax.specs.Levels.{infix_line, level, left_level, right_level};
 ghost use Rattle.lt_syntax.specs.Machine as machine;
-ghost use Rattle.lt_syntax.specs.Views.{frame_of, stack_of, top_ends};
+ghost use Rattle.lt_syntax.specs.Views.{frame_of, stack_of, top_ends, TakesTop};
 
 use crate::frame::{Frame, left_height};
 use lt_base::{Bin, Memory};
@@ -13,7 +13,7 @@ pub const LIMIT: u32 = 200;
 
 /// The level of the line on which two expressions meet.
 pub fn level(o: Infix) -> u8
-    ensures { result ≡ level (line o) }
+    ensures { result ≡ level (infix_line o) }
 {
     match o {
         Infix::Fby | Infix::Arrow => 1,
@@ -28,7 +28,7 @@ pub fn level(o: Infix) -> u8
 
 /// The level of what stands to the left of it.
 pub fn left(o: Infix) -> u8
-    ensures { result ≡ left (line o) }
+    ensures { result ≡ left_level (infix_line o) }
 {
     match o {
         Infix::Fby | Infix::Arrow => 2,
@@ -42,7 +42,7 @@ pub fn left(o: Infix) -> u8
 
 /// The level of what stands to the right of it.
 pub fn right(o: Infix) -> u8
-    ensures { result ≡ right (line o) }
+    ensures { result ≡ right_level (infix_line o) }
 {
     match o {
         Infix::Fby | Infix::Arrow => 1,
@@ -64,7 +64,7 @@ pub fn push(frames: &mut Vec<Frame>, f: Frame) -> Result<(), Memory>
 
 pub fn pop(frames: &mut Vec<Frame>) -> Option<Frame>
     ensures len { IfSome result (λ _. vec_len frames.new + 1 ≡ vec_len frames.old) }
-    ensures stack { MatchOption result ((stack_of frames.old.items ≡ []) × (stack_of frames.new.items ≡ [])) (λ f. stack_of frames.old.items ≡ frame_of f ∷ stack_of frames.new.items) }
+    ensures stack { TakesTop frames.old.items frames.new.items result }
 {
     frames.pop()
 }
@@ -99,7 +99,7 @@ pub fn newest_ends(frames: &[Frame]) -> u8
 
 /// The least height of what a form may become.
 fn least(f: &Frame) -> u64
-    ensures value { result ≡ machine.least (frame_of f.now) }
+    ensures value { result ≡ machine.least_height (frame_of f.now) }
     ensures bound { result ≤ 2 ^ 32 }
 {
     match f {

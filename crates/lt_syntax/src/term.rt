@@ -3,8 +3,8 @@ ghost use Rattle.std.specs.Prelude.{◌≡◌, IfOk, map};
 ghost use Rattle.lt_syntax.specs.Views.{tm_of};
 
 use crate::copying::{
-    arrow, binary, both, boxed, called, choice, delayed, followed, merged, push, sampled, unary,
-    variable,
+    arrow, binary, both, box_term, call_term, choice, delay_term, follow_terms, merge_terms, push,
+    sample_term, unary, variable,
 };
 use lt_base::{Bin, Memory, Name, Un, Value};
 
@@ -40,12 +40,12 @@ impl Term {
             Term::Un(o, a) => unary(*o, twin(a)),
             Term::Bin(o, a, b) => binary(*o, both(twin(a), twin(b))),
             Term::If(c, a, b) => choice(twin(c), both(twin(a), twin(b))),
-            Term::When(a, c, polarity) => sampled(twin(a), c.copy(), *polarity),
-            Term::Merge(c, a, b) => merged(c.copy(), both(twin(a), twin(b))),
-            Term::Fby(v, a) => delayed(*v, twin(a)),
-            Term::Follow(a, b) => followed(both(twin(a), twin(b))),
+            Term::When(a, c, polarity) => sample_term(twin(a), c.copy(), *polarity),
+            Term::Merge(c, a, b) => merge_terms(c.copy(), both(twin(a), twin(b))),
+            Term::Fby(v, a) => delay_term(*v, twin(a)),
+            Term::Follow(a, b) => follow_terms(both(twin(a), twin(b))),
             Term::Arrow(a, b) => arrow(both(twin(a), twin(b))),
-            Term::Call(f, arguments) => called(f.copy(), twins(arguments)),
+            Term::Call(f, arguments) => call_term(f.copy(), twins(arguments)),
         }
     }
 }
@@ -55,7 +55,7 @@ impl Term {
 fn twin(a: &Box<Term>) -> Result<Box<Term>, Memory>
     ensures { IfOk result (λ copy. tm_of copy.value ≡ tm_of a.now.value) }
 {
-    boxed(*Box::allocator(a), a.copy())
+    box_term(*Box::allocator(a), a.copy())
 }
 
 // Equal terms, one by one.

@@ -8,7 +8,7 @@ use Rattle.lt_arch.specs.declared.timing.Protocol.TheVariants.{BackPressure, Tim
 use Rattle.lt_arch.specs.Readers.{tmin_of, tmax_of, send_of, execute_of, dmin_of, dmax_of, most_of, slowest_of}
 use Rattle.lt_arch.proofs.Examples.{two_nodes, node_with}
 use Rattle.lt_timing.specs.declared.fault.Which.TheVariants.{Execute, Send}
-use Rattle.lt_timing.specs.Accepts.{left_of, right_of}
+use Rattle.lt_timing.specs.Accepts.{left_side, right_side}
 use Rattle.lt_timing.specs.Least.{least_send, least_execute}
 use Rattle.lt_timing.specs.Bounds.{time_based_cycle, time_based_bound, back_pressure_cycle, back_pressure_bound}
 
@@ -30,7 +30,7 @@ unfolding tmin_of tmax_of send_of execute_of dmin_of dmax_of most_of slowest_of
 bounds_of_alike = (refl, refl, refl, refl)
 
 -- with a send of 2 the second inequality fails by these sides
-sides_of_alike : (left_of Send (alike 2 (lit≤ tt) (lit≤ tt)) (send_of (alike 2 (lit≤ tt) (lit≤ tt))) (execute_of (alike 2 (lit≤ tt) (lit≤ tt))) 0 ≡ 46) × (right_of Send (alike 2 (lit≤ tt) (lit≤ tt)) (execute_of (alike 2 (lit≤ tt) (lit≤ tt))) 0 ≡ 48)
+sides_of_alike : (left_side Send (alike 2 (lit≤ tt) (lit≤ tt)) (send_of (alike 2 (lit≤ tt) (lit≤ tt))) (execute_of (alike 2 (lit≤ tt) (lit≤ tt))) 0 ≡ 46) × (right_side Send (alike 2 (lit≤ tt) (lit≤ tt)) (execute_of (alike 2 (lit≤ tt) (lit≤ tt))) 0 ≡ 48)
 unfolding tmin_of tmax_of send_of execute_of dmin_of dmax_of
 sides_of_alike = (refl, refl)
 
@@ -42,7 +42,7 @@ even_node = node_with 10 10 1000 2 (lit≤ tt, lit≤ tt, lit≤ tt) (lit≤ tt,
 abbrev even : Timing
 even = two_nodes even_node even_node 5 5 (lit≤ tt) (lit≤ tt) TimeBased
 
-sides_of_even : (left_of Execute even (send_of even) (execute_of even) 0 ≡ 20) × (right_of Execute even (execute_of even) 0 ≡ 20)
+sides_of_even : (left_side Execute even (send_of even) (execute_of even) 0 ≡ 20) × (right_side Execute even (execute_of even) 0 ≡ 20)
 unfolding tmin_of tmax_of send_of execute_of dmin_of dmax_of
 sides_of_even = (refl, refl)
 
@@ -70,6 +70,6 @@ bounds_of_mixed : (time_based_bound mixed_3 0 1000 ≡ 13) × (back_pressure_bou
 unfolding tmax_of send_of execute_of most_of slowest_of
 bounds_of_mixed = (refl, refl, refl, refl)
 
-sides_of_mixed : (left_of Send mixed_2 (send_of mixed_2) (execute_of mixed_2) 0 ≡ 55) × (right_of Send mixed_2 (execute_of mixed_2) 0 ≡ 59)
+sides_of_mixed : (left_side Send mixed_2 (send_of mixed_2) (execute_of mixed_2) 0 ≡ 55) × (right_side Send mixed_2 (execute_of mixed_2) 0 ≡ 59)
 unfolding tmin_of tmax_of send_of execute_of dmin_of dmax_of
 sides_of_mixed = (refl, refl)

@@ -6,7 +6,7 @@ use Rattle.std.proofs.Math.Nat.{mul-le-mul_right, lt-mul-div-succ}
 use Rattle.lt_arch.specs.declared.timing.Timing.{Timing}
 use Rattle.lt_arch.specs.Readers.{tmin_of, tmax_of, time_at}
 use Rattle.lt_timing.specs.declared.fault.Which.TheVariants.{Execute, Send, First}
-use Rattle.lt_timing.specs.Accepts.{count_of, answer_time, gather_time, dmin_to, least_cycle, least_first_send, Holds, Meets}
+use Rattle.lt_timing.specs.Accepts.{count_of, answer_time, gather_time, dmin_to, least_cycle, least_first_send, InequalityHolds, Meets}
 use Rattle.lt_timing.specs.Least.{least_above, execute_among, cycle_need, first_send_need, send_among, least_execute, least_send, AreSome, AreLeastCountdowns}
 use Rattle.lt_timing.proofs.Folds.{greatest-above, greatest-some, least-below, least-some}
 
@@ -49,7 +49,7 @@ module _ (t : Timing) where
     | inr two ↦ rw (several_execute two i) (omega arith)
   ]
 
-  accepted-send : 2 ≤ count_of t → (j : ℕ) → j < count_of t → Holds Send t (least_send t) (least_execute t) j
+  accepted-send : 2 ≤ count_of t → (j : ℕ) → j < count_of t → InequalityHolds Send t (least_send t) (least_execute t) j
   accepted-send two j h =
       let m = least-some (λ i. (least_send t i + least_execute t i) * tmin_of t i) (count_of t) (omega arith) in
       let i = m.0 in
@@ -60,7 +60,7 @@ module _ (t : Timing) where
       let up : least_above (cycle_need t) (tmin_of t i) * tmin_of t i ≤ (send_among t i + execute_among t i) * tmin_of t i = mul-le-mul_right (tmin_of t i) (omega arith) in
       rw (several_execute two j) (omega (arith, is', need, over, up))
 
-  accepted-first : 2 ≤ count_of t → (j : ℕ) → j < count_of t → Holds First t (least_send t) (least_execute t) j
+  accepted-first : 2 ≤ count_of t → (j : ℕ) → j < count_of t → InequalityHolds First t (least_send t) (least_execute t) j
   accepted-first two j h =
       let m = least-some (λ i. least_send t i * tmin_of t i) (count_of t) (omega arith) in
       let i = m.0 in

@@ -39,54 +39,54 @@ least_first_send t p = least (λ i. p i * tmin_of t i) (count_of t)
 -- Execute: it executes the next instant no earlier than this, and every message of the round is there by then;
 -- Send: no message of the next round is there earlier than this, and it has executed its next instant by then;
 -- First: no message is there earlier than this, and it has executed its first instant by then.
-abbrev pub left_of : Which → Timing → (p q : ℕ → ℕ) → (j : ℕ) → ℕ
-left_of Execute t p q j = q j * tmin_of t j
-left_of Send t p q j = least_cycle t p q + dmin_to t j
-left_of First t p q j = least_first_send t p + dmin_to t j
+abbrev pub left_side : Which → Timing → (p q : ℕ → ℕ) → (j : ℕ) → ℕ
+left_side Execute t p q j = q j * tmin_of t j
+left_side Send t p q j = least_cycle t p q + dmin_to t j
+left_side First t p q j = least_first_send t p + dmin_to t j
 
-abbrev pub right_of : Which → Timing → (q : ℕ → ℕ) → (j : ℕ) → ℕ
-right_of Execute t q j = gather_time t j
-right_of Send t q j = answer_time t j + q j * tmax_of t j
-right_of First t q j = tmax_of t j
+abbrev pub right_side : Which → Timing → (q : ℕ → ℕ) → (j : ℕ) → ℕ
+right_side Execute t q j = gather_time t j
+right_side Send t q j = answer_time t j + q j * tmax_of t j
+right_side First t q j = tmax_of t j
 
 -- strictly, since events of one tick may stand in either order
-abbrev pub Holds : Which → Timing → (p q : ℕ → ℕ) → (j : ℕ) → Type 0
-Holds w t p q j = right_of w t q j < left_of w t p q j
+abbrev pub InequalityHolds : Which → Timing → (p q : ℕ → ℕ) → (j : ℕ) → Type 0
+InequalityHolds w t p q j = right_side w t q j < left_side w t p q j
 
 -- with these countdowns the bounds are accepted as a time-based setup; one node alone always is
 abbrev pub Meets : Timing → (p q : ℕ → ℕ) → Type 0
-Meets t p q = 2 ≤ count_of t → (w : Which) (j : ℕ) → j < count_of t → Holds w t p q j
+Meets t p q = 2 ≤ count_of t → (w : Which) (j : ℕ) → j < count_of t → InequalityHolds w t p q j
 
 -- back-pressure always is
 abbrev pub Accepts : Timing → Type 0
 Accepts t = t.protocol ≡ TimeBased → Meets t (send_of t) (execute_of t)
 
 -- the inequalities in their order
-abbrev pub rank : Which → ℕ
-rank Execute = 0
-rank Send = 1
-rank First = 2
+abbrev pub inequality_rank : Which → ℕ
+inequality_rank Execute = 0
+inequality_rank Send = 1
+inequality_rank First = 2
 
 -- this inequality fails at the fault's node and at none before it, with these two sides
 pub record IsFaultOf (w : Which) (t : Timing) (f : TimingFault) : Type 0 where
   pub which : f.which ≡ w
   pub node_in : f.node < count_of t
-  pub left : f.left ≡ left_of w t (send_of t) (execute_of t) f.node
-  pub right : f.right ≡ right_of w t (execute_of t) f.node
+  pub left : f.left ≡ left_side w t (send_of t) (execute_of t) f.node
+  pub right : f.right ≡ right_side w t (execute_of t) f.node
   pub fails : f.left ≤ f.right
-  pub lower : (j : ℕ) → j < f.node → Holds w t (send_of t) (execute_of t) j
+  pub lower : (j : ℕ) → j < f.node → InequalityHolds w t (send_of t) (execute_of t) j
 
 -- and each inequality before it holds of every node
-pub record IsFirstFault (t : Timing) (f : TimingFault) : Type 0 where
+pub record IsFirstTimingFault (t : Timing) (f : TimingFault) : Type 0 where
   pub time_based : t.protocol ≡ TimeBased
   pub several : 2 ≤ count_of t
   pub fault : IsFaultOf f.which t f
-  pub before : (w : Which) (j : ℕ) → rank w < rank f.which → j < count_of t → Holds w t (send_of t) (execute_of t) j
+  pub before : (w : Which) (j : ℕ) → inequality_rank w < inequality_rank f.which → j < count_of t → InequalityHolds w t (send_of t) (execute_of t) j
 
 -- a timing with a first fault is not accepted, and there is at most one
 pub record AreFaults (t : Timing) : Type 0 where
-  pub refuses : (f : TimingFault) → IsFirstFault t f → Accepts t → ⊥
-  pub one : (f g : TimingFault) → IsFirstFault t f → IsFirstFault t g → (f.which ≡ g.which) × (f.node ≡ g.node) × (f.left ≡ g.left) × (f.right ≡ g.right)
+  pub refuses : (f : TimingFault) → IsFirstTimingFault t f → Accepts t → ⊥
+  pub one : (f g : TimingFault) → IsFirstTimingFault t f → IsFirstTimingFault t g → (f.which ≡ g.which) × (f.node ≡ g.node) × (f.left ≡ g.left) × (f.right ≡ g.right)
 
 -- the inequalities for each node and each pair
 pub record MeetsEach (t : Timing) (p q : ℕ → ℕ) : Type 0 where

@@ -9,6 +9,6 @@ pub mod laws;
 mod sides;
 
 pub use acceptance::accepts;
-pub use bounds::{bound, cycle};
+pub use bounds::{back_pressure_bound, back_pressure_cycle, bound, cycle, instants_by};
 pub use countdowns::least;
 pub use fault::{TimingFault, Which};

@@ -1,7 +1,7 @@
 // The sides of the inequalities.
 ghost use Rattle.std.specs.Prelude.{◌≡◌, ℕ, ◌≤◌, ◌<◌, ◌*◌, length};
 ghost use Rattle.lt_arch.specs.Readers.{send_of, execute_of};
-ghost use Rattle.lt_timing.specs.Accepts.{dmax_to, dmin_to, answer_time, gather_time, least_cycle, least_first_send, left_of, right_of};
+ghost use Rattle.lt_timing.specs.Accepts.{dmax_to, dmin_to, answer_time, gather_time, least_cycle, least_first_send, left_side, right_side};
 
 use crate::Which;
 use lt_arch::Timing;
@@ -11,8 +11,8 @@ use std::cmp::{max, min};
 pub fn sides(which: Which, timing: &Timing, j: u32) -> (u128, u128)
     requires node { j < length timing.now.nodes }
     requires several { 2 ≤ length timing.now.nodes }
-    ensures left { result.0 ≡ left_of which timing.now (send_of timing.now) (execute_of timing.now) j }
-    ensures right { result.1 ≡ right_of which timing.now (execute_of timing.now) j }
+    ensures left { result.0 ≡ left_side which timing.now (send_of timing.now) (execute_of timing.now) j }
+    ensures right { result.1 ≡ right_side which timing.now (execute_of timing.now) j }
 {
     match which {
         Which::Execute => (

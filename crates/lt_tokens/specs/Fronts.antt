@@ -4,7 +4,7 @@ use Rattle.lt_tokens.specs.declared.front.Front as code
 use Rattle.lt_tokens.specs.declared.front.Front.TheVariants as variants
 use Rattle.lt_tokens.specs.declared.token.Token.{Token}
 use Rattle.lt_tokens.specs.declared.token.Token.TheVariants as token
-use Rattle.lt_tokens.specs.Text.{Front, Over, Begins, BadByte, BadNumber, greatest}
+use Rattle.lt_tokens.specs.Text.{Front, Over, Begins, BadByte, BadNumber, greatest_number}
 
 -- a token with the number of its bytes, as the token with the bytes behind it
 abbrev pub front_of : code.Front → List ℕ → Front
@@ -15,7 +15,7 @@ front_of variants.BadNumber bytes = BadNumber
 
 -- a token's number is one of the language
 abbrev pub IsSmall : Token → Type 0
-IsSmall (token.Number n) = n ≤ greatest
+IsSmall (token.Number n) = n ≤ greatest_number
 IsSmall _ = ⊤
 
 -- a token has bytes, and no more than there are, and a number is one of the language

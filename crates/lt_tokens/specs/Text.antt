@@ -49,8 +49,8 @@ value_on n [] = n
 value_on n (d ∷ ds) = value_on (n * 10 + (d - 48)) ds
 
 -- the greatest number of a text
-abbrev pub greatest : ℕ
-greatest = 9223372036854775807
+abbrev pub greatest_number : ℕ
+greatest_number = 9223372036854775807
 
 -- symbols of two bytes: => <> <= >= ->
 abbrev pub pair : ℕ → List ℕ → Option Infix
@@ -90,7 +90,7 @@ abbrev pub word : List ℕ → List ℕ → Front
 word s rest = Begins (word_of s) rest
 
 abbrev pub number : List ℕ → List ℕ → Front
-number s rest = if nat_le (value_on 0 s) greatest then Begins (token.Number (value_on 0 s)) rest else BadNumber
+number s rest = if nat_le (value_on 0 s) greatest_number then Begins (token.Number (value_on 0 s)) rest else BadNumber
 
 -- the longest front whose bytes all pass, and the rest
 abbrev pub span : (ℕ → Bool) → List ℕ → (List ℕ → List ℕ → Front) → Front

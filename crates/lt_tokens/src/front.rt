@@ -23,7 +23,7 @@ const GREATEST: u128 = 9223372036854775807;
 
 /// The value of some digits, if it is a number of the language.
 fn value(digits: &[u8]) -> Option<u64>
-    ensures { MatchOption result (text.greatest < text.value_on 0 digits.now) (λ n. (n ≡ text.value_on 0 digits.now) × (n ≤ text.greatest)) }
+    ensures { MatchOption result (text.greatest_number < text.value_on 0 digits.now) (λ n. (n ≡ text.value_on 0 digits.now) × (n ≤ text.greatest_number)) }
 {
     let mut n: u64 = 0;
     for d in digits {

@@ -1,13 +1,13 @@
 -- A number, read from the left.
 use Rattle.std.proofs.Common.{◌≡◌, ℕ, ◌+◌, ◌-◌, ◌*◌, ◌≤◌, ◌<◌, Bool, true, false, if◌then◌else◌, ◌&&◌, List, [], ◌∷◌, length, Option, Some, None, refl, arith, nat_le}
 use Rattle.std.specs.Prelude.{◌==◌, unwrap_or}
-use Rattle.lt_words.specs.Numbers.{is_digit, all_digits, read_on, number_of, up_to, number_text}
+use Rattle.lt_words.specs.Numbers.{is_digit, all_digits, read_on, number_of_digits, up_to, number_text}
 
 -- the number, read on from n over the rest of the digits
 abbrev pub read_rest : ℕ → List ℕ → Option ℕ
 read_rest n cs = if all_digits cs then Some (read_on n cs) else None
 
-pub at_start : (bs : List ℕ) → 0 < length bs → number_of bs ≡ read_rest 0 bs
+pub at_start : (bs : List ℕ) → 0 < length bs → number_of_digits bs ≡ read_rest 0 bs
 at_start [] h = absurd (omega arith)
 at_start (c ∷ cs) h = refl
 
@@ -61,4 +61,4 @@ up_to-bounded most (Some n) = by (nat_le n most) refl
 
 pub number_text-bounded : (most : ℕ) (text : List ℕ) → number_text most text ≤ most
 number_text-bounded most [] = omega arith
-number_text-bounded most (c ∷ cs) = up_to-bounded most (number_of (if c == 43 then cs else c ∷ cs))
+number_text-bounded most (c ∷ cs) = up_to-bounded most (number_of_digits (if c == 43 then cs else c ∷ cs))

@@ -7,7 +7,7 @@ use Rattle.lt_words.specs.declared.command.Command.{Command}
 use Rattle.lt_words.specs.Commands.{program_app}
 use Rattle.lt_words.specs.Reading.{Said, said, said_of, unless_faulty, command_of}
 use Rattle.lt_words.specs.Ranges.{HasRanges}
-use Rattle.lt_words.specs.Told.{Told}
+use Rattle.lt_words.specs.Told.{ToldCommand}
 
 chosen : {A : Type 0} (faults : List A) (o : Option Said) → faults ≡ [] → o ≡ unless_faulty faults o
 chosen [] o e = refl
@@ -17,17 +17,17 @@ not_chosen : {A : Type 0} (faults : List A) (o : Option Said) → faults ≢ [] 
 not_chosen [] o e = absurd (e refl)
 not_chosen (x ∷ xs) o e = refl
 
-pub is_said : (words : List Text) (r : Result (Option Command) Memory) → Told words r → IfOk r (λ command. option_map said_of command ≡ command_of words)
+pub is_said : (words : List Text) (r : Result (Option Command) Memory) → ToldCommand words r → IfOk r (λ command. option_map said_of command ≡ command_of words)
 is_said words (Ok (Some c)) told = sym told.0 ∙ chosen (fault_of program_app words) (said words) told.1
 is_said words (Ok None) told = not_chosen (fault_of program_app words) (said words) told.1
 is_said words (Err e) told = tt
 
-pub is_refused : (words : List Text) (r : Result (Option Command) Memory) → Told words r → r ≡ Ok None → takes program_app words ≢ true
+pub is_refused : (words : List Text) (r : Result (Option Command) Memory) → ToldCommand words r → r ≡ Ok None → takes program_app words ≢ true
 is_refused words (Ok (Some c)) told e = cc
 is_refused words (Ok None) told e = told.0
 is_refused words (Err x) told e = cc
 
-pub in_ranges : (words : List Text) (r : Result (Option Command) Memory) → Told words r → IfOk r (λ command. IfSome command HasRanges)
+pub in_ranges : (words : List Text) (r : Result (Option Command) Memory) → ToldCommand words r → IfOk r (λ command. IfSome command HasRanges)
 in_ranges words (Ok (Some c)) told = told.2
 in_ranges words (Ok None) told = tt
 in_ranges words (Err e) told = tt

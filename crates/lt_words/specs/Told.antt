@@ -8,7 +8,7 @@ use Rattle.lt_words.specs.Reading.{said, said_of}
 use Rattle.lt_words.specs.Ranges.{HasRanges}
 
 -- a command only as the words say, without a fault and with its numbers in their ranges; none only of words that are not taken
-abbrev pub Told : List Text → Result (Option Command) Memory → Type 0
-Told words (Ok (Some c)) = (said words ≡ Some (said_of c)) × (fault_of program_app words ≡ []) × HasRanges c
-Told words (Ok None) = (takes program_app words ≢ true) × (fault_of program_app words ≢ [])
-Told words (Err e) = Unit {0}
+abbrev pub ToldCommand : List Text → Result (Option Command) Memory → Type 0
+ToldCommand words (Ok (Some c)) = (said words ≡ Some (said_of c)) × (fault_of program_app words ≡ []) × HasRanges c
+ToldCommand words (Ok None) = (takes program_app words ≢ true) × (fault_of program_app words ≢ [])
+ToldCommand words (Err e) = Unit {0}

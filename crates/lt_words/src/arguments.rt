@@ -1,7 +1,7 @@
 // Arguments, and how a command takes them.
 ghost use Rattle.std.specs.Prelude.{◌≡◌, false, IfOk};
 ghost use Rattle.clap.specs.Words.{App, rule_of, with_rule, with_subcommand};
-ghost use Rattle.lt_words.specs.Local.{IsLocal, IsMadeAs, Makes};
+ghost use Rattle.lt_words.specs.Local.{HasNoGlobals, IsMadeAs, MakesCommand};
 ghost use Rattle.lt_words.specs.Commands.{text_rule, optional_rule, number_rule, needed_number_rule, counted_rule, name_rule};
 
 use clap::builder::ValueParser;
@@ -44,7 +44,7 @@ pub fn needed_number<'a>(alloc: Global, id: &'a str, most: u64) -> Arg<'a>
 }
 
 /// A whole number from 1 up to a bound that a command needs.
-pub fn counted<'a>(alloc: Global, id: &'a str, most: u64) -> Arg<'a>
+pub fn count_argument<'a>(alloc: Global, id: &'a str, most: u64) -> Arg<'a>
     ensures rule { rule_of result ≡ counted_rule id.entry.now most }
     ensures local { result.global ≡ false }
 {
@@ -62,7 +62,7 @@ pub fn name<'a>(alloc: Global, id: &'a str) -> Arg<'a>
 /// The command with one more argument.
 fn add_argument<'a>(command: Command<'a>, argument: Arg<'a>) -> Result<Command<'a>, Memory>
     requires { argument.global ≡ false }
-    ensures { (app : App) → IsMadeAs app command.entry → Makes (with_rule app (rule_of argument.entry)) result }
+    ensures { (app : App) → IsMadeAs app command.entry → MakesCommand (with_rule app (rule_of argument.entry)) result }
 {
     Ok(command.arg(argument)?)
 }
@@ -73,7 +73,7 @@ pub fn with_argument<'a>(
     argument: Arg<'a>,
 ) -> Result<Command<'a>, Memory>
     requires { argument.global ≡ false }
-    ensures { (app : App) → Makes app command.entry → Makes (with_rule app (rule_of argument.entry)) result }
+    ensures { (app : App) → MakesCommand app command.entry → MakesCommand (with_rule app (rule_of argument.entry)) result }
 {
     match command {
         Ok(command) => add_argument(command, argument),
@@ -86,8 +86,8 @@ pub fn with_argument<'a>(
 
 /// The command with one more command below it.
 fn add_command<'a>(command: Command<'a>, below: Command<'a>) -> Result<Command<'a>, Memory>
-    requires { IsLocal below }
-    ensures { (app down : App) → IsMadeAs app command.entry → IsMadeAs down below.entry → Makes (with_subcommand app down.top) result }
+    requires { HasNoGlobals below }
+    ensures { (app down : App) → IsMadeAs app command.entry → IsMadeAs down below.entry → MakesCommand (with_subcommand app down.top) result }
 {
     Ok(command.subcommand(below)?)
 }
@@ -97,8 +97,8 @@ fn add_made<'a>(
     command: Command<'a>,
     below: Result<Command<'a>, Memory>,
 ) -> Result<Command<'a>, Memory>
-    requires { IfOk below IsLocal }
-    ensures { (app down : App) → IsMadeAs app command.entry → Makes down below.entry → Makes (with_subcommand app down.top) result }
+    requires { IfOk below HasNoGlobals }
+    ensures { (app down : App) → IsMadeAs app command.entry → MakesCommand down below.entry → MakesCommand (with_subcommand app down.top) result }
 {
     match below {
         Ok(below) => add_command(command, below),
@@ -114,8 +114,8 @@ pub fn with_command<'a>(
     command: Result<Command<'a>, Memory>,
     below: Result<Command<'a>, Memory>,
 ) -> Result<Command<'a>, Memory>
-    requires { IfOk below IsLocal }
-    ensures { (app down : App) → Makes app command.entry → Makes down below.entry → Makes (with_subcommand app down.top) result }
+    requires { IfOk below HasNoGlobals }
+    ensures { (app down : App) → MakesCommand app command.entry → MakesCommand down below.entry → MakesCommand (with_subcommand app down.top) result }
 {
     match command {
         Ok(command) => add_made(command, below),

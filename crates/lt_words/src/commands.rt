@@ -1,12 +1,12 @@
 // The commands of the program, as `clap` is told of them.
 ghost use Rattle.std.specs.Prelude.{IfOk};
 ghost use Rattle.clap.specs.Words.{App, new_app};
-ghost use Rattle.lt_words.specs.Local.{IsMadeAs, Makes};
+ghost use Rattle.lt_words.specs.Local.{IsMadeAs, MakesCommand};
 ghost use Rattle.lt_words.specs.Commands.{check_app, meaning_app, run_app, plan_app, fed_app, scheduled_app, placed_app, sim_app, big_app, replayed_app, watch_app, audit_app, trace_app};
 ghost use Rattle.lt_words.specs.Commands.{with_programs, with_drawings, with_views, bare_app, program_app};
 
 use crate::arguments::{
-    counted, name, needed_number, number, optional_text, text, with_argument, with_command,
+    count_argument, name, needed_number, number, optional_text, text, with_argument, with_command,
 };
 use clap::Command;
 use lt_base::Memory;
@@ -20,105 +20,114 @@ pub const MOST_INSTANTS: u64 = 100_000;
 
 // A command of this name that takes nothing yet.
 fn plain<'a>(alloc: Global, name: &'a str) -> Result<Command<'a>, Memory>
-    ensures { Makes (new_app name.entry.now) result }
+    ensures { MakesCommand (new_app name.entry.now) result }
 {
     Ok(Command::new(alloc, name))
 }
 
 fn check<'a>(alloc: Global) -> Result<Command<'a>, Memory>
-    ensures { Makes check_app result }
+    ensures { MakesCommand check_app result }
 {
     let command = with_argument(plain(alloc, "check"), text(alloc, "program"));
     with_argument(command, optional_text(alloc, "config"))
 }
 
 // A command of this name on a program and its inputs.
-fn fed<'a>(alloc: Global, name: &'a str) -> Result<Command<'a>, Memory>
-    ensures { Makes (fed_app name.entry.now) result }
+fn command_on_inputs<'a>(alloc: Global, name: &'a str) -> Result<Command<'a>, Memory>
+    ensures { MakesCommand (fed_app name.entry.now) result }
 {
     let command = with_argument(plain(alloc, name), text(alloc, "program"));
     with_argument(command, text(alloc, "inputs"))
 }
 
 // A command of this name on a program, its inputs and a schedule.
-fn scheduled<'a>(alloc: Global, name: &'a str) -> Result<Command<'a>, Memory>
-    ensures { Makes (scheduled_app name.entry.now) result }
+fn command_on_schedule<'a>(alloc: Global, name: &'a str) -> Result<Command<'a>, Memory>
+    ensures { MakesCommand (scheduled_app name.entry.now) result }
 {
-    with_argument(fed(alloc, name), text(alloc, "schedule"))
+    with_argument(command_on_inputs(alloc, name), text(alloc, "schedule"))
 }
 
 fn meaning<'a>(alloc: Global) -> Result<Command<'a>, Memory>
-    ensures { Makes meaning_app result }
+    ensures { MakesCommand meaning_app result }
 {
-    fed(alloc, "meaning")
+    command_on_inputs(alloc, "meaning")
 }
 
 fn run<'a>(alloc: Global) -> Result<Command<'a>, Memory>
-    ensures { Makes run_app result }
+    ensures { MakesCommand run_app result }
 {
-    with_argument(scheduled(alloc, "run"), optional_text(alloc, "config"))
+    with_argument(
+        command_on_schedule(alloc, "run"),
+        optional_text(alloc, "config"),
+    )
 }
 
 fn plan<'a>(alloc: Global) -> Result<Command<'a>, Memory>
-    ensures { Makes plan_app result }
+    ensures { MakesCommand plan_app result }
 {
     let command = with_argument(plain(alloc, "plan"), text(alloc, "config"));
     with_argument(command, number(alloc, "horizon", GREATEST_TIME))
 }
 
 // A command of this name on a program, its inputs and a setup.
-fn placed<'a>(alloc: Global, name: &'a str) -> Result<Command<'a>, Memory>
-    ensures { Makes (placed_app name.entry.now) result }
+fn command_on_setup<'a>(alloc: Global, name: &'a str) -> Result<Command<'a>, Memory>
+    ensures { MakesCommand (placed_app name.entry.now) result }
 {
-    with_argument(fed(alloc, name), text(alloc, "config"))
+    with_argument(command_on_inputs(alloc, name), text(alloc, "config"))
 }
 
 fn sim<'a>(alloc: Global) -> Result<Command<'a>, Memory>
-    ensures { Makes sim_app result }
+    ensures { MakesCommand sim_app result }
 {
-    let command = with_argument(placed(alloc, "sim"), needed_number(alloc, "seed", u64::MAX));
+    let command = with_argument(
+        command_on_setup(alloc, "sim"),
+        needed_number(alloc, "seed", u64::MAX),
+    );
     with_argument(command, needed_number(alloc, "horizon", GREATEST_TIME))
 }
 
 fn big<'a>(alloc: Global) -> Result<Command<'a>, Memory>
-    ensures { Makes big_app result }
+    ensures { MakesCommand big_app result }
 {
     with_argument(
         plain(alloc, "big"),
-        counted(alloc, "instants", MOST_INSTANTS),
+        count_argument(alloc, "instants", MOST_INSTANTS),
     )
 }
 
 // A command of this name on a program, its inputs, a schedule and one file more.
-fn replayed<'a>(alloc: Global, name: &'a str, file: &'a str) -> Result<Command<'a>, Memory>
-    ensures { Makes (replayed_app name.entry.now file.entry.now) result }
+fn command_on_file<'a>(alloc: Global, name: &'a str, file: &'a str) -> Result<Command<'a>, Memory>
+    ensures { MakesCommand (replayed_app name.entry.now file.entry.now) result }
 {
-    with_argument(scheduled(alloc, name), text(alloc, file))
+    with_argument(command_on_schedule(alloc, name), text(alloc, file))
 }
 
 fn watch<'a>(alloc: Global) -> Result<Command<'a>, Memory>
-    ensures { Makes watch_app result }
+    ensures { MakesCommand watch_app result }
 {
-    let command = replayed(alloc, "watch", "observer");
+    let command = command_on_file(alloc, "watch", "observer");
     with_argument(command, optional_text(alloc, "config"))
 }
 
 fn audit<'a>(alloc: Global) -> Result<Command<'a>, Memory>
-    ensures { Makes audit_app result }
+    ensures { MakesCommand audit_app result }
 {
-    replayed(alloc, "audit", "config")
+    command_on_file(alloc, "audit", "config")
 }
 
 fn trace<'a>(alloc: Global) -> Result<Command<'a>, Memory>
-    ensures { Makes trace_app result }
+    ensures { MakesCommand trace_app result }
 {
-    let command = with_argument(replayed(alloc, "trace", "config"), name(alloc, "node"));
+    let command = with_argument(
+        command_on_file(alloc, "trace", "config"),
+        name(alloc, "node"),
+    );
     let command = with_argument(command, number(alloc, "from", GREATEST_TIME));
     with_argument(command, number(alloc, "to", GREATEST_TIME))
 }
 
 fn bare<'a>(alloc: Global) -> Result<Command<'a>, Memory>
-    ensures { Makes bare_app result }
+    ensures { MakesCommand bare_app result }
 {
     let command = Command::new(alloc, "ltta")
         .no_binary_name(true)
@@ -133,7 +142,7 @@ fn with_programs<'a>(
     alloc: Global,
     command: Result<Command<'a>, Memory>,
 ) -> Result<Command<'a>, Memory>
-    ensures { (app : App) → Makes app command.entry → Makes (with_programs app) result }
+    ensures { (app : App) → MakesCommand app command.entry → MakesCommand (with_programs app) result }
 {
     let command = with_command(command, check(alloc));
     let command = with_command(command, meaning(alloc));
@@ -146,7 +155,7 @@ fn with_drawings<'a>(
     alloc: Global,
     command: Result<Command<'a>, Memory>,
 ) -> Result<Command<'a>, Memory>
-    ensures { (app : App) → Makes app command.entry → Makes (with_drawings app) result }
+    ensures { (app : App) → MakesCommand app command.entry → MakesCommand (with_drawings app) result }
 {
     let command = with_command(command, sim(alloc));
     with_command(command, big(alloc))
@@ -157,7 +166,7 @@ fn with_views<'a>(
     alloc: Global,
     command: Result<Command<'a>, Memory>,
 ) -> Result<Command<'a>, Memory>
-    ensures { (app : App) → Makes app command.entry → Makes (with_views app) result }
+    ensures { (app : App) → MakesCommand app command.entry → MakesCommand (with_views app) result }
 {
     let command = with_command(command, watch(alloc));
     let command = with_command(command, audit(alloc));
@@ -166,7 +175,7 @@ fn with_views<'a>(
 
 /// The program's command, with those below it.
 pub fn program<'a>(alloc: Global) -> Result<Command<'a>, Memory>
-    ensures { Makes program_app result }
+    ensures { MakesCommand program_app result }
 {
     let command = with_programs(alloc, bare(alloc));
     let command = with_drawings(alloc, command);

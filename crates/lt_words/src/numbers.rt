@@ -1,11 +1,11 @@
 // Numbers in the words.
 ghost use Rattle.std.specs.Prelude.{◌≡◌, ◌≤◌};
-ghost use Rattle.lt_words.specs.Numbers.{number_of, up_to, number_text};
+ghost use Rattle.lt_words.specs.Numbers.{number_of_digits, up_to, number_text};
 
 // The number that some digits are, up to a bound.
 fn number(bytes: &[u8], most: u64) -> Option<u64>
     requires digit { 9 ≤ most }
-    ensures { result ≡ up_to most (number_of bytes.now) }
+    ensures { result ≡ up_to most (number_of_digits bytes.now) }
 {
     if bytes.is_empty() {
         return None;

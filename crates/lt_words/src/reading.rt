@@ -7,7 +7,7 @@ ghost use Rattle.lt_words.specs.Commands.{program_app};
 ghost use Rattle.lt_words.specs.Numbers.{number_text};
 ghost use Rattle.lt_words.specs.Reading.{said_of, said_by, said_besides, command_of};
 ghost use Rattle.lt_words.specs.Ranges.{HasRanges};
-ghost use Rattle.lt_words.specs.Told.{Told};
+ghost use Rattle.lt_words.specs.Told.{ToldCommand};
 
 use crate::Command;
 use crate::commands::{GREATEST_TIME, MOST_INSTANTS, program};
@@ -189,7 +189,7 @@ fn trace<'a>(matches: &ArgMatches<'a>) -> Command<'a>
 }
 
 // The command of the matches, if they have one.
-fn found<'a>(matches: ArgMatches<'a>) -> Option<Command<'a>>
+fn found_command<'a>(matches: ArgMatches<'a>) -> Option<Command<'a>>
     ensures said { option_map said_of result ≡ option_map (λ p. said_by p.0 p.1) (subcommand_rows_of matches.entry) }
     ensures ranges { IfSome result HasRanges }
     ensures variant { is_some result ≡ has_subcommand matches.entry }
@@ -203,25 +203,28 @@ fn found<'a>(matches: ArgMatches<'a>) -> Option<Command<'a>>
 }
 
 // The command that the words say, if this one takes them.
-fn taken<'a>(command: ClapCommand<'a>, words: &'a [String]) -> Result<Option<Command<'a>>, Memory>
+fn take_words<'a>(
+    command: ClapCommand<'a>,
+    words: &'a [String],
+) -> Result<Option<Command<'a>>, Memory>
     requires { IsMadeAs program_app command }
-    ensures { Told (map string_bytes words.entry.now) result }
+    ensures { ToldCommand (map string_bytes words.entry.now) result }
 {
     match command.try_get_matches_from(words) {
-        Ok(matches) => Ok(found(matches)),
-        Err(error) => refused(error),
+        Ok(matches) => Ok(found_command(matches)),
+        Err(error) => refuse_words(error),
     }
 }
 
 // The command that the words say, if `clap` takes them.
 fn read<'a>(alloc: Global, words: &'a [String]) -> Result<Option<Command<'a>>, Memory>
-    ensures { Told (map string_bytes words.entry.now) result }
+    ensures { ToldCommand (map string_bytes words.entry.now) result }
 {
-    taken(program(alloc)?, words)
+    take_words(program(alloc)?, words)
 }
 
 // Words that `clap` refuses say no command, but for its own want of memory.
-fn refused<'a>(error: Error) -> Result<Option<Command<'a>>, Memory>
+fn refuse_words<'a>(error: Error) -> Result<Option<Command<'a>>, Memory>
     ensures none { IfOk result (λ command. command ≡ None) }
     ensures refused { OnOk result (kind_of error ≢ ErrorKind.OutOfMemory) }
     ensures memory { OnErr result (kind_of error ≡ ErrorKind.OutOfMemory) }

@@ -1,6 +1,6 @@
 use Rattle.std.proofs.Common.{◌+◌, ◌/◌, ◌∙◌, arith, ap}
 use Rattle.std.proofs.lemmas.List.{get_or-set_same}
-use Rattle.lt_arch.specs.Queue.{entry_at, no_entry}
+use Rattle.lt_arch.specs.Queue.{queue_slot, no_entry}
 use Rattle.lt_arch.proofs.Raising.{raised-init, raised-step, raised-least, paid-init, paid-step}
 use Rattle.lt_arch.proofs.deadlines.raise_to_root.Goals as goal
 
@@ -19,7 +19,7 @@ loop-i-preserved g c = record {
   raised =
       rw c.place_entry-in-loop-i.ensures.entries
       (raised-step c.args.entries.now c.loop-i.entries c.args.places c.args.place c.loop-i.i c.args.e c.lesser_by_sum-least.result c.loop-i.invariant.raised c.requires.place c.loop-i-test.true c.loop-i.invariant.high
-      (c.lesser_by_sum-least.ensures.value ∙ raised-least c.loop-i.entries c.loop-i.i c.loop-i.least c.entry.result c.loop-i.invariant.least (c.entry.ensures.entry ∙ ap (entry_at c.loop-i.entries) c.beside.ensures)));
+      (c.lesser_by_sum-least.ensures.value ∙ raised-least c.loop-i.entries c.loop-i.i c.loop-i.least c.entry.result c.loop-i.invariant.least (c.entry.ensures.entry ∙ ap (queue_slot c.loop-i.entries) c.beside.ensures)));
   least = rw c.place_entry-in-loop-i.ensures.entries (get_or-set_same c.loop-i.entries (c.loop-i.i / 2) c.lesser_by_sum-least.result no_entry (omega (arith, c.loop-i.invariant.raised.size, c.loop-i.invariant.high, c.requires.place)));
   bound = c.lesser_by_sum-least.ensures.bound;
   low = omega (arith, c.loop-i-test.true);

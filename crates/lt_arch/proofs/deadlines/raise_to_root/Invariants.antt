@@ -1,6 +1,6 @@
 -- Only what stands above the entry that was written last is still to be written.
 use Rattle.std.proofs.Common.{ℕ, ◌≡◌, ◌*◌, ◌^◌, ◌<◌, ◌≤◌}
-use Rattle.lt_arch.specs.Queue.{entry_at, no_entry, IsRaised}
+use Rattle.lt_arch.specs.Queue.{queue_slot, no_entry, IsRaised}
 use Rattle.lt_arch.proofs.Raising.{IsPaid}
 use Rattle.lt_arch.proofs.deadlines.raise_to_root.Given as goal
 
@@ -8,7 +8,7 @@ abbrev pub invariant-loop-i : goal.invariant-loop-i
 invariant-loop-i g l = record {
   raised : IsRaised l.fn.entries l.entries l.places l.place l.i l.fn.e;
   -- what was written last is at hand
-  least : entry_at l.entries l.i ≡ l.least;
+  least : queue_slot l.entries l.i ≡ l.least;
   bound : l.least ≤ no_entry;
   low : 1 ≤ l.i;
   high : l.i < 2 * l.places;

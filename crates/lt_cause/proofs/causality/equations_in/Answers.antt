@@ -13,7 +13,7 @@ index-requires c =
     let i = c.loop-x.x-index in
     let x = get_or order i 0 in
     let sorts = subst (λ (o : List ℕ). Sorts (Depends f) (length f.decls) o) (sym c.deref-x-items.ensures.value) c.requires.sorts in
-    let l = x_inside f c.kept.ensures order sorts i x c.loop-x-test.true (get_or_default order i 0 x c.loop-x-test.true) c.loop-x.eqs c.loop-x.invariant in
+    let l = x_inside f c.invariant_holds.ensures order sorts i x c.loop-x-test.true (get_or_default order i 0 x c.loop-x-test.true) c.loop-x.eqs c.loop-x.invariant in
     let n = c.in_ok-numbers.ensures.size in
     let k = c.in_ok-numbers.numbers.ok.0 in
     omega (arith, l, n, k)
@@ -26,7 +26,7 @@ loop-x-preserved-in_default c =
     let x = get_or order i 0 in
     let sorts = subst (λ (o : List ℕ). Sorts (Depends f) (length f.decls) o) (sym c.deref-x-items.ensures.value) c.requires.sorts in
     MatchOption-at_none (Picked f order (i + 1) c.loop-x.eqs) (λ m. Picked f order (i + 1) (c.loop-x.eqs ++ m ∷ [])) c.in_default.is
-    (picks f c.kept.ensures order sorts i x c.loop-x-test.true (get_or_default order i 0 x c.loop-x-test.true) c.loop-x.eqs c.loop-x.invariant c.in_ok-numbers.numbers.items c.in_ok-numbers.ensures c.index.result.now c.index.ensures)
+    (picks f c.invariant_holds.ensures order sorts i x c.loop-x-test.true (get_or_default order i 0 x c.loop-x-test.true) c.loop-x.eqs c.loop-x.invariant c.in_ok-numbers.numbers.items c.in_ok-numbers.ensures c.index.result.now c.index.ensures)
 
 pub loop-x-preserved : goal.loop-x-preserved
 loop-x-preserved c =
@@ -37,11 +37,11 @@ loop-x-preserved c =
     let sorts = subst (λ (o : List ℕ). Sorts (Depends f) (length f.decls) o) (sym c.deref-x-items.ensures.value) c.requires.sorts in
     subst (Picked f order (i + 1)) (sym c.in_ok-push.ensures.ok)
     (MatchOption-at_some (Picked f order (i + 1) c.loop-x.eqs) (λ m. Picked f order (i + 1) (c.loop-x.eqs ++ m ∷ [])) c.in-Some.number c.in-Some.is
-    (picks f c.kept.ensures order sorts i x c.loop-x-test.true (get_or_default order i 0 x c.loop-x-test.true) c.loop-x.eqs c.loop-x.invariant c.in_ok-numbers.numbers.items c.in_ok-numbers.ensures c.index.result.now c.index.ensures))
+    (picks f c.invariant_holds.ensures order sorts i x c.loop-x-test.true (get_or_default order i 0 x c.loop-x-test.true) c.loop-x.eqs c.loop-x.invariant c.in_ok-numbers.numbers.items c.in_ok-numbers.ensures c.index.result.now c.index.ensures))
 
 pub returns : goal.returns
 returns c =
     let f = c.args.f.now in
     let order = c.deref-x-items.result.now in
     let sorts = subst (λ (o : List ℕ). Sorts (Depends f) (length f.decls) o) (sym c.deref-x-items.ensures.value) c.requires.sorts in
-    all_picked f c.kept.ensures order c.loop-x.eqs c.loop-x.x-index sorts c.loop-x-test.false c.loop-x.invariant
+    all_picked f c.invariant_holds.ensures order c.loop-x.eqs c.loop-x.x-index sorts c.loop-x-test.false c.loop-x.invariant

@@ -10,8 +10,8 @@ index-requires c =
     let g = c.args.table.now in
     let x = c.args.number in
     let names = c.args.names.now.items in
-    let items = c.as_slice-next-items.result.now in
-    let row : items ≡ next g x = c.as_slice-next-items.ensures ∙ c.index-as_slice-number.is ∙ ap (λ t. get_or t x c.index-as_slice-number.result) c.as_slice.ensures ∙ get_or_default g x c.index-as_slice-number.result [] c.requires.number in
+    let items = c.deref-next-items.result.now in
+    let row : items ≡ next g x = c.deref-next-items.ensures ∙ c.index-deref-number.is ∙ ap (λ t. get_or t x c.index-deref-number.result) c.deref.ensures ∙ get_or_default g x c.index-deref-number.result [] c.requires.number in
     let i = c.loop-next.next-index in
     let long : i < length (next g x) = let l = c.loop-next-test.true in let n = ap length row in omega (arith, l, n) in
     let y = get_or items i 0 in
@@ -27,8 +27,8 @@ returns-then-index c =
     let g = c.args.table.now in
     let x = c.args.number in
     let names = c.args.names.now.items in
-    let items = c.as_slice-next-items.result.now in
-    let row : items ≡ next g x = c.as_slice-next-items.ensures ∙ c.index-as_slice-number.is ∙ ap (λ t. get_or t x c.index-as_slice-number.result) c.as_slice.ensures ∙ get_or_default g x c.index-as_slice-number.result [] c.requires.number in
+    let items = c.deref-next-items.result.now in
+    let row : items ≡ next g x = c.deref-next-items.ensures ∙ c.index-deref-number.is ∙ ap (λ t. get_or t x c.index-deref-number.result) c.deref.ensures ∙ get_or_default g x c.index-deref-number.result [] c.requires.number in
     let i = c.loop-next.next-index in
     let long : i < length (next g x) = let l = c.loop-next-test.true in let n = ap length row in omega (arith, l, n) in
     let y = get_or items i 0 in
@@ -46,8 +46,8 @@ loop-next-preserved c =
     let g = c.args.table.now in
     let x = c.args.number in
     let names = c.args.names.now.items in
-    let items = c.as_slice-next-items.result.now in
-    let row : items ≡ next g x = c.as_slice-next-items.ensures ∙ c.index-as_slice-number.is ∙ ap (λ t. get_or t x c.index-as_slice-number.result) c.as_slice.ensures ∙ get_or_default g x c.index-as_slice-number.result [] c.requires.number in
+    let items = c.deref-next-items.result.now in
+    let row : items ≡ next g x = c.deref-next-items.ensures ∙ c.index-deref-number.is ∙ ap (λ t. get_or t x c.index-deref-number.result) c.deref.ensures ∙ get_or_default g x c.index-deref-number.result [] c.requires.number in
     let i = c.loop-next.next-index in
     let long : i < length (next g x) = let l = c.loop-next-test.true in let n = ap length row in omega (arith, l, n) in
     let y = get_or items i 0 in
@@ -65,8 +65,8 @@ returns c =
     let g = c.args.table.now in
     let x = c.args.number in
     let names = c.args.names.now.items in
-    let items = c.as_slice-next-items.result.now in
-    let row : items ≡ next g x = c.as_slice-next-items.ensures ∙ c.index-as_slice-number.is ∙ ap (λ t. get_or t x c.index-as_slice-number.result) c.as_slice.ensures ∙ get_or_default g x c.index-as_slice-number.result [] c.requires.number in
+    let items = c.deref-next-items.result.now in
+    let row : items ≡ next g x = c.deref-next-items.ensures ∙ c.index-deref-number.is ∙ ap (λ t. get_or t x c.index-deref-number.result) c.deref.ensures ∙ get_or_default g x c.index-deref-number.result [] c.requires.number in
     turns_not g names c.requires.names c.requires.table x c.requires.number (λ k l e.
     let over = c.loop-next-test.false in
     let n = ap length row in

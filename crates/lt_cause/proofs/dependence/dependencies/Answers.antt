@@ -14,7 +14,7 @@ depends_on-requires c =
     let eqs = ap (λ (f : Function). f.eqs) c.f.view_is in
     let decls = ap (λ (f : Function). length f.decls) c.f.view_is in
     let good : GoodFunction f = subst GoodFunction c.f.view_is c.f.invariant in
-    let at = equation_read f c.f.inside.eqs c.as_slice-equation-items.result.now c.loop-equation.equation-index c.equation-item.result c.as_slice-equation-items.ensures eqs c.loop-equation-test.true c.equation-item.is in
+    let at = equation_read f c.f.inside.eqs c.deref-equation-items.result.now c.loop-equation.equation-index c.equation-item.result c.deref-equation-items.ensures eqs c.loop-equation-test.true c.equation-item.is in
     let l = left_inside f good c.loop-equation.equation-index c.equation-item.result at in
     omega (arith, l, decls)
 
@@ -23,7 +23,7 @@ index_mut-requires c =
     let f = c.args.f.now in
     let eqs = ap (λ (f : Function). f.eqs) c.f.view_is in
     let good : GoodFunction f = subst GoodFunction c.f.view_is c.f.invariant in
-    let at = equation_read f c.f.inside.eqs c.as_slice-equation-items.result.now c.loop-equation.equation-index c.equation-item.result c.as_slice-equation-items.ensures eqs c.loop-equation-test.true c.equation-item.is in
+    let at = equation_read f c.f.inside.eqs c.deref-equation-items.result.now c.loop-equation.equation-index c.equation-item.result c.deref-equation-items.ensures eqs c.loop-equation-test.true c.equation-item.is in
     let l = left_inside f good c.loop-equation.equation-index c.equation-item.result at in
     let v = c.left.ensures in
     let n = c.loop-equation.invariant.size in
@@ -36,9 +36,9 @@ loop-equation-preserved c =
     let i = c.loop-equation.equation-index in
     let q = c.equation-item.result in
     let eqs = ap (λ (f : Function). f.eqs) c.f.view_is in
-    let same = c.as_slice-equation-items.ensures ∙ eqs in
+    let same = c.deref-equation-items.ensures ∙ eqs in
     let good : GoodFunction f = subst GoodFunction c.f.view_is c.f.invariant in
-    let at = equation_read f c.f.inside.eqs c.as_slice-equation-items.result.now i q c.as_slice-equation-items.ensures eqs c.loop-equation-test.true c.equation-item.is in
+    let at = equation_read f c.f.inside.eqs c.deref-equation-items.result.now i q c.deref-equation-items.ensures eqs c.loop-equation-test.true c.equation-item.is in
     let l = left_inside f good i q at in
     let v = c.left.ensures in
     let n = c.loop-equation.invariant.size in
@@ -55,7 +55,7 @@ pub returns-clause-inside : goal.returns-clause-inside
 returns-clause-inside c =
     let f = c.args.f.now in
     let eqs = ap (λ (f : Function). f.eqs) c.f.view_is in
-    let items = c.as_slice-equation-items.result.now in
-    let all = take_all c.loop-equation.equation-index items c.loop-equation-test.false ∙ c.as_slice-equation-items.ensures ∙ eqs in
+    let items = c.deref-equation-items.result.now in
+    let all = take_all c.loop-equation.equation-index items c.loop-equation-test.false ∙ c.deref-equation-items.ensures ∙ eqs in
     let told : HasDependencies f c.loop-equation.table.items = record { size = c.loop-equation.invariant.size; tells = λ x. c.loop-equation.invariant.told x ∙ ap (λ l. dependencies_of (right_of l x) (clock_of f.decls x)) all } in
     subst IsTable (sym c.of.ensures) (table_inside f (subst GoodFunction c.f.view_is c.f.invariant) c.loop-equation.table.items told)

@@ -1,5 +1,10 @@
+use Rattle.std.proofs.Common.{◌∙◌, ◌++◌, ◌∷◌, [], ap, sym, map}
+use Rattle.std.proofs.lemmas.List.{map-append}
+use Rattle.lt_base.specs.Dependence.{clock_vars}
 use Rattle.lt_cause.proofs.Table.{clock_more}
 use Rattle.lt_cause.proofs.dependence.push_clock.Goals as goal
 
-pub loop-i-preserved : goal.loop-i-preserved
-loop-i-preserved c = clock_more c.loop-i.to c.args.to.now c.push.new.self c.as_slice-steps.result.now c.loop-i.i _ c.loop-i-test.true c.loop-i.invariant c.in_ok-push.ensures.ok
+pub loop-step-preserved : goal.loop-step-preserved
+loop-step-preserved c =
+    clock_more c.loop-step.to c.args.to.now c.push.new.self (map (λ s. s.now) c.loop-step.yielded) c.in-Some.step.now c.loop-step.invariant c.in_ok-push.ensures.ok
+    ∙ ap (λ l. c.args.to.now ++ clock_vars l) (sym (map-append (λ s. s.now) c.loop-step.yielded (c.in-Some.step ∷ [])))

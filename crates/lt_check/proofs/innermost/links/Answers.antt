@@ -11,7 +11,7 @@ pub loop-decl-preserved : goal.loop-decl-preserved
 loop-decl-preserved c =
     let ds = c.args.decls.now in
     let i = c.loop-decl.decl-index in
-    let clock = clock_read ds ds c.as_slice-decl-items.result.now i c.decl-item.result c.as_slice-decl-items.ensures refl c.loop-decl-test.true c.decl-item.is in
+    let clock = clock_read ds ds c.deref-decl-items.result.now i c.decl-item.result c.deref-decl-items.ensures refl c.loop-decl-test.true c.decl-item.is in
     let pushed = c.in_ok-push.ensures.items in
     let size = c.loop-decl.invariant.size in
     record {

@@ -8,9 +8,9 @@ use Rattle.lt_check.proofs.typing.int_clock.Goals as goal
 pub returns-then-not-is_bool_clock : goal.returns-then-not-is_bool_clock
 returns-then-not-is_bool_clock c =
     let decls = ap (λ (f : Function). f.decls) c.f.view_is in
-    let size = ap length (c.as_slice-decl-items.ensures ∙ decls) in
+    let size = ap length (c.deref-decl-items.ensures ∙ decls) in
     let inside = c.loop-variable-test.true in
-    let clock = clock_read c.args.f.now.decls c.f.inside.decls c.as_slice-decl-items.result.now c.loop-variable.variable c.decl-item.result c.as_slice-decl-items.ensures decls c.loop-variable-test.true c.decl-item.is in
+    let clock = clock_read c.args.f.now.decls c.f.inside.decls c.deref-decl-items.result.now c.loop-variable.variable c.decl-item.result c.deref-decl-items.ensures decls c.loop-variable-test.true c.decl-item.is in
     record {
       inside = omega (arith, size, inside);
       before = c.loop-variable.invariant;
@@ -20,5 +20,5 @@ returns-then-not-is_bool_clock c =
 pub loop-variable-preserved : goal.loop-variable-preserved
 loop-variable-preserved c =
     let decls = ap (λ (f : Function). f.decls) c.f.view_is in
-    let clock = clock_read c.args.f.now.decls c.f.inside.decls c.as_slice-decl-items.result.now c.loop-variable.variable c.decl-item.result c.as_slice-decl-items.ensures decls c.loop-variable-test.true c.decl-item.is in
+    let clock = clock_read c.args.f.now.decls c.f.inside.decls c.deref-decl-items.result.now c.loop-variable.variable c.decl-item.result c.deref-decl-items.ensures decls c.loop-variable-test.true c.decl-item.is in
     below_more (BoolClock c.args.f.now.decls) c.loop-variable.variable c.loop-variable.invariant (subst (λ ds. AllBools ds (clock_of c.args.f.now.decls c.loop-variable.variable)) decls (subst (AllBools c.f.inside.decls) clock c.if-not-is_bool_clock.ensures))

@@ -1,13 +1,13 @@
 use Rattle.std.proofs.Common.{◌≡◌, ◌≤◌, length, ap, sym, ◌∙◌, subst, arith}
 use Rattle.std.proofs.lemmas.List.{length-map}
 use Rattle.toml.specs.View.{table_view}
-use Rattle.lt_place.specs.Names.{names_of}
-use Rattle.lt_config.specs.Setup.{nodes_of, node_numbers}
+use Rattle.lt_arch.specs.NodeNames.{names_of}
+use Rattle.lt_config.specs.Setup.{setup_nodes, node_numbers}
 use Rattle.lt_config.specs.Reading.{numbers_of}
 use Rattle.lt_config.proofs.NoFault.{no_fault}
 use Rattle.lt_config.proofs.GoodNodes.{good_nodes}
 use Rattle.lt_config.proofs.Pairs.{as_many}
-use Rattle.lt_config.specs.Paced.{FitsPace}
+use Rattle.lt_arch.specs.Paced.{FitsPace}
 use Rattle.lt_config.proofs.Leaders.{fits_pace}
 use Rattle.lt_config.proofs.reading.setup_of.Goals as goal
 
@@ -16,10 +16,10 @@ invariant_of-result c =
     let t = table_view c.args.table.now in
     let times = c.in_ok-timing.timing.nodes in
     let named = c.in_ok-named.named.nodes in
-    let same : named ≡ nodes_of t = c.in_ok-named.ensures in
-    let count : length times ≡ length (names_of (nodes_of t)) = as_many numbers_of (node_numbers t) times (names_of (nodes_of t)) c.in_ok-timing.ensures.times in
-    let few : length (nodes_of t) ≤ 32 = (good_nodes t (no_fault t c.requires)).few in
-    let names : length (names_of (nodes_of t)) ≡ length (nodes_of t) = length-map (nodes_of t) (λ node. node.name) in
+    let same : named ≡ setup_nodes t = c.in_ok-named.ensures in
+    let count : length times ≡ length (names_of (setup_nodes t)) = as_many numbers_of (node_numbers t) times (names_of (setup_nodes t)) c.in_ok-timing.ensures.times in
+    let few : length (setup_nodes t) ≤ 32 = (good_nodes t (no_fault t c.requires)).few in
+    let names : length (names_of (setup_nodes t)) ≡ length (setup_nodes t) = length-map (setup_nodes t) (λ node. node.name) in
     record {
       same_nodes = count ∙ ap (λ ns. length (names_of ns)) (sym same);
       few = omega (arith, count, names, few);

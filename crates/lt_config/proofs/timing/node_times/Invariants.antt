@@ -1,6 +1,6 @@
 use Rattle.std.proofs.Common.{◌≡◌, ◌++◌, map, drop}
 use Rattle.toml.specs.View.{table_view}
-use Rattle.lt_place.specs.Names.{names_of}
+use Rattle.lt_arch.specs.NodeNames.{names_of}
 use Rattle.lt_config.specs.Setup.{node_numbers}
 use Rattle.lt_config.specs.Reading.{numbers_of}
 use Rattle.lt_config.proofs.timing.node_times.Given as goal

@@ -1,6 +1,6 @@
 use Rattle.std.proofs.Common.{sym, ◌∙◌}
 use Rattle.toml.specs.View.{table_view}
-use Rattle.lt_place.specs.Names.{names_of}
+use Rattle.lt_arch.specs.NodeNames.{names_of}
 use Rattle.lt_config.proofs.NoFault.{no_fault}
 use Rattle.lt_config.proofs.Ranges.{delay_good}
 use Rattle.lt_config.proofs.Pairs.{name_at, one_pair}

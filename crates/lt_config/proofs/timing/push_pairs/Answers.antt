@@ -1,6 +1,6 @@
 use Rattle.std.proofs.Common.{map}
 use Rattle.toml.specs.View.{table_view}
-use Rattle.lt_place.specs.Names.{names_of}
+use Rattle.lt_arch.specs.NodeNames.{names_of}
 use Rattle.lt_config.specs.Setup.{pair_numbers}
 use Rattle.lt_config.specs.Reading.{delays_of}
 use Rattle.lt_config.proofs.Pairs.{more_pairs, same_pairs}

@@ -2,9 +2,9 @@ use Rattle.std.proofs.Common.{◌≡◌, ◌≤◌, List, length, ap, sym, ◌�
 use Rattle.std.proofs.lemmas.List.{length-map}
 use Rattle.toml.specs.View.{table_view}
 use Rattle.lt_arch.specs.Pairs.{ordered_pairs}
-use Rattle.lt_place.specs.declared.named.NamedNode.{NamedNode}
-use Rattle.lt_place.specs.Names.{names_of}
-use Rattle.lt_config.specs.Setup.{nodes_of, node_numbers}
+use Rattle.lt_arch.specs.declared.named.NamedNode.{NamedNode}
+use Rattle.lt_arch.specs.NodeNames.{names_of}
+use Rattle.lt_config.specs.Setup.{setup_nodes, node_numbers}
 use Rattle.lt_config.specs.Reading.{numbers_of}
 use Rattle.lt_config.proofs.NoFault.{no_fault}
 use Rattle.lt_config.proofs.Ranges.{most_good}
@@ -22,7 +22,7 @@ invariant_of-result c =
     let t = table_view c.args.table.now in
     let good = no_fault t c.requires.none in
     let nodes : List NamedNode = c.as_slice-nodes.result.now in
-    let same : nodes ≡ nodes_of t = c.as_slice-nodes.ensures ∙ c.requires.nodes in
+    let same : nodes ≡ setup_nodes t = c.as_slice-nodes.ensures ∙ c.requires.nodes in
     let count : length c.in_ok-node_times.field-0 ≡ length nodes = as_many numbers_of (node_numbers t) c.in_ok-node_times.field-0 (names_of nodes) c.in_ok-node_times.ensures ∙ length-map nodes (λ node. node.name) in
     let few : length nodes ≤ 32 = rw same (good_nodes t good).few in
     record {

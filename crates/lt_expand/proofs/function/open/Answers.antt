@@ -3,7 +3,7 @@ use Rattle.lt_expand.proofs.Opening.{open_lefts, made_good, made_form, made_orig
 use Rattle.lt_expand.proofs.function.open.Goals as goal
 
 pub open_equations-requires-clause-lefts : goal.open_equations-requires-clause-lefts
-open_equations-requires-clause-lefts c = open_lefts (library_of c.args.versions.now) _ c.args.f.now c.f.view_is c.kept.ensures
+open_equations-requires-clause-lefts c = open_lefts (library_of c.args.versions.now) _ c.args.f.now c.f.view_is c.invariant_holds.ensures
 
 pub new-func-requires : goal.new-func-requires
 new-func-requires c =

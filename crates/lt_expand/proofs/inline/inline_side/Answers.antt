@@ -15,4 +15,4 @@ inline-requires-clause-room c =
 
 pub returns : goal.returns
 returns c =
-    side_inlined _ c.args.known.now c.as_slice.result.now c.args.equation.now.0 c.left.result c.index-as_slice-left.result c.args.equation.now.1 _ _ _ _ _ _ c.as_slice.ensures c.left.ensures c.requires.left c.index-as_slice-left.is (c.in_ok-right.ensures ∙ c.right.ensures) c.in_ok-inline.ensures.all
+    side_inlined _ c.args.known.now c.deref.result.now c.args.equation.now.0 c.left.result c.index-deref-left.result c.args.equation.now.1 _ _ _ _ _ _ c.deref.ensures c.left.ensures c.requires.left c.index-deref-left.is (c.in_ok-right.ensures ∙ c.right.ensures) c.in_ok-inline.ensures.all

@@ -15,4 +15,4 @@ returns-in-Ok-false c = λ width stands.
     ended c.args.reader.now c.read_byte_record.new.self width (fields_of c.read_byte_record.new.row) stands r
 
 pub returns-in-Err : goal.returns-in-Err
-returns-in-Err c = refused c.args.reader.now c.read_byte_record.new.self (fields_of c.read_byte_record.new.row) _ c.refused.result c.refused.ensures.other c.refused.ensures.lengths c.in-Err.ensures.why
+returns-in-Err c = refused c.args.reader.now c.read_byte_record.new.self (fields_of c.read_byte_record.new.row) _ c.next_of_error.result c.next_of_error.ensures.other c.next_of_error.ensures.lengths c.in-Err.ensures.why

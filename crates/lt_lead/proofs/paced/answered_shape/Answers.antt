@@ -1,5 +1,5 @@
 use Rattle.std.proofs.Common.{IfOk, subst}
-use Rattle.lt_node.specs.Channels.{IsShapeOf}
+use Rattle.lt_net_node.specs.Channels.{IsShapeOf}
 use Rattle.lt_lead.proofs.paced.answered_shape.Goals as goal
 
 pub returns : goal.returns

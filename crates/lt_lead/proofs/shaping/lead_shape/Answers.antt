@@ -1,4 +1,4 @@
-use Rattle.lt_node.proofs.DrawnShape.{Makes}
+use Rattle.lt_net_node.proofs.DrawnShape.{Makes}
 use Rattle.lt_lead.proofs.LeadShape.{makes}
 use Rattle.lt_lead.proofs.shaping.lead_shape.Goals as goal
 

@@ -1,15 +1,48 @@
-use Rattle.lt_load.specs.Loaded.{program_verdict}
-use Rattle.lt_load.proofs.Flats.{not_loaded, not_flattened, flattened}
+use Rattle.std.proofs.Common.{◌≡◌, ℕ, List, [], Option, Result, Ok, Err, refl, subst}
+use Rattle.lt_base.specs.declared.memory.Or.{Or}
+use Rattle.lt_io.specs.Visits.{Errand}
+use Rattle.lt_answer.specs.World.{World}
+use Rattle.lt_answer.specs.Answered.{Answered, AndThen, Verdict, Settles}
+use Rattle.lt_answer.proofs.Stages.{widened}
+use Rattle.lt_answer.specs.Rules.{Raised}
+use Rattle.lt_front.specs.Checked.{CheckedText, front_verdict}
+use Rattle.lt_load_fit.specs.declared.fault.What.TheVariants.{ProgramBytes}
+use Rattle.lt_load_fit.specs.declared.fault.CommandFault.{CommandFault}
+use Rattle.lt_load_fit.specs.declared.fault.CommandFault.TheVariants as fault
+use Rattle.lt_load.specs.Blamed.{command_blame}
+use Rattle.lt_load.specs.Loaded.{Flattened, whole_verdict, program_verdict}
+use Rattle.lt_load.proofs.Steps.{IsContent, content_raised, raised_answer, refused_step, last_step}
+use Rattle.lt_load.proofs.Texts.{flat_then}
 use Rattle.lt_load.proofs.loading.load_flat.Goals as goal
 
-pub returns-in_err-examined : goal.returns-in_err-examined
-returns-in_err-examined g c =
-    not_loaded (program_verdict ((g.F.Files.state c.args.files.now).named c.args.name.now)) _ _ _ _ c.from_residual.ensures.1 c.in_err-examined.ensures
+abbrev read_verdict : List ℕ → Verdict CheckedText CommandFault
+read_verdict bytes = Raised (λ e. fault.Program e) (front_verdict bytes)
 
-pub returns-in_err-flatten : goal.returns-in_err-flatten
-returns-in_err-flatten g c =
-    not_flattened (program_verdict ((g.F.Files.state c.args.files.now).named c.args.name.now)) _ _ c.in_ok-examined.examined _ c.from_residual-in_err-flatten.ensures.1 c.in_ok-examined.ensures
+read_content : (bytes : List ℕ) → IsContent command_blame (read_verdict bytes)
+read_content bytes = content_raised command_blame (λ e. fault.Program e) (front_verdict bytes) (λ e. refl)
+
+-- what is right of equal bytes
+read_at : (xs ys : List ℕ) → xs ≡ ys → (r : Result CheckedText (Or CommandFault)) → Settles (read_verdict xs) r → Settles (read_verdict ys) r
+read_at xs ys is r right = subst (λ (bytes : List ℕ). Settles (read_verdict bytes) r) is right
+
+-- the file, and then the program of its bytes
+abbrev steps_verdict : Option (List ℕ) → Verdict CheckedText CommandFault
+steps_verdict file = AndThen (whole_verdict ProgramBytes file) (λ bytes. read_verdict bytes)
+
+of_steps : {es : List Errand} (file : Option (List ℕ)) (a b : World) (r : Result CheckedText (Or CommandFault)) → Answered command_blame es (steps_verdict file) a b r → Answered command_blame es (Flattened (program_verdict file)) a b r
+unfolding program_verdict
+of_steps file a b r answered =
+    widened (steps_verdict file) (Flattened (program_verdict file)) a b r (λ o right. flat_then (λ e. fault.Program e) (whole_verdict ProgramBytes file) o right) answered
+
+pub returns-in_err-bytes : goal.returns-in_err-bytes
+returns-in_err-bytes g c =
+    of_steps ((g.F.Files.state c.args.files.now).named c.args.name.now) _ _ _
+    (refused_step command_blame (whole_verdict ProgramBytes ((g.F.Files.state c.args.files.now).named c.args.name.now)) (λ names bytes. read_verdict bytes) _ _ [] _ _
+    c.from_residual.ensures.1 c.in_err-bytes.ensures.answered)
 
 pub returns : goal.returns
 returns g c =
-    flattened (program_verdict ((g.F.Files.state c.args.files.now).named c.args.name.now)) _ _ c.in_ok-examined.examined c.in_ok-flatten.field-0 c.in_ok-flatten.ensures c.in_ok-examined.ensures
+    of_steps ((g.F.Files.state c.args.files.now).named c.args.name.now) _ _ c.raise_fault.result
+    (last_step command_blame (whole_verdict ProgramBytes ((g.F.Files.state c.args.files.now).named c.args.name.now)) (λ names bytes. read_verdict bytes) _ _ c.in_ok-bytes.bytes c.raise_fault.result
+    c.in_ok-bytes.ensures.answered (read_content c.in_ok-bytes.bytes)
+    (read_at _ _ c.as_slice.ensures c.raise_fault.result (raised_answer (λ e. fault.Program e) (front_verdict c.as_slice.result.now) c.compile_program.result c.raise_fault.result c.compile_program.ensures c.raise_fault.ensures)))

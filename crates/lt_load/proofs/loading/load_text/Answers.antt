@@ -4,15 +4,15 @@ use Rattle.lt_io.specs.Visits.{Errand}
 use Rattle.lt_answer.specs.World.{World}
 use Rattle.lt_answer.specs.Answered.{Answered, AndThen, Verdict, Settles}
 use Rattle.lt_answer.proofs.Stages.{widened}
-use Rattle.lt_verdict.specs.Rules.{Raised, Shown}
+use Rattle.lt_answer.specs.Rules.{Raised, Shown}
 use Rattle.lt_front.specs.Front.{examine_verdict}
 use Rattle.lt_front.specs.Printed.{canonical_text, printed_verdict}
-use Rattle.lt_fit.specs.declared.fault.What.TheVariants.{ProgramBytes}
-use Rattle.lt_fit.specs.declared.fault.CommandFault.{CommandFault}
-use Rattle.lt_fit.specs.declared.fault.CommandFault.TheVariants as fault
+use Rattle.lt_load_fit.specs.declared.fault.What.TheVariants.{ProgramBytes}
+use Rattle.lt_load_fit.specs.declared.fault.CommandFault.{CommandFault}
+use Rattle.lt_load_fit.specs.declared.fault.CommandFault.TheVariants as fault
 use Rattle.lt_load.specs.Blamed.{command_blame}
 use Rattle.lt_load.specs.Loaded.{whole_verdict, program_verdict}
-use Rattle.lt_load.proofs.Steps.{IsContent, content_raised, raised_refusal, refused_step, last_step}
+use Rattle.lt_load.proofs.Steps.{IsContent, content_raised, raised_answer, refused_step, last_step}
 use Rattle.lt_load.proofs.Texts.{shown_then}
 use Rattle.lt_load.proofs.loading.load_text.Goals as goal
 
@@ -41,15 +41,9 @@ returns-in_err-bytes g c =
     (refused_step command_blame (whole_verdict ProgramBytes ((g.F.Files.state c.args.files.now).named c.args.name.now)) (λ names bytes. read_verdict bytes) _ _ [] _ _
     c.from_residual.ensures.1 c.in_err-bytes.ensures.answered)
 
-pub returns-in-Ok : goal.returns-in-Ok
-returns-in-Ok g c =
-    of_steps ((g.F.Files.state c.args.files.now).named c.args.name.now) _ _ (Ok c.in-Ok.text)
-    (last_step command_blame (whole_verdict ProgramBytes ((g.F.Files.state c.args.files.now).named c.args.name.now)) (λ names bytes. read_verdict bytes) _ _ c.in_ok-bytes.bytes (Ok c.in-Ok.text)
-    c.in_ok-bytes.ensures.answered (read_content c.in_ok-bytes.bytes) (read_at _ _ c.as_slice.ensures (Ok c.in-Ok.text) c.in-Ok.ensures))
-
 pub returns : goal.returns
 returns g c =
-    of_steps ((g.F.Files.state c.args.files.now).named c.args.name.now) _ _ (Err c.map.result)
-    (last_step command_blame (whole_verdict ProgramBytes ((g.F.Files.state c.args.files.now).named c.args.name.now)) (λ names bytes. read_verdict bytes) _ _ c.in_ok-bytes.bytes (Err c.map.result)
+    of_steps ((g.F.Files.state c.args.files.now).named c.args.name.now) _ _ c.raise_fault.result
+    (last_step command_blame (whole_verdict ProgramBytes ((g.F.Files.state c.args.files.now).named c.args.name.now)) (λ names bytes. read_verdict bytes) _ _ c.in_ok-bytes.bytes c.raise_fault.result
     c.in_ok-bytes.ensures.answered (read_content c.in_ok-bytes.bytes)
-    (read_at _ _ c.as_slice.ensures (Err c.map.result) (raised_refusal (λ e. fault.Program e) (printed_verdict c.as_slice.result.now) c.in-Err.e c.map.result c.map.ensures c.in-Err.ensures)))
+    (read_at _ _ c.as_slice.ensures c.raise_fault.result (raised_answer (λ e. fault.Program e) (printed_verdict c.as_slice.result.now) c.print_program.result c.raise_fault.result c.print_program.ensures c.raise_fault.ensures)))

@@ -19,4 +19,4 @@ pub returns : goal.returns
 unfolding plain_config_verdict
 returns g c =
     last_step command_blame (config_verdict ((g.F.Files.state c.args.files.now).named c.args.name.now)) (λ names setup. unpaced_verdict setup) _ _ c.in_ok-setup.setup _
-    c.in_ok-setup.ensures (unpaced_content c.in_ok-setup.setup) c.unpaced.ensures
+    c.in_ok-setup.ensures (unpaced_content c.in_ok-setup.setup) c.refuse_unpaced.ensures

@@ -1,5 +1,5 @@
 use Rattle.std.proofs.Common.{[], Ok, refl, sym, ap}
-use Rattle.lt_verdict.specs.Rules.{Exactly}
+use Rattle.lt_answer.specs.Rules.{Exactly}
 use Rattle.lt_front.specs.Checked.{CheckedText}
 use Rattle.lt_load.specs.Blamed.{command_blame}
 use Rattle.lt_load.specs.Loaded.{inputs_verdict}

@@ -6,4 +6,4 @@ use Rattle.lt_load.proofs.planning.with_inputs.Goals as goal
 
 pub invariant_of-result : goal.invariant_of-result
 invariant_of-result c =
-    is_loaded c.args.checked c.kept.ensures (subst GoodProgram (ap (λ (t : CheckedText). t.program) c.checked.view_is) c.kept-2.ensures) c.args.site c.requires.sited c.args.inputs c.requires.fit
+    is_loaded c.args.checked c.invariant_holds.ensures (subst GoodProgram (ap (λ (t : CheckedText). t.program) c.checked.view_is) c.invariant_holds-2.ensures) c.args.site c.requires.sited c.args.inputs c.requires.fit

@@ -1,6 +1,6 @@
 use Rattle.std.proofs.Common.{[]}
 use Rattle.lt_front.specs.Checked.{examined_part}
-use Rattle.lt_fit.specs.Fits.{fitting_verdict}
+use Rattle.lt_load_fit.specs.Fits.{fitting_verdict}
 use Rattle.lt_load.specs.Blamed.{command_blame}
 use Rattle.lt_load.specs.Loaded.{config_verdict}
 use Rattle.lt_load.specs.Setups.{fitted_verdict}

@@ -4,10 +4,10 @@ use Rattle.lt_io.specs.FilesState.{FilesState}
 use Rattle.lt_config.specs.declared.config.Config.{Config}
 use Rattle.lt_answer.specs.World.{alone}
 use Rattle.lt_answer.specs.Answered.{Answered, Verdict, AndThen}
-use Rattle.lt_verdict.specs.Rules.{Exactly}
+use Rattle.lt_answer.specs.Rules.{Exactly}
 use Rattle.lt_front.specs.Checked.{examined_part}
 use Rattle.lt_front.specs.Examined.{ExaminedText}
-use Rattle.lt_fit.specs.declared.fault.CommandFault.{CommandFault}
+use Rattle.lt_load_fit.specs.declared.fault.CommandFault.{CommandFault}
 use Rattle.lt_load.specs.Blamed.{command_blame}
 use Rattle.lt_load.specs.Errands.{config_errand}
 use Rattle.lt_load.specs.Loaded.{program_verdict}
@@ -42,4 +42,4 @@ unfolding with_setup_verdict
 returns g c =
     let k = examined_part c.in_ok-checked.checked in
     next_step command_blame (program_verdict ((g.F.Files.state c.args.files.now).named c.args.program.now)) (rest c.args.config.now) _ _ k _ (flat_value _ _ _ _ c.in_ok-checked.ensures) _
-    (rw c.fitted.ensures (is_fitted c.args.config.now _ _ k c.check_setup-setup.result c.check_setup-setup.ensures))
+    (rw c.fit_program.ensures (is_fitted c.args.config.now _ _ k c.check_setup-setup.result c.check_setup-setup.ensures))

@@ -5,9 +5,9 @@ use Rattle.std.proofs.lemmas.List.{take_all, map-append}
 use Rattle.lt_base.specs.declared.expression.Expr.{Expr}
 use Rattle.lt_base.specs.Expression.{Expression, shape, unary, binary, imported, merged, delayed, call, arguments_of}
 use Rattle.lt_base.proofs.Shape.{shape-Call}
-use Rattle.lt_meaning.specs.Form.{form, one, two, named, joined}
+use Rattle.lt_meaning.specs.Form.{node_form, one, two, named, joined}
 use Rattle.lt_meaning.specs.Lift.{form_of, forms_of, first_wait}
-use Rattle.lt_meaning.specs.Taken.{Taken, taken, after, after_arguments, with_wait}
+use Rattle.lt_meaning.specs.Taken.{Taken, taken, taken_after, after_arguments, with_wait}
 use Rattle.lt_meaning.proofs.Growing.{Lifts, one_lifts, two_lifts, choose_lifts, delayed_lifts, follow_lifts, arrow_lifts, call_lifts, argument_lifts, no_arguments_lift}
 use Rattle.lt_meaning.proofs.expressions.+lifting.Goals as goal
 
@@ -37,16 +37,16 @@ lift_unary-returns t c =
 
 pub lift_outside-returns : goal.lift_outside-returns
 lift_outside-returns t c =
-    record { form = c.lift.ensures.form; grown = subst (λ k. OnOk c.lift.result (taken c.lift.new.to ≡ after (taken c.args.to.now) (shape c.args.e.now) k)) c.in_ok-before.ensures c.lift.ensures.grown }
+    record { form = c.lift.ensures.form; grown = subst (λ k. OnOk c.lift.result (taken c.lift.new.to ≡ taken_after (taken c.args.to.now) (shape c.args.e.now) k)) c.in_ok-before.ensures c.lift.ensures.grown }
 
 pub lift_branch-returns : goal.lift_branch-returns
 lift_branch-returns t c =
-    record { form = c.lift.ensures.form; grown = subst (λ k. OnOk c.lift.result (taken c.lift.new.to ≡ after (taken c.args.to.now) (shape c.args.e.now) k)) c.in_ok-at.ensures c.lift.ensures.grown }
+    record { form = c.lift.ensures.form; grown = subst (λ k. OnOk c.lift.result (taken c.lift.new.to ≡ taken_after (taken c.args.to.now) (shape c.args.e.now) k)) c.in_ok-at.ensures c.lift.ensures.grown }
 
 pub lift_call-returns : goal.lift_call-returns
 lift_call-returns t c =
     let args = arguments_of (map shape c.args.args.now.items) in
-    let l = call_lifts (taken c.args.to.now) (taken c.lift_all.new.to) (taken c.call.new.to) c.args.g args c.args.clock.now (map form c.in_ok-lifted.lifted.items) c.call.result
+    let l = call_lifts (taken c.args.to.now) (taken c.lift_all.new.to) (taken c.call.new.to) c.args.g args c.args.clock.now (map node_form c.in_ok-lifted.lifted.items) c.call.result
     c.in_ok-lifted.ensures.forms c.in_ok-lifted.ensures.grown c.call.ensures.form c.call.ensures.grown in
     record { form = l.form; grown = l.grown }
 
@@ -58,7 +58,7 @@ lift_two-returns-in-Ok t c =
     record {
       first = c.in_ok-first.ensures.form;
       second = c.in-Ok.ensures.form ∙ ap (λ (y : Taken). form_of (length y.waits) y.cells b) grown;
-      grown = c.in-Ok.ensures.grown ∙ ap (λ (y : Taken). after y b ck) grown;
+      grown = c.in-Ok.ensures.grown ∙ ap (λ (y : Taken). taken_after y b ck) grown;
     }
 
 pub lift_binary-returns : goal.lift_binary-returns
@@ -68,7 +68,7 @@ lift_binary-returns t c =
     let a = shape c.args.a.now in
     let b = shape c.args.b.now in
     let x = taken c.args.to.now in
-    let l = two_lifts x (after x a ck) (taken c.lift_two.new.to) (binary o a b) a b ck ck ck (two o) c.in_ok-a.a c.in_ok-a.b c.two_of.result (λ k c. refl) refl
+    let l = two_lifts x (taken_after x a ck) (taken c.lift_two.new.to) (binary o a b) a b ck ck ck (two o) c.in_ok-a.a c.in_ok-a.b c.two_of.result (λ k c. refl) refl
     c.in_ok-a.ensures.first refl c.in_ok-a.ensures.second c.in_ok-a.ensures.grown c.two_of.ensures in
     record { form = l.form; grown = l.grown }
 
@@ -79,7 +79,7 @@ lift_imported-returns t c =
     let a = shape c.args.a.now in
     let b = shape c.args.b.now in
     let x = taken c.args.to.now in
-    let l = two_lifts x (after x a ck) (taken c.lift_two.new.to) (imported o a b) a b ck ck ck (named o) c.in_ok-a.a c.in_ok-a.b c.named_of.result (λ k c. refl) refl
+    let l = two_lifts x (taken_after x a ck) (taken c.lift_two.new.to) (imported o a b) a b ck ck ck (named o) c.in_ok-a.a c.in_ok-a.b c.named_of.result (λ k c. refl) refl
     c.in_ok-a.ensures.first refl c.in_ok-a.ensures.second c.in_ok-a.ensures.grown c.named_of.ensures in
     record { form = l.form; grown = l.grown }
 
@@ -90,7 +90,7 @@ lift_choice-returns-in-Ok t c =
     let a = shape c.args.a.now in
     let b = shape c.args.b.now in
     let y = taken c.lift.new.to in
-    let l = choose_lifts (taken c.args.to.now) y (after y a ck) (taken c.lift_two.new.to) d a b ck c.in_ok-c.c c.in-Ok.a c.in-Ok.b c.either_of.result
+    let l = choose_lifts (taken c.args.to.now) y (taken_after y a ck) (taken c.lift_two.new.to) d a b ck c.in_ok-c.c c.in-Ok.a c.in-Ok.b c.either_of.result
     c.in_ok-c.ensures.form c.in_ok-c.ensures.grown c.in-Ok.ensures.first refl c.in-Ok.ensures.second c.in-Ok.ensures.grown c.either_of.ensures in
     record { form = l.form; grown = l.grown }
 
@@ -120,12 +120,12 @@ lift_arrow-returns-in-Ok t c =
     let a = shape c.args.a.now in
     let b = shape c.args.b.now in
     let x = taken c.args.to.now in
-    let l = arrow_lifts x (after x a ck) (taken c.lift_two.new.to) (taken c.wait.new.to) a b ck c.in_ok-a.a c.in_ok-a.b c.in-Ok.begins c.either_of.result
+    let l = arrow_lifts x (taken_after x a ck) (taken c.lift_two.new.to) (taken c.wait.new.to) a b ck c.in_ok-a.a c.in_ok-a.b c.in-Ok.begins c.either_of.result
     c.in_ok-a.ensures.first refl c.in_ok-a.ensures.second c.in_ok-a.ensures.grown c.in-Ok.ensures.form c.in-Ok.ensures.grown c.either_of.ensures in
     record { form = l.form; grown = l.grown }
 
 pub lift_all-loop-a-init : goal.lift_all-loop-a-init
-lift_all-loop-a-init t c = record { forms = ap (map form) c.in_ok-nodes.ensures.items; grown = no_arguments_lift (taken c.args.to.now) c.args.clock.now }
+lift_all-loop-a-init t c = record { forms = ap (map node_form) c.in_ok-nodes.ensures.items; grown = no_arguments_lift (taken c.args.to.now) c.args.clock.now }
 
 pub lift_all-loop-a-preserved : goal.lift_all-loop-a-preserved
 lift_all-loop-a-preserved t c =
@@ -135,11 +135,11 @@ lift_all-loop-a-preserved t c =
     let i = c.loop-a.a-index in
     let a : Expr = c.a-item.result in
     let es = map shape (take i items) in
-    let l = argument_lifts x (taken c.loop-a.to) (taken c.lift.new.to) es (shape a) ck (map form c.loop-a.nodes.items) (form c.in_ok-lift.field-0) c.loop-a.invariant.forms c.loop-a.invariant.grown c.in_ok-lift.ensures.form c.in_ok-lift.ensures.grown in
+    let l = argument_lifts x (taken c.loop-a.to) (taken c.lift.new.to) es (shape a) ck (map node_form c.loop-a.nodes.items) (node_form c.in_ok-lift.field-0) c.loop-a.invariant.forms c.loop-a.invariant.grown c.in_ok-lift.ensures.form c.in_ok-lift.ensures.grown in
     let more : es ++ shape a ∷ [] ≡ map shape (take (i + 1) items) =
     sym (ap (map shape) (ap (λ n. take n items) (add-one i) ∙ take-suc items i a c.loop-a-test.true ∙ ap (λ e. take i items ++ e ∷ []) (sym c.a-item.is)) ∙ map-append shape (take i items) (a ∷ [])) in
     record {
-      forms = ap (map form) c.in_ok-push.ensures.items ∙ map-append form c.loop-a.nodes.items (c.in_ok-lift.field-0 ∷ []) ∙ l.0 ∙ ap (λ es. forms_of (length x.waits) x.cells (arguments_of es)) more;
+      forms = ap (map node_form) c.in_ok-push.ensures.items ∙ map-append node_form c.loop-a.nodes.items (c.in_ok-lift.field-0 ∷ []) ∙ l.0 ∙ ap (λ es. forms_of (length x.waits) x.cells (arguments_of es)) more;
       grown = l.1 ∙ ap (λ es. after_arguments x (arguments_of es) ck) more;
     }
 

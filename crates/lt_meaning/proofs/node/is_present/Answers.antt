@@ -2,7 +2,7 @@ use Rattle.std.proofs.Common.{◌≡◌, ◌∙◌, ap, sym, true, false, get_or
 use Rattle.std.specs.Prelude.{◌&&◌}
 use Rattle.std.proofs.lemmas.List.{take_all}
 use Rattle.lt_base.specs.Meaning.{ClockPairs, entry, is_truth, present}
-use Rattle.lt_meaning.proofs.Presence.{present_fails, present_take}
+use Rattle.lt_base.proofs.Presence.{present_fails, present_take}
 use Rattle.lt_meaning.proofs.node.is_present.Goals as goal
 
 pub returns-then-not-is_that : goal.returns-then-not-is_that

@@ -10,7 +10,7 @@ use Rattle.lt_meaning.specs.declared.state.State.{State, out-State}
 use Rattle.lt_meaning.specs.declared.state.State.TheOpen.{State-F}
 use Rattle.lt_meaning.specs.declared.state.State.TheViews.{out-roll-State, roll-State}
 use Rattle.lt_meaning.specs.Plan.{inputs_at}
-use Rattle.lt_meaning.specs.Stands.{Stands, Starts, cells_of, row_in}
+use Rattle.lt_meaning.specs.Stands.{StateStands, StateStarts, cells_of, row_in}
 use Rattle.lt_meaning.specs.Ready.{cell_at_place}
 use Rattle.lt_meaning.proofs.Instant.{some_at}
 use Rattle.lt_meaning.proofs.Answering.{refilled}
@@ -40,7 +40,7 @@ loop-k-init c = λ a f is.
     let low = a.low p.main (function_below p.funcs p.main f is) in
     let number = a.number in
     let there : function_of a.planned.program.funcs p.main ≡ Some f = ap (λ (q : WholeProgram). function_of q.funcs p.main) a.is ∙ is in
-    let started : Starts c.args.plans.now p.main (length c.args.plans.now) c.in_ok-state.state = subst (λ g. Starts c.args.plans.now g (length c.args.plans.now) c.in_ok-state.state) main c.in_ok-state.ensures in (
+    let started : StateStarts c.args.plans.now p.main (length c.args.plans.now) c.in_ok-state.state = subst (λ g. StateStarts c.args.plans.now g (length c.args.plans.now) c.in_ok-state.state) main c.in_ok-state.ensures in (
       [],
       record {
         stands = started a.planned f there (omega (arith, low, number));
@@ -78,7 +78,7 @@ run-requires c =
     let o = out-State c.loop-k.state in
     let v : State-F State = record { cells = c.load.new.cells; kept = o.kept; next = o.next; children = o.children } in
     let rows = newest_first (take c.loop-k.k c.args.inputs.now.rows) in
-    let st : Stands plans a.planned (length plans) c.loop-k.state c.p.inside.main rows s.0 = subst (λ g. Stands plans a.planned (length plans) c.loop-k.state g rows s.0) (sym main) s.1.stands in
+    let st : StateStands plans a.planned (length plans) c.loop-k.state c.p.inside.main rows s.0 = subst (λ g. StateStands plans a.planned (length plans) c.loop-k.state g rows s.0) (sym main) s.1.stands in
     (a.planned, length plans, rows, s.0, refilled plans c.p.inside.main a.planned (length plans) rows s.0 c.loop-k.state (roll-State v) v (out-roll-State v) c.load.ensures.size refl refl refl st)
 
 pub show-requires-clause-columns : goal.show-requires-clause-columns
@@ -106,7 +106,7 @@ loop-k-preserved c = λ a f is.
     let o = out-State c.loop-k.state in
     let v : State-F State = record { cells = c.load.new.cells; kept = o.kept; next = o.next; children = o.children } in
     let old = newest_first (take k rows) in
-    let st : Stands plans a.planned (length plans) c.loop-k.state c.p.inside.main old es = subst (λ g. Stands plans a.planned (length plans) c.loop-k.state g old es) (sym main) s.1.stands in
+    let st : StateStands plans a.planned (length plans) c.loop-k.state c.p.inside.main old es = subst (λ g. StateStands plans a.planned (length plans) c.loop-k.state g old es) (sym main) s.1.stands in
     let filled = refilled plans c.p.inside.main a.planned (length plans) old es c.loop-k.state (roll-State v) v (out-roll-State v) c.load.ensures.size refl refl refl st in
     let ran = c.run.ensures a.planned (length plans) old es filled in
     let env : Environment = entry (cells_of c.run.new.state) in
@@ -121,9 +121,9 @@ loop-k-preserved c = λ a f is.
     let row_is : row_in plans c.p.inside.main (roll-State v) ≡ map Some row.0 =
     ap (λ (u : State-F State). take (inputs_at plans c.p.inside.main) u.cells.items) (out-roll-State v) ∙ ap (λ m. take m c.load.new.cells.items) (inputs ∙ sym n_in) ∙ put in
     let rows_are : row_in plans c.p.inside.main (roll-State v) ∷ old ≡ newest_first (take (k + 1) rows) = ap (λ r. r ∷ old) row_is ∙ sym (newest_next rows k row.0 row.1) in
-    let stands : Stands plans a.planned (length plans) c.run.new.state p.main (newest_first (take (k + 1) rows)) (env ∷ es) =
-    subst (λ g. Stands plans a.planned (length plans) c.run.new.state g (newest_first (take (k + 1) rows)) (env ∷ es)) main
-    (subst (λ (r : List Row). Stands plans a.planned (length plans) c.run.new.state c.p.inside.main r (env ∷ es)) rows_are ran) in
+    let stands : StateStands plans a.planned (length plans) c.run.new.state p.main (newest_first (take (k + 1) rows)) (env ∷ es) =
+    subst (λ g. StateStands plans a.planned (length plans) c.run.new.state g (newest_first (take (k + 1) rows)) (env ∷ es)) main
+    (subst (λ (r : List Row). StateStands plans a.planned (length plans) c.run.new.state c.p.inside.main r (env ∷ es)) rows_are ran) in
     let cells : entry c.as_slice.result.now ≡ env = ap entry c.as_slice.ensures.value in (
       env ∷ es,
       record {

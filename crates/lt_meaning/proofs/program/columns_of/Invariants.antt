@@ -2,7 +2,7 @@ use Rattle.std.proofs.Common.{◌≡◌, Some, List}
 use Rattle.lt_base.specs.Program.{Function}
 use Rattle.lt_base.specs.Meaning.{Environment}
 use Rattle.lt_meaning.specs.Ready.{ArePlans}
-use Rattle.lt_meaning.specs.Streams.{main_of}
+use Rattle.lt_base.specs.Main.{main_of}
 use Rattle.lt_meaning.proofs.Tables.{Shown}
 use Rattle.lt_meaning.proofs.program.columns_of.Given as goal
 

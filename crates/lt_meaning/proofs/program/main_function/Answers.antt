@@ -8,4 +8,4 @@ returns c =
     let p = c.args.p.now in
     let main = ap (λ (q : WholeProgram). q.main) c.p.view_is in
     let same : c.as_slice.result.now ≡ p.funcs = c.as_slice.ensures ∙ ap (λ (q : WholeProgram). q.funcs) c.p.view_is in
-    function_at p.funcs p.main c.index-as_slice-number.result c.kept.ensures.main (c.index-as_slice-number.is ∙ (λ i. get_or (same i) (main i) c.index-as_slice-number.result))
+    function_at p.funcs p.main c.index-as_slice-number.result c.invariant_holds.ensures.main (c.index-as_slice-number.is ∙ (λ i. get_or (same i) (main i) c.index-as_slice-number.result))

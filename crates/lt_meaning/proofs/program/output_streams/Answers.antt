@@ -3,7 +3,8 @@ use Rattle.std.specs.List.{All}
 use Rattle.lt_base.specs.Program.{Function}
 use Rattle.lt_base.specs.declared.value.Cell.{Cell}
 use Rattle.std.proofs.lemmas.Result.{IfOk-weaker}
-use Rattle.lt_meaning.specs.Streams.{HasStreamsOf, HasOutputStreams}
+use Rattle.lt_base.specs.Main.{HasOutputStreams}
+use Rattle.lt_meaning.specs.Streams.{HasStreamsOf}
 use Rattle.lt_meaning.proofs.Tables.{of_main, output_streams_of}
 use Rattle.lt_meaning.proofs.program.output_streams.Goals as goal
 
@@ -20,7 +21,7 @@ pub chosen_streams-requires-clause-variables : goal.chosen_streams-requires-clau
 chosen_streams-requires-clause-variables c =
     let f = c.main_function-main.result.now in
     let outs : c.as_slice.result.now ≡ f.outs = c.as_slice.ensures ∙ ap (λ (f : Function). f.outs) c.main.view_is in
-    of_main c.args.p.now c.as_slice.result.now f c.main_function-main.ensures (subst (All (λ x. x < length f.decls)) (sym outs) c.kept.ensures.outs)
+    of_main c.args.p.now c.as_slice.result.now f c.main_function-main.ensures (subst (All (λ x. x < length f.decls)) (sym outs) c.invariant_holds.ensures.outs)
 
 pub returns-clause-value : goal.returns-clause-value
 returns-clause-value c =

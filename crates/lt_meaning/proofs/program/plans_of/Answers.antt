@@ -43,4 +43,4 @@ returns c =
     let size = ap length same in
     let l = c.loop-f-test.false in
     let m = c.loop-f.auto.f-index-end in
-    are_plans p c.kept.ensures c.requires.checked c.loop-f.plans.items c.loop-f.f-index (c.loop-f.invariant c.kept.ensures c.requires.checked) (omega (arith, size, l)) (omega (arith, size, m))
+    are_plans p c.invariant_holds.ensures c.requires.checked c.loop-f.plans.items c.loop-f.f-index (c.loop-f.invariant c.invariant_holds.ensures c.requires.checked) (omega (arith, size, l)) (omega (arith, size, m))

@@ -48,4 +48,4 @@ returns-in-Ok-clause-types c =
     let streams : HasMainStreams p rows c.of.result =
     subst (λ (t : List (List Cell)). HasMainStreams p rows t) (sym c.of.ensures)
     (main_streams_of p rows xs c.in-Ok.columns c.main_function.result.now c.main_function.ensures c.in_ok-variables.ensures.number c.in_ok-variables.ensures.each has) in
-    main_types p c.args.inputs.now c.of.result c.kept.ensures c.requires.checked c.requires.fit streams
+    main_types p c.args.inputs.now c.of.result c.invariant_holds.ensures c.requires.checked c.requires.fit streams

@@ -9,9 +9,9 @@ use Rattle.lt_base.specs.Meaning.{Row, entry}
 use Rattle.lt_meaning.specs.declared.state.State.{State, out-State}
 use Rattle.lt_meaning.specs.declared.state.State.TheOpen.{State-F}
 use Rattle.lt_meaning.specs.declared.state.State.TheViews.{out-roll-State, roll-State, the_lemmas}
-use Rattle.lt_meaning.specs.Form.{form, value_in}
+use Rattle.lt_meaning.specs.Form.{node_form, value_in}
 use Rattle.lt_meaning.specs.Plan.{action_form, step_form, inputs_at}
-use Rattle.lt_meaning.specs.Stands.{Acts, Stands, cells_of, row_in}
+use Rattle.lt_meaning.specs.Stands.{StepActs, StateStands, cells_of, row_in}
 use Rattle.lt_meaning.proofs.Keeping.{next_of}
 use Rattle.lt_meaning.proofs.Instant.{Along, Took, along_none, along_next, children_are, delays_are, step_can, at_index, Unvisited, unvisited_next}
 use Rattle.lt_meaning.proofs.Answering.{KeepsOn, instant, refilled, can_run_there, can_fill, row_number, output_room, answered_by}
@@ -73,7 +73,7 @@ run-loop-i-preserved t c =
       size = c.take.ensures.size;
       others = c.take.ensures.others;
       absent = c.take.ensures.absent;
-      acts = λ p. subst (λ (l : List (Option Value)). Acts plans (action_form c.index.result.now.action) (entry v.cells.items) (entry l) o o' (entry cells'.items c.index.result.now.cell)) c.as_slice.ensures.value (c.take.ensures.acts p);
+      acts = λ p. subst (λ (l : List (Option Value)). StepActs plans (action_form c.index.result.now.action) (entry v.cells.items) (entry l) o o' (entry cells'.items c.index.result.now.cell)) c.as_slice.ensures.value (c.take.ensures.acts p);
     } in
     record {
       unvisited = subst (λ (u : State-F State). Unvisited (out-State c.args.state.now) u (c.loop-i.i + 1)) (sym (out-roll-State r))
@@ -146,16 +146,16 @@ answer-returns t c = λ k n rows past st a.
     let plans = c.args.plans.now in
     let g = c.args.function in
     let s = out-State c.args.state.now in
-    let row : Row = map (value_in (entry c.args.cells.now) (entry c.args.kept.now)) (map form c.args.args.now.items) in
+    let row : Row = map (value_in (entry c.args.cells.now) (entry c.args.kept.now)) (map node_form c.args.args.now.items) in
     let v : State-F State = record { cells = c.fill.new.to; kept = s.kept; next = s.next; children = s.children } in
     let filled = refilled plans g k n rows past c.args.state.now (roll-State v) v (out-roll-State v) c.fill.ensures.size refl refl refl st in
     let ran = c.run.ensures k n rows past filled in
     let number : inputs_at plans g ≡ length c.args.args.now.items =
-    row_number plans g k n (length row) rows past c.args.state.now st a ∙ length-map (map form c.args.args.now.items) (value_in (entry c.args.cells.now) (entry c.args.kept.now)) ∙ length-map c.args.args.now.items form in
+    row_number plans g k n (length row) rows past c.args.state.now st a ∙ length-map (map node_form c.args.args.now.items) (value_in (entry c.args.cells.now) (entry c.args.kept.now)) ∙ length-map c.args.args.now.items node_form in
     let is : row_in plans g (roll-State v) ≡ row =
     ap (λ (u : State-F State). take (inputs_at plans g) u.cells.items) (out-roll-State v) ∙ ap (λ m. take m c.fill.new.to.items) number ∙ c.fill.ensures.filled in
-    let there : Stands plans k n c.run.new.state g (row ∷ rows) (entry (cells_of c.run.new.state) ∷ past) =
-    subst (λ (r : Row). Stands plans k n c.run.new.state g (r ∷ rows) (entry (cells_of c.run.new.state) ∷ past)) is ran in
+    let there : StateStands plans k n c.run.new.state g (row ∷ rows) (entry (cells_of c.run.new.state) ∷ past) =
+    subst (λ (r : Row). StateStands plans k n c.run.new.state g (r ∷ rows) (entry (cells_of c.run.new.state) ∷ past)) is ran in
     let plan = c.index-plans-function.result in
     let room = output_room plans g plan c.index-plans-function.is k n (length row) (row ∷ rows) (entry (cells_of c.run.new.state) ∷ past) c.run.new.state there a in
     let value = at_index (cells_of c.run.new.state) plan.output c.index.result.now room c.index.ensures in (

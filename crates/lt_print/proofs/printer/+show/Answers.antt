@@ -1,11 +1,11 @@
 use Rattle.std.proofs.Common.{◌≡◌, ◌++◌, codes, OnOk, refl, sym, ap, ◌∙◌, subst, append_assoc}
 use Rattle.lt_tokens.specs.declared.token.Infix.TheVariants as meet
-use Rattle.lt_syntax.specs.Levels.{line, left, right}
+use Rattle.lt_syntax.specs.Levels.{infix_line, left_level, right_level}
 use Rattle.lt_syntax.specs.Tree.{Tm, Binary, Choice, Sampled, Delayed, Followed, Arrow}
 use Rattle.lt_syntax.specs.declared.term.Term.TheVariants.{rolls-Bin, rolls-If, rolls-When, rolls-Fby, rolls-Follow, rolls-Arrow}
 use Rattle.lt_syntax.specs.declared.term.Term.TheFolds.{fold-roll-Term}
 use Rattle.lt_syntax.specs.Views.{tm_of, tm_step}
-use Rattle.lt_print.specs.Canonical.{value_form, led, arrow_left, placed, operator, clock_text, text}
+use Rattle.lt_print.specs.Canonical.{value_form, led, arrow_left, placed, operator, when_text, text}
 use Rattle.lt_print.proofs.Printing.{behind, in_two, in_three, next_apart, arguments_more, printed_arguments, printed_argument}
 use Rattle.lt_print.proofs.printer.+show.Goals as goal
 
@@ -30,7 +30,7 @@ inside-returns-in_ok-show-in-When t c =
     let x = tm_of c.deref-in-When.result.now in
     let e : tm_of c.args.t.now ≡ Sampled x c.in-When.c c.in-When.b = ap tm_of (c.in-When.is ∙ sym (rolls-When c.in-When.a c.in-When.c c.in-When.b)) ∙ fold-roll-Term Tm tm_step _ ∙ (λ i. Sampled (tm_of (sym c.deref-in-When.ensures i)) c.in-When.c c.in-When.b) in
     in_two c.clock.result (tm_of c.args.t.now) (Sampled x c.in-When.c c.in-When.b) c.args.out.now c.show-in-When.new.out c.clock.new.out
-    (text (placed 9 x)) (clock_text c.in-When.c c.in-When.b)
+    (text (placed 9 x)) (when_text c.in-When.c c.in-When.b)
     e refl c.in_ok-show-in-When.ensures c.clock.ensures
 
 pub inside-returns-in_ok-value-in-Fby : goal.inside-returns-in_ok-value-in-Fby
@@ -67,13 +67,13 @@ inside-returns-in_ok-show-in-Bin t c =
     let o = c.in-Bin.o in
     let x = tm_of c.deref-in-Bin.result.now in
     let y = tm_of c.deref-in-Bin-2.result.now in
-    let l = left (line (meet.Operator o)) in
-    let k = right (line (meet.Operator o)) in
+    let l = left_level (infix_line (meet.Operator o)) in
+    let k = right_level (infix_line (meet.Operator o)) in
     let w = codes " " ++ (operator (meet.Operator o) ++ codes " ") in
     let e : tm_of c.args.t.now ≡ Binary o x y = ap tm_of (c.in-Bin.is ∙ sym (rolls-Bin o c.in-Bin.a c.in-Bin.b)) ∙ fold-roll-Term Tm tm_step _ ∙ (λ i. Binary o (tm_of (sym c.deref-in-Bin.ensures i)) (tm_of (sym c.deref-in-Bin-2.ensures i))) in
     let shown = subst (λ v. c.show.new.out ≡ c.args.out.now ++ text (placed v x)) c.left.ensures c.in_ok-show-in-Bin.ensures in
-    let after = subst (λ v. OnOk c.show_after-in-Bin.result (c.show_after-in-Bin.new.out ≡ c.show.new.out ++ (c.spaced.result.now ++ text (placed v y)))) c.right.ensures (behind c.show_after-in-Bin.result c.show.new.out c.show_after-in-Bin.new.out c.spaced.result.now (text (placed c.right.result y)) c.show_after-in-Bin.ensures) in
-    let spelled = subst (λ v. OnOk c.show_after-in-Bin.result (c.show_after-in-Bin.new.out ≡ c.show.new.out ++ (v ++ text (placed k y)))) c.spaced.ensures after in
+    let after = subst (λ v. OnOk c.show_after-in-Bin.result (c.show_after-in-Bin.new.out ≡ c.show.new.out ++ (c.spaced_operator.result.now ++ text (placed v y)))) c.right.ensures (behind c.show_after-in-Bin.result c.show.new.out c.show_after-in-Bin.new.out c.spaced_operator.result.now (text (placed c.right.result y)) c.show_after-in-Bin.ensures) in
+    let spelled = subst (λ v. OnOk c.show_after-in-Bin.result (c.show_after-in-Bin.new.out ≡ c.show.new.out ++ (v ++ text (placed k y)))) c.spaced_operator.ensures after in
     in_two c.show_after-in-Bin.result (tm_of c.args.t.now) (Binary o x y) c.args.out.now c.show.new.out c.show_after-in-Bin.new.out
     (text (placed l x)) (w ++ text (placed k y))
     e (ap (λ v. text (placed l x) ++ (codes " " ++ v)) (sym (append_assoc (operator (meet.Operator o)) (codes " ") (text (placed k y))))) shown spelled

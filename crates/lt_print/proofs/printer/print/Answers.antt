@@ -6,5 +6,5 @@ use Rattle.lt_print.proofs.printer.print.Goals as goal
 
 pub returns-clause-spells : goal.returns-clause-spells
 returns-clause-spells c =
-    let e : c.in_ok-out.out ≡ canonical c.args.t.now = c.in_ok-out.ensures ∙ ap canonical (c.as_slice.ensures ∙ c.t.view_is) in
-    subst (λ z. Spells 200 z c.args.t.now) (sym e) (canonical_spells c.kept.ensures.0 c.args.t.now c.kept.ensures.1)
+    let e : c.in_ok-out.out ≡ canonical c.args.t.now = c.in_ok-out.ensures ∙ ap canonical (c.deref.ensures ∙ c.t.view_is) in
+    subst (λ z. Spells 200 z c.args.t.now) (sym e) (canonical_spells c.invariant_holds.ensures.0 c.args.t.now c.invariant_holds.ensures.1)

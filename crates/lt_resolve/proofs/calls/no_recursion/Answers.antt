@@ -18,4 +18,4 @@ returns c =
     blames_recursion t es (c.in_ok-edges.ensures ∙ ap edges c.requires.calls) c.in-Some.place e c.index-scopes-callee.result c.as_str-name.result first c.index.ensures
     (subst (AreWithin (length t)) (sym c.in_ok-edges.ensures) c.requires.within)
     (subst (λ l. c.index-scopes-callee.result ≡ get_or l e.1 c.index-scopes-callee.result) c.scopes-scopes.ensures c.index-scopes-callee.is)
-    (c.as_str-name.ensures ∙ ap (λ (n : NodeText). n.name) c.node.ensures) c.located.result c.located.ensures
+    (c.as_str-name.ensures ∙ ap (λ (n : NodeText). n.name) c.node.ensures) c.locate_fault.result c.locate_fault.ensures

@@ -5,7 +5,7 @@ use Rattle.lt_syntax.specs.declared.tree.NodeText.{NodeText}
 use Rattle.lt_resolve.specs.declared.fault.NameKind.TheVariants.{Limit}
 use Rattle.lt_resolve.specs.Names.{Name}
 use Rattle.lt_resolve.specs.Faults.{above, size}
-use Rattle.lt_resolve.specs.Told.{Refuses}
+use Rattle.lt_resolve.specs.Told.{RefusesName}
 use Rattle.lt_resolve.specs.Checks.{variables_limit}
 use Rattle.lt_resolve.proofs.Lists.{in_next, in_none}
 use Rattle.lt_resolve.proofs.Located.{blames_at}
@@ -33,10 +33,10 @@ returns-in-Err-clause-shown c =
     let t = c.args.tables.now in
     let n = c.scope-item.result in
     let i = c.scopes.i in
-    blames_at Limit (λ _. variables_limit) t i n c.in-Err.error c.located.result
+    blames_at Limit (λ _. variables_limit) t i n c.in-Err.error c.locate_fault.result
     (subst (λ (s : List NodeText). i < length s) c.scopes-scope-items.ensures c.scopes-test.true)
     (subst (λ (s : List NodeText). n ≡ get_or s i n) c.scopes-scope-items.ensures c.scope-item.is)
-    c.scopes.invariant c.located.ensures (subst (λ o. Refuses o c.in-Err.error) (cut_above (size n) c.size.result (codes "variables") c.size.ensures) c.in-Err.ensures.told)
+    c.scopes.invariant c.locate_fault.ensures (subst (λ o. RefusesName o c.in-Err.error) (cut_above (size n) c.size.result (codes "variables") c.size.ensures) c.in-Err.ensures.told)
 
 pub returns-clause-shown : goal.returns-clause-shown
 returns-clause-shown c =

@@ -7,7 +7,7 @@ use Rattle.lt_resolve.specs.declared.function.Draft.{Draft}
 use Rattle.lt_resolve.specs.Names.{Name}
 use Rattle.lt_resolve.specs.Scopes.{functions}
 use Rattle.lt_resolve.specs.Faults.{unknown_in}
-use Rattle.lt_resolve.specs.Told.{Refuses}
+use Rattle.lt_resolve.specs.Told.{RefusesName}
 use Rattle.lt_resolve.specs.Drafts.{IsDraft}
 use Rattle.lt_resolve.proofs.Lists.{in_next, in_none}
 use Rattle.lt_resolve.proofs.Located.{blames_at, one_more}
@@ -18,11 +18,11 @@ returns-in-Err-clause-shown c =
     let t = c.args.tables.now in
     let n = c.index-scopes-i.result in
     let same = c.scopes-scopes.ensures in
-    blames_at Unknown (λ _. unknown_in (functions t)) t c.scopes.i n c.in-Err.error c.located.result
+    blames_at Unknown (λ _. unknown_in (functions t)) t c.scopes.i n c.in-Err.error c.locate_fault.result
     (subst (λ (s : List NodeText). c.scopes.i < length s) same c.scopes-test.true)
     (subst (λ (s : List NodeText). n ≡ get_or s c.scopes.i n) same c.index-scopes-i.is)
-    c.scopes.invariant.rest c.located.ensures
-    (subst (λ (fs : List Name). Refuses (unknown_in fs n) c.in-Err.error) c.functions.ensures c.in-Err.ensures.told)
+    c.scopes.invariant.rest c.locate_fault.ensures
+    (subst (λ (fs : List Name). RefusesName (unknown_in fs n) c.in-Err.error) c.functions.ensures c.in-Err.ensures.told)
 
 pub scopes-preserved : goal.scopes-preserved
 scopes-preserved c =

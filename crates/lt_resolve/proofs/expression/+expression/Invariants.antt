@@ -18,8 +18,8 @@ invariant-arguments-arguments l = record {
 abbrev pub decreases-expression : goal.decreases-expression
 decreases-expression l = 4 * the_size l.term.now
 
-abbrev pub decreases-boxed : goal.decreases-boxed
-decreases-boxed l = 4 * the_size l.term.now + 1
+abbrev pub decreases-box_expression : goal.decreases-box_expression
+decreases-box_expression l = 4 * the_size l.term.now + 1
 
 abbrev pub decreases-operands : goal.decreases-operands
 decreases-operands l = 4 * max (the_size l.a.now) (the_size l.b.now) + 2
@@ -30,20 +30,20 @@ decreases-arguments l = 4 * goal.size-arguments l + 1
 abbrev pub decreases-unary : goal.decreases-unary
 decreases-unary l = 4 * the_size l.a.now + 3
 
-abbrev pub decreases-sampled : goal.decreases-sampled
-decreases-sampled l = 4 * the_size l.a.now + 3
+abbrev pub decreases-sample_of : goal.decreases-sample_of
+decreases-sample_of l = 4 * the_size l.a.now + 3
 
-abbrev pub decreases-delayed : goal.decreases-delayed
-decreases-delayed l = 4 * the_size l.a.now + 3
+abbrev pub decreases-delay_of : goal.decreases-delay_of
+decreases-delay_of l = 4 * the_size l.a.now + 3
 
 abbrev pub decreases-binary : goal.decreases-binary
 decreases-binary l = 4 * max (the_size l.a.now) (the_size l.b.now) + 3
 
-abbrev pub decreases-merged : goal.decreases-merged
-decreases-merged l = 4 * max (the_size l.a.now) (the_size l.b.now) + 3
+abbrev pub decreases-merge_of : goal.decreases-merge_of
+decreases-merge_of l = 4 * max (the_size l.a.now) (the_size l.b.now) + 3
 
-abbrev pub decreases-followed : goal.decreases-followed
-decreases-followed l = 4 * max (the_size l.a.now) (the_size l.b.now) + 3
+abbrev pub decreases-follow_of : goal.decreases-follow_of
+decreases-follow_of l = 4 * max (the_size l.a.now) (the_size l.b.now) + 3
 
 abbrev pub decreases-arrow : goal.decreases-arrow
 decreases-arrow l = 4 * max (the_size l.a.now) (the_size l.b.now) + 3
@@ -51,5 +51,5 @@ decreases-arrow l = 4 * max (the_size l.a.now) (the_size l.b.now) + 3
 abbrev pub decreases-choice : goal.decreases-choice
 decreases-choice l = 4 * max (the_size l.c.now) (max (the_size l.a.now) (the_size l.b.now)) + 3
 
-abbrev pub decreases-called : goal.decreases-called
-decreases-called l = 4 * goal.size-called l + 3
+abbrev pub decreases-call_of : goal.decreases-call_of
+decreases-call_of l = 4 * goal.size-call_of l + 3

@@ -6,7 +6,7 @@ use Rattle.lt_resolve.specs.Drafts.{IsDraftEquation}
 use Rattle.lt_resolve.proofs.Lists.{some_next, some_none}
 use Rattle.lt_resolve.proofs.Pairs.{along_more, along_all}
 use Rattle.lt_resolve.specs.Named.{Along}
-use Rattle.lt_resolve.specs.Told.{Tells}
+use Rattle.lt_resolve.specs.Told.{TellsName}
 use Rattle.lt_resolve.proofs.Told.{tells_at}
 use Rattle.lt_resolve.proofs.function.equations.Goals as goal
 
@@ -25,7 +25,7 @@ pub returns-in_err-equation-clause-told : goal.returns-in_err-equation-clause-to
 returns-in_err-equation-clause-told c =
     let f = unknown_equation c.args.variables.now c.args.functions.now in
     let items = c.as_slice-eq-items.result.now in
-    subst (λ (l : List (Name × Tm)). Tells (first_some f l) c.from_residual-in_err-equation.result) c.as_slice-eq-items.ensures
+    subst (λ (l : List (Name × Tm)). TellsName (first_some f l) c.from_residual-in_err-equation.result) c.as_slice-eq-items.ensures
     (tells_at f items c.eqs.eq-index c.eq-item.result c.in_err-equation.field-0.0 c.from_residual-in_err-equation.result c.eqs-test.true c.eq-item.is c.eqs.invariant.rest c.from_residual-in_err-equation.ensures.1 c.in_err-equation.ensures.told)
 
 pub returns-clause-told : goal.returns-clause-told

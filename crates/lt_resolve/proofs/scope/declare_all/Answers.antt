@@ -1,5 +1,5 @@
 use Rattle.std.proofs.Common.{◌++◌, refl, sym, ap, ◌∙◌, append_assoc}
-use Rattle.lt_resolve.specs.Scopes.{names_of}
+use Rattle.lt_resolve.specs.Scopes.{declared_names}
 use Rattle.lt_resolve.proofs.Lists.{or_none}
 use Rattle.lt_resolve.proofs.Told.{tells_on, tells_as, refuses_first, refuses_then}
 use Rattle.lt_resolve.proofs.Repeats.{repeated_variables, variables_are}
@@ -29,6 +29,6 @@ pub returns-clause-ok : goal.returns-clause-ok
 returns-clause-ok c =
     let n = c.args.node.now in
     c.in_ok-declare-3.ensures.ok
-    ∙ ap (λ l. l ++ names_of n.locals) (c.in_ok-declare-2.ensures.ok ∙ ap (λ l. l ++ names_of n.outs) (c.in_ok-declare.ensures.ok ∙ ap (λ l. l ++ names_of n.ins) c.requires))
-    ∙ append_assoc (names_of n.ins) (names_of n.outs) (names_of n.locals)
+    ∙ ap (λ l. l ++ declared_names n.locals) (c.in_ok-declare-2.ensures.ok ∙ ap (λ l. l ++ declared_names n.outs) (c.in_ok-declare.ensures.ok ∙ ap (λ l. l ++ declared_names n.ins) c.requires))
+    ∙ append_assoc (declared_names n.ins) (declared_names n.outs) (declared_names n.locals)
     ∙ sym (variables_are n)

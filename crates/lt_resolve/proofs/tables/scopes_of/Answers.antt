@@ -1,11 +1,11 @@
 use Rattle.std.proofs.Common.{◌≡◌, [], sym, ap, subst, ◌∙◌}
 use Rattle.std.specs.Option.{option_or}
 use Rattle.std.proofs.lemmas.List.{take_all}
-use Rattle.lt_resolve.specs.Names.{if_among, repeated}
+use Rattle.lt_resolve.specs.Names.{if_among, repeated_name}
 use Rattle.lt_resolve.specs.declared.fault.NameKind.TheVariants.{Twice}
 use Rattle.lt_resolve.specs.Scopes.{variables, functions}
 use Rattle.lt_resolve.specs.Faults.{twice_in}
-use Rattle.lt_resolve.specs.Told.{Refuses}
+use Rattle.lt_resolve.specs.Told.{RefusesName}
 use Rattle.lt_resolve.proofs.Lists.{in_next, in_none}
 use Rattle.lt_resolve.proofs.Located.{blames_at, twice_at, functions_more, one_more}
 use Rattle.lt_resolve.proofs.tables.scopes_of.Goals as goal
@@ -14,9 +14,9 @@ pub returns-in-Err-clause-shown : goal.returns-in-Err-clause-shown
 returns-in-Err-clause-shown c =
     let t = c.args.nodes.now in
     let n = c.index-nodes-i.result in
-    let twice : option_or (if_among c.nodes.functions n.name) (repeated [] (variables n)) ≡ twice_in (functions t) c.nodes.i n = twice_at t c.nodes.i n c.nodes.functions c.nodes.invariant.table in
-    (blames_at Twice (twice_in (functions t)) t c.nodes.i n c.in-Err.error c.located.result c.nodes-test.true c.index-nodes-i.is c.nodes.invariant.rest c.located.ensures
-    (subst (λ o. Refuses o c.in-Err.error) twice c.in-Err.ensures.told))
+    let twice : option_or (if_among c.nodes.functions n.name) (repeated_name [] (variables n)) ≡ twice_in (functions t) c.nodes.i n = twice_at t c.nodes.i n c.nodes.functions c.nodes.invariant.table in
+    (blames_at Twice (twice_in (functions t)) t c.nodes.i n c.in-Err.error c.locate_fault.result c.nodes-test.true c.index-nodes-i.is c.nodes.invariant.rest c.locate_fault.ensures
+    (subst (λ o. RefusesName o c.in-Err.error) twice c.in-Err.ensures.told))
 
 pub nodes-preserved : goal.nodes-preserved
 nodes-preserved c =

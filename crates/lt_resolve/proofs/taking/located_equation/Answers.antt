@@ -6,4 +6,4 @@ pub returns-in-Ok-clause-shown : goal.returns-in-Ok-clause-shown
 returns-in-Ok-clause-shown c = shows_here Unknown c.args.place _ c.in-Ok.named c.in-Ok.ensures.told
 
 pub returns-in-Err-clause-shown : goal.returns-in-Err-clause-shown
-returns-in-Err-clause-shown c = blames_here Unknown c.args.place _ _ _ c.located.ensures c.in-Err.ensures.told
+returns-in-Err-clause-shown c = blames_here Unknown c.args.place _ _ _ c.locate_fault.ensures c.in-Err.ensures.told

@@ -8,7 +8,7 @@ use Rattle.lt_resolve.specs.Resolves.{Resolves}
 use Rattle.lt_resolve.proofs.taking.taken_program.Goals as goal
 
 pub named_program-program-requires-clause-spelled : goal.named_program-program-requires-clause-spelled
-named_program-program-requires-clause-spelled c = subst IsSpelled (sym (c.into_vec.ensures ∙ c.t.view_is)) c.kept.ensures
+named_program-program-requires-clause-spelled c = subst IsSpelled (sym (c.into_vec.ensures ∙ c.t.view_is)) c.invariant_holds.ensures
 
 pub named_program-program-requires-clause-names : goal.named_program-program-requires-clause-names
 named_program-program-requires-clause-names c = c.in_ok-names.ensures ∙ ap functions (sym (c.into_vec.ensures ∙ c.t.view_is))

@@ -1,14 +1,14 @@
 use Rattle.std.proofs.Common.{length, sym, subst}
-use Rattle.lt_plant.specs.Starts.{AreReady}
+use Rattle.lt_net_bench.specs.Starts.{AreReady}
 use Rattle.lt_load.specs.Plan.{LoadedPlan}
 use Rattle.lt_run.proofs.Replays.{prints_at}
 use Rattle.lt_run.proofs.replaying.replay_given.Goals as goal
 
 pub replay_setup-printed-requires-clause-machines : goal.replay_setup-printed-requires-clause-machines
 replay_setup-printed-requires-clause-machines g c =
-    subst (λ (q : LoadedPlan). AreReady g.M.Machine.stands g.M.Machine.made g.M.Machine.left q.layout (length q.inputs.rows) c.args.machines.items) (sym c.loaded.view_is) c.requires.machines
+    subst (λ (q : LoadedPlan). AreReady g.M.Machine q.layout (length q.inputs.rows) c.args.machines.items) (sym c.loaded.view_is) c.requires.machines
 
 pub returns : goal.returns
 returns g c =
     let k : LoadedPlan = record { checked = c.loaded.inside.checked; layout = c.loaded.inside.layout; shape = c.loaded.inside.shape; timing = c.loaded.inside.timing; inputs = c.loaded.inside.inputs; pace = c.loaded.inside.pace } in
-    prints_at _ _ k c.args.loaded c.loaded.view_is _ _ _ _ _ _ c.replay_setup-printed.ensures
+    prints_at _ k c.args.loaded c.loaded.view_is _ _ _ _ _ _ c.replay_setup-printed.ensures

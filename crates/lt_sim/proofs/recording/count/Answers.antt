@@ -1,6 +1,6 @@
 use Rattle.std.proofs.Common.{◌≡◌, ◌∙◌, ◌+◌, ℕ, ap, sym, arith, refl, Some, None, [], ◌∷◌, ◌++◌}
 use Rattle.std.proofs.lemmas.List.{length_push}
-use Rattle.lt_sim.specs.Drawn.{next_due, event_of}
+use Rattle.lt_sim.specs.Drawn.{next_due, due_event}
 use Rattle.lt_sim.specs.Standing.{unless_later}
 use Rattle.lt_sim.proofs.Following.{follows_first, follows_on, is_due, due_timely, next_is, counts, counts_many}
 use Rattle.lt_sim.proofs.recording.count.Goals as goal
@@ -39,8 +39,8 @@ loop-number-preserved c seed starts =
     let is : unless_later c.args.horizon (next_due s p.follows.draw) ≡ Some due = sym (c.next.ensures s t seed p.follows.draw p.follows.stands) ∙ c.in-Some.is in
     let next = next_is s t c.args.rows seed c.args.horizon c.requires.one_place c.requires.horizon c.loop-number.drawing p.front p.follows due is in
     record {
-      front = p.front ++ event_of s due ∷ [];
-      size = length_push p.front (event_of s due) ∙ ap (λ n. n + 1) p.size;
+      front = p.front ++ due_event s due ∷ [];
+      size = length_push p.front (due_event s due) ∙ ap (λ n. n + 1) p.size;
       follows = follows_on s t c.args.rows seed c.args.horizon c.requires.one_place c.requires.horizon c.loop-number.drawing p.front p.follows due is c.take.new.self
           (c.take.ensures seed p.front p.follows.draw p.follows.stands p.follows.keeps next);
     }

@@ -5,12 +5,12 @@ use Rattle.lt_arch.specs.declared.event.Event.{Event}
 use Rattle.lt_arch.specs.declared.event.Event.TheVariants.{End}
 use Rattle.lt_arch.specs.Schedule.{IsEventOf}
 use Rattle.lt_rows.specs.Texts.{event_text}
-use Rattle.lt_sim.specs.Drawn.{next_due, event_of, drawn}
+use Rattle.lt_sim.specs.Drawn.{next_due, due_event, drawn}
 use Rattle.lt_sim.specs.Recorded.{WritesPart, TakesPart}
 use Rattle.lt_sim.specs.Standing.{unless_later}
 use Rattle.lt_sim.proofs.Following.{follows_first, follows_on, follows_end, is_due, due_timely, next_is, is_placed, list_more, list_longer}
 use Rattle.lt_sim.proofs.Pages.{put_none, put_more, last_writes, row_fails, still_sound}
-use Rattle.lt_judge.proofs.Steps.{err_is}
+use Rattle.lt_schedule.proofs.Steps.{err_is}
 use Rattle.lt_sim.proofs.recording.write.Goals as goal
 
 pub loop-number-init : goal.loop-number-init
@@ -78,16 +78,16 @@ loop-number-preserved g c =
           let due : ℕ × ℕ = (c.in-Some.at, c.in-Some.place) in
           let is : unless_later c.args.horizon (next_due s p.follows.draw) ≡ Some due = sym (c.next.ensures s t seed p.follows.draw p.follows.stands) ∙ c.in-Some.is in
           let following = next_is s t c.args.rows seed c.args.horizon c.requires.one_place c.requires.horizon c.loop-number.drawing p.front p.follows due is in
-          let part : TakesPart (event_text s (event_of s due) ++ 10 ∷ []) c.loop-number.page c.put_row.new.page now next =
+          let part : TakesPart (event_text s (due_event s due) ++ 10 ∷ []) c.loop-number.page c.put_row.new.page now next =
           subst (λ (e : Event). TakesPart (event_text s e ++ 10 ∷ []) c.loop-number.page c.put_row.new.page now next) c.event_at.ensures c.in_ok-put_row-in-Some.ensures.written in
           record {
             passes = record {
-              front = p.front ++ event_of s due ∷ [];
-              size = length_push p.front (event_of s due) ∙ ap (λ n. n + 1) p.size;
+              front = p.front ++ due_event s due ∷ [];
+              size = length_push p.front (due_event s due) ∙ ap (λ n. n + 1) p.size;
               follows = follows_on s t c.args.rows seed c.args.horizon c.requires.one_place c.requires.horizon c.loop-number.drawing p.front p.follows due is c.take.new.self
                   (c.take.ensures seed p.front p.follows.draw p.follows.stands p.follows.keeps following);
             };
-            put = put_more s p.front c.loop-number.page old now put before.keeps.told (event_of s due) next c.put_row.new.page part;
+            put = put_more s p.front c.loop-number.page old now put before.keeps.told (due_event s due) next c.put_row.new.page part;
           };
     }
 
@@ -121,10 +121,10 @@ returns-in_err-put_row-in-Some-clause-written g c seed starts =
     let is : unless_later c.args.horizon (next_due s p.follows.draw) ≡ Some due = sym (c.next.ensures s t seed p.follows.draw p.follows.stands) ∙ c.in-Some.is in
     let more = list_more s t c.args.rows seed c.args.horizon c.requires.one_place c.requires.horizon c.loop-number.drawing p.front p.follows due is in
     let fault = c.in_err-put_row-in-Some.field-0.0 in
-    let fails : WritesPart (event_text s (event_of s due) ++ 10 ∷ []) c.loop-number.page c.put_row.new.page now next (Err fault) =
+    let fails : WritesPart (event_text s (due_event s due) ++ 10 ∷ []) c.loop-number.page c.put_row.new.page now next (Err fault) =
     subst (λ (e : Event). WritesPart (event_text s e ++ 10 ∷ []) c.loop-number.page c.put_row.new.page now next (Err fault)) c.event_at.ensures c.in_err-put_row-in-Some.ensures.written in
     rw (err_is _ _ c.from_residual.ensures.1)
-    (row_fails s p.front c.loop-number.page old now (before.passed seed starts).put before.keeps.told (event_of s due) (drawn s t c.args.rows seed c.args.horizon) next fault more.0 c.put_row.new.page more.1 fails)
+    (row_fails s p.front c.loop-number.page old now (before.passed seed starts).put before.keeps.told (due_event s due) (drawn s t c.args.rows seed c.args.horizon) next fault more.0 c.put_row.new.page more.1 fails)
 
 pub returns-in_err-put_row-in-Some-clause-keeps : goal.returns-in_err-put_row-in-Some-clause-keeps
 returns-in_err-put_row-in-Some-clause-keeps g c = sink_trans (g.O.Sink.state c.args.sink.now) (g.O.Sink.state c.loop-number.sink) (g.O.Sink.state c.put_row.new.sink) c.loop-number.invariant.keeps c.put_row.ensures.keeps

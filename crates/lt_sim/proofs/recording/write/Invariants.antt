@@ -1,6 +1,6 @@
 use Rattle.std.proofs.Common.{ℕ, ◌≡◌}
 use Rattle.lt_io.specs.SinkState.{KeepsSink}
-use Rattle.lt_sim.specs.Standing.{Starts}
+use Rattle.lt_sim.specs.Standing.{DrawingStarts}
 use Rattle.lt_sim.proofs.Pages.{HasPassed}
 use Rattle.lt_sim.proofs.recording.write.Given as goal
 
@@ -11,5 +11,5 @@ invariant-loop-number g l =
     record {
       counted : now.faults ≡ old.faults;
       keeps : KeepsSink old now;
-      passed : (seed : ℕ) → Starts l.fn.drawing l.shape l.timing seed → HasPassed l.drawing l.shape l.timing l.rows seed l.horizon l._number l.page old now;
+      passed : (seed : ℕ) → DrawingStarts l.fn.drawing l.shape l.timing seed → HasPassed l.drawing l.shape l.timing l.rows seed l.horizon l._number l.page old now;
     }

@@ -3,8 +3,8 @@ use Rattle.rand_core.specs.Steps.{stream_of}
 use Rattle.rand_xoshiro.specs.SplitMix64.{splitmix_steps}
 use Rattle.lt_arch.specs.Readers.{chan_count}
 use Rattle.lt_sim.specs.Words.{left_after}
-use Rattle.lt_sim.specs.Drawn.{how_many}
-use Rattle.lt_sim.specs.Tallies.{leads_from}
+use Rattle.lt_base.specs.Truths.{how_many}
+use Rattle.lt_sim.specs.Tallies.{leads_kind_from}
 use Rattle.lt_sim.specs.Spans.{DrawsDelays}
 use Rattle.lt_sim.proofs.Counting.{how_many-none}
 use Rattle.lt_sim.proofs.Delays.{off_outside, delays_none, delays_all, how_many-all, order_of, step_drawn, step_left, step_skips, step_stays}
@@ -14,7 +14,7 @@ use Rattle.lt_sim.proofs.sending.draw_delays.Goals.{then-has, else-has}
 pub loop-c-init : goal.loop-c-init
 loop-c-init c =
     let s = c.args.shape.now in
-    let on : ℕ → Bool = leads_from s.channels c.args.data_kind c.args.node in
+    let on : ℕ → Bool = leads_kind_from s.channels c.args.data_kind c.args.node in
     let first = c.requires.span.first_within in
     let off : (i : ℕ) → i < c.args.span.first → on i ≡ false = λ i lt. off_outside s.channels c.args.data_kind c.args.node (chan_count s) c.args.span i c.requires.span (omega (arith, lt, first)) (inl lt) in
     let none = how_many-none on c.args.span.first off in
@@ -42,25 +42,25 @@ loop-c-preserved c =
     let is = c.as_slice-channels.ensures in
     elim c.if-has.branch [
       | then-has w ↦
-          let on : leads_from channels k n c.loop-c.c ≡ true = sym c.is_outgoing-has.ensures ∙ w.if-has.true in
+          let on : leads_kind_from channels k n c.loop-c.c ≡ true = sym c.is_outgoing-has.ensures ∙ w.if-has.true in
           record {
             places = ap (λ (xs : List (Option ℕ)). length xs) (w.pending-is ∙ w.set_pending.ensures) ∙ (length-set c.loop-c.pending (c.len-nodes.result + c.loop-c.c) (Some (c.args.at + w.draw-delay.result)) ∙ before.places);
             near = omega (arith, lt);
             left = λ seed words start. ap (stream_of splitmix_steps) w.generator-is
                 ∙ step_left s t seed words c.args.at k n channels is c.args.pending.now c.loop-c.pending (stream_of splitmix_steps c.loop-c.generator) c.loop-c.c (before.left seed words start) (before.drawn seed words start)
                 (stream_of splitmix_steps w.draw-delay.new.generator) w.draw-delay.ensures.left on;
-            drawn = λ seed words start. subst (DrawsDelays s t seed words c.args.at (c.loop-c.c + 1) (leads_from s.channels k n) c.args.pending.now) (sym (w.pending-is ∙ w.set_pending.ensures))
+            drawn = λ seed words start. subst (DrawsDelays s t seed words c.args.at (c.loop-c.c + 1) (leads_kind_from s.channels k n) c.args.pending.now) (sym (w.pending-is ∙ w.set_pending.ensures))
                 (step_drawn s t seed words c.args.at k n channels is c.args.pending.now c.loop-c.pending (stream_of splitmix_steps c.loop-c.generator) c.loop-c.c (before.left seed words start) (before.drawn seed words start)
                 c.len-nodes.result w.dmin_of-least.result w.dmax_of-greatest.result w.draw-delay.result c.len-nodes.ensures w.dmin_of-least.ensures.value w.dmax_of-greatest.ensures.value w.draw-delay.ensures.number on lt c.requires.places);
           }
       | else-has w ↦
-          let off : leads_from channels k n c.loop-c.c ≡ false = sym c.is_outgoing-has.ensures ∙ w.if-has.false in
+          let off : leads_kind_from channels k n c.loop-c.c ≡ false = sym c.is_outgoing-has.ensures ∙ w.if-has.false in
           record {
             places = ap (λ (xs : List (Option ℕ)). length xs) w.pending-is ∙ before.places;
             near = omega (arith, lt);
             left = λ seed words start. ap (stream_of splitmix_steps) w.generator-is
                 ∙ step_stays s t seed words c.args.at k n channels is c.args.pending.now c.loop-c.pending (stream_of splitmix_steps c.loop-c.generator) c.loop-c.c (before.left seed words start) (before.drawn seed words start) off;
-            drawn = λ seed words start. subst (DrawsDelays s t seed words c.args.at (c.loop-c.c + 1) (leads_from s.channels k n) c.args.pending.now) (sym w.pending-is)
+            drawn = λ seed words start. subst (DrawsDelays s t seed words c.args.at (c.loop-c.c + 1) (leads_kind_from s.channels k n) c.args.pending.now) (sym w.pending-is)
                 (step_skips s t seed words c.args.at k n channels is c.args.pending.now c.loop-c.pending (stream_of splitmix_steps c.loop-c.generator) c.loop-c.c (before.left seed words start) (before.drawn seed words start) off);
           }
     ]
@@ -68,7 +68,7 @@ loop-c-preserved c =
 pub returns-clause-left : goal.returns-clause-left
 returns-clause-left c seed words start =
     let s = c.args.shape.now in
-    let on : ℕ → Bool = leads_from s.channels c.args.data_kind c.args.node in
+    let on : ℕ → Bool = leads_kind_from s.channels c.args.data_kind c.args.node in
     let past = c.loop-c-test.false in
     let off : (i : ℕ) → c.loop-c.c ≤ i → i < chan_count s → on i ≡ false = λ i low lt. off_outside s.channels c.args.data_kind c.args.node (chan_count s) c.args.span i c.requires.span lt (inr (omega (arith, past, low))) in
     c.loop-c.invariant.left seed words start ∙ ap (λ m. left_after seed (words + m)) (sym (how_many-all on c.loop-c.c (chan_count s) c.loop-c.invariant.near off))
@@ -76,7 +76,7 @@ returns-clause-left c seed words start =
 pub returns-clause-drawn : goal.returns-clause-drawn
 returns-clause-drawn c seed words start =
     let s = c.args.shape.now in
-    let on : ℕ → Bool = leads_from s.channels c.args.data_kind c.args.node in
+    let on : ℕ → Bool = leads_kind_from s.channels c.args.data_kind c.args.node in
     let past = c.loop-c-test.false in
     let off : (i : ℕ) → c.loop-c.c ≤ i → i < chan_count s → on i ≡ false = λ i low lt. off_outside s.channels c.args.data_kind c.args.node (chan_count s) c.args.span i c.requires.span lt (inr (omega (arith, past, low))) in
     delays_all s c.args.timing.now seed words c.args.at on c.args.pending.now c.loop-c.c c.loop-c.pending (c.loop-c.invariant.drawn seed words start) c.loop-c.invariant.near off

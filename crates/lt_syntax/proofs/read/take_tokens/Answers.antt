@@ -2,7 +2,7 @@ use Rattle.std.proofs.Common.{◌≤◌, ◌-◌, length, Ok, ap, sym, subst, ar
 use Rattle.std.proofs.lemmas.Result.{err_from_is_err_and}
 use Rattle.lt_syntax.specs.Phases.{state_of}
 use Rattle.lt_syntax.specs.Program.{Spells}
-use Rattle.lt_syntax.specs.Reads.{Takes}
+use Rattle.lt_syntax.specs.Reads.{TakesToken}
 use Rattle.lt_syntax.proofs.Reading.{SoFar}
 use Rattle.lt_syntax.proofs.Loop.{fits_here, goes_on, ends_here, fails_here, all_of, shorter}
 use Rattle.lt_syntax.proofs.read.take_tokens.Goals as goal
@@ -19,7 +19,7 @@ text-preserved c =
     let s' = state_of c.take_token.new.p in
     let h : length here ≤ length bytes = omega (arith, c.skip-here.ensures.length, c.text.invariant.within) in
     let a = all_of n here in
-    let t = subst (λ z. Takes 200 (length bytes - length here) here s s' (Ok z)) c.in-Some.is c.in_ok-n.ensures in
+    let t = subst (λ z. TakesToken 200 (length bytes - length here) here s s' (Ok z)) c.in-Some.is c.in_ok-n.ensures in
     let g = goes_on 200 (omega arith) bytes c.text.rest.now here s s' c.text.invariant.so_far c.skip-here.ensures.value h n t in
     record {
       within = omega (arith, ap length a, shorter n here, h);
@@ -33,7 +33,7 @@ returns-in-None c =
     let s = state_of c.text.p in
     let s' = state_of c.take_token.new.p in
     let h : length here ≤ length bytes = omega (arith, c.skip-here.ensures.length, c.text.invariant.within) in
-    let t = subst (λ z. Takes 200 (length bytes - length here) here s s' (Ok z)) c.in-None.is c.in_ok-n.ensures in
+    let t = subst (λ z. TakesToken 200 (length bytes - length here) here s s' (Ok z)) c.in-None.is c.in_ok-n.ensures in
     let nodes = ends_here 200 (omega arith) bytes c.text.rest.now here s s' c.text.invariant.so_far c.skip-here.ensures.value h t in
     subst (Spells 200 bytes) (sym c.replace.ensures.value) nodes
 

@@ -25,24 +25,24 @@ Term::copy-returns-in-If t c =
 pub Term::copy-returns-in-When : goal.Term::copy-returns-in-When
 Term::copy-returns-in-When t c =
     let i = c.in-When in
-    copied _ _ _ _ i.is (sampled_shape i.a i.c i.polarity) (c.sampled.ensures (tm_of i.a.value) i.c c.twin-in-When.ensures c.copy-in-When.ensures)
+    copied _ _ _ _ i.is (sampled_shape i.a i.c i.polarity) (c.sample_term.ensures (tm_of i.a.value) i.c c.twin-in-When.ensures c.copy-in-When.ensures)
 
 pub Term::copy-returns-in-Merge : goal.Term::copy-returns-in-Merge
 Term::copy-returns-in-Merge t c =
     let i = c.in-Merge in
     let x = tm_of i.a.value in
     let y = tm_of i.b.value in
-    copied _ _ _ _ i.is (merged_shape i.c i.a i.b) (c.merged.ensures i.c x y c.copy-in-Merge.ensures (c.both-in-Merge.ensures x y c.twin-in-Merge.ensures c.twin-in-Merge-2.ensures))
+    copied _ _ _ _ i.is (merged_shape i.c i.a i.b) (c.merge_terms.ensures i.c x y c.copy-in-Merge.ensures (c.both-in-Merge.ensures x y c.twin-in-Merge.ensures c.twin-in-Merge-2.ensures))
 
 pub Term::copy-returns-in-Fby : goal.Term::copy-returns-in-Fby
-Term::copy-returns-in-Fby t c = let i = c.in-Fby in copied _ _ _ _ i.is (delayed_shape i.v i.a) (c.delayed.ensures (tm_of i.a.value) c.twin-in-Fby.ensures)
+Term::copy-returns-in-Fby t c = let i = c.in-Fby in copied _ _ _ _ i.is (delayed_shape i.v i.a) (c.delay_term.ensures (tm_of i.a.value) c.twin-in-Fby.ensures)
 
 pub Term::copy-returns-in-Follow : goal.Term::copy-returns-in-Follow
 Term::copy-returns-in-Follow t c =
     let i = c.in-Follow in
     let x = tm_of i.a.value in
     let y = tm_of i.b.value in
-    copied _ _ _ _ i.is (followed_shape i.a i.b) (c.followed.ensures x y (c.both-in-Follow.ensures x y c.twin-in-Follow.ensures c.twin-in-Follow-2.ensures))
+    copied _ _ _ _ i.is (followed_shape i.a i.b) (c.follow_terms.ensures x y (c.both-in-Follow.ensures x y c.twin-in-Follow.ensures c.twin-in-Follow-2.ensures))
 
 pub Term::copy-returns-in-Arrow : goal.Term::copy-returns-in-Arrow
 Term::copy-returns-in-Arrow t c =

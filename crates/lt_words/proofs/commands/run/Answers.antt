@@ -4,4 +4,4 @@ use Rattle.lt_words.proofs.commands.run.Goals as goal
 
 pub returns : goal.returns
 returns c =
-    taken _ with_rule _ _ _ _ c.with_argument.ensures c.optional_text.ensures.rule c.scheduled.ensures
+    taken _ with_rule _ _ _ _ c.with_argument.ensures c.optional_text.ensures.rule c.command_on_schedule.ensures

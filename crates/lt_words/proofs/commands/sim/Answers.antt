@@ -6,4 +6,4 @@ pub returns : goal.returns
 returns c =
     taken _ with_rule _ _ _ _ c.with_argument.ensures c.needed_number-2.ensures.rule
     (taken _ with_rule _ _ _ _ c.with_argument-command.ensures c.needed_number.ensures.rule
-    c.placed.ensures)
+    c.command_on_setup.ensures)

@@ -7,4 +7,4 @@ returns c =
     taken _ with_rule _ _ _ _ c.with_argument.ensures c.number-2.ensures.rule
     (taken _ with_rule _ _ _ _ c.with_argument-command-2.ensures c.number.ensures.rule
     (taken _ with_rule _ _ _ _ c.with_argument-command.ensures c.name.ensures.rule
-    c.replayed.ensures))
+    c.command_on_file.ensures))

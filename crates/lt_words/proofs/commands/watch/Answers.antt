@@ -5,4 +5,4 @@ use Rattle.lt_words.proofs.commands.watch.Goals as goal
 pub returns : goal.returns
 returns c =
     taken _ with_rule _ _ _ _ c.with_argument.ensures c.optional_text.ensures.rule
-    c.replayed-command.ensures
+    c.command_on_file-command.ensures

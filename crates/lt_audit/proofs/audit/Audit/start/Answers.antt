@@ -1,5 +1,5 @@
 use Rattle.std.proofs.Common.{[], subst}
-use Rattle.lt_audit.specs.Standing.{Stands}
+use Rattle.lt_audit.specs.Standing.{AuditStands}
 use Rattle.lt_audit.proofs.audit.Audit.start.Goals as goal
 
 pub returns-clause-kept : goal.returns-clause-kept

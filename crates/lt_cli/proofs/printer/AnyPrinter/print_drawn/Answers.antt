@@ -1,7 +1,7 @@
 use Rattle.std.proofs.Common.{ℕ, sym, subst}
 use Rattle.lt_arch.specs.Schedule.{OnePlace}
 use Rattle.lt_load.specs.Plan.{LoadedPlan}
-use Rattle.lt_commands.proofs.Drawn.{loaded_sound}
+use Rattle.lt_big.proofs.Drawn.{loaded_sound}
 use Rattle.lt_cli.proofs.Drawn.{records_of}
 use Rattle.lt_cli.proofs.printer.AnyPrinter.print_drawn.Goals as goal
 

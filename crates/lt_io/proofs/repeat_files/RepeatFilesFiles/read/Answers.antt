@@ -13,8 +13,8 @@ returns-then-self-len c =
     let s = c.self.inside in
     let copied = c.copy_from-count in
     let place : (s.whole + 1) * length s.line + 0 ≡ s.whole * length s.line + s.since + copied.result = next_line s.whole _ _ _ (omega arith) in
-    let front = rw c.as_slice.ensures at copied.ensures.front in
-    let count = rw c.as_slice.ensures at copied.ensures.count in
+    let front = rw c.deref.ensures at copied.ensures.front in
+    let count = rw c.deref.ensures at copied.ensures.count in
     rw (← c.self.view_is) (reads_line _ _ _ _ _ c.args.buf.now _ opened c.self.invariant c.if-self.false place front count (omega arith) c.then-self-inside-2.ensures)
 
 pub returns-else-self-len : goal.returns-else-self-len
@@ -23,6 +23,6 @@ returns-else-self-len c =
     let s = c.self.inside in
     let copied = c.copy_from-count in
     let place : s.whole * length s.line + (s.since + copied.result) ≡ s.whole * length s.line + s.since + copied.result = omega arith in
-    let front = rw c.as_slice.ensures at copied.ensures.front in
-    let count = rw c.as_slice.ensures at copied.ensures.count in
+    let front = rw c.deref.ensures at copied.ensures.front in
+    let count = rw c.deref.ensures at copied.ensures.count in
     rw (← c.self.view_is) (reads_line _ _ _ _ _ c.args.buf.now _ opened c.self.invariant c.if-self.false place front count (omega arith) c.then-self-inside-2.ensures)

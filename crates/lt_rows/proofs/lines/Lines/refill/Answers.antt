@@ -1,7 +1,7 @@
 use Rattle.std.proofs.Common.{◌≡◌, ◌≤◌, ◌+◌, ◌-◌, ◌++◌, ℕ, List, length, take, drop, ap, sym, ◌∙◌, arith}
 use Rattle.std.proofs.lemmas.Grind.{common_steps}
 use Rattle.std.proofs.lemmas.List.{length-take}
-use Rattle.lt_io.specs.FilesState.{left}
+use Rattle.lt_io.specs.FilesState.{file_left}
 use Rattle.lt_rows.specs.Lines.{LinesState}
 use Rattle.lt_rows.proofs.lines.Lines.refill.Goals as goal
 
@@ -15,7 +15,7 @@ count_read buf items n len few room = ap length (held_read buf items n len few r
 pub returns-clause-bytes : goal.returns-clause-bytes
 returns-clause-bytes g c = λ told.
     let held = held_read c.read.new.buf c.self.inside.piece.items c.in_ok-self-inside.field-0 c.self.inside.piece.len c.in_ok-self-inside.ensures.bound.0 (grind (arith, common_steps)) in
-    (c.in_ok-self-inside.ensures.bytes told).next ∙ ap (λ (xs : List ℕ). xs ++ left (g.F.Files.state c.read.new.self)) (sym held)
+    (c.in_ok-self-inside.ensures.bytes told).next ∙ ap (λ (xs : List ℕ). xs ++ file_left (g.F.Files.state c.read.new.self)) (sym held)
 
 pub returns-clause-place : goal.returns-clause-place
 returns-clause-place g c =

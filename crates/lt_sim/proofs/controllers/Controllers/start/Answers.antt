@@ -1,7 +1,7 @@
 use Rattle.std.proofs.Common.{◌≡◌, ◌+◌, ◌<◌, ℕ, ◌∙◌, ◌∷◌, [], List, ap, sym, subst, arith, length, map}
 use Rattle.std.proofs.lemmas.List.{length-map, length-append}
 use Rattle.lt_arch.specs.State.{first_phase}
-use Rattle.lt_judge.specs.declared.controller.NodeController.{NodeController}
+use Rattle.lt_lead.specs.declared.controller.NodeController.{NodeController}
 use Rattle.lt_sim.specs.Controlled.{controller_of, IsControlled}
 use Rattle.lt_sim.proofs.Controls.{controlled, started, one_more}
 use Rattle.lt_sim.proofs.controllers.Controllers.start.Goals as goal

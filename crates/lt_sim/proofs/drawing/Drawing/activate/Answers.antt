@@ -10,9 +10,10 @@ use Rattle.lt_arch.specs.Readers.{chan_count, node_count, tmin_of, tmax_of, is_b
 use Rattle.lt_arch.specs.Deeds.{deed_at}
 use Rattle.lt_arch.specs.Step.{after, is_execute, updated}
 use Rattle.lt_arch.proofs.Ranges.{tmin-tmax}
-use Rattle.lt_sim.specs.Words.{left_after, word, number_in}
-use Rattle.lt_sim.specs.Drawn.{gap, how_many}
-use Rattle.lt_sim.specs.Tallies.{leads_from}
+use Rattle.lt_sim.specs.Words.{left_after, drawn_word, number_in}
+use Rattle.lt_sim.specs.Drawn.{gap}
+use Rattle.lt_base.specs.Truths.{how_many}
+use Rattle.lt_sim.specs.Tallies.{leads_kind_from}
 use Rattle.lt_sim.proofs.Counting.{how_many-none}
 use Rattle.lt_sim.proofs.Delays.{number_drawn, left_drawn, delays_none}
 use Rattle.lt_sim.proofs.Activating.{none_ahead, executed-more, executed-same, at_same, sends-nothing, sends-data, sends-acks, sends-none, stands-act}
@@ -36,8 +37,8 @@ draw_delays-requires-in-Send-clause-span c =
     spans.each c.args.node c.index-in-Send.result.now (slice_get_read c.args.self.now.messages.items (node_count c.args.shape.now) c.args.node c.index-in-Send.result.now (sym spans.size) c.requires.node c.index-in-Send.ensures)
 
 -- the gap is drawn with the next word
-gap_is : (t : Timing) (seed words n low high result : ℕ) → low ≡ tmin_of t n → high ≡ tmax_of t n → result ≡ number_in low high (word seed (words + 1)) → result ≡ gap t seed n (words + 1)
-gap_is t seed words n low high result is_low is_high is = is ∙ (λ i. number_in (is_low i) (is_high i) (word seed (words + 1)))
+gap_is : (t : Timing) (seed words n low high result : ℕ) → low ≡ tmin_of t n → high ≡ tmax_of t n → result ≡ number_in low high (drawn_word seed (words + 1)) → result ≡ gap t seed n (words + 1)
+gap_is t seed words n low high result is_low is_high is = is ∙ (λ i. number_in (is_low i) (is_high i) (drawn_word seed (words + 1)))
 
 no_more : (seed words count : ℕ) → left_after seed (words + 1) ≡ left_after seed (words + 1 + how_many (λ _. false) count)
 no_more seed words count =
@@ -76,7 +77,7 @@ returns-in-Send c seed front d stands keeps =
     let old = stream_of splitmix_steps k.generator in
     let drawn = number_drawn seed d.words c.tmin_of.result c.tmax_of.result c.draw-gap.result old old stands.left c.draw-gap.ensures.number in
     let left = left_drawn seed d.words 0 0 0 old (stream_of splitmix_steps c.draw-gap.new.generator) stands.left c.draw-gap.ensures.left in
-    stands-act k s t rows seed d stands n c.args.at c.requires.node _ c.wake-deed.result c.set_pending.new.pending c.draw-gap.result (leads_from s.channels true n) deed (λ i. sym (sends-data s t rows d.state n is i))
+    stands-act k s t rows seed d stands n c.args.at c.requires.node _ c.wake-deed.result c.set_pending.new.pending c.draw-gap.result (leads_kind_from s.channels true n) deed (λ i. sym (sends-data s t rows d.state n is i))
     (gap_is t seed d.words n c.tmin_of.result c.tmax_of.result c.draw-gap.result c.tmin_of.ensures.value c.tmax_of.ensures.value drawn) c.set_pending.ensures
     (c.draw_delays-in-Send.ensures.drawn seed (d.words + 1) left)
     (c.draw_delays-in-Send.ensures.left seed (d.words + 1) left) c.wake-deed.ensures.controllers
@@ -97,7 +98,7 @@ returns-then-by_pressure c seed front d stands keeps =
     let drawn = number_drawn seed d.words c.tmin_of.result c.tmax_of.result c.draw-gap.result old old stands.left c.draw-gap.ensures.number in
     let left = left_drawn seed d.words 0 0 0 old (stream_of splitmix_steps c.draw-gap.new.generator) stands.left c.draw-gap.ensures.left in
     let executed = c.execute.ensures s (executed_of d.state) (λ i. (d.state.chan i).delivered) stands.progress c.requires.node (none_ahead s d.state keeps.one_place n) in
-    stands-act k s t rows seed d stands n c.args.at c.requires.node _ c.wake-deed.result c.set_pending.new.pending c.draw-gap.result (leads_from s.channels false n) deed (λ i. sym (sends-acks s t rows d.state n is pressure i))
+    stands-act k s t rows seed d stands n c.args.at c.requires.node _ c.wake-deed.result c.set_pending.new.pending c.draw-gap.result (leads_kind_from s.channels false n) deed (λ i. sym (sends-acks s t rows d.state n is pressure i))
     (gap_is t seed d.words n c.tmin_of.result c.tmax_of.result c.draw-gap.result c.tmin_of.ensures.value c.tmax_of.ensures.value drawn) c.set_pending.ensures
     (c.draw_delays.ensures.drawn seed (d.words + 1) left)
     (c.draw_delays.ensures.left seed (d.words + 1) left) c.wake-deed.ensures.controllers

@@ -1,8 +1,0 @@
-use Rattle.lt_load.specs.Setups.{with_setup_verdict}
-use Rattle.lt_reply.specs.Replies.{checked_text}
-use Rattle.lt_cli.proofs.Texts.{is_text_of}
-use Rattle.lt_cli.proofs.answer.fitting_answer.Goals as goal
-
-pub returns : goal.returns
-returns g c =
-    is_text_of checked_text (with_setup_verdict (g.F.Files.state c.args.files.now).named c.args.program.now c.args.config.now) _ _ c.check_with-checked.result c.printed.result c.printed.ensures c.check_with-checked.ensures

@@ -1,6 +1,0 @@
-use Rattle.std.proofs.Common.{◌≡◌, ◌<◌, ℕ, false, get_or}
-use Rattle.lt_commands.specs.Judged.{values_at}
-use Rattle.lt_commands.proofs.judging.fill.Given as goal
-
-abbrev pub invariant-outs : goal.invariant-outs
-invariant-outs l = (j : ℕ) → j < l.k → get_or l.row j false ≡ get_or (values_at l.outs l.cells l.instant) j false

@@ -1,5 +1,0 @@
-use Rattle.lt_commands.proofs.Exactness.{accepted_clean}
-use Rattle.lt_commands.proofs.laws.accepted_is_clean.Goals as goal
-
-pub returns : goal.returns
-returns c = accepted_clean c.shapes_fit.ensures c.one_place.ensures c.exact_messages.ensures

@@ -1,0 +1,15 @@
+//! The compiler: from the bytes of a program through all checks to its flat form, to its parts on the nodes of a setup, and to a machine
+//! of step code for each.
+#![tactic(auto)]
+
+mod compile;
+pub mod laws;
+mod machines;
+mod printing;
+mod site;
+
+pub use compile::{
+    check_program, compile_nodes, compile_part, compile_program, flatten, layout_of, place_program,
+};
+pub use printing::print_program;
+pub use site::Site;

@@ -1,0 +1,9 @@
+mod Exactness
+mod Scening
+mod Regional
+mod Outcome
+mod Carried
+pub mod ToldFirst
+mod Noting
+mod Told
+mod Finished

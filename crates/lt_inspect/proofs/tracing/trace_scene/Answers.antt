@@ -1,0 +1,34 @@
+use Rattle.std.proofs.Common.{◌∙◌, Ok, Err, refl}
+use Rattle.lt_answer.proofs.Stages.{runs_short_by}
+use Rattle.lt_inspect.specs.Inspected.{IsTraced}
+use Rattle.lt_inspect.specs.Inspecting.{IsInspected}
+use Rattle.lt_inspect.proofs.Finished.{traced, not_ended}
+use Rattle.lt_inspect.proofs.Outcome.{over_equals}
+use Rattle.lt_inspect.proofs.tracing.trace_scene.Goals as goal
+
+pub returns-in-Err : goal.returns-in-Err
+returns-in-Err g c =
+    let k = c.args.scene in
+    let i = c.in_ok-inspection.inspection in
+    let j = c.inspect.new.inspection in
+    let first = c.in_ok-inspection.ensures in
+    not_ended k j.auditor j.tap.selection j.tap.shape j.text _ _ _ (c.inspect.ensures.shape ∙ first.shape) (c.inspect.ensures.timing ∙ first.timing) (c.inspect.ensures.rows ∙ first.rows) (IsTraced c.args.from c.args.to k) _ _ refl
+    (over_equals i.auditor.shape k.shape i.auditor.watch.timing k.timing i.auditor.rows k.rows first.shape first.timing first.rows (λ events done. IsInspected j.auditor j.tap.selection j.tap.shape j.text events) _ _ _ (Err c.in-Err.e)
+    c.in-Err.ensures.answered)
+
+pub returns-in-Ok : goal.returns-in-Ok
+returns-in-Ok g c =
+    let k = c.args.scene in
+    let i = c.in_ok-inspection.inspection in
+    let j = c.inspect.new.inspection in
+    let first = c.in_ok-inspection.ensures in
+    traced k j.auditor j.tap.selection j.tap.shape j.text _ _ _ (c.inspect.ensures.shape ∙ first.shape) (c.inspect.ensures.timing ∙ first.timing) (c.inspect.ensures.rows ∙ first.rows) c.args.from c.args.to c.into_text.result c.into_text.ensures
+    (c.inspect.ensures.selection ∙ first.selection ∙ c.new-tap.ensures.selection ∙ c.selection_of-selection.ensures)
+    (over_equals i.auditor.shape k.shape i.auditor.watch.timing k.timing i.auditor.rows k.rows first.shape first.timing first.rows (λ events done. IsInspected j.auditor j.tap.selection j.tap.shape j.text events) _ _ _ (Ok tt)
+    c.in-Ok.ensures.answered)
+
+pub returns-in_err-copy : goal.returns-in_err-copy
+returns-in_err-copy g c = runs_short_by _ _ c.from_residual.ensures.1
+
+pub returns-in_err-inspection : goal.returns-in_err-inspection
+returns-in_err-inspection g c = runs_short_by _ _ c.from_residual-in_err-inspection.ensures.1

@@ -1,0 +1,10 @@
+pub mod Errands
+pub mod Placed
+pub mod Grounded
+pub mod Scenes
+pub mod Regions
+pub mod Traces
+pub mod Inspected
+pub mod Inspecting
+pub mod Audits
+pub mod Clean

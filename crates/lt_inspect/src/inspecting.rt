@@ -1,0 +1,80 @@
+// A schedule file, taken row by row.
+ghost use Rattle.std.specs.Prelude.{◌≡◌, ◌<◌, ◌-◌, ◌^◌, [], List, OnOk};
+ghost use Rattle.lt_io.specs.Counts.{MayFail};
+ghost use Rattle.lt_arch.specs.declared.event.Event.{Event};
+ghost use Rattle.lt_answer.specs.World.{alone};
+ghost use Rattle.lt_answer.specs.Answered.{Answered};
+ghost use Rattle.lt_schedule.specs.Errand.{schedule_errand};
+ghost use Rattle.lt_answer.specs.Rules.{Raised};
+ghost use Rattle.lt_load.specs.Blamed.{command_blame};
+ghost use Rattle.lt_inspect.specs.Inspected.{schedule_command_fault, inspect_file_verdict};
+ghost use Rattle.lt_inspect.specs.Inspecting.{AsFault, IsInspected};
+ghost use Rattle.lt_schedule.specs.declared.halt.Halt.TheVariants as halts;
+
+use crate::inspection::Inspection;
+use lt_arch::{Offence, Shape};
+use lt_base::Or;
+use lt_io::Files;
+use lt_load::{CommandFault, What};
+use lt_rows::Lines;
+use lt_schedule::{Halt, ScheduleRefusal, replay_schedule};
+use std::alloc::Global;
+
+/// Has an inspection take the events of a schedule file.
+///
+/// The file is refused at its first row or event that is refused: at one row the limit on bytes comes first, then the limit on
+/// events, then the row's own fault, and then the event's offence.
+pub fn inspect<F: Files>(
+    alloc: Global,
+    files: &mut F,
+    schedule: &str,
+    inspection: &mut Inspection,
+) -> Result<(), Or<CommandFault>>
+    requires count { MayFail (F.state files.old).faults }
+    requires fresh { IsInspected inspection.old.auditor inspection.old.tap.selection inspection.old.tap.shape inspection.old.text [] }
+    ensures answered { Answered command_blame (schedule_errand schedule.now)
+        (Raised (schedule_command_fault inspection.old.auditor.shape) (inspect_file_verdict (λ events done. IsInspected inspection.new.auditor inspection.new.tap.selection inspection.new.tap.shape inspection.new.text events) inspection.old.auditor.shape inspection.old.auditor.watch.timing inspection.old.auditor.rows ((F.state files.old).named schedule.now)))
+        (alone (F.state files.old)) (alone (F.state files.new)) result }
+    ensures ended { OnOk result ((events : List Event) × IsInspected inspection.new.auditor inspection.new.tap.selection inspection.new.tap.shape inspection.new.text events) }
+    ensures shape { inspection.new.auditor.shape ≡ inspection.old.auditor.shape }
+    ensures timing { inspection.new.auditor.watch.timing ≡ inspection.old.auditor.watch.timing }
+    ensures rows { inspection.new.auditor.rows ≡ inspection.old.auditor.rows }
+    ensures selection { inspection.new.tap.selection ≡ inspection.old.tap.selection }
+{
+    let mut lines = Lines::new(alloc)?;
+    let replayed = replay_schedule(&mut lines, files, schedule, inspection, &mut ());
+    drop(lines);
+    match replayed {
+        Ok(()) => Ok(()),
+        Err(halt) => Err(as_fault(inspection.auditor.shape(), halt)),
+    }
+}
+
+// Why rows are not all taken, as a command's fault, with a copy of the shape whose nodes it names.
+fn as_fault(shape: &Shape, halt: Halt<Offence>) -> Or<CommandFault>
+    ensures { AsFault shape.now halt result }
+{
+    match halt {
+        Halt::Refused(refusal) => refused(shape, refusal),
+        Halt::Read => Or::Fault(CommandFault::Read),
+        Halt::Link => Or::Fault(CommandFault::Link),
+        Halt::Memory => Or::Memory,
+    }
+}
+
+fn refused(shape: &Shape, refusal: ScheduleRefusal<Offence>) -> Or<CommandFault>
+    ensures { AsFault shape.now (halts.Refused refusal) result }
+{
+    match refusal {
+        ScheduleRefusal::Row { row, fault } => Or::Fault(CommandFault::Row { row, fault }),
+        ScheduleRefusal::Offence { event, offence } => match shape.copy() {
+            Ok(shape) => Or::Fault(CommandFault::Offence {
+                event,
+                offence,
+                shape,
+            }),
+            Err(_) => Or::Memory,
+        },
+        ScheduleRefusal::Bytes => Or::Fault(CommandFault::Limit(What::ScheduleBytes)),
+    }
+}

@@ -1,7 +1,0 @@
-use Rattle.std.proofs.Common.{◌≡◌, sym, subst}
-use Rattle.lt_plant.specs.Initial.{IsInitial}
-use Rattle.lt_lossy_net.proofs.StartedLossy.{if_ok_too}
-use Rattle.lt_lossy_net.proofs.starting.at_start.Goals as goal
-
-pub returns-in-Ok-clause-initial : goal.returns-in-Ok-clause-initial
-returns-in-Ok-clause-initial c = if_ok_too (λ first. first.initial ≡ c.in-Ok.initial) _ (λ first is. subst (IsInitial c.args.layout.now c.args.shape.now c.args.rows) (sym is) c.in-Ok.ensures) c.with_initial.result c.with_initial.ensures.initial

@@ -1,0 +1,12 @@
+pub mod Track
+pub mod Initial
+pub mod Whole
+pub mod Routes
+pub mod Executes
+pub mod Given
+pub mod Starts
+pub mod Bench
+pub mod Standing
+pub mod Changes
+pub mod Room
+pub mod Own

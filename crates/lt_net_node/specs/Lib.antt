@@ -1,0 +1,9 @@
+pub mod Layout
+pub mod Local
+pub mod Payloads
+pub mod Acts
+pub mod Freshness
+pub mod Fed
+pub mod Steps
+pub mod Wakes
+pub mod Channels

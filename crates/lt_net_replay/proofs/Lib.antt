@@ -1,0 +1,9 @@
+pub mod OneMore
+pub mod AtEnd
+pub mod Outcomes
+pub mod FirstPlay
+pub mod Stopping
+pub mod SoundNetworks
+pub mod AtTheEnd
+pub mod AtTheStart
+pub mod Performed

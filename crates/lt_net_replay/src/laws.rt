@@ -1,0 +1,20 @@
+// What follows for a network whose layout is placed and whose timing is accepted.
+ghost use Rattle.lt_net_replay.specs.Sound.{AreSound};
+
+use lt_lead::laws::lead_shapes_fit;
+use lt_net_bench::laws::shapes_fit;
+
+/// A network with the shape of its placed layout, by the pace of its protocol, and an accepted timing of its nodes keeps at most one message
+/// in each channel, and its nodes execute as many instants as the bound of that pace.
+pub fn networks_are_sound()
+    ensures { AreSound }
+{
+    shapes_fit();
+    lead_shapes_fit();
+    lt_bp::laws::one_place();
+    lt_bp::laws::least_length();
+    lt_tb::laws::one_place();
+    lt_tb::laws::least_length();
+    lt_lead::laws::one_place();
+    lt_lead::laws::least_length();
+}

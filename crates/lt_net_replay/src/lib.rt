@@ -1,0 +1,13 @@
+//! A network from its layout to what its outputs show: its nodes take the events of a schedule file row by row over a
+//! fabric, and the cells are taken.
+#![tactic(auto)]
+
+pub mod laws;
+mod playback;
+mod playing;
+mod replaying;
+mod taking;
+
+pub use playback::Playback;
+pub use playing::play;
+pub use replaying::replay;

@@ -1,5 +1,0 @@
--- The steps are counted in a ledger of one part.
-use Rattle.lt_nodes_tests.proofs.machines.tell_table.Given as goal
-
-abbrev pub ghosts-tell_rows : goal.ghosts-tell_rows
-ghosts-tell_rows a = record { name = a.blank.name; parts = a.blank.parts }

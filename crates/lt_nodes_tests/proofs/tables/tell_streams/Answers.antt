@@ -1,8 +1,0 @@
-use Rattle.lt_nodes_tests.proofs.Sizes.{kept_at, has_room}
-use Rattle.lt_nodes_tests.proofs.tables.tell_streams.Goals as goal
-
-pub streams-requires-clause-checked : goal.streams-requires-clause-checked
-streams-requires-clause-checked c = (kept_at _ _ c.checked.view_is c.kept.ensures).examined.checked
-
-pub streams-requires-clause-room : goal.streams-requires-clause-room
-streams-requires-clause-room c = has_room _ ((kept_at _ _ c.checked.view_is c.kept.ensures).examined)

@@ -1,6 +1,0 @@
-use Rattle.std.proofs.Common.{◌∙◌}
-use Rattle.lt_outputs.proofs.Missing.{no_function}
-use Rattle.lt_outputs.proofs.names.append_function.Goals as goal
-
-pub returns-in-None : goal.returns-in-None
-returns-in-None c = no_function _ _ _ _ (c.as_slice.ensures ∙ c.tree.view_is) c.in-None.ensures.lookup.3

@@ -1,6 +1,0 @@
-use Rattle.std.proofs.Common.{◌≡◌, ◌++◌, take}
-use Rattle.lt_outputs.specs.OutputLines.{cells_text}
-use Rattle.lt_outputs.proofs.outputs.append_cells.Given as goal
-
-abbrev pub invariant-loop-cell : goal.invariant-loop-cell
-invariant-loop-cell l = l.text ≡ l.initial.text ++ cells_text (take l.cell-index l.cells)

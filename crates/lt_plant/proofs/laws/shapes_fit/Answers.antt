@@ -1,5 +1,0 @@
-use Rattle.lt_node.proofs.LayoutShape.{shapes_fit}
-use Rattle.lt_plant.proofs.laws.shapes_fit.Goals as goal
-
-pub returns : goal.returns
-returns c = shapes_fit

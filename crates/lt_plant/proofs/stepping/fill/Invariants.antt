@@ -1,6 +1,0 @@
-use Rattle.std.proofs.Common.{◌≡◌}
-use Rattle.lt_plant.specs.Routes.{filled}
-use Rattle.lt_plant.proofs.stepping.fill.Given as goal
-
-abbrev pub invariant-loop-c : goal.invariant-loop-c
-invariant-loop-c l = l.buffers.items ≡ filled l.cross l.routes l.node l.outs l.c l.initial.buffers.items

@@ -1,7 +1,0 @@
-use Rattle.std.proofs.Common.{◌≡◌}
-use Rattle.lt_node.specs.Local.{firsts}
-use Rattle.lt_plant.specs.Starts.{route_to}
-use Rattle.lt_plant.proofs.tables.routes.Given as goal
-
-abbrev pub invariant-loop-c : goal.invariant-loop-c
-invariant-loop-c l = l.routes.items ≡ firsts (route_to l.layout l.channels) l.c

@@ -1,3 +1,0 @@
-pub mod RowsRead
-pub mod PartRead
-pub mod ReadySoFar

@@ -1,6 +1,0 @@
-use Rattle.std.proofs.Common.{◌∙◌, ap}
-use Rattle.lt_reply.specs.Replies.{checked_text}
-use Rattle.lt_reply.proofs.showing.printed.Goals as goal
-
-pub returns-in_ok-text-in-Ok : goal.returns-in_ok-text-in-Ok
-returns-in_ok-text-in-Ok c = rw c.in-Ok.is (c.in_ok-text-in-Ok.ensures.text ∙ ap checked_text c.checked.view_is)

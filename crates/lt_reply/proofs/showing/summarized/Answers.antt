@@ -1,6 +1,0 @@
-use Rattle.std.proofs.Common.{◌∙◌}
-use Rattle.lt_outputs.specs.OutputLines.{summary_text}
-use Rattle.lt_reply.proofs.showing.summarized.Goals as goal
-
-pub returns-in_ok-summary_text-in-Ok : goal.returns-in_ok-summary_text-in-Ok
-returns-in_ok-summary_text-in-Ok c = rw c.in-Ok.is (c.in_ok-summary_text-in-Ok.ensures ∙ (λ i. summary_text c.args.instants (c.as_slice-names.ensures i) (c.as_slice.ensures i)))

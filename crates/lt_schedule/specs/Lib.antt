@@ -1,0 +1,10 @@
+pub mod Rules
+pub mod Taken
+pub mod Halted
+pub mod Near
+pub mod Replayed
+pub mod Verdict
+pub mod Blamed
+pub mod Settled
+pub mod Long
+pub mod Errand

@@ -1,6 +1,0 @@
-use Rattle.std.proofs.Common.{◌≡◌, ◌++◌}
-use Rattle.lt_texts.specs.PlanText.{titled, bound_lines}
-use Rattle.lt_texts.proofs.plan.text.append_bounds.Given as goal
-
-abbrev pub invariant-loop-node : goal.invariant-loop-node
-invariant-loop-node l = l.text ≡ l.initial.text ++ titled (bound_lines l.timing l.horizon) l.titles l.node

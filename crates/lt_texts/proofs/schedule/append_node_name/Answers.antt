@@ -1,6 +1,0 @@
-use Rattle.std.proofs.Common.{ℕ, List, ◌≤◌, length, subst}
-use Rattle.lt_texts.proofs.Unnamed.{no_node}
-use Rattle.lt_texts.proofs.schedule.append_node_name.Goals as goal
-
-pub returns-in-None : goal.returns-in-None
-returns-in-None c = no_node _ c.args.shape.now c.args.node (subst (λ (xs : List (List ℕ)). length xs ≤ c.args.node) c.as_slice.ensures c.in-None.ensures.lookup.3)

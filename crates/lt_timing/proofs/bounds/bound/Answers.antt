@@ -1,6 +1,0 @@
-use Rattle.std.proofs.Common.{arith}
-use Rattle.lt_arch.proofs.Ranges.{slowest-some}
-use Rattle.lt_timing.proofs.bounds.bound.Goals as goal
-
-pub instants_by-requires-clause-some : goal.instants_by-requires-clause-some
-instants_by-requires-clause-some c = let s = slowest-some c.args.timing.now c.args.node c.requires in omega (arith, s, c.slowest-slowest.ensures.value)

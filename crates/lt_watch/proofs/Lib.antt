@@ -1,0 +1,5 @@
+pub mod Cells
+pub mod Stages
+pub mod Whole
+pub mod OneWatch
+mod Unwatched

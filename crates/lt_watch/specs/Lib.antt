@@ -1,0 +1,5 @@
+pub mod Judged
+pub mod Whole
+pub mod Blamed
+pub mod Watch
+pub mod Errands
