@@ -1,5 +1,5 @@
 -- The steps are counted in a ledger of one part.
 use Rattle.lt_tests_network.proofs.architecture.show_watch.Given as goal
 
-abbrev pub ghosts-judged : goal.ghosts-judged
-ghosts-judged a = record { name = a.blank.name; parts = a.blank.parts }
+abbrev pub ghosts-judge_events : goal.ghosts-judge_events
+ghosts-judge_events a = record { name = a.blank.name; parts = a.blank.parts }
