@@ -1,0 +1,12 @@
+pub mod Tree
+pub mod Meaning
+pub mod Text
+pub mod Literals
+pub mod Head
+pub mod HeadText
+pub mod Sound
+pub mod Truths
+pub mod Views
+pub mod HeadViews
+pub mod Spelled
+pub mod Uses

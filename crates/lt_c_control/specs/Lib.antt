@@ -1,0 +1,4 @@
+pub mod Control
+pub mod Steps
+pub mod Inboxes
+pub mod Lossy
