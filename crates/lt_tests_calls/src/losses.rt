@@ -26,7 +26,7 @@ s time,event,place/0,act,a/0,act,b/3,loseack,a>b/3,ack,b>a/10,act,a/10,act,b/12,
 x drift 0 0
 0 u: 1 17/v: 10 18/
 - one more than may be lost in a row
-s time,event,place/0,act,a/0,act,b/3,loseack,a>b/3,ack,b>a/10,act,a/10,act,b/12,loseack,a>b/12,data,a>b/
+s time,event,place/0,act,a/0,act,b/3,loseack,a>b/3,ack,b>a/10,act,a/10,act,b/12,loseack,a>b/12,ack,a>b/12,ack,b>a/20,act,a/20,act,b/22,data,b>a/24,data,a>b/24,ack,a>b/24,ack,b>a/30,act,a/30,end,/
 > run p i s c
 5 schedule offence at event 7: TooManyLost ack a>b/
 - a delivery ends the count, so more may be lost after it

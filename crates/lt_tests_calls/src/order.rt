@@ -3,6 +3,9 @@
 use crate::script::holds;
 
 const WORDS: &str = "\
+- thirteen words
+> trace p i s c --node all --from 0 --to 9 c c
+1 words: usage: ltta check P [C] | meaning P I | run P I S [C] | plan C [--horizon H] | sim P I C --seed N --horizon H | big N | watch P I S O [C] | audit P I S C | trace P I S C [--node NAME] [--from T] [--to T]/
 > run p i
 1 words: usage: ltta check P [C] | meaning P I | run P I S [C] | plan C [--horizon H] | sim P I C --seed N --horizon H | big N | watch P I S O [C] | audit P I S C | trace P I S C [--node NAME] [--from T] [--to T]/
 > check p c c

@@ -29,6 +29,13 @@ p node main(x: int) returns (y: int) let y = gcd(x, 0); tel
 i instant,x/0,-9223372036854775808/
 > meaning p i
 0 y: -9223372036854775808/
+- nine outputs
+p node main(x: int) returns (a, b, c, d, e, f, g, h, i: int) let a = x; b = -x; c = x + 1; d = x - 1; e = 2 * x; f = 0 fby x; g = x * x; h = x mod 2; i = x div 2; tel
+i instant,x/0,1/1,2/
+> meaning p i
+0 a: 1 2/b: -1 -2/c: 2 3/d: 0 1/e: 2 4/f: 0 1/g: 1 4/h: 1 0/i: 0 1/
+> run p i s
+0 a: 1 2/b: -1 -2/c: 2 3/d: 0 1/e: 2 4/f: 0 1/g: 1 4/h: 1 0/i: 0 1/
 - equations out of order
 p node main(x: int) returns (y: int; z: int) let y = z + 1; z = 0 fby x; tel
 i instant,x/0,1/1,2/2,3/

@@ -56,7 +56,17 @@ fn tell_of_data(alloc: Global, line: &mut String, what: &str, text: &str) -> Res
     if what == "ring" {
         return tell_ring(alloc, line);
     }
-    if ["fault", "setup", "lead", "plan", "plan-1000", "plain"].contains(&what) {
+    if [
+        "fault",
+        "setup",
+        "lead",
+        "follow",
+        "plan",
+        "plan-1000",
+        "plain",
+    ]
+    .contains(&what)
+    {
         let text = bytes(alloc, text)?;
         return tell_config(alloc, line, what, text.as_slice());
     }

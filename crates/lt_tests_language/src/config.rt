@@ -49,7 +49,10 @@ fn tell_of_config(
         return tell_setup(line, config);
     }
     if what == "lead" {
-        return tell_lead(line, &config.timing);
+        return tell_lead(line, &config.timing, 1);
+    }
+    if what == "follow" {
+        return tell_lead(line, &config.timing, 0);
     }
     if what == "plan" {
         return tell_plan(alloc, line, config, None);
@@ -101,13 +104,15 @@ fn numbers_of(timing: &Timing, node: u32) -> [u64; 4]
     ]
 }
 
-// Tells the bounds of two nodes, the second of which leads.
-fn tell_lead(line: &mut String, timing: &Timing) -> Result<(), Memory> {
+// Tells the bounds of two nodes, the second node's first, where this one leads.
+fn tell_lead(line: &mut String, timing: &Timing, leader: u32) -> Result<(), Memory>
+    requires { leader < 2 }
+{
     if timing.node_count() != 2 {
         return Err(Memory);
     }
-    tell(line, lead_bound(timing, 1, 1, HORIZON))?;
-    tell(line, lead_bound(timing, 1, 0, HORIZON))
+    tell(line, lead_bound(timing, leader, 1, HORIZON))?;
+    tell(line, lead_bound(timing, leader, 0, HORIZON))
 }
 
 // Tells what there is without a setup.

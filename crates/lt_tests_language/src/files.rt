@@ -41,6 +41,8 @@ const TEXTS: &str = "\
 = [9, 11, 1, 1] [9, 11, 1, 1] [1, 4, 1, 4] (4, 11) BackPressure false Lossy(1000)
 > lead protocol = 'leader'/leader = 'b'/period = [9, 11]/delay = [1, 4]/send = 5/execute = 3/nodes = {a = ['x', 'u'], b = ['v']}/sends = {a = 7}/
 = 12 12
+> follow protocol = 'leader'/leader = 'a'/period = [9, 11]/delay = [1, 4]/send = 5/execute = 3/nodes = {a = ['x', 'u'], b = ['v']}/
+= 12 12
 > plain
 = all (1000, 1)
 - worked plans
@@ -255,6 +257,9 @@ const LIMIT: &str = "\
 = (0, None)
 > same past
 = (0, Some(Bytes))
+- rows end at the limit too: the last one that is given ends exactly there
+> same rows
+= (262144, Some(Bytes))
 ";
 
 #[test]
@@ -269,6 +274,6 @@ fn files_and_words(rt: HostRuntime) {
 
 // Each reads a thousand million bytes.
 #[test]
-fn empty_lines_end_at_the_limit(rt: HostRuntime) {
+fn a_file_ends_at_the_limit(rt: HostRuntime) {
     holds(&rt, rt.alloc(), LIMIT);
 }

@@ -2,7 +2,7 @@
 
 use crate::texts::{tell, tell_bytes};
 use lt_base::{Memory, Or};
-use lt_compile::{check_program, compile_program, flatten};
+use lt_compile::{check_program, flatten, front};
 use lt_front::{Checked, ProgramFault};
 use lt_text_lines::program_line;
 use std::alloc::Global;
@@ -36,7 +36,7 @@ pub fn tell_flat_sizes(alloc: Global, line: &mut String, text: &[u8]) -> Result<
     if text.len() > 10_000 {
         return Err(Memory);
     }
-    match compile_program(alloc, text) {
+    match front(alloc, text) {
         Ok(checked) => tell_sizes(alloc, line, checked),
         Err(_) => Err(Memory),
     }

@@ -106,15 +106,15 @@ fn write_into(room: &mut [u8; 6]) -> Result<(), SinkErr> {
     write_two(&mut sink, b"one ", b"two")
 }
 
-fn path_of(rt: HostRuntime) -> Result<PathBuf, Fail> {
+fn path_of(rt: HostRuntime, name: &str) -> Result<PathBuf, Fail> {
     let mut path = env::temp_dir(&rt)?;
-    path.push("lt_io_written")?;
+    path.push(name)?;
     Ok(path)
 }
 
-fn write_at(rt: HostRuntime, path: &PathBuf) -> Result<(), Fail> {
+fn write_at(rt: HostRuntime, path: &PathBuf, first: &[u8], second: &[u8]) -> Result<(), Fail> {
     let mut sink = RealSink::new(fs::create(&rt, path)?);
-    write_two(&mut sink, b"one ", b"two")?;
+    write_two(&mut sink, first, second)?;
     Ok(())
 }
 
@@ -132,18 +132,37 @@ fn is_read(rt: HostRuntime, path: &PathBuf, wanted: &str) -> Result<bool, Fail> 
     Ok(read.as_str() == wanted)
 }
 
-// Whether a file that is written is read, and then, once it is removed, is missing.
-fn is_written_and_read(rt: HostRuntime, path: &PathBuf) -> Result<bool, Fail> {
-    write_at(rt, path)?;
-    let is_written = is_read(rt, path, " \"one two\"")?;
-    fs::remove_file(&rt, path)?;
-    Ok(is_written && is_read(rt, path, " \"failed\"")?)
+// Whether the one is read of the first file, and the other of the second.
+fn are_read(rt: HostRuntime, paths: [&PathBuf; 2], wanted: [&str; 2]) -> Result<bool, Fail> {
+    let first = is_read(rt, paths[0], wanted[0])?;
+    let second = is_read(rt, paths[1], wanted[1])?;
+    Ok(first && second)
+}
+
+// Whether two files that are written are each read.
+fn are_written(rt: HostRuntime, paths: [&PathBuf; 2]) -> Result<bool, Fail> {
+    write_at(rt, paths[0], b"one ", b"two")?;
+    write_at(rt, paths[1], b"two ", b"one")?;
+    are_read(rt, paths, [" \"one two\"", " \"two one\""])
+}
+
+// Whether the first one alone is missing once it is removed.
+fn is_missing(rt: HostRuntime, paths: [&PathBuf; 2]) -> Result<bool, Fail> {
+    fs::remove_file(&rt, paths[0])?;
+    let is_missing = are_read(rt, paths, [" \"failed\"", " \"two one\""])?;
+    fs::remove_file(&rt, paths[1])?;
+    Ok(is_missing)
+}
+
+fn are_written_and_read(rt: HostRuntime, paths: [&PathBuf; 2]) -> Result<bool, Fail> {
+    Ok(are_written(rt, paths)? && is_missing(rt, paths)?)
 }
 
 #[test]
-fn a_real_file_is_written_and_read(rt: HostRuntime) -> Result<(), Fail> {
-    let path = path_of(rt)?;
-    let holds = is_written_and_read(rt, &path)?;
+fn real_files_are_written_and_read(rt: HostRuntime) -> Result<(), Fail> {
+    let path = path_of(rt, "lt_io_written")?;
+    let other = path_of(rt, "lt_io_written_too")?;
+    let holds = are_written_and_read(rt, [&path, &other])?;
     assert!(rt; holds);
     Ok(())
 }

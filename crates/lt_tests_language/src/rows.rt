@@ -20,14 +20,14 @@ fn count<F: Files>(alloc: Global, files: &mut F) -> Result<(u32, Option<LineFaul
     if files.open("lines").is_err() {
         return Ok((0, Some(LineFault::Read)));
     }
-    for row in 0..1_000 {
+    for row in 0..300_000 {
         match lines.advance(files) {
             Ok(true) => {}
             Ok(false) => return Ok((row, None)),
             Err(fault) => return Ok((row, Some(fault))),
         }
     }
-    Ok((1_000, None))
+    Ok((300_000, None))
 }
 
 // Tells the first line, or nothing.
@@ -119,14 +119,17 @@ fn count_same(alloc: Global, bytes: Vec<u8>, times: u64) -> Result<(u32, Option<
     count(alloc, &mut files)
 }
 
-/// Tells how far a file of empty lines is read, of 1,073,741,824 bytes or of one more. Such lines are no rows, but the row behind
-/// them holds them.
+/// Tells how far a file of empty lines is read, of 1,073,741,824 bytes or of one more; or a file of 262,145 rows of 4,096 bytes each,
+/// of which all but the last end by that limit. An empty line is no row, but the row behind it holds it.
 pub fn tell_same(alloc: Global, line: &mut String, text: &str) -> Result<(), Memory> {
     if text == "at" {
         return tell_at(alloc, line);
     }
     if text == "past" {
         return tell_past(alloc, line);
+    }
+    if text == "rows" {
+        return tell_rows(alloc, line);
     }
     Err(Memory)
 }
@@ -139,6 +142,12 @@ fn tell_at(alloc: Global, line: &mut String) -> Result<(), Memory> {
 fn tell_past(alloc: Global, line: &mut String) -> Result<(), Memory> {
     let bytes = vec![in alloc; b'\n'; 33_025]?;
     tell(line, count_same(alloc, bytes, 32_513)?)
+}
+
+fn tell_rows(alloc: Global, line: &mut String) -> Result<(), Memory> {
+    let mut bytes = vec![in alloc; b'x'; 4_095]?;
+    bytes.push(b'\n')?;
+    tell(line, count_same(alloc, bytes, 262_145)?)
 }
 
 fn two_names(alloc: Global) -> Result<List<Name>, Memory>

@@ -6,7 +6,7 @@ use crate::machines::{tell_code, tell_table, tell_ways};
 use crate::script::Question;
 use crate::tables::{tell_outputs, tell_streams};
 use lt_base::{Cell, Memory, Value};
-use lt_compile::compile_program;
+use lt_compile::front;
 use lt_front::Checked;
 use std::alloc::Global;
 use std::fmt::Debug;
@@ -23,7 +23,7 @@ fn tell_asked(alloc: Global, line: &mut String, question: Question) -> Result<()
     if question.program.len() > 10_000 {
         return Err(Memory);
     }
-    match compile_program(alloc, question.program.as_bytes()) {
+    match front(alloc, question.program.as_bytes()) {
         Ok(checked) => {
             let told = tell(alloc, line, &checked, question);
             drop(checked);

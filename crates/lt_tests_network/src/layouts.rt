@@ -34,7 +34,7 @@ fn two_nodes(alloc: Global) -> Result<Placement, Memory>
     Ok(Placement::Named(NamedNodes { nodes }))
 }
 
-/// Tells something of a program on both nodes.
+/// Tells something of a program on both nodes, by copies of the placement and of the layout.
 pub fn tell_layout(
     alloc: Global,
     line: &mut String,
@@ -43,8 +43,27 @@ pub fn tell_layout(
 ) -> Result<(), Memory> {
     match two_nodes(alloc) {
         Ok(placement) => {
-            let told = tell_placed(alloc, line, checked, &placement, what);
+            let told = tell_by_copy(alloc, line, checked, &placement, what);
             drop(placement);
+            told
+        }
+        Err(_) => Err(Memory),
+    }
+}
+
+fn tell_by_copy(
+    alloc: Global,
+    line: &mut String,
+    checked: &Checked,
+    placement: &Placement,
+    what: &str,
+) -> Result<(), Memory>
+    requires { length (node_names placement.now) ≡ 2 }
+{
+    match placement.copy() {
+        Ok(copy) => {
+            let told = tell_placed(alloc, line, checked, &copy, what);
+            drop(copy);
             told
         }
         Err(_) => Err(Memory),
@@ -63,8 +82,19 @@ fn tell_placed(
     checked.invariant_holds();
     match place(alloc, &checked.flat, placement) {
         Ok(layout) => {
-            let told = tell(line, &layout, what);
+            let told = tell_copy(line, &layout, what);
             drop(layout);
+            told
+        }
+        Err(_) => Err(Memory),
+    }
+}
+
+fn tell_copy(line: &mut String, layout: &Layout, what: &str) -> Result<(), Memory> {
+    match layout.copy() {
+        Ok(copy) => {
+            let told = tell(line, &copy, what);
+            drop(copy);
             told
         }
         Err(_) => Err(Memory),

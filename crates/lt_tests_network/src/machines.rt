@@ -1,4 +1,5 @@
-// What the machines of a program with an int and a truth value as inputs and two outputs show on rows of these, as `2 true, 1 false`.
+// What the machines of a program show on rows of an int and a truth value, as `2 true, 1 false`: of one with both as inputs and two
+// outputs, or of one with the int alone as its input and one output.
 ghost use Rattle.std.specs.Prelude.{◌≡◌, ◌<◌, ◌≤◌, ◌*◌, ◌^◌, [], length, true, IfOk};
 ghost use Rattle.lt_base.specs.Dependence.{Causal};
 ghost use Rattle.lt_base.specs.Typing.{TypedFunction};
@@ -59,15 +60,15 @@ fn rows_of(alloc: Global, text: &str) -> Result<Vec<Row>, Memory>
     Ok(rows)
 }
 
-// Whether a function has as many inputs and outputs.
-fn is_two_by_two(function: &Func) -> bool
-    ensures inputs { result ≡ true → function.now.n_in ≡ 2 }
-    ensures outputs { result ≡ true → length function.now.outs ≡ 2 }
+// Whether a function has as many inputs, and as many outputs.
+fn is_square(function: &Func, sides: u32) -> bool
+    ensures inputs { result ≡ true → function.now.n_in ≡ sides }
+    ensures outputs { result ≡ true → length function.now.outs ≡ sides }
 {
-    function.n_in == 2 && function.outs.len() == 2
+    function.n_in == sides && function.outs.len() == sides as usize
 }
 
-// Tells the cells of both outputs on each row.
+// Tells the cells of the outputs on each row: of one output that has the int as its input, or of two that have both.
 fn tell_rows<M: Machine, L: Ledger>(
     line: &mut String,
     machine: &mut M,
@@ -81,9 +82,56 @@ fn tell_rows<M: Machine, L: Ledger>(
     requires parts { blank.parts ≡ L.parts }
     requires some { 0 < blank.parts }
 {
-    if !is_two_by_two(function) {
-        return Err(Memory);
+    if is_square(function, 1) {
+        return tell_ints::<M, L>(line, machine, function, rows, blank);
     }
+    if is_square(function, 2) {
+        return tell_pairs::<M, L>(line, machine, function, rows, blank);
+    }
+    Err(Memory)
+}
+
+// The same of a function of an int.
+fn tell_ints<M: Machine, L: Ledger>(
+    line: &mut String,
+    machine: &mut M,
+    function: &Func,
+    rows: &[Row],
+    blank: Blank,
+) -> Result<(), Memory>
+    requires stands { M.stands machine.old function.now [] }
+    requires inputs { function.now.n_in ≡ 1 }
+    requires outputs { length function.now.outs ≡ 1 }
+    requires left { length rows.now ≤ M.left machine.old }
+    requires name { blank.name ≡ L.name }
+    requires parts { blank.parts ≡ L.parts }
+    requires some { 0 < blank.parts }
+{
+    let mut steps = Steps::<L>::new(blank);
+    for (x, _) in rows {
+        let mut outs = [Cell::Absent];
+        machine.step(&[Value::Int(*x)], &mut outs, &mut steps);
+        tell_cells(line, outs.as_slice())?;
+    }
+    Ok(())
+}
+
+// The same of a function of an int and a truth value, with two outputs.
+fn tell_pairs<M: Machine, L: Ledger>(
+    line: &mut String,
+    machine: &mut M,
+    function: &Func,
+    rows: &[Row],
+    blank: Blank,
+) -> Result<(), Memory>
+    requires stands { M.stands machine.old function.now [] }
+    requires inputs { function.now.n_in ≡ 2 }
+    requires outputs { length function.now.outs ≡ 2 }
+    requires left { length rows.now ≤ M.left machine.old }
+    requires name { blank.name ≡ L.name }
+    requires parts { blank.parts ≡ L.parts }
+    requires some { 0 < blank.parts }
+{
     let mut steps = Steps::<L>::new(blank);
     for (x, c) in rows {
         let ins = [Value::Int(*x), Value::Bool(*c)];

@@ -43,6 +43,12 @@ p node main(x: int) returns (u, v: int) let u = x; v = 0 fby u; tel
 = [1] [2]
 > ways
 = false true
+- the sum of what came before
+p node main(x: int) returns (y: int) let y = 0 fby (y + x); tel
+> code 1 true, 2 true, 3 true
+= 0; 1; 3;
+> table 1 true, 2 true, 3 true
+= 0; 1; 3;
 - sums of what came before, and the highest value so far
 p node main(x: int; c: bool) returns (y, z: int) let y = 0 fby (y + x); z = max(x, 0 fby z); tel
 > code 2 true, 1 false, 5 true

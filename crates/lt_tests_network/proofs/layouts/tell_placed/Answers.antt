@@ -1,4 +1,5 @@
-use Rattle.lt_tests_network.proofs.Sizes.{kept_at, few_variables, has_origins}
+use Rattle.lt_front.proofs.Numbered.{few_variables}
+use Rattle.lt_tests_network.proofs.Sizes.{kept_at, has_origins}
 use Rattle.lt_tests_network.proofs.layouts.tell_placed.Goals as goal
 
 pub place-requires-clause-typed : goal.place-requires-clause-typed

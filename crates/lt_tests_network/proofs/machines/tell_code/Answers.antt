@@ -1,4 +1,5 @@
-use Rattle.lt_tests_network.proofs.Sizes.{kept_at, few_variables, few_equations, few_slots, small_step}
+use Rattle.lt_front.proofs.Numbered.{few_variables, few_equations, few_slots}
+use Rattle.lt_tests_network.proofs.Sizes.{kept_at, small_step}
 use Rattle.lt_tests_network.proofs.machines.tell_code.Goals as goal
 
 pub code_of-requires-clause-typed : goal.code_of-requires-clause-typed

@@ -1,4 +1,5 @@
-use Rattle.lt_tests_network.proofs.Sizes.{kept_at, few_variables, few_equations}
+use Rattle.lt_front.proofs.Numbered.{few_variables, few_equations}
+use Rattle.lt_tests_network.proofs.Sizes.{kept_at}
 use Rattle.lt_tests_network.proofs.machines.tell_table.Goals as goal
 
 pub start-requires-clause-causal : goal.start-requires-clause-causal

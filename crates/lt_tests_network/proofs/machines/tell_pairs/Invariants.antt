@@ -1,5 +1,5 @@
 use Rattle.std.proofs.Common.{◌≡◌, ◌≤◌, ◌+◌, length}
-use Rattle.lt_tests_network.proofs.machines.tell_rows.Given as goal
+use Rattle.lt_tests_network.proofs.machines.tell_pairs.Given as goal
 
 abbrev pub invariant-loop-x : goal.invariant-loop-x
 invariant-loop-x g l = record {
