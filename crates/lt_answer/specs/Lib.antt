@@ -1,3 +1,4 @@
 pub mod World
 pub mod Answered
 pub mod Rules
+pub mod Alone

@@ -7,6 +7,10 @@ pub record World : Type 0 where
   pub files : FilesState
   pub fabric : FabricState
 
+-- these files and this fabric
+abbrev pub world : FilesState → FabricState → World
+world files fabric = record { files = files; fabric = fabric }
+
 -- what no call changes
 pub record KeepsWorld (old new : World) : Type 0 where
   pub files : KeepsNames old.files new.files

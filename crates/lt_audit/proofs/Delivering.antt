@@ -6,11 +6,11 @@ use Rattle.lt_arch.specs.State.{ChanState}
 use Rattle.lt_arch.specs.Readers.{chan_count, from_of, carries_data}
 use Rattle.lt_arch.specs.Step.{with_delivered}
 use Rattle.lt_arch.proofs.Facts.{ends-of}
-use Rattle.lt_audit.specs.Audit.{AuditState, MemberState, LineState, IsKeptAudit, kept_of, chan_at, member_at, no_chan_state, oldest, messages_of}
+use Rattle.lt_audit.specs.Audit.{AuditState, MemberState, LineState, IsKeptAudit, kept_of, chan_at, member_at, no_chan_state, oldest, sent_by_member}
 use Rattle.lt_audit.specs.Acts.{AuditDelivers}
 use Rattle.lt_audit.proofs.Lines.{read_at}
 
-messages_within : (m : MemberState) (k : Bool) → messages_of m k ≤ m.executed
+messages_within : (m : MemberState) (k : Bool) → sent_by_member m k ≤ m.executed
 messages_within m true = omega arith
 messages_within m false = omega arith
 

@@ -12,7 +12,7 @@ use Rattle.lt_arch.specs.Readers.{node_count, chan_count, chan_of, from_of, carr
 use Rattle.lt_arch.specs.Schedule.{IsEventOf}
 use Rattle.lt_arch.specs.Step.{with_sent, with_delivered, is_execute, is_send}
 use Rattle.lt_arch.specs.Times.{Times, sent_in}
-use Rattle.lt_audit.specs.Audit.{AuditState, MemberState, IsKeptAudit, member_at, chan_at, no_member, no_chan_state, oldest, messages_of}
+use Rattle.lt_audit.specs.Audit.{AuditState, MemberState, IsKeptAudit, member_at, chan_at, no_member, no_chan_state, oldest, sent_by_member}
 use Rattle.lt_audit.specs.Acts.{AuditActs, AuditDelivers, AuditTakes, audited_chan, is_sent_on}
 use Rattle.lt_audit.proofs.Waking.{one_if, wake_counts}
 use Rattle.lt_audit.proofs.SentOn.{sent_off}
@@ -77,28 +77,28 @@ module _ (a b : AuditState) (kept : IsKeptAudit a) (fits : b.taken < 2 ^ 32) whe
     counts : (unsent acts.woken.phase ≤ acts.woken.executed) × (acts.woken.executed - unsent acts.woken.phase ≡ ((member_at a.members n).executed - unsent (member_at a.members n).phase) + one_if (is_send acts.deed))
     counts = wake_counts (member_at a.members n) acts.woken _ a.rows acts.deed acts.wakes (kept.unsent n ln)
 
-    more_messages : (k : Bool) → messages_of acts.woken k ≡ messages_of (member_at a.members n) k + one_if (if k then is_send acts.deed else is_execute acts.deed)
+    more_messages : (k : Bool) → sent_by_member acts.woken k ≡ sent_by_member (member_at a.members n) k + one_if (if k then is_send acts.deed else is_execute acts.deed)
     more_messages true = counts.1
     more_messages false = acts.wakes.executed ∙ grown (is_execute acts.deed) (member_at a.members n).executed
 
-    sent_bound : (ch : Chan) (i : ℕ) → i ≡ ch.from → messages_of (member_at a.members i) (is_data ch.kind) + one_if (is_sent_on a.protocol n acts.deed ch) ≤ messages_of (member_at b.members i) (is_data ch.kind)
+    sent_bound : (ch : Chan) (i : ℕ) → i ≡ ch.from → sent_by_member (member_at a.members i) (is_data ch.kind) + one_if (is_sent_on a.protocol n acts.deed ch) ≤ sent_by_member (member_at b.members i) (is_data ch.kind)
     sent_bound ch i from = elim (eqb_tells i n) [
       | inl e ↦
           let most = bound (is_send acts.deed) (is_execute acts.deed) (is_back_pressure a.protocol) (ch.from == n) (is_data ch.kind) in
           let more = more_messages (is_data ch.kind) in
-          let old : messages_of (member_at a.members i) (is_data ch.kind) ≡ messages_of (member_at a.members n) (is_data ch.kind) = ap (λ (j : ℕ). messages_of (member_at a.members j) (is_data ch.kind)) e.1 in
-          let new_is : messages_of (member_at b.members i) (is_data ch.kind) ≡ messages_of acts.woken (is_data ch.kind) =
-          ap (λ (j : ℕ). messages_of (member_at b.members j) (is_data ch.kind)) e.1 ∙ ap (λ (m : MemberState). messages_of m (is_data ch.kind)) member_here in
+          let old : sent_by_member (member_at a.members i) (is_data ch.kind) ≡ sent_by_member (member_at a.members n) (is_data ch.kind) = ap (λ (j : ℕ). sent_by_member (member_at a.members j) (is_data ch.kind)) e.1 in
+          let new_is : sent_by_member (member_at b.members i) (is_data ch.kind) ≡ sent_by_member acts.woken (is_data ch.kind) =
+          ap (λ (j : ℕ). sent_by_member (member_at b.members j) (is_data ch.kind)) e.1 ∙ ap (λ (m : MemberState). sent_by_member m (is_data ch.kind)) member_here in
           omega (arith, most, more, old, new_is)
       | inr e ↦
           let other : (ch.from == n) ≡ false = ne_eqb ch.from n (λ same. e.1 (from ∙ same)) in
           let off : is_sent_on a.protocol n acts.deed ch ≡ false = sent_off a.protocol n acts.deed ch other in
           let none : one_if (is_sent_on a.protocol n acts.deed ch) ≡ 0 = ap one_if off in
-          let same : messages_of (member_at b.members i) (is_data ch.kind) ≡ messages_of (member_at a.members i) (is_data ch.kind) = ap (λ (m : MemberState). messages_of m (is_data ch.kind)) (member_there i e.1) in
+          let same : sent_by_member (member_at b.members i) (is_data ch.kind) ≡ sent_by_member (member_at a.members i) (is_data ch.kind) = ap (λ (m : MemberState). sent_by_member m (is_data ch.kind)) (member_there i e.1) in
           omega (arith, none, same)
     ]
 
-    counted_after : (c : ℕ) → c < chan_count a.shape → total (chan_at b.chans c) ≤ messages_of (member_at b.members (from_of a.shape c)) (carries_data a.shape c)
+    counted_after : (c : ℕ) → c < chan_count a.shape → total (chan_at b.chans c) ≤ sent_by_member (member_at b.members (from_of a.shape c)) (carries_data a.shape c)
     unfolding chan_of
     counted_after c lc =
         let x = is_sent_on a.protocol n acts.deed (audited_chan a.shape.channels c) in
@@ -152,7 +152,7 @@ module _ (a b : AuditState) (kept : IsKeptAudit a) (fits : b.taken < 2 ^ 32) whe
       | inr e ↦ subst (P i) (sym (chan_there i e.1)) (before i li)
     ]
 
-    counted_now : total taken ≤ messages_of (member_at a.members (from_of a.shape c)) (carries_data a.shape c)
+    counted_now : total taken ≤ sent_by_member (member_at a.members (from_of a.shape c)) (carries_data a.shape c)
     counted_now = let same = delivered_total (chan_at a.chans c) (chan_at a.chans c).transit refl in let before = kept.counted c lc in omega (arith, same, before)
 
     kept_delivered : IsKeptAudit (record b { shape = a.shape; rows = a.rows; members = a.members })
@@ -167,7 +167,7 @@ module _ (a b : AuditState) (kept : IsKeptAudit a) (fits : b.taken < 2 ^ 32) whe
       rows_fit = kept.rows_fit;
       oldest_are = λ i li. ap (λ (w : Times). sent_in w i) delivers.watch ∙ oldest_now i li;
       timely = each (λ i k. All IsTime k.transit) (delivered_timely (chan_at a.chans c) (chan_at a.chans c).transit (kept.timely c lc) (kept.timely c lc)) kept.timely;
-      counted = each (λ i k. total k ≤ messages_of (member_at a.members (from_of a.shape i)) (carries_data a.shape i)) counted_now kept.counted;
+      counted = each (λ i k. total k ≤ sent_by_member (member_at a.members (from_of a.shape i)) (carries_data a.shape i)) counted_now kept.counted;
       taken_fits = fits;
     } where
       oldest_now : (i : ℕ) → i < chan_count a.shape → slice_index_or (set a.watch.sends c (oldest (chan_at b.chans c).transit)) i None ≡ oldest (chan_at b.chans i).transit

@@ -1,5 +1,5 @@
 -- Channels in a table, and what counts of them.
-use Rattle.std.proofs.Common.{◌≡◌, ◌∙◌, ℕ, ◌+◌, ◌<◌, ◌≤◌, ◌&&◌, Bool, true, false, not, List, length, map, set, refl, sym, ap, subst, arith, inl, inr, eq-eqb, length-set, slice_index_or}
+use Rattle.std.proofs.Common.{◌≡◌, ◌∙◌, ℕ, ◌+◌, ◌<◌, ◌≤◌, ◌&&◌, Bool, true, false, not, List, Result, Ok, Err, OnErr, length, map, set, refl, sym, ap, subst, arith, inl, inr, eq-eqb, length-set, slice_index_or}
 use Rattle.std.proofs.lemmas.Bool.{false≢true}
 use Rattle.std.proofs.lemmas.Bool.Decides.{eqb_tells}
 use Rattle.std.proofs.lemmas.List.{get_or-map, get_or_default, get_or-set_same, get_or-set_other}
@@ -8,7 +8,7 @@ use Rattle.lt_arch.specs.declared.chan.Chan.{Chan}
 use Rattle.lt_audit.specs.Audit.{LineState, kept_of, line_at, chan_at, no_line, no_chan_state}
 use Rattle.lt_arch.specs.Readers.{is_data}
 use Rattle.lt_link.specs.Ports.{is_from}
-use Rattle.lt_audit.specs.Acts.{SameLines, LinesHaveRoom, HasRoomOn, audited_chan}
+use Rattle.lt_audit.specs.Acts.{SameLines, LinesHaveRoom, HasRoomOn, HasFullLine, audited_chan}
 
 -- what counts of the channel at a place
 pub kept_at : (ls : List LineState) (c : ℕ) → c < length ls → chan_at (map kept_of ls) c ≡ kept_of (line_at ls c)
@@ -56,6 +56,25 @@ room_passed on ls c has off d ld passes = elim (eqb_tells d c) [
   | inl e ↦ absurd (false≢true (sym off ∙ ap on (sym e.1) ∙ passes))
   | inr e ↦ let ne = e.1 in has d (omega (arith, ld, ne)) passes
 ]
+
+-- a channel that has no room left had none before
+pub full_before : (old mid : List LineState) → SameLines old mid → (c : ℕ) (x : LineState) → c < length old → x ≡ slice_index_or mid c x → x.room ≡ 0 → (line_at old c).room ≡ 0
+full_before old mid same c x lt is none =
+    let within : c < length mid = let e = same.same_length in omega (arith, e, lt) in
+    let now : (line_at mid c).room ≡ 0 = subst (λ (l : LineState). l.room ≡ 0) (line_is mid c x within is) none in
+    let grown = same.grows c in
+    omega (arith, grown, now)
+
+pub full_on : (cs : List Chan) (old mid : List LineState) (n : ℕ) → SameLines old mid → HasFullLine cs mid n → HasFullLine cs old n
+full_on cs old mid n same f =
+    let grown = same.grows f.chan in
+    let now = f.full in
+    record { chan = f.chan; within = f.within; leads = f.leads; full = omega (arith, grown, now) }
+
+-- a fact of an answer that is an error, and of any other
+pub on_any : {T E P : Type 0} (r : Result T E) → P → OnErr r P
+on_any (Ok x) p = tt
+on_any (Err e) p = p
 
 -- room is made twice
 pub same_twice : (old mid new : List LineState) → SameLines old mid → SameLines mid new → SameLines old new

@@ -47,6 +47,10 @@ module _ (cs : List Chan) (n : ℕ) (xs : List ℕ) (is : xs ≡ numbers (is_to 
   off_onward i lt none here_too = onward (is_to cs n true) (length cs) xs is NoneOff off_skip i lt (one_more (λ d. is_off cs ls n executed d ≡ false) (slice_index_or xs i 0) none here_too)
 
 module _ (cs : List Chan) (n : ℕ) (kind : Bool) (xs : List ℕ) (is : xs ≡ numbers (is_from cs n kind) (length cs)) where
+  -- a channel of the list leads from the node
+  pub leads_here : (i : ℕ) → i < length xs → (audited_chan cs (slice_index_or xs i 0)).from ≡ n
+  leads_here i lt = (Decides-eqb _ n).0 (and_left _ _ (passes_zero (is_from cs n kind) (length cs) xs is i lt))
+
   module _ (old mid : List LineState) where
     abbrev pub Roomy : (k : ℕ) → Type 0
     Roomy k = SameLines old mid × HasRoomOn (is_from cs n kind) mid k

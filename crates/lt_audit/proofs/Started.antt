@@ -13,7 +13,7 @@ use Rattle.lt_arch.specs.Readers.{node_count, chan_count, from_of, carries_data}
 use Rattle.lt_arch.specs.Shapes.{HaveSameNodes}
 use Rattle.lt_arch.specs.Times.{Times, HasTimes, in_transit, sent_in}
 use Rattle.lt_audit.specs.Misses.{HasNoMiss}
-use Rattle.lt_audit.specs.Audit.{AuditState, MemberState, IsKeptAudit, member_at, chan_at, no_member, no_chan_state, oldest, messages_of}
+use Rattle.lt_audit.specs.Audit.{AuditState, MemberState, IsKeptAudit, member_at, chan_at, no_member, no_chan_state, oldest, sent_by_member}
 use Rattle.lt_audit.specs.Standing.{AuditStands}
 use Rattle.lt_audit.specs.Starts.{IsAtStart, MembersAreAtStart}
 use Rattle.lt_audit.proofs.Longer.{not_nil}
@@ -81,6 +81,6 @@ module _ (s : Shape) (t : Timing) (rows : ℕ) (w : Times) (ms : List MemberStat
     rows_fit = fits;
     oldest_are = λ c lc. none_sent (sent_in w c) (times.transit c lc) ∙ sym (ap (λ (k : ChanState). oldest k.transit) (chan_is c lc));
     timely = λ c lc. subst (λ (k : ChanState). All (λ at. at ≤ GREATEST_TIME) k.transit) (sym (chan_is c lc)) (All-nil (λ at. at ≤ GREATEST_TIME));
-    counted = λ c lc. subst (λ (k : ChanState). k.delivered + length k.transit ≤ messages_of (member_at ms (from_of s c)) (carries_data s c)) (sym (chan_is c lc)) (omega arith);
+    counted = λ c lc. subst (λ (k : ChanState). k.delivered + length k.transit ≤ sent_by_member (member_at ms (from_of s c)) (carries_data s c)) (sym (chan_is c lc)) (omega arith);
     taken_fits = omega arith;
   }

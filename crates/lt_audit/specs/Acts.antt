@@ -80,6 +80,13 @@ LinesHaveRoom cs ls n i = (c : ℕ) → c < i → (audited_chan cs c).from ≡ n
 abbrev pub HasRoomOn : (on : ℕ → Bool) → List LineState → (i : ℕ) → Type 0
 HasRoomOn on ls i = (c : ℕ) → c < i → on c ≡ true → 0 < (line_at ls c).room
 
+-- some channel from node n has no room left
+pub record HasFullLine (cs : List Chan) (ls : List LineState) (n : ℕ) : Type 0 where
+  pub chan : ℕ
+  pub within : chan < length cs
+  pub leads : (audited_chan cs chan).from ≡ n
+  pub full : (line_at ls chan).room ≡ 0
+
 -- a message was sent at a time on each of these channels below i, and the watch has the oldest of each channel
 pub record SentBelow (on : ℕ → Bool) (at i : ℕ) (old new : List LineState) (w v : Times) : Type 0 where
   pub same_length : length new ≡ length old

@@ -64,8 +64,8 @@ oldest [] = None
 oldest (sent ∷ later) = Some sent
 
 -- how many messages a node has sent on a channel: of data one for each send, of acknowledgements one for each instant
-abbrev pub messages_of : MemberState → (is_data : Bool) → ℕ
-messages_of m is_data = if is_data then m.executed - unsent m.phase else m.executed
+abbrev pub sent_by_member : MemberState → (is_data : Bool) → ℕ
+sent_by_member m is_data = if is_data then m.executed - unsent m.phase else m.executed
 
 -- what it keeps
 pub record IsKeptAudit (a : AuditState) : Type 0 where
@@ -82,5 +82,5 @@ pub record IsKeptAudit (a : AuditState) : Type 0 where
   pub oldest_are : (c : ℕ) → c < chan_count a.shape → sent_in a.watch c ≡ oldest (chan_at a.chans c).transit
   pub timely : (c : ℕ) → c < chan_count a.shape → All (λ at. at ≤ GREATEST_TIME) (chan_at a.chans c).transit
   -- no more messages are delivered or in transit than were sent
-  pub counted : (c : ℕ) → c < chan_count a.shape → (chan_at a.chans c).delivered + length (chan_at a.chans c).transit ≤ messages_of (member_at a.members (from_of a.shape c)) (carries_data a.shape c)
+  pub counted : (c : ℕ) → c < chan_count a.shape → (chan_at a.chans c).delivered + length (chan_at a.chans c).transit ≤ sent_by_member (member_at a.members (from_of a.shape c)) (carries_data a.shape c)
   pub taken_fits : a.taken < 2 ^ 32

@@ -46,7 +46,16 @@ impl Model for Audit {
 
     ghost Value = { AuditState };
 
-    ghost view = { λ a. record { shape = a.wiring; protocol = a.protocol; rows = a.rows; watch = a.watch; members = a.members.items; chans = map kept_of a.lines.items; taken = a.taken; first = a.first } };
+    ghost view = { λ a. record {
+      shape = a.wiring;
+      protocol = a.protocol;
+      rows = a.rows;
+      watch = a.watch;
+      members = a.members.items;
+      chans = map kept_of a.lines.items;
+      taken = a.taken;
+      first = a.first;
+    } };
 }
 
 impl Audit {

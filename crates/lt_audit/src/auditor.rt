@@ -1,5 +1,5 @@
 // The auditor.
-ghost use Rattle.std.specs.Prelude.{◌≡◌, ◌<◌, ◌*◌, ◌+◌, ◌-◌, ◌++◌, ◌∷◌, ◌^◌, [], ℕ, List, IfOk, OnOk, OnErr, MatchResult};
+ghost use Rattle.std.specs.Prelude.{◌≡◌, ◌<◌, ◌*◌, ◌+◌, ◌-◌, ◌++◌, ◌∷◌, ◌^◌, [], ℕ, List, IfOk, OnOk, OnErr};
 ghost use Rattle.lt_arch.specs.declared.event.Event.{Event as OfEvent};
 ghost use Rattle.lt_arch.specs.declared.shape.Shape.{Shape as OfShape};
 ghost use Rattle.lt_arch.specs.declared.timing.Timing.{Timing as OfTiming};
@@ -79,8 +79,10 @@ impl Auditor {
     /// Judges an event, and takes it where it has no offence. An offence and want of memory change nothing.
     pub fn event<L: Ledger>(&mut self, e: Event, steps: &mut Steps<L>) -> Result<(), AuditFault>
         requires { IsEventOf self.old.shape e }
-        ensures judges { (s : OfShape) (t : OfTiming) (rows : ℕ) (es : List OfEvent) → AuditStands self.old s t rows es → JudgesEvent (offence_of s t (reached s t rows es) e) result }
-        ensures takes { OnOk result ((s : OfShape) (t : OfTiming) (rows : ℕ) (es : List OfEvent) → AuditStands self.old s t rows es → AuditStands self.new s t rows (es ++ e ∷ [])) }
+        ensures judges { (s : OfShape) (t : OfTiming) (rows : ℕ) (es : List OfEvent) → AuditStands self.old s t rows es
+            → JudgesEvent (offence_of s t (reached s t rows es) e) result }
+        ensures takes { OnOk result ((s : OfShape) (t : OfTiming) (rows : ℕ) (es : List OfEvent) → AuditStands self.old s t rows es
+            → AuditStands self.new s t rows (es ++ e ∷ [])) }
         ensures unchanged { OnErr result (self.new ≡ self.old) }
         ensures shape { self.new.shape ≡ self.old.shape }
     {

@@ -1,12 +1,12 @@
 // The messages that a deed sends.
-ghost use Rattle.std.specs.Prelude.{◌≡◌, ◌<◌, ◌≤◌, ◌+◌, ◌^◌, ℕ, true, Some, All, length, OnOk, slice_set};
+ghost use Rattle.std.specs.Prelude.{◌≡◌, ◌<◌, ◌≤◌, ◌+◌, ◌^◌, ℕ, true, Some, All, length, OnOk, OnErr, slice_set};
 ghost use Rattle.lt_arch.specs.declared.limits.TheConstants.{GREATEST_TIME};
 ghost use Rattle.lt_arch.specs.Readers.{node_count, chan_count, is_data, is_back_pressure};
 ghost use Rattle.lt_arch.specs.Step.{is_send, with_delivered, with_sent};
 ghost use Rattle.lt_arch.specs.Times.{sent_in};
 ghost use Rattle.lt_link.specs.Ports.{is_from};
 ghost use Rattle.lt_audit.specs.Audit.{kept_of, line_at, oldest};
-ghost use Rattle.lt_audit.specs.Acts.{SameLines, LinesHaveRoom, HasRoomOn, SentBelow, audited_chan, is_sent_on, is_data_from, is_ack_from};
+ghost use Rattle.lt_audit.specs.Acts.{SameLines, LinesHaveRoom, HasRoomOn, HasFullLine, SentBelow, audited_chan, is_sent_on, is_data_from, is_ack_from};
 
 use crate::line::Line;
 use lt_arch::{Chan, ChanKind, Deed, Protocol, Watch};
@@ -20,6 +20,7 @@ pub fn make_room(wiring: &Wiring, lines: &mut Vec<Line>, node: u32) -> Result<()
     requires node { node < node_count wiring.now }
     ensures same { SameLines lines.old.items lines.new.items }
     ensures room { OnOk result (LinesHaveRoom wiring.now.channels lines.new.items node (length wiring.now.channels)) }
+    ensures full { OnErr result (HasFullLine wiring.now.channels lines.old.items node) }
 {
     make_room_on(wiring, lines, node, true)?;
     make_room_on(wiring, lines, node, false)?;
@@ -32,6 +33,7 @@ fn make_room_on(wiring: &Wiring, lines: &mut Vec<Line>, node: u32, kind: bool) -
     requires node { node < node_count wiring.now }
     ensures same { SameLines lines.old.items lines.new.items }
     ensures room { OnOk result (HasRoomOn (is_from wiring.now.channels node kind) lines.new.items (length wiring.now.channels)) }
+    ensures full { OnErr result (HasFullLine wiring.now.channels lines.old.items node) }
 {
     let numbers = wiring.outgoing(node, kind);
     for number in numbers {
@@ -108,15 +110,15 @@ pub fn send_all<L: Ledger>(
     requires room { LinesHaveRoom wiring.now.channels lines.old.items node (length wiring.now.channels) }
     requires oldest { (c : ℕ) → c < chan_count wiring.now → sent_in watch.old c ≡ oldest (line_at lines.old.items c).transit }
     requires time { at ≤ GREATEST_TIME }
-    ensures { SentBelow (λ c. is_sent_on protocol node deed (audited_chan wiring.now.channels c)) at (length wiring.now.channels) lines.old.items lines.new.items watch.old watch.new }
+    ensures { SentBelow (λ c. is_sent_on protocol node deed (audited_chan wiring.now.channels c)) at (length wiring.now.channels)
+        lines.old.items lines.new.items watch.old watch.new }
 {
     let channels = wiring.channels();
     let numbers = wiring.outgoing(node, is_send(deed));
-    for i in 0..numbers.len() {
-        let ch = numbers[i];
-        let c = ch as usize;
+    for number in numbers {
+        let c = *number as usize;
         if is_sent_on(protocol, node, deed, &channels[c]) {
-            send(&mut lines[c], watch, ch, at, steps);
+            send(&mut lines[c], watch, *number, at, steps);
         }
     }
 }

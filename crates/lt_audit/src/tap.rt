@@ -16,7 +16,8 @@ pub struct Tap {
     shape: Shape,
     selects: fn(&Selection, &Shape, &Event) -> bool,
     ghost callable: { IsAlwaysCallable selects },
-    ghost answers: { (k : Bor OfSelection) (s : Bor OfShape) (e : Bor OfEvent) (r : Bool) → k.now ≡ selection → s.now ≡ shape → post selects k s e r → r ≡ selected.selected selection shape e.now },
+    ghost answers: { (k : Bor OfSelection) (s : Bor OfShape) (e : Bor OfEvent) (r : Bool) → k.now ≡ selection → s.now ≡ shape
+        → post selects k s e r → r ≡ selected.selected selection shape e.now },
 }
 
 impl Tap {
@@ -27,7 +28,8 @@ impl Tap {
         selects: fn(&Selection, &Shape, &Event) -> bool,
     ) -> Tap
         requires callable { IsAlwaysCallable selects }
-        requires answers { (k : Bor OfSelection) (s : Bor OfShape) (e : Bor OfEvent) (r : Bool) → k.now ≡ selection → s.now ≡ shape → post selects k s e r → r ≡ selected.selected selection shape e.now }
+        requires answers { (k : Bor OfSelection) (s : Bor OfShape) (e : Bor OfEvent) (r : Bool) → k.now ≡ selection → s.now ≡ shape
+            → post selects k s e r → r ≡ selected.selected selection shape e.now }
         ensures selection { result.selection ≡ selection }
         ensures shape { result.shape ≡ shape }
     {

@@ -1,6 +1,8 @@
--- A number, read from the left.
-use Rattle.std.proofs.Common.{◌≡◌, ℕ, ◌+◌, ◌-◌, ◌*◌, ◌≤◌, ◌<◌, Bool, true, false, if◌then◌else◌, ◌&&◌, List, [], ◌∷◌, length, Option, Some, None, refl, ap, arith, nat_le}
+-- A number, read from the left, and back from what is written of it.
+use Rattle.std.proofs.Common.{◌≡◌, ℕ, ◌+◌, ◌-◌, ◌*◌, ◌^◌, ◌≤◌, ◌<◌, Bool, true, false, if◌then◌else◌, ◌&&◌, List, [], ◌∷◌, length, decimal, Option, Some, None, refl, ap, subst, ◌∙◌, arith, nat_le, leb-true}
 use Rattle.std.specs.Prelude.{unwrap_or, MatchOption, IfSome}
+use Rattle.std.proofs.lemmas.Str.Parse.{IsNumeralModel, numerals_by_fold}
+use Rattle.std.proofs.lemmas.Fmt.{digits_decimal, digits_value-decimal, decimal_nonempty}
 use Rattle.lt_base.specs.Digits.{is_digit, all_digits, read_on, number_of, up_to}
 
 -- the number, read on from n over the rest of the digits
@@ -79,3 +81,44 @@ up_to_low most (Some n) = by (nat_le n most) refl
     by : (b : Bool) → nat_le n most ≡ b → IfSome (if b then Some n else None) (λ m. m ≤ most)
     by true e = grind arith
     by false e = tt
+
+-- what is found up to a bound is the number, and within the bound
+pub up_to-some : (most : ℕ) (o : Option ℕ) (n : ℕ) → up_to most o ≡ Some n → (o ≡ Some n) × (n ≤ most)
+up_to-some most None n is = absurd (cc)
+up_to-some most (Some m) n is = by (nat_le m most) refl is
+  where
+    by : (b : Bool) → nat_le m most ≡ b → (if b then Some m else None) ≡ Some n → (Some m ≡ Some n) × (n ≤ most)
+    by true e is = let same : m ≡ n = cc in (is, subst (λ k. k ≤ most) same (leb-true m most e))
+    by false e is = absurd (cc)
+
+both : (a b : Bool) → (a && b) ≡ true → (a ≡ true) × (b ≡ true)
+both true b is = (refl, is)
+both false b is = absurd (cc)
+
+-- a number is written in digits
+pub number_digits : (cs : List ℕ) (n : ℕ) → number_of cs ≡ Some n → all_digits cs ≡ true
+number_digits [] n is = refl
+number_digits (c ∷ cs) n is = by (all_digits (c ∷ cs)) is
+  where
+    by : (b : Bool) → (if b then Some (read_on 0 (c ∷ cs)) else None) ≡ Some n → b ≡ true
+    by true is = refl
+    by false is = cc
+
+-- the first of some digits is one, and so are the others
+pub digits-cons : (c : ℕ) (cs : List ℕ) → all_digits (c ∷ cs) ≡ true → (is_digit c ≡ true) × (all_digits cs ≡ true)
+digits-cons c cs is = both (is_digit c) (all_digits cs) is
+
+digit_range : (c : ℕ) → is_digit c ≡ true → (48 ≤ c) × (c ≤ 57)
+digit_range c is = let parts = both (nat_le 48 c) (nat_le c 57) is in (leb-true 48 c parts.0, leb-true c 57 parts.1)
+
+-- they are digits and numbers as the library has them
+numerals : IsNumeralModel (λ cs. all_digits cs ≡ true) (read_on 0)
+numerals = numerals_by_fold (λ cs. all_digits cs ≡ true) (record {
+  empty = refl;
+  parts = λ c cs is. let parts = digits-cons c cs is in (digit_range c parts.0, parts.1);
+  more = λ c cs range is. ap (λ b. b && all_digits cs) (is_digit-true c range.0 range.1) ∙ is;
+}) read_on (record { empty = λ n. refl; more = λ n c cs range. refl })
+
+-- what is written of a number reads as it
+pub number_back : (n : ℕ) → n < 2 ^ 64 → number_of (decimal n) ≡ Some n
+number_back n low = number_is (decimal n) (decimal_nonempty n low) (digits_decimal numerals n low) ∙ ap Some (digits_value-decimal numerals n low)

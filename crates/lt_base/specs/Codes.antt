@@ -9,12 +9,13 @@ use Rattle.lt_base.specs.contracts.operators.Bin.{the_row as bin_row}
 use Rattle.lt_base.specs.contracts.operators.Imp.{the_row as imp_row}
 use Rattle.lt_base.specs.Expression.{Expression, literal, variable, unary, binary, imported, choose, sampled, merged, delayed, follow, arrow, call, Arguments, no_arguments, argument}
 
-abbrev first : Gv → Gv
+-- the first of the parts that are coded, and the rest of them
+abbrev pub first : Gv → Gv
 first gnil = gnil
 first (gnum n) = gnil
 first (gcons a b) = a
 
-abbrev rest : Gv → Gv
+abbrev pub rest : Gv → Gv
 rest gnil = gnil
 rest (gnum n) = gnil
 rest (gcons a b) = b

@@ -32,7 +32,3 @@ HasOutputStreams p rows streams = MatchOption (main_of p) ⊥ (λ f. streams ≡
 -- how many cells count against the limit: the weight of main for each row
 abbrev pub cell_count : WholeProgram → List (List Value) → ℕ
 cell_count p rows = program_weight p * length rows
-
--- the most cells that may count
-abbrev pub most_cells : ℕ
-most_cells = 16000000

@@ -146,7 +146,7 @@ impl Func {
     pub fn variables(&self) -> usize
         ensures { result ≡ length self.now.decls }
     {
-        self.decls.as_slice().len()
+        self.decls.len()
     }
 
     /// The right side of the equation of this number.
@@ -154,7 +154,7 @@ impl Func {
         requires { equation < length self.now.eqs }
         ensures { MatchOption (slice_get self.now.eqs equation) ⊥ (λ e. shape result.now ≡ e.1) }
     {
-        let equation = &self.eqs.as_slice()[equation];
+        let equation = &self.eqs[equation];
         &equation.right
     }
 

@@ -27,7 +27,7 @@ pub use inputs::Inputs;
 pub use list::{Duplicate, List};
 pub use memory::{Memory, Or};
 pub use name::Name;
-pub use numbers::number_up_to;
+pub use numbers::{append_number, number_up_to};
 pub use operators::{Bin, Imp, Un};
 pub use program::{Program, Sizes, Whole};
 pub use reads::push_reads;

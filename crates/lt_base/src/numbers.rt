@@ -1,7 +1,10 @@
 // Numbers in decimal digits.
 
-ghost use Rattle.std.specs.Prelude.{◌≡◌, ◌≤◌};
+ghost use Rattle.std.specs.Prelude.{◌≡◌, ◌≤◌, ◌++◌, OnOk, OnErr};
 ghost use Rattle.lt_base.specs.Digits.{number_of, up_to};
+
+use crate::{List, Memory};
+use itoa::{Buffer, Integer};
 
 /// The number that some digits are, one or more, up to a bound. Leading zeros are accepted.
 #[inline]
@@ -26,4 +29,13 @@ pub fn number_up_to(digits: &[u8], most: u64) -> Option<u64>
         number = number * 10 + digit;
     }
     Some(number)
+}
+
+/// Appends a number in decimal digits, with `-` before a negative one.
+#[inline]
+pub fn append_number<N: Integer>(text: &mut List<u8>, number: N) -> Result<(), Memory>
+    ensures ok { OnOk result (text.new ≡ text.old ++ N.text number) }
+    ensures err { OnErr result (text.new ≡ text.old) }
+{
+    text.extend(Buffer::new().format(number).as_bytes())
 }

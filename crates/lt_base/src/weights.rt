@@ -22,11 +22,11 @@ pub fn sizes(alloc: Global, p: &Program) -> Result<Sizes, Memory>
     ensures weight { IfOk result (λ s. s.weight ≡ cut (program_weight p.now)) }
     ensures parts { IfOk result (λ s. s.parts ≡ cut (program_parts p.now)) }
 {
-    let weights = totals(alloc, p.funcs.as_slice(), Measure::Weight)?;
-    let parts = totals(alloc, p.funcs.as_slice(), Measure::Parts)?;
+    let weights = totals(alloc, &p.funcs, Measure::Weight)?;
+    let parts = totals(alloc, &p.funcs, Measure::Parts)?;
     Ok(Sizes {
-        weight: entry_of(weights.as_slice(), p.main),
-        parts: entry_of(parts.as_slice(), p.main),
+        weight: entry_of(&weights, p.main),
+        parts: entry_of(&parts, p.main),
     })
 }
 
@@ -79,8 +79,8 @@ fn measure_of(f: &Func, measure: Measure, table: &[u64]) -> u64
 fn weight_of(f: &Func, table: &[u64]) -> u64
     ensures { result ≡ cut (weight_with (in_table table.now) f.now) }
 {
-    let mut sum = f.decls.as_slice().len() as u64;
-    for equation in f.eqs.as_slice() {
+    let mut sum = f.decls.len() as u64;
+    for equation in f.eqs.iter() {
         sum = sum.saturating_add(cost(equation.right(), 1, table));
     }
     sum
@@ -91,7 +91,7 @@ fn parts_of(f: &Func, table: &[u64]) -> u64
     ensures { result ≡ cut (parts_with (in_table table.now) f.now) }
 {
     let mut sum = 0u64;
-    for equation in f.eqs.as_slice() {
+    for equation in f.eqs.iter() {
         let right = equation.right();
         sum = sum
             .saturating_add(right.parts())

@@ -6,9 +6,8 @@ use Rattle.lt_io.specs.Visits.{Errand}
 use Rattle.lt_io.specs.FilesState.{FilesState}
 use Rattle.lt_io.specs.FabricState.{FabricState}
 use Rattle.lt_io.proofs.Visiting.{visited_none}
-use Rattle.lt_answer.specs.World.{IsCalm, Blame, Content, Reading, Linking, Blames, alone}
+use Rattle.lt_answer.specs.World.{IsCalm, Blame, Content, Reading, Linking, Blames, alone, world}
 use Rattle.lt_answer.specs.Answered.{Answered, Verdict, Settles, OrBlames, RefusesReading}
-use Rattle.lt_net_start.specs.Outside.{world}
 use Rattle.lt_load_fit.specs.declared.fault.CommandFault.{CommandFault}
 use Rattle.lt_load.specs.Blamed.{command_blame}
 use Rattle.lt_load.proofs.Steps.{IsContent}

@@ -7,7 +7,7 @@ use Rattle.lt_base.specs.Inputs.{InputTable}
 use Rattle.lt_arch.specs.declared.event.Event.{Event}
 use Rattle.lt_arch.specs.declared.timing.Timing.{Timing}
 use Rattle.lt_io.specs.FabricState.{FabricState}
-use Rattle.lt_answer.specs.World.{Blames}
+use Rattle.lt_answer.specs.World.{Blames, world}
 use Rattle.lt_answer.specs.Answered.{Refuses, Settles}
 use Rattle.lt_answer.proofs.Stages.{calm_itself, refuses, runs_short, settles, widened}
 use Rattle.lt_arch.specs.declared.pace.Pace.{Pace}
@@ -15,7 +15,6 @@ use Rattle.lt_arch.specs.declared.pace.Pace.TheVariants.{Plain}
 use Rattle.lt_lead.specs.Paced.{IsShapeBy}
 use Rattle.lt_front.specs.Examined.{ExaminedText}
 use Rattle.lt_schedule.specs.declared.fault.ScheduleFault.{ScheduleFault}
-use Rattle.lt_net_start.specs.Outside.{world}
 use Rattle.lt_load_fit.specs.declared.fault.CommandFault.{CommandFault}
 use Rattle.lt_load.specs.Blamed.{command_blame}
 use Rattle.lt_load.specs.Plan.{Plan, LoadedPlan, IsLoadedFrom, Loads}

@@ -9,7 +9,7 @@ use Rattle.lt_io.specs.SinkState.{SinkState}
 use Rattle.lt_rows.specs.Limits.{most_events}
 use Rattle.lt_schedule.specs.Verdict.{verdict}
 use Rattle.lt_answer.specs.Answered.{Refuses}
-use Rattle.lt_net_replay.specs.Sound.{PlanIsSound, AreSound}
+use Rattle.lt_net_replay.specs.Sound.{PlanIsSound, PlansAreSound}
 use Rattle.lt_load_fit.specs.declared.fault.CommandFault.{CommandFault}
 use Rattle.lt_load.specs.Plan.{LoadedPlan, IsLoaded}
 use Rattle.lt_sim.specs.declared.fault.SimFault.{SimFault}
@@ -23,7 +23,7 @@ use Rattle.lt_big.specs.Big.{events_of, too_many_events}
 use Rattle.lt_big.specs.Stage.{drawn_verdict}
 
 -- a loaded program's nodes can be drawn for
-pub loaded_sound : (k : LoadedPlan) → IsLoaded k → AreSound → PlanIsSound k.layout k.shape k.timing (length k.inputs.rows)
+pub loaded_sound : (k : LoadedPlan) → IsLoaded k → PlansAreSound → PlanIsSound k.layout k.shape k.timing (length k.inputs.rows)
 loaded_sound k kept sound = sound k.checked.flat k.layout k.shape k.timing (length k.inputs.rows) kept.placed (k.pace, kept.paced) kept.timed kept.accepted
 
 -- a sink that fails nowhere is not broken
@@ -39,7 +39,7 @@ module _ (k j : LoadedPlan) (view : k ≡ j) (instants rows horizon : ℕ) (coun
   same P here = subst (λ (h : ℕ). P (list (length k.inputs.rows) h)) until (subst (λ (n : ℕ). P (list n horizon)) counted here)
 
   -- it was written, and reads back
-  pub drawn_file : IsLoaded k → AreSound → DrawsSound → ReadsBack → horizon ≤ GREATEST_TIME → (old new : SinkState) → IsTrue old.told → old.taken ≡ [] → (count : ℕ) → IsRecorded k.shape (list rows horizon) old new count → (bytes : List ℕ) → bytes ≡ new.taken
+  pub drawn_file : IsLoaded k → PlansAreSound → DrawsSound → ReadsBack → horizon ≤ GREATEST_TIME → (old new : SinkState) → IsTrue old.told → old.taken ≡ [] → (count : ℕ) → IsRecorded k.shape (list rows horizon) old new count → (bytes : List ℕ) → bytes ≡ new.taken
       → drawn_verdict instants j (Ok bytes)
   drawn_file kept sound draws back within old new told empty count is bytes taken =
       let text : bytes ≡ file_text k.shape (list rows horizon) = taken ∙ is.written.taken told ∙ ap (λ (t : List ℕ). t ++ file_text k.shape (list rows horizon)) empty in

@@ -7,10 +7,9 @@ use Rattle.lt_io.specs.FilesState.{FilesState}
 use Rattle.lt_io.specs.FabricState.{FabricState}
 use Rattle.lt_io.specs.MemFiles.{lookup}
 use Rattle.lt_io.specs.declared.mem_files.MemFile.{MemFile}
-use Rattle.lt_answer.specs.World.{alone}
+use Rattle.lt_answer.specs.World.{alone, world}
 use Rattle.lt_answer.specs.Answered.{Answered, Settles}
 use Rattle.lt_answer.proofs.Stages.{renamed}
-use Rattle.lt_net_start.specs.Outside.{world}
 use Rattle.lt_load_fit.specs.declared.fault.CommandFault.{CommandFault}
 use Rattle.lt_load.specs.Blamed.{command_blame}
 use Rattle.lt_load.specs.Plan.{LoadedPlan, Loads}

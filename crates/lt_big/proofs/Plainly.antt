@@ -26,7 +26,7 @@ unfolding inputs_plan_verdict
 planned named inputs checked setup p (inl refused) = absurd refused
 planned named inputs checked setup p (inr (table, read, is)) = cc
 
-fitted : (named : List ℕ → Option (List ℕ)) (inputs : List ℕ) (checked : ExaminedText) (setup : Config) (p : Plan) → fitting_plan_verdict named inputs checked setup (Ok p) → p.setup ≡ setup
+pub fitted : (named : List ℕ → Option (List ℕ)) (inputs : List ℕ) (checked : ExaminedText) (setup : Config) (p : Plan) → fitting_plan_verdict named inputs checked setup (Ok p) → p.setup ≡ setup
 unfolding fitting_plan_verdict
 fitted named inputs checked setup p (inl refused) = absurd refused
 fitted named inputs checked setup p (inr (fitting, fits, planned_is)) = planned named inputs checked fitting p planned_is ∙ same_setup checked setup fitting fits

@@ -1,4 +1,4 @@
-mod Walks
+pub mod Walks
 mod Search
 mod Round
 mod Table

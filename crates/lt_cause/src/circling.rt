@@ -1,7 +1,6 @@
 // Closed walks from a number.
 
-ghost use Rattle.std.specs.Prelude.{◌≡◌, ◌<◌, ◌^◌, ◌∷◌, ℕ, false, List as Items, IfOk, MatchBool, MatchOption, length, replicate};
-ghost use Rattle.lt_base.specs.Graph.{ClosedWalk};
+ghost use Rattle.std.specs.Prelude.{◌≡◌, ◌<◌, false, IfOk, MatchBool, MatchOption, length, replicate};
 ghost use Rattle.lt_graph.specs.Reach.{AreComponents};
 ghost use Rattle.lt_graph.specs.Tables.{Leads, IsTable};
 ghost use Rattle.lt_cause.specs.Tables.{Circles, HasWalkFrom, HasNoWalkFrom};

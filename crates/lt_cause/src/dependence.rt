@@ -1,7 +1,6 @@
 // What the variables of a function depend on.
 
 ghost use Rattle.std.specs.Prelude.{◌≡◌, ◌<◌, ◌++◌, ◌^◌, IfOk, OnOk, length};
-ghost use Rattle.lt_base.specs.Expression.{shape};
 ghost use Rattle.lt_base.specs.Meaning.{clock_of};
 ghost use Rattle.lt_base.specs.Dependence.{reads, clock_vars};
 ghost use Rattle.lt_graph.specs.Tables.{IsTable};

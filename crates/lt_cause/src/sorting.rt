@@ -1,7 +1,7 @@
 // Numbers in an order in which each comes after those that it leads to.
 
-ghost use Rattle.std.specs.Prelude.{◌≡◌, ◌<◌, ◌^◌, IfOk, MatchOption, length, map, replicate, slice_index};
-ghost use Rattle.lt_graph.specs.Tables.{next, Leads, IsTable};
+ghost use Rattle.std.specs.Prelude.{◌≡◌, ◌<◌, ◌^◌, IfOk, MatchOption, length, replicate};
+ghost use Rattle.lt_graph.specs.Tables.{Leads, IsTable};
 ghost use Rattle.lt_cause.specs.Tables.{Sorts, HasClosedWalk};
 
 use lt_base::{List, Memory};

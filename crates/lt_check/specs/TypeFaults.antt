@@ -1,6 +1,7 @@
 -- The first fault of types.
-use Rattle.std.specs.Prelude.{◌≡◌, ℕ, Some, List, take, slice_get, MatchOption}
+use Rattle.std.specs.Prelude.{◌≡◌, ◌≢◌, ℕ, Option, Some, List, take, slice_get, MatchOption}
 use Rattle.std.specs.List.{All}
+use Rattle.lt_base.specs.declared.value.Ty.{Ty}
 use Rattle.lt_base.specs.declared.value.Ty.TheVariants.{Int as IntTy, Bool as BoolTy}
 use Rattle.lt_base.specs.declared.function.Decl.{Decl}
 use Rattle.lt_base.specs.Expression.{Expression}
@@ -21,6 +22,10 @@ BoolClock ds x = AllBools ds (clock_of ds x)
 -- the right side has its variable's type
 abbrev pub HasItsType : List Function → List Decl → ℕ × Expression → Type 0
 HasItsType fs ds q = type_of fs ds q.1 ≡ ty_at ds q.0
+
+-- the type that an equation's variable wants and the one that its right side has, which differ
+abbrev pub IsMisfit : List Function → List Decl → ℕ × Expression → Ty × Option Ty → Type 0
+IsMisfit fs ds q m = (Some m.0 ≡ ty_at ds q.0) × (m.1 ≡ type_of fs ds q.1) × (m.1 ≢ Some m.0)
 
 -- what a fault says: an int is among the clock variables of a declared variable, or which type a right side wants and has
 abbrev pub SaysTypes : List Function → Function → TypeFault → Place → Type 0

@@ -64,7 +64,8 @@ fn function_clocks(
     requires functions { All GoodFunction funcs.now }
     requires variables { length f.now.decls < 2 ^ 32 }
     requires equations { length f.now.eqs < 2 ^ 32 }
-    ensures { MatchResult result (λ _. ClockedFunction funcs.now f.now) (λ e. ForFault e (λ fault. (fault.func ≡ number) × IsClockFaultIn funcs.now f.now fault)) }
+    ensures { MatchResult result (λ _. ClockedFunction funcs.now f.now)
+        (λ e. ForFault e (λ fault. (fault.func ≡ number) × IsClockFaultIn funcs.now f.now fault)) }
 {
     if let Some(variable) = ill_formed(alloc, f)? {
         return Err(Or::Fault(fault_at(f, number, variable, None)?));

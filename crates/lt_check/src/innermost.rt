@@ -1,6 +1,6 @@
 // Clocks by their innermost pairs.
 
-ghost use Rattle.std.specs.Prelude.{◌≡◌, ◌≢◌, ◌<◌, ◌^◌, ℕ, Some, IfOk, length, reverse, MatchBool, MatchOption};
+ghost use Rattle.std.specs.Prelude.{◌≡◌, ◌≢◌, ◌<◌, Some, IfOk, length, reverse, MatchBool, MatchOption};
 ghost use Rattle.lt_base.specs.Clocking.{WellFormed};
 ghost use Rattle.lt_base.specs.Expression.{shape};
 ghost use Rattle.lt_base.specs.Meaning.{clock_of};

@@ -3,7 +3,7 @@ ghost use Rattle.std.specs.Prelude.{◌≡◌, ◌+◌, ◌++◌, ℕ, IfOk, OnO
 ghost use Rattle.std.specs.List.{All, sum_by};
 ghost use Rattle.lt_base.specs.Expression.{shape, arguments_of, parts};
 ghost use Rattle.lt_base.specs.Calls.{called, arguments_called, equations_called};
-ghost use Rattle.lt_base.specs.Sizes.{cost, arguments_cost, cut, in_table, weight_with, nested, program_weight, program_parts};
+ghost use Rattle.lt_base.specs.Sizes.{cost, arguments_cost, cut, in_table, nested, program_weight, program_parts};
 ghost use Rattle.lt_check.specs.Shares.{nothing, share_measure, own, IsShare};
 
 use lt_base::{Expr, Func, List, Memory, Program, Sizes};
@@ -216,7 +216,8 @@ fn next_table(
 /// the last.
 fn totals(alloc: Global, shares: &[Share], measure: Measure) -> Result<Vec<u64>, Memory>
     requires { All IsShare shares.now }
-    ensures { IfOk result (λ table. (g : ℕ) → in_table table.items g ≡ cut (nested (share_measure measure) (map (λ s. s.function.now) shares.now) (length shares.now) g)) }
+    ensures { IfOk result (λ table. (g : ℕ)
+        → in_table table.items g ≡ cut (nested (share_measure measure) (map (λ s. s.function.now) shares.now) (length shares.now) g)) }
 {
     let mut table: Vec<u64> = Vec::new(alloc);
     'rounds: for _round in 0..shares.len() {

@@ -1,10 +1,10 @@
 // Types.
 
-ghost use Rattle.std.specs.Prelude.{◌≡◌, ◌≢◌, ◌<◌, ◌^◌, ◌↔◌, ℕ, Ok, Err, Some, All, length, MatchBool, MatchOption, MatchResult, map};
+ghost use Rattle.std.specs.Prelude.{◌≡◌, ◌<◌, ◌^◌, ◌↔◌, ℕ, Ok, Err, Some, All, length, MatchBool, MatchOption, MatchResult, map};
 ghost use Rattle.lt_base.specs.Expression.{shape};
 ghost use Rattle.lt_base.specs.Typing.{ty_at, type_of, arguments_fit, input_types, answer_type, TypedFunction, TypedProgram};
 ghost use Rattle.lt_check.specs.Places.{FirstDeclaration};
-ghost use Rattle.lt_check.specs.TypeFaults.{AllBools, BoolClock, IsTypeFaultIn, IsFirstTypeFault};
+ghost use Rattle.lt_check.specs.TypeFaults.{AllBools, BoolClock, HasItsType, IsMisfit, IsTypeFaultIn, IsFirstTypeFault};
 
 use crate::readers::{answer_type, declared_type, function_at, input_type, ty_at};
 use crate::rules::{bin_type, imported_type, is_type, shared_type, ty_of, un_type, under_bool};
@@ -103,7 +103,7 @@ pub(crate) fn misfit(
     equation: &Equation,
 ) -> Option<(Ty, Option<Ty>)>
     requires { equation.now.0 < length decls.now }
-    ensures { MatchOption result (type_of funcs.now decls.now equation.now.1 ≡ ty_at decls.now equation.now.0) (λ m. (Some m.0 ≡ ty_at decls.now equation.now.0) × (m.1 ≡ type_of funcs.now decls.now equation.now.1) × (m.1 ≢ Some m.0)) }
+    ensures { MatchOption result (HasItsType funcs.now decls.now equation.now) (IsMisfit funcs.now decls.now equation.now) }
 {
     let want = declared_type(decls, equation.left());
     let got = type_of(funcs, decls, equation.right());

@@ -15,7 +15,7 @@ use Rattle.lt_inspect.specs.declared.scene.Scene.{Scene}
 use Rattle.lt_inspect.specs.declared.audited.Audited.{Audited}
 use Rattle.lt_inspect.specs.Placed.{IsOfShape}
 use Rattle.lt_inspect.specs.Scenes.{IsSceneOf, scene_verdict}
-use Rattle.lt_inspect.specs.Inspected.{InspectionEndsWith, IsAudited, inspect_file_verdict, inspect_along_verdict, audit_verdict}
+use Rattle.lt_inspect.specs.Inspected.{InspectionEndsWith, IsAudited, inspect_file_verdict, inspect_along_verdict, audit_verdict, ordered_audit_verdict}
 use Rattle.lt_inspect.proofs.ToldFirst.{admissible, in_time}
 use Rattle.lt_text_answers.specs.declared.status.Status.{Status}
 use Rattle.lt_text_answers.specs.declared.status.Status.TheVariants as status
@@ -68,8 +68,8 @@ module _ (named : List ℕ → Option (List ℕ)) (program inputs schedule confi
         clean = λ accepts. took_clean scene read.events audited old new read.at_end (subst Accepts (sym is.timing) accepts) text;
       }
 
-  pub audit_shown : audit_verdict named program inputs schedule config (Ok audited) → IsAuditShown named program inputs schedule config old new
-  unfolding audit_verdict
+  pub audit_shown : ordered_audit_verdict named program inputs schedule config (Ok audited) → IsAuditShown named program inputs schedule config old new
+  unfolding ordered_audit_verdict
   audit_shown (inl refused) = absurd refused
   audit_shown (inr (plan, loaded, told)) = along_shown plan loaded told
 
@@ -86,8 +86,8 @@ module _ (named : List ℕ → Option (List ℕ)) (program inputs schedule confi
   audits_clean : Accepts plan.setup.timing → IsAudited scene events without
   audits_clean accepts = record { admissible = admissible scene.shape scene.timing scene.rows held.bytes events held.reads; count = refl; shape = refl; first = no_miss accepts; clean = λ again. refl }
 
-  right : Accepts plan.setup.timing → audit_verdict named program inputs schedule config (Ok without)
-  unfolding audit_verdict
+  right : Accepts plan.setup.timing → ordered_audit_verdict named program inputs schedule config (Ok without)
+  unfolding ordered_audit_verdict
   right accepts =
       inr (
         plan,
@@ -113,7 +113,7 @@ module _ (named : List ℕ → Option (List ℕ)) (program inputs schedule confi
       let read : Ok es ≡ Ok events = sym other.reads ∙ verdicts ∙ held.reads in
       cc
 
-  module _ (old new : Objects) (ends : Status) (exact : IsExact audited_text (audit_verdict named program inputs schedule config) old new ends) (accepts : Accepts plan.setup.timing) where
+  module _ (old new : Objects) (ends : Status) (exact : IsExact audited_text (audit_verdict named program inputs schedule config new.files) old new ends) (accepts : Accepts plan.setup.timing) where
     clean_of : IsAuditShown named program inputs schedule config old new → TookClean scene events old new
     clean_of shown =
         let plans : shown.plan ≡ plan = (scene_decided named program inputs config None).one_value shown.plan plan shown.held.loaded held.loaded in

@@ -31,11 +31,11 @@ use Rattle.lt_cli.proofs.Exact.{refused_status}
 
 -- the line of a refusal, where it was printed whole
 line_printed : (line : List ℕ) (old new : Objects) (outcome : Result (List ℕ) Refusal) (r : Refusal) → outcome ≡ Err r → refusal_line r ≡ line → Took (out_text outcome) old.out new.out → Took (err_text outcome) old.err new.err
-    → IsTrue old.out.told → IsTrue old.err.told → TookLine line old new
-line_printed line old new outcome r here is out err told_out told_err = record {
-  out = out.taken told_out ∙ ap (λ (o : Result (List ℕ) Refusal). old.out.taken ++ out_text o) here ∙ append-nil old.out.taken;
-  err =
-      err.taken told_err
+    → TookLine line old new
+line_printed line old new outcome r here is out err = record {
+  out = λ told. out.taken told ∙ ap (λ (o : Result (List ℕ) Refusal). old.out.taken ++ out_text o) here ∙ append-nil old.out.taken;
+  err = λ told.
+      err.taken told
       ∙ ap (λ (o : Result (List ℕ) Refusal). old.err.taken ++ err_text o) here
       ∙ ap (λ (l : List ℕ). old.err.taken ++ (l ++ 10 ∷ [])) is;
 }

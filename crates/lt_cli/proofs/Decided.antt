@@ -14,6 +14,7 @@ use Rattle.lt_run.proofs.OneRun.{run_decided as one_run}
 use Rattle.lt_arch.specs.declared.shape.Shape.{Shape}
 use Rattle.lt_front.specs.Flattened.{flat_of}
 use Rattle.lt_io.specs.FabricState.{FabricState}
+use Rattle.lt_io.specs.FilesState.{FilesState}
 use Rattle.lt_place.specs.declared.layout.Layout.{Layout}
 use Rattle.lt_rows.specs.Limits.{most_events}
 use Rattle.lt_run.specs.Run.{IsLaidOutBy}
@@ -105,11 +106,11 @@ big_decided instants fabric =
 pub scene_decided : (named : List ℕ → Option (List ℕ)) (program inputs config : List ℕ) (node : Option (List ℕ)) → HasOneOutcome fault_status (scene_verdict named program inputs config node)
 scene_decided named program inputs config node = scene_once fault_status tells_limits (λ f g main main'. refl) named inputs node program config
 
-pub audit_decided : (named : List ℕ → Option (List ℕ)) (program inputs schedule config : List ℕ) → HasOneKind fault_status (audit_verdict named program inputs schedule config)
-audit_decided named program inputs schedule config = audit_once fault_status tells_limits (λ f g main main'. refl) named program inputs schedule config
+pub audit_decided : (named : List ℕ → Option (List ℕ)) (program inputs schedule config : List ℕ) (new : FilesState) → HasOneKind fault_status (audit_verdict named program inputs schedule config new)
+audit_decided named program inputs schedule config new = audit_once fault_status tells_limits (λ f g main main'. refl) named program inputs schedule config new
 
-pub trace_decided : (named : List ℕ → Option (List ℕ)) (program inputs schedule config : List ℕ) (node : Option (List ℕ)) (from to : ℕ) → HasOneKind fault_status (trace_verdict named program inputs schedule config node from to)
-trace_decided named program inputs schedule config node from to = trace_once fault_status tells_limits (λ f g main main'. refl) named program inputs schedule config node from to
+pub trace_decided : (named : List ℕ → Option (List ℕ)) (program inputs schedule config : List ℕ) (node : Option (List ℕ)) (from to : ℕ) (new : FilesState) → HasOneKind fault_status (trace_verdict named program inputs schedule config node from to new)
+trace_decided named program inputs schedule config node from to new = trace_once fault_status tells_limits (λ f g main main'. refl) named program inputs schedule config node from to new
 
 pub watched_decided : (named : List ℕ → Option (List ℕ)) (program inputs schedule observer : List ℕ) (config : Option (List ℕ)) (new : World)
     → HasOneKind (λ e. refusal_status (watch_refusal e)) (watch_verdict named program inputs schedule observer config new)

@@ -9,12 +9,11 @@ use Rattle.lt_io.specs.Visits.{Errand}
 use Rattle.lt_io.specs.FilesState.{FilesState}
 use Rattle.lt_io.specs.FabricState.{FabricState}
 use Rattle.lt_io.specs.SinkState.{SinkState, KeepsSink}
-use Rattle.lt_answer.specs.World.{IsCalm, alone}
+use Rattle.lt_answer.specs.World.{IsCalm, alone, world}
 use Rattle.lt_answer.specs.Answered.{Answered, RefusesReading}
 use Rattle.lt_answer.proofs.Stages.{beside}
 use Rattle.lt_arch.specs.declared.pace.Pace.{Pace}
 use Rattle.lt_lead.specs.Paced.{IsShapeBy}
-use Rattle.lt_net_start.specs.Outside.{world}
 use Rattle.lt_load_fit.specs.declared.fault.CommandFault.{CommandFault}
 use Rattle.lt_load.specs.Blamed.{command_blame}
 use Rattle.lt_load.specs.Errands.{load_errands}
@@ -24,7 +23,7 @@ use Rattle.lt_sim.specs.Drawn.{drawn}
 use Rattle.lt_sim.specs.File.{file_text, schedule_text}
 use Rattle.lt_sim.specs.declared.fault.SimFault.{SimFault}
 use Rattle.lt_sim.specs.declared.fault.SimFault.TheVariants as sim
-use Rattle.lt_sim.specs.Recorded.{IsRecorded, IsBroken, AreTooManyEvents, Records, TakesFront}
+use Rattle.lt_sim.specs.Recorded.{IsRecorded, IsBroken, AreTooManyEvents, Records, WritesFrontOf}
 use Rattle.lt_text_answers.specs.declared.refusal.Refusal.{Refusal}
 use Rattle.lt_text_answers.specs.declared.refusal.Refusal.TheVariants.{Command}
 use Rattle.lt_text_answers.specs.declared.status.Status.{Status}
@@ -32,7 +31,7 @@ use Rattle.lt_text_answers.specs.declared.status.Status.TheVariants as status
 use Rattle.lt_text_answers.specs.Blamed.{blame_of}
 use Rattle.lt_text_answers.specs.Texts.{status_of, refusal_status, refusal_line, drawing_text}
 use Rattle.lt_cli.specs.Written.{Written}
-use Rattle.lt_cli.specs.Objects.{Objects, world_of}
+use Rattle.lt_cli.specs.Objects.{Objects, KeepsSteady, world_of}
 use Rattle.lt_text_answers.specs.Draws.{Drawing, too_many_rows, drawing, plan_drawn_verdict, recorded_status, sim_verdict}
 use Rattle.lt_cli.specs.Answers.{text_verdict}
 use Rattle.lt_cli.specs.Ran.{Reported, OutcomeBlames}
@@ -156,7 +155,7 @@ module _ (k : LoadedPlan) (seed horizon : ℕ) (o o' e : SinkState) where
   abbrev Reports : Bool → SinkState → Status → Type 0
   Reports b e' ends = IsReported (outcome_by b) o o' e e' ends
 
-  pub recorded : (count : ℕ) → IsRecorded k.shape events o o' count → KeepsSink o o' → IsReported (drawn_outcome k seed horizon) o o' e e status.Ok
+  pub recorded : (count : ℕ) → IsRecorded k.shape events o o' count → KeepsSteady o o' → IsReported (drawn_outcome k seed horizon) o o' e e status.Ok
   recorded count is keeps =
       let whole : Reports false e status.Ok = record {
         out_keeps = keeps;
@@ -165,7 +164,7 @@ module _ (k : LoadedPlan) (seed horizon : ℕ) (o o' e : SinkState) where
       } in
       subst (λ (b : Bool). Reports b e status.Ok) (sym (few_limited (length events) is.few)) whole
 
-  pub broken : IsBroken k.shape events o o' → KeepsSink o o' → IsReported (drawn_outcome k seed horizon) o o' e e status.Write
+  pub broken : IsBroken k.shape events o o' → KeepsSteady o o' → IsReported (drawn_outcome k seed horizon) o o' e e status.Write
   broken is keeps =
       let broke : Reports false e status.Write = record {
         out_keeps = keeps;
@@ -174,7 +173,7 @@ module _ (k : LoadedPlan) (seed horizon : ℕ) (o o' e : SinkState) where
       } in
       subst (λ (b : Bool). Reports b e status.Write) (sym (few_limited (length events) is.few)) broke
 
-  short_by : (b : Bool) → TakesFront (if b then [] else file_text k.shape events) o o' → KeepsSink o o' → Reports b e status.Memory
+  short_by : (b : Bool) → WritesFrontOf (if b then [] else file_text k.shape events) o o' → KeepsSteady o o' → Reports b e status.Memory
   short_by true front keeps = record {
     out_keeps = keeps;
     err_keeps = keeps_sink e;
@@ -186,7 +185,7 @@ module _ (k : LoadedPlan) (seed horizon : ℕ) (o o' e : SinkState) where
     reported = λ f f' w w'. both_short refl (record { counted = front.counted; taken = front.taken }) (front_of_none [] e);
   }
 
-  pub short : TakesFront (schedule_text k.shape events) o o' → KeepsSink o o' → IsReported (drawn_outcome k seed horizon) o o' e e status.Memory
+  pub short : WritesFrontOf (schedule_text k.shape events) o o' → KeepsSteady o o' → IsReported (drawn_outcome k seed horizon) o o' e e status.Memory
   short front keeps = short_by (nat_lt 5000000 (length events)) front keeps
 
   pub refused : (e' : SinkState) (refusal : Refusal) (ends : Status) → refusal ≡ Command too_many_rows → AreTooManyEvents events o o' → Written (refusal_status refusal) (refusal_line refusal ++ 10 ∷ []) e e' ends
@@ -208,7 +207,7 @@ module _ (k : LoadedPlan) (seed horizon : ℕ) (o o' e : SinkState) where
   at_status s ends reports is = let same : s ≡ ends = cc in subst ReportsAll same reports
 
   -- it was written, whole or in part
-  pub recorded_ends : (r : Result ℕ (Or SimFault)) (ends : Status) → Records k.shape events o o' r → KeepsSink o o' → recorded_status r ≡ Some ends → ReportsAll ends
+  pub recorded_ends : (r : Result ℕ (Or SimFault)) (ends : Status) → Records k.shape events o o' r → KeepsSteady o o' → recorded_status r ≡ Some ends → ReportsAll ends
   recorded_ends (Ok count) ends records keeps is = at_status status.Ok ends (recorded count records keeps) is
   recorded_ends (Err (Fault sim.Write)) ends records keeps is = at_status status.Write ends (broken records keeps) is
   recorded_ends (Err (Fault sim.TooMany)) ends records keeps is = absurd (cc)

@@ -2,7 +2,7 @@
 use Rattle.std.proofs.Common.{ℕ, List, [], ◌∷◌, ◌++◌, Ok, Err, refl, sym, append-nil}
 use Rattle.lt_base.specs.declared.memory.Or.TheVariants.{Fault, Memory}
 use Rattle.lt_io.specs.Visits.{Errand}
-use Rattle.lt_io.specs.SinkState.{SinkState, KeepsSink}
+use Rattle.lt_io.specs.SinkState.{SinkState}
 use Rattle.lt_answer.specs.World.{World}
 use Rattle.lt_answer.specs.Answered.{Verdict}
 use Rattle.lt_answer.specs.Answered.{Answered}
@@ -11,6 +11,7 @@ use Rattle.lt_text_answers.specs.declared.status.Status.{Status}
 use Rattle.lt_text_answers.specs.declared.status.Status.TheVariants as status
 use Rattle.lt_text_answers.specs.Blamed.{blame_of}
 use Rattle.lt_text_answers.specs.Texts.{refusal_status, refusal_line}
+use Rattle.lt_cli.specs.Objects.{KeepsSteady}
 use Rattle.lt_cli.specs.Ran.{Ran, Reported, Took, TookFront}
 use Rattle.lt_cli.specs.Ran.{printed, unprinted, both_whole, out_broke, err_broke, both_short}
 use Rattle.lt_cli.specs.Written.{Written, WriteReaches, whole, broke, short}
@@ -21,8 +22,8 @@ took_nothing s = record { counted = refl; taken = λ _. sym (append-nil _) }
 pub front_of_none : (text : List ℕ) (s : SinkState) → TookFront text s s
 front_of_none text s = record { counted = refl; taken = λ _. (0, sym (append-nil _)) }
 
-pub keeps_sink : (s : SinkState) → KeepsSink s s
-keeps_sink s = record { sound = refl; told = refl }
+pub keeps_sink : (s : SinkState) → KeepsSteady s s
+keeps_sink s = record { sound = refl; told = refl; steady = λ sound. refl }
 
 -- a text, which only `out` takes
 text_reported : (a b : World) (text : List ℕ) (o0 o1 e : SinkState) (ends : Status) → WriteReaches status.Ok text o0 o1 ends

@@ -31,14 +31,14 @@ module _ {T E : Type 0} (raise : E → Refusal) (shown : T → List ℕ) (V : Ve
 
     text_taken : (text : List ℕ) → g.outcome ≡ Ok text → TookText text old new
     text_taken text is = record {
-      out = g.out ∙ ap (λ (o : Result (List ℕ) Refusal). old.out.taken ++ out_text o) is;
-      err = g.err ∙ ap (λ (o : Result (List ℕ) Refusal). old.err.taken ++ err_text o) is ∙ append-nil old.err.taken;
+      out = λ told. g.out told ∙ ap (λ (o : Result (List ℕ) Refusal). old.out.taken ++ out_text o) is;
+      err = λ told. g.err told ∙ ap (λ (o : Result (List ℕ) Refusal). old.err.taken ++ err_text o) is ∙ append-nil old.err.taken;
     }
 
     line_taken : (r : Refusal) → g.outcome ≡ Err r → TookLine (refusal_line r) old new
     line_taken r is = record {
-      out = g.out ∙ ap (λ (o : Result (List ℕ) Refusal). old.out.taken ++ out_text o) is ∙ append-nil old.out.taken;
-      err = g.err ∙ ap (λ (o : Result (List ℕ) Refusal). old.err.taken ++ err_text o) is;
+      out = λ told. g.out told ∙ ap (λ (o : Result (List ℕ) Refusal). old.out.taken ++ out_text o) is ∙ append-nil old.out.taken;
+      err = λ told. g.err told ∙ ap (λ (o : Result (List ℕ) Refusal). old.err.taken ++ err_text o) is;
     }
 
     status_at : (r : Refusal) → g.outcome ≡ Err r → refusal_status r ≡ ends

@@ -20,8 +20,8 @@ words_exact words old new ends by_said g =
     record {
       exact = (by_said.words_only, λ is. g.status ∙ ap status_of (refused is));
       line = λ at. record {
-        out = g.out ∙ ap (λ (o : Result (List ℕ) Refusal). old.out.taken ++ out_text o) (here at) ∙ append-nil old.out.taken;
-        err = g.err ∙ ap (λ (o : Result (List ℕ) Refusal). old.err.taken ++ err_text o) (here at);
+        out = λ told. g.out told ∙ ap (λ (o : Result (List ℕ) Refusal). old.out.taken ++ out_text o) (here at) ∙ append-nil old.out.taken;
+        err = λ told. g.err told ∙ ap (λ (o : Result (List ℕ) Refusal). old.err.taken ++ err_text o) (here at);
       };
     }
 

@@ -1,5 +1,6 @@
 -- A schedule that is judged alone leaves one refusal, up to its kind.
 use Rattle.std.proofs.Common.{◌≡◌, ◌∙◌, ℕ, List, Option, Some, None, Result, Ok, Err, sym, ap, subst}
+use Rattle.lt_io.specs.FilesState.{FilesState}
 use Rattle.lt_arch.specs.declared.event.Event.{Event}
 use Rattle.lt_arch.specs.declared.shape.Shape.{Shape}
 use Rattle.lt_arch.specs.declared.timing.Timing.{Timing}
@@ -22,8 +23,8 @@ use Rattle.lt_load.proofs.OnePlain.{plain_config_decided}
 use Rattle.lt_load.specs.Pacing.{plain_config_verdict}
 use Rattle.lt_arch.specs.declared.pace.Pace.TheVariants.{Plain}
 use Rattle.lt_inspect.specs.declared.scene.Scene.{Scene}
-use Rattle.lt_inspect.specs.Scenes.{IsSceneOf, named_verdict, named_place_verdict, placed_plan_verdict, setup_scene_verdict, scene_verdict}
-use Rattle.lt_inspect.specs.Inspected.{InspectionEndsWith, IsAudited, IsTraced, inspect_file_verdict, schedule_command_fault, along_scene, inspect_along_verdict, audit_verdict, trace_verdict}
+use Rattle.lt_inspect.specs.Scenes.{IsSceneOf, named_node_verdict, named_place_verdict, placed_plan_verdict, setup_scene_verdict, scene_verdict}
+use Rattle.lt_inspect.specs.Inspected.{InspectionEndsWith, IsAudited, IsTraced, inspect_file_verdict, schedule_command_fault, along_scene, inspect_along_verdict, audit_verdict, ordered_audit_verdict, ordered_trace_verdict, trace_verdict}
 
 -- a schedule file, whatever is told of it
 
@@ -79,7 +80,7 @@ module _ {T K : Type 0} (kind : CommandFault → K) (end : Scene → List Event 
   }
 
 module _ {K : Type 0} (kind : CommandFault → K) where
-  named_once : (checked : ExaminedText) (setup : Config) (node : Option (List ℕ)) → HasOneOutcome kind (named_verdict checked setup node)
+  named_once : (checked : ExaminedText) (setup : Config) (node : Option (List ℕ)) → HasOneOutcome kind (named_node_verdict checked setup node)
   named_once checked setup None = exactly kind (Ok setup)
   named_once checked setup (Some name) = record {
     faults = record { one_kind = λ e f p q. ap kind (p.1 ∙ sym q.1); not_both = λ e x p q. (let same = sym p.0 ∙ q.1.1 in cc) };
@@ -107,13 +108,24 @@ module _ {K : Type 0} (kind : CommandFault → K) where
     unfolding scene_verdict
     scene_once program config = and_then_one kind (program_verdict (named program)) _ (program_decided kind along (named program)) (λ checked. setup_once config checked)
 
-  pub audit_once : TellsLimits kind → MergesPlaces kind → (named : List ℕ → Option (List ℕ)) (program inputs schedule config : List ℕ) → HasOneKind kind (audit_verdict named program inputs schedule config)
-  unfolding audit_verdict
-  audit_once along places named program inputs schedule config =
+  ordered_audit_once : TellsLimits kind → MergesPlaces kind → (named : List ℕ → Option (List ℕ)) (program inputs schedule config : List ℕ) → HasOneKind kind (ordered_audit_verdict named program inputs schedule config)
+  unfolding ordered_audit_verdict
+  ordered_audit_once along places named program inputs schedule config =
       and_then kind (scene_verdict named program inputs config None) _ (scene_once along places named inputs None program config) (λ plan. along_decided kind IsAudited None (named schedule) plan)
 
-  pub trace_once : TellsLimits kind → MergesPlaces kind → (named : List ℕ → Option (List ℕ)) (program inputs schedule config : List ℕ) (node : Option (List ℕ)) (from to : ℕ)
-      → HasOneKind kind (trace_verdict named program inputs schedule config node from to)
-  unfolding trace_verdict
-  trace_once along places named program inputs schedule config node from to =
+  pub audit_once : TellsLimits kind → MergesPlaces kind → (named : List ℕ → Option (List ℕ)) (program inputs schedule config : List ℕ) (new : FilesState) → HasOneKind kind (audit_verdict named program inputs schedule config new)
+  audit_once along places named program inputs schedule config new =
+      let one = ordered_audit_once along places named program inputs schedule config in
+      record { one_kind = λ e f p q. one.one_kind e f p.0 q.0; not_both = λ e x p q. one.not_both e x p.0 q }
+
+  ordered_trace_once : TellsLimits kind → MergesPlaces kind → (named : List ℕ → Option (List ℕ)) (program inputs schedule config : List ℕ) (node : Option (List ℕ)) (from to : ℕ)
+      → HasOneKind kind (ordered_trace_verdict named program inputs schedule config node from to)
+  unfolding ordered_trace_verdict
+  ordered_trace_once along places named program inputs schedule config node from to =
       and_then kind (scene_verdict named program inputs config node) _ (scene_once along places named inputs node program config) (λ plan. along_decided kind (IsTraced from to) node (named schedule) plan)
+
+  pub trace_once : TellsLimits kind → MergesPlaces kind → (named : List ℕ → Option (List ℕ)) (program inputs schedule config : List ℕ) (node : Option (List ℕ)) (from to : ℕ) (new : FilesState)
+      → HasOneKind kind (trace_verdict named program inputs schedule config node from to new)
+  trace_once along places named program inputs schedule config node from to new =
+      let one = ordered_trace_once along places named program inputs schedule config node from to in
+      record { one_kind = λ e f p q. one.one_kind e f p.0 q.0; not_both = λ e x p q. one.not_both e x p.0 q }

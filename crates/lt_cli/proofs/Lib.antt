@@ -15,3 +15,5 @@ pub mod Audited
 pub mod Performed
 pub mod Texts
 pub mod Asking
+pub mod Accepted
+pub mod Refused

@@ -7,10 +7,9 @@ use Rattle.lt_io.proofs.Visiting.{visited_any}
 use Rattle.lt_io.specs.FilesState.{FilesState}
 use Rattle.lt_io.specs.FabricState.{FabricState}
 use Rattle.lt_io.specs.SinkState.{SinkState}
-use Rattle.lt_answer.specs.World.{World, alone}
+use Rattle.lt_answer.specs.World.{World, alone, world}
 use Rattle.lt_answer.specs.Answered.{Verdict, Answered}
 use Rattle.lt_answer.proofs.Stages.{beside}
-use Rattle.lt_net_start.specs.Outside.{world}
 use Rattle.lt_text_answers.specs.declared.refusal.Refusal.{Refusal}
 use Rattle.lt_text_answers.specs.declared.refusal.Refusal.TheVariants.{Words, Command, Observer}
 use Rattle.lt_text_answers.specs.declared.status.Status.{Status}

@@ -1,11 +1,14 @@
 -- All that holds of a call of `ltta`, from what it printed and whose count rose.
-use Rattle.std.proofs.Common.{◌≡◌, ◌≢◌, ℕ, IsTrue, List, Option, Some, refl, sym, ◌∙◌, ap}
+use Rattle.std.proofs.Common.{◌≡◌, ◌≢◌, ◌+◌, ℕ, IsTrue, List, length, Option, Some, refl, sym, ◌∙◌, ap}
 use Rattle.lt_io.specs.FabricState.{FabricState}
 use Rattle.lt_arch.specs.declared.event.Event.{Event}
+use Rattle.lt_arch.specs.declared.event.Offence.{Offence}
+use Rattle.lt_arch.specs.declared.shape.Shape.{Shape}
 use Rattle.lt_timing.specs.Accepts.{Accepts}
 use Rattle.lt_load.specs.Plan.{Plan}
 use Rattle.lt_inspect.specs.declared.scene.Scene.{Scene}
 use Rattle.lt_text_lines.specs.PlanText.{plan_of}
+use Rattle.lt_text_lines.specs.ScheduleLines.{offence_line}
 use Rattle.lt_cli.specs.Commands.Plan.{plan_verdict}
 use Rattle.lt_load.specs.Setups.{check_verdict}
 use Rattle.lt_evaluate.specs.Meaning.{meaning_verdict}
@@ -23,9 +26,10 @@ use Rattle.lt_text_answers.specs.declared.status.Status.{Status}
 use Rattle.lt_text_answers.specs.declared.status.Status.TheVariants as status
 use Rattle.lt_text_answers.specs.Replies.{checked_text, printed_text, summarized_text, watch_refusal}
 use Rattle.lt_cli.specs.Commands.{command_verdict, words_verdict}
-use Rattle.lt_cli.specs.Objects.{Objects, IsQuiet, ObjectsTell, world_of}
+use Rattle.lt_cli.specs.Objects.{Objects, IsQuiet, AreSound, world_of}
 use Rattle.lt_cli.specs.Asked.{Asked}
-use Rattle.lt_cli.specs.Headline.{IsRunShown, IsBigShown}
+use Rattle.lt_cli.specs.Headline.{HoldEvents, IsFirstRefused, IsRunShown, IsBigShown}
+use Rattle.lt_cli.specs.Taken.{TookLine}
 use Rattle.lt_cli.specs.WatchShown.{IsWatchShown}
 use Rattle.lt_cli.specs.AuditShown.{HoldSchedule, TookClean, IsAuditShown}
 use Rattle.lt_cli.specs.Clauses.{Performs, IsExact, IsExactFor, IsMissingExact, IsMissingFor}
@@ -35,6 +39,8 @@ use Rattle.lt_cli.proofs.Exact.{exact_for}
 use Rattle.lt_cli.proofs.Causes.{outside_caused, write_caused, missing_exact, missing_for, asked_ran, left_fabric}
 use Rattle.lt_text_answers.proofs.Refusals.{watch_reads}
 use Rattle.lt_cli.proofs.Failed.{call_failed}
+use Rattle.lt_cli.proofs.Accepted.{accepted_ends}
+use Rattle.lt_cli.proofs.Refused.{run_refused}
 use Rattle.lt_cli.proofs.Shown.{run_shown, big_shown}
 use Rattle.lt_cli.proofs.Watched.{watch_shown}
 use Rattle.lt_cli.proofs.Audited.{audit_shown, audit_clean}
@@ -42,84 +48,90 @@ use Rattle.lt_cli.proofs.Decided.{check_decided, meaning_decided, run_decided, p
 
 module _ (asked : List (List ℕ)) (old new : Objects) (ends : Status) (did : Asked asked old new ends) where
   -- what was printed for the command that the words say
-  given : (said : Said) → command_of asked ≡ Some said → ObjectsTell old → IsQuiet old new → ends ≢ status.Memory → Gave (command_verdict old.files.named (world_of new) said) old new ends
+  given : (said : Said) → command_of asked ≡ Some said → IsTrue old.files.told → IsQuiet old new → ends ≢ status.Memory → Gave (command_verdict old.files.named (world_of new) said) old new ends
   given said is tells quiet enough = asked_gave asked said old new ends is (gave (words_verdict old.files.named (world_of new) asked) old new ends did.ran tells quiet enough)
 
-  check_exact : (program : List ℕ) (config : Option (List ℕ)) → command_of asked ≡ Some (check program config) → ObjectsTell old → IsQuiet old new → ends ≢ status.Memory
+  check_exact : (program : List ℕ) (config : Option (List ℕ)) → command_of asked ≡ Some (check program config) → IsTrue old.files.told → IsQuiet old new → ends ≢ status.Memory
       → IsExact checked_text (check_verdict old.files.named program config) old new ends
   check_exact program config is tells quiet enough =
       exact_for (λ f. Command f) checked_text (check_verdict old.files.named program config) (check_decided old.files.named program config) old new ends (given (check program config) is tells quiet enough)
 
-  meaning_exact : (program inputs : List ℕ) → command_of asked ≡ Some (meaning program inputs) → ObjectsTell old → IsQuiet old new → ends ≢ status.Memory
+  meaning_exact : (program inputs : List ℕ) → command_of asked ≡ Some (meaning program inputs) → IsTrue old.files.told → IsQuiet old new → ends ≢ status.Memory
       → IsExact printed_text (meaning_verdict old.files.named program inputs) old new ends
   meaning_exact program inputs is tells quiet enough =
       exact_for (λ f. Command f) printed_text (meaning_verdict old.files.named program inputs) (meaning_decided old.files.named program inputs) old new ends (given (meaning program inputs) is tells quiet enough)
 
-  run_exact : (program inputs schedule : List ℕ) (config : Option (List ℕ)) → command_of asked ≡ Some (run program inputs schedule config) → ObjectsTell old → IsQuiet old new → ends ≢ status.Memory
+  run_exact : (program inputs schedule : List ℕ) (config : Option (List ℕ)) → command_of asked ≡ Some (run program inputs schedule config) → IsTrue old.files.told → IsQuiet old new → ends ≢ status.Memory
       → IsExact printed_text (run_verdict old.files.named program inputs schedule config (world_of new)) old new ends
   run_exact program inputs schedule config is tells quiet enough =
       exact_for (λ f. Command f) printed_text (run_verdict old.files.named program inputs schedule config (world_of new)) (run_decided old.files.named program inputs schedule config (world_of new)) old new ends
       (given (run program inputs schedule config) is tells quiet enough)
 
-  shown : (program inputs schedule : List ℕ) (config : Option (List ℕ)) → command_of asked ≡ Some (run program inputs schedule config) → ObjectsTell old → IsQuiet old new → ends ≡ status.Ok
+  shown : (program inputs schedule : List ℕ) (config : Option (List ℕ)) → command_of asked ≡ Some (run program inputs schedule config) → IsTrue old.files.told → IsQuiet old new → ends ≡ status.Ok
       → IsRunShown old.files.named program inputs schedule config old new
   shown program inputs schedule config is tells quiet at =
       let printed = (run_exact program inputs schedule config is tells quiet (λ none. let wrong : status.Ok ≡ status.Memory = sym at ∙ none in cc)).text at in
       run_shown old.files.named program inputs schedule config old new printed.0 printed.2 printed.1
 
-  plan_exact : (config : List ℕ) (horizon : Option ℕ) → command_of asked ≡ Some (plan config horizon) → ObjectsTell old → IsQuiet old new → ends ≢ status.Memory
+  refused_run : (program inputs schedule : List ℕ) (config : Option (List ℕ)) → command_of asked ≡ Some (run program inputs schedule config) → IsTrue old.files.told → IsQuiet old new → ends ≢ status.Memory
+      → (p : Plan) (s : Shape) (events : List Event) → HoldEvents old.files.named program inputs schedule config p s events → (i : ℕ) (offence : Offence) → IsFirstRefused s p.setup.timing (length p.inputs.rows) events i offence
+      → (ends ≡ status.Schedule) × TookLine (offence_line s (i + 1) offence) old new
+  refused_run program inputs schedule config is tells quiet enough p s events held i offence first =
+      run_refused old.files.named program inputs schedule config p s events held i offence first old new ends (run_exact program inputs schedule config is tells quiet enough)
+
+  plan_exact : (config : List ℕ) (horizon : Option ℕ) → command_of asked ≡ Some (plan config horizon) → IsTrue old.files.told → IsQuiet old new → ends ≢ status.Memory
       → IsExact (λ setup. plan_of setup horizon) (plan_verdict old.files.named config) old new ends
   plan_exact config horizon is tells quiet enough =
       exact_for (λ f. Command f) (λ setup. plan_of setup horizon) (plan_verdict old.files.named config) (plan_decided (old.files.named config)) old new ends (given (plan config horizon) is tells quiet enough)
 
-  sim_exact : (program inputs config : List ℕ) (seed horizon : ℕ) → command_of asked ≡ Some (sim program inputs config seed horizon) → ObjectsTell old → IsQuiet old new → ends ≢ status.Memory
+  sim_exact : (program inputs config : List ℕ) (seed horizon : ℕ) → command_of asked ≡ Some (sim program inputs config seed horizon) → IsTrue old.files.told → IsQuiet old new → ends ≢ status.Memory
       → IsExact drawing_text (sim_verdict old.files.named program inputs config seed horizon) old new ends
   sim_exact program inputs config seed horizon is tells quiet enough =
       exact_for (λ f. Command f) drawing_text (sim_verdict old.files.named program inputs config seed horizon) (sim_decided old.files.named program inputs config seed horizon) old new ends
       (given (sim program inputs config seed horizon) is tells quiet enough)
 
-  big_exact : (instants : ℕ) → command_of asked ≡ Some (big instants) → ObjectsTell old → IsQuiet old new → ends ≢ status.Memory
+  big_exact : (instants : ℕ) → command_of asked ≡ Some (big instants) → IsTrue old.files.told → IsQuiet old new → ends ≢ status.Memory
       → IsExact (summarized_text instants) (big_verdict instants new.fabric) old new ends
   big_exact instants is tells quiet enough =
       exact_for (λ f. Command f) (summarized_text instants) (big_verdict instants new.fabric) (big_decided instants new.fabric) old new ends (given (big instants) is tells quiet enough)
 
-  shown_big : (instants : ℕ) → command_of asked ≡ Some (big instants) → ObjectsTell old → IsQuiet old new → ends ≡ status.Ok → IsBigShown instants old new
+  shown_big : (instants : ℕ) → command_of asked ≡ Some (big instants) → IsTrue old.files.told → IsQuiet old new → ends ≡ status.Ok → IsBigShown instants old new
   shown_big instants is tells quiet at =
       let printed = (big_exact instants is tells quiet (λ none. let wrong : status.Ok ≡ status.Memory = sym at ∙ none in cc)).text at in
       big_shown instants old new printed.0 printed.2 printed.1
 
-  watch_exact : (program inputs schedule observer : List ℕ) (config : Option (List ℕ)) → command_of asked ≡ Some (watch program inputs schedule observer config) → ObjectsTell old → IsQuiet old new → ends ≢ status.Memory
+  watch_exact : (program inputs schedule observer : List ℕ) (config : Option (List ℕ)) → command_of asked ≡ Some (watch program inputs schedule observer config) → IsTrue old.files.told → IsQuiet old new → ends ≢ status.Memory
       → IsExactFor watch_refusal watched_text (watch_verdict old.files.named program inputs schedule observer config (world_of new)) old new ends
   watch_exact program inputs schedule observer config is tells quiet enough =
       exact_for watch_refusal watched_text (watch_verdict old.files.named program inputs schedule observer config (world_of new)) (watched_decided old.files.named program inputs schedule observer config (world_of new)) old new ends
       (given (watch program inputs schedule observer config) is tells quiet enough)
 
-  audit_exact : (program inputs schedule config : List ℕ) → command_of asked ≡ Some (audit program inputs schedule config) → ObjectsTell old → IsQuiet old new → ends ≢ status.Memory
-      → IsExact audited_text (audit_verdict old.files.named program inputs schedule config) old new ends
+  audit_exact : (program inputs schedule config : List ℕ) → command_of asked ≡ Some (audit program inputs schedule config) → IsTrue old.files.told → IsQuiet old new → ends ≢ status.Memory
+      → IsExact audited_text (audit_verdict old.files.named program inputs schedule config new.files) old new ends
   audit_exact program inputs schedule config is tells quiet enough =
-      exact_for (λ f. Command f) audited_text (audit_verdict old.files.named program inputs schedule config) (audit_decided old.files.named program inputs schedule config) old new ends
+      exact_for (λ f. Command f) audited_text (audit_verdict old.files.named program inputs schedule config new.files) (audit_decided old.files.named program inputs schedule config new.files) old new ends
       (given (audit program inputs schedule config) is tells quiet enough)
 
-  shown_watch : (program inputs schedule observer : List ℕ) (config : Option (List ℕ)) → command_of asked ≡ Some (watch program inputs schedule observer config) → ObjectsTell old → IsQuiet old new → ends ≡ status.Ok
+  shown_watch : (program inputs schedule observer : List ℕ) (config : Option (List ℕ)) → command_of asked ≡ Some (watch program inputs schedule observer config) → IsTrue old.files.told → IsQuiet old new → ends ≡ status.Ok
       → IsWatchShown old.files.named program inputs schedule observer config old new
   shown_watch program inputs schedule observer config is tells quiet at =
       let told = (watch_exact program inputs schedule observer config is tells quiet (λ none. let wrong : status.Ok ≡ status.Memory = sym at ∙ none in cc)).text at in
       watch_shown old.files.named program inputs schedule observer config old new told.0 told.2 told.1
 
-  shown_audit : (program inputs schedule config : List ℕ) → command_of asked ≡ Some (audit program inputs schedule config) → ObjectsTell old → IsQuiet old new → ends ≡ status.Ok → IsAuditShown old.files.named program inputs schedule config old new
+  shown_audit : (program inputs schedule config : List ℕ) → command_of asked ≡ Some (audit program inputs schedule config) → IsTrue old.files.told → IsQuiet old new → ends ≡ status.Ok → IsAuditShown old.files.named program inputs schedule config old new
   shown_audit program inputs schedule config is tells quiet at =
       let told = (audit_exact program inputs schedule config is tells quiet (λ none. let wrong : status.Ok ≡ status.Memory = sym at ∙ none in cc)).text at in
       audit_shown old.files.named program inputs schedule config old new told.0 told.2 told.1
 
-  clean_audit : (program inputs schedule config : List ℕ) → command_of asked ≡ Some (audit program inputs schedule config) → ObjectsTell old → IsQuiet old new → ends ≢ status.Memory
+  clean_audit : (program inputs schedule config : List ℕ) → command_of asked ≡ Some (audit program inputs schedule config) → IsTrue old.files.told → IsQuiet old new → ends ≢ status.Memory
       → (p : Plan) (scene : Scene) (events : List Event) → HoldSchedule old.files.named program inputs schedule config p scene events → Accepts p.setup.timing → (ends ≡ status.Ok) × TookClean scene events old new
   clean_audit program inputs schedule config is tells quiet enough p scene events held accepts =
       audit_clean old.files.named program inputs schedule config p scene events held old new ends (audit_exact program inputs schedule config is tells quiet enough) accepts
 
-  trace_exact : (program inputs schedule config : List ℕ) (node : Option (List ℕ)) (from to : ℕ) → command_of asked ≡ Some (trace program inputs schedule config node from to) → ObjectsTell old → IsQuiet old new → ends ≢ status.Memory
-      → IsExact (λ text. text) (trace_verdict old.files.named program inputs schedule config node from to) old new ends
+  trace_exact : (program inputs schedule config : List ℕ) (node : Option (List ℕ)) (from to : ℕ) → command_of asked ≡ Some (trace program inputs schedule config node from to) → IsTrue old.files.told → IsQuiet old new → ends ≢ status.Memory
+      → IsExact (λ text. text) (trace_verdict old.files.named program inputs schedule config node from to new.files) old new ends
   trace_exact program inputs schedule config node from to is tells quiet enough =
-      exact_for (λ f. Command f) (λ text. text) (trace_verdict old.files.named program inputs schedule config node from to) (trace_decided old.files.named program inputs schedule config node from to) old new ends
+      exact_for (λ f. Command f) (λ text. text) (trace_verdict old.files.named program inputs schedule config node from to new.files) (trace_decided old.files.named program inputs schedule config node from to new.files) old new ends
       (given (trace program inputs schedule config node from to) is tells quiet enough)
 
   -- the fabric's count, where nothing touches it
@@ -167,16 +179,16 @@ module _ (asked : List (List ℕ)) (old new : Objects) (ends : Status) (did : As
         (asked_ran asked (watch program inputs schedule observer config) old new ends is did.ran)
 
     audit_missing : (program inputs schedule config : List ℕ) → command_of asked ≡ Some (audit program inputs schedule config) → IsTrue old.files.sound → ends ≢ status.Memory
-        → IsMissingExact (audit_verdict old.files.named program inputs schedule config) old new
+        → IsMissingExact (audit_verdict old.files.named program inputs schedule config new.files) old new
     audit_missing program inputs schedule config is sound enough =
-        missing_exact audited_text (audit_verdict old.files.named program inputs schedule config) (audit_decided old.files.named program inputs schedule config) old new
+        missing_exact audited_text (audit_verdict old.files.named program inputs schedule config new.files) (audit_decided old.files.named program inputs schedule config new.files) old new
         (untouched (left_fabric asked (audit program inputs schedule config) old.files old.fabric new.fabric is did.by_said.leaves)) ends (tells sound) sound enough
         (asked_ran asked (audit program inputs schedule config) old new ends is did.ran)
 
     trace_missing : (program inputs schedule config : List ℕ) (node : Option (List ℕ)) (from to : ℕ) → command_of asked ≡ Some (trace program inputs schedule config node from to) → IsTrue old.files.sound → ends ≢ status.Memory
-        → IsMissingExact (trace_verdict old.files.named program inputs schedule config node from to) old new
+        → IsMissingExact (trace_verdict old.files.named program inputs schedule config node from to new.files) old new
     trace_missing program inputs schedule config node from to is sound enough =
-        missing_exact (λ text. text) (trace_verdict old.files.named program inputs schedule config node from to) (trace_decided old.files.named program inputs schedule config node from to) old new
+        missing_exact (λ text. text) (trace_verdict old.files.named program inputs schedule config node from to new.files) (trace_decided old.files.named program inputs schedule config node from to new.files) old new
         (untouched (left_fabric asked (trace program inputs schedule config node from to) old.files old.fabric new.fabric is did.by_said.leaves)) ends (tells sound) sound enough
         (asked_ran asked (trace program inputs schedule config node from to) old new ends is did.ran)
 
@@ -194,6 +206,7 @@ module _ (asked : List (List ℕ)) (old new : Objects) (ends : Status) (did : As
       watch = watch_exact;
       audit = audit_exact;
       trace = trace_exact;
+      run_refused = refused_run;
       run_shown = shown;
       big_shown = shown_big;
       watch_shown = shown_watch;
@@ -203,6 +216,9 @@ module _ (asked : List (List ℕ)) (old new : Objects) (ends : Status) (did : As
       failed = λ rose. call_failed old new (words_verdict old.files.named (world_of new) asked) ends did.ran rose;
       write = λ at. write_caused (words_verdict old.files.named (world_of new) asked) old new ends did.ran at;
       steady = did.ran.keeps.world.steady;
+      out_steady = did.ran.keeps.out.steady;
+      err_steady = did.ran.keeps.err.steady;
+      accepted = λ said is sound unrefused. accepted_ends (command_verdict old.files.named (world_of new) said) old new ends (tells sound.files) sound (asked_ran asked said old new ends is did.ran) unrefused;
       check_missing = check_missing;
       meaning_missing = meaning_missing;
       run_missing = run_missing;

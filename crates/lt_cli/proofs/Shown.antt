@@ -1,5 +1,5 @@
 -- What a reader has of a run that ended well, from its verdict.
-use Rattle.std.proofs.Common.{◌≡◌, ◌<◌, ◌≤◌, ℕ, min, List, [], length, take, Option, Ok, refl, sym, ◌∙◌, ap, subst, inl, inr, arith}
+use Rattle.std.proofs.Common.{◌≡◌, ◌<◌, ◌≤◌, ◌+◌, ℕ, min, List, [], length, take, Option, Ok, refl, sym, ◌∙◌, ap, subst, inl, inr, arith}
 use Rattle.std.specs.Prelude.{slice_index_or}
 use Rattle.lt_base.specs.declared.value.Value.{Value}
 use Rattle.lt_base.specs.declared.value.Cell.{Cell}
@@ -26,6 +26,7 @@ use Rattle.lt_run.specs.Run.{IsLaidOutBy, OutputsShow, run_along_verdict, ordere
 use Rattle.lt_run.proofs.Reading.{has_read}
 use Rattle.lt_big.specs.Big as big
 use Rattle.lt_big.specs.Big.{ShowsList, big_verdict, big_loaded_verdict, events_of}
+use Rattle.lt_big.specs.Texts.{horizon_of}
 use Rattle.lt_big.proofs.Plainly.{plain_plan}
 use Rattle.lt_text_answers.specs.Replies.{printed_text, summarized_text}
 use Rattle.lt_cli.specs.Objects.{Objects, world_of}

@@ -1,6 +1,5 @@
 -- What a command answers: the text of what it gives, or its refusal.
-use Rattle.std.specs.Prelude.{ℕ, List, Option, option_map, Result, Ok, Err}
-use Rattle.std.specs.Borrow.{Bor}
+use Rattle.std.specs.Prelude.{ℕ, List, Result, Ok, Err}
 use Rattle.lt_base.specs.declared.memory.Or.{Or}
 use Rattle.lt_base.specs.declared.memory.Or.TheVariants.{Fault, Memory}
 use Rattle.lt_io.specs.Visits.{Errand}
@@ -34,7 +33,3 @@ pub record AnswersCommand {T E : Type 0} (raise : E → Refusal) (shown : T → 
 
 abbrev pub AnswersText : {T : Type 0} (shown : T → List ℕ) (errands : List Errand) (V : Verdict T CommandFault) (old new : World) (result : Result (List ℕ) (Or Refusal)) → Type 0
 AnswersText shown errands V old new result = AnswersCommand (λ fault. Command fault) shown errands V old new result
-
--- a word that need not be there
-abbrev pub word_of : Option (Bor (List ℕ)) → Option (List ℕ)
-word_of word = option_map (λ s. s.now) word

@@ -1,11 +1,13 @@
 -- What a command does, and a call of `ltta` that is asked for it.
-use Rattle.std.specs.Prelude.{◌≡◌, ◌⊎◌, ℕ, List, [], ◌∷◌, ◌++◌, length, Option, Some, None, Result, Ok, Err}
+use Rattle.std.specs.Prelude.{◌≡◌, ◌⊎◌, ℕ, List, [], ◌∷◌, ◌++◌, length, map, Option, Some, None, Result, Ok, Err, String, string_bytes}
+use Rattle.std.specs.declared.alloc.Global.{Global}
 use Rattle.lt_base.specs.declared.memory.Or.{Or}
 use Rattle.lt_base.specs.declared.memory.Or.TheVariants.{Fault, Memory}
 use Rattle.lt_io.specs.FabricState.{FabricState, OpensAtMostOnce}
 use Rattle.lt_io.specs.FilesState.{FilesState}
-use Rattle.lt_io.specs.SinkState.{SinkState, KeepsSink}
-use Rattle.lt_words.specs.Reading.{Said, check, meaning, run, plan, sim, big, watch, audit, trace, command_of}
+use Rattle.lt_io.specs.SinkState.{SinkState}
+use Rattle.lt_words.specs.declared.command.Command.{Command as Spoken}
+use Rattle.lt_words.specs.Reading.{Said, said_of, check, meaning, run, plan, sim, big, watch, audit, trace, command_of}
 use Rattle.lt_load_fit.specs.declared.fault.CommandFault.{CommandFault}
 use Rattle.lt_load.specs.Plan.{LoadedPlan}
 use Rattle.lt_run.specs.Run.{LeavesUnloaded}
@@ -17,7 +19,7 @@ use Rattle.lt_text_answers.specs.declared.status.Status.{Status}
 use Rattle.lt_text_answers.specs.declared.status.Status.TheVariants as status
 use Rattle.lt_text_answers.specs.Texts.{refusal_status, refusal_line, drawing_text}
 use Rattle.lt_cli.specs.Commands.{command_verdict, said_errands, asked_errands, words_verdict}
-use Rattle.lt_cli.specs.Objects.{Objects, world_of}
+use Rattle.lt_cli.specs.Objects.{Objects, Between, KeepsSteady, world_of}
 use Rattle.lt_cli.specs.Written.{Written}
 use Rattle.lt_text_answers.specs.Draws.{Drawing, drawing}
 use Rattle.lt_cli.specs.Obeys.{ObeysErrands, Visits}
@@ -66,8 +68,8 @@ drawn_outcome k seed horizon = shown_drawing (drawing k.shape k.timing (length k
 
 -- an outcome reaches the sinks, whatever else there is
 pub record IsReported (outcome : Result (List ℕ) Refusal) (out out' err err' : SinkState) (ends : Status) : Type 0 where
-  pub out_keeps : KeepsSink out out'
-  pub err_keeps : KeepsSink err err'
+  pub out_keeps : KeepsSteady out out'
+  pub err_keeps : KeepsSteady err err'
   pub reported : (files files' : FilesState) (fabric fabric' : FabricState) →
       Reported outcome (record { files = files; fabric = fabric; out = out; err = err }) (record { files = files'; fabric = fabric'; out = out'; err = err' }) ends
 
@@ -99,3 +101,11 @@ pub record Asked (words : List (List ℕ)) (old new : Objects) (ends : Status) :
   pub ran : Ran (words_verdict old.files.named (world_of new) words) old new ends
   pub by_said : EndsBySaid (command_of words) old new ends
   pub visits : VisitsFiles (command_of words) old new ends
+
+-- the same of a call on objects of these types, whose states these functions read off them
+abbrev pub AskedOn : {F W O E : Type 0} (files : F → FilesState) (fabric : W → FabricState) (out : O → SinkState) (err : E → SinkState) → (words : List (String Global)) → (old new : F × W × O × E) → Status → Type 0
+AskedOn files fabric out err words old new ends = Between files fabric out err (Asked (map string_bytes words)) old new ends
+
+-- and of what it does for a command
+abbrev pub ObeysOn : {F W O E : Type 0} (files : F → FilesState) (fabric : W → FabricState) (out : O → SinkState) (err : E → SinkState) → Spoken → (old new : F × W × O × E) → Status → Type 0
+ObeysOn files fabric out err command old new ends = Between files fabric out err (ObeysCommand (said_of command)) old new ends

@@ -1,5 +1,5 @@
 -- What holds of a call of `ltta`, fact by fact.
-use Rattle.std.specs.Prelude.{◌≡◌, ◌≢◌, ◌<◌, ◌⊎◌, ◌↔◌, ℕ, IsTrue, List, [], Option, Some, None, Result, Ok, Err, IfOk, IfErr, String, Vec, codes, drop, map, string_bytes}
+use Rattle.std.specs.Prelude.{◌≡◌, ◌≢◌, ◌<◌, ◌+◌, ◌⊎◌, ◌↔◌, ℕ, IsTrue, List, [], length, Option, Some, None, Result, Ok, Err, IfOk, IfErr, String, Vec, codes, drop, map, string_bytes}
 use Rattle.std.specs.declared.io.Error.{Error}
 use Rattle.std.specs.declared.io.ErrorKind.TheVariants.{OutOfMemory}
 use Rattle.std.specs.declared.alloc.Global.{Global}
@@ -8,6 +8,8 @@ use Rattle.lt_io.specs.FabricState.{FabricState}
 use Rattle.lt_io.specs.FilesState.{FilesState}
 use Rattle.lt_io.specs.SinkState.{SinkState}
 use Rattle.lt_arch.specs.declared.event.Event.{Event}
+use Rattle.lt_arch.specs.declared.event.Offence.{Offence}
+use Rattle.lt_arch.specs.declared.shape.Shape.{Shape}
 use Rattle.lt_timing.specs.Accepts.{Accepts}
 use Rattle.lt_answer.specs.Answered.{Verdict}
 use Rattle.lt_load_fit.specs.declared.fault.CommandFault.{CommandFault}
@@ -20,11 +22,12 @@ use Rattle.lt_text_answers.specs.Texts.{refusal_status, refusal_line, drawing_te
 use Rattle.lt_words.specs.Reading.{Said, command_of}
 use Rattle.lt_words.specs.Reading as said
 use Rattle.lt_text_lines.specs.PlanText.{plan_of}
+use Rattle.lt_text_lines.specs.ScheduleLines.{offence_line}
 use Rattle.lt_load.specs.Plan.{Plan}
 use Rattle.lt_inspect.specs.declared.scene.Scene.{Scene}
 use Rattle.lt_watch.specs.declared.fault.WatchFault.TheVariants as watched
 use Rattle.lt_text_answers.specs.Replies.{checked_text, printed_text, summarized_text, watch_refusal}
-use Rattle.lt_cli.specs.Commands.{words_verdict}
+use Rattle.lt_cli.specs.Commands.{command_verdict, words_verdict}
 use Rattle.lt_cli.specs.Commands.Check.{check_verdict}
 use Rattle.lt_cli.specs.Commands.Meaning.{meaning_verdict}
 use Rattle.lt_cli.specs.Commands.Run.{run_verdict}
@@ -35,10 +38,10 @@ use Rattle.lt_cli.specs.Commands.Watch.{watch_verdict}
 use Rattle.lt_cli.specs.Commands.Audit.{audit_verdict}
 use Rattle.lt_cli.specs.Commands.Trace.{trace_verdict}
 use Rattle.lt_cli.specs.Taken.{TookLine, TookText}
-use Rattle.lt_cli.specs.Headline.{IsRunShown, IsBigShown}
+use Rattle.lt_cli.specs.Headline.{HoldEvents, IsFirstRefused, IsRunShown, IsBigShown}
 use Rattle.lt_cli.specs.WatchShown.{IsWatchShown}
 use Rattle.lt_cli.specs.AuditShown.{HoldSchedule, TookClean, IsAuditShown}
-use Rattle.lt_cli.specs.Objects.{Objects, Between, IsQuiet, ObjectsTell, world_of}
+use Rattle.lt_cli.specs.Objects.{Objects, AreSound, Between, IsQuiet, world_of}
 use Rattle.lt_cli.specs.Ran.{Ran}
 use Rattle.lt_cli.specs.Asked.{EndsBySaid, VisitsFiles}
 
@@ -69,7 +72,7 @@ IsMissingExact V old new = IsMissingFor Read V old new
 -- a failed call on an object: its count of faults rose, and this line was printed
 pub record IsCallFailed (line_text : List ℕ) (before after : ℕ) (old new : Objects) : Type 0 where
   pub rose : before < after
-  pub line : IsTrue old.out.told → IsTrue old.err.told → TookLine line_text old new
+  pub line : TookLine line_text old new
 
 -- one on the files or on the fabric
 abbrev pub IsOutsideCaused : Objects → Objects → Type 0
@@ -91,17 +94,25 @@ IsWriteCaused old new =
     ((old.out.faults < new.out.faults) × (IsTrue old.err.told → new.err.taken ≡ old.err.taken))
     ⊎ ((old.err.faults < new.err.faults) × (IsTrue old.out.told → new.out.taken ≡ old.out.taken))
 
--- where the words say this command, the objects tell what they hold, no count of faults rises and memory is found, this is so
+-- where the words say this command, the files tell their bytes, no count of faults rises and memory is found, this is so
 abbrev pub Asks : (asked : List (List ℕ)) → Said → (old new : Objects) → (ends : Status) → Type 0 → Type 0
-Asks asked said old new ends F = command_of asked ≡ Some said → ObjectsTell old → IsQuiet old new → ends ≢ status.Memory → F
+Asks asked said old new ends F = command_of asked ≡ Some said → IsTrue old.files.told → IsQuiet old new → ends ≢ status.Memory → F
 
 -- and where it ends well
 abbrev pub EndsWell : (asked : List (List ℕ)) → Said → (old new : Objects) → (ends : Status) → Type 0 → Type 0
-EndsWell asked said old new ends F = command_of asked ≡ Some said → ObjectsTell old → IsQuiet old new → ends ≡ status.Ok → F
+EndsWell asked said old new ends F = command_of asked ≡ Some said → IsTrue old.files.told → IsQuiet old new → ends ≡ status.Ok → F
 
 -- where the words say this command, the files are sound and memory is found, this is so
 abbrev pub AsksSound : (asked : List (List ℕ)) → Said → Objects → (ends : Status) → Type 0 → Type 0
 AsksSound asked said old ends F = command_of asked ≡ Some said → IsTrue old.files.sound → ends ≢ status.Memory → F
+
+-- no refusal is right; so no file is missing either
+abbrev pub IsAccepted : Verdict (List ℕ) Refusal → Type 0
+IsAccepted V = (refusal : Refusal) → V (Err refusal) → ⊥
+
+-- the status says that all went well, or that memory was wanting
+abbrev pub EndsWellOrShort : Status → Type 0
+EndsWellOrShort ends = (ends ≡ status.Ok) ⊎ (ends ≡ status.Memory)
 
 -- what holds of a call of `ltta` that is asked for this by its words
 pub record Performs (asked : List (List ℕ)) (old new : Objects) (ends : Status) : Type 0 where
@@ -111,8 +122,8 @@ pub record Performs (asked : List (List ℕ)) (old new : Objects) (ends : Status
   -- whether or not the files tell their bytes: the command's files are opened in their order, each once, and no more of each is read than
   -- its limit and what shows that it is passed
   pub visits : VisitsFiles (command_of asked) old new ends
-  -- where the objects tell what they hold, no count rose and memory was found: each status exactly where it is right, with its text or its line
-  pub words : ObjectsTell old → IsQuiet old new → ends ≢ status.Memory → IsWordsExact asked old new ends
+  -- where the files tell their bytes, no count rose and memory was found: each status exactly where it is right, with its text or its line
+  pub words : IsTrue old.files.told → IsQuiet old new → ends ≢ status.Memory → IsWordsExact asked old new ends
   pub check : (program : List ℕ) (config : Option (List ℕ)) → Asks asked (said.check program config) old new ends
       (IsExact checked_text (check_verdict old.files.named program config) old new ends)
   pub meaning : (program inputs : List ℕ) → Asks asked (said.meaning program inputs) old new ends
@@ -128,9 +139,14 @@ pub record Performs (asked : List (List ℕ)) (old new : Objects) (ends : Status
   pub watch : (program inputs schedule observer : List ℕ) (config : Option (List ℕ)) → Asks asked (said.watch program inputs schedule observer config) old new ends
       (IsExactFor watch_refusal watched_text (watch_verdict old.files.named program inputs schedule observer config (world_of new)) old new ends)
   pub audit : (program inputs schedule config : List ℕ) → Asks asked (said.audit program inputs schedule config) old new ends
-      (IsExact audited_text (audit_verdict old.files.named program inputs schedule config) old new ends)
+      (IsExact audited_text (audit_verdict old.files.named program inputs schedule config new.files) old new ends)
   pub trace : (program inputs schedule config : List ℕ) (node : Option (List ℕ)) (from to : ℕ) → Asks asked (said.trace program inputs schedule config node from to) old new ends
-      (IsExact (λ text. text) (trace_verdict old.files.named program inputs schedule config node from to) old new ends)
+      (IsExact (λ text. text) (trace_verdict old.files.named program inputs schedule config node from to new.files) old new ends)
+  -- a run is refused at the first event of its schedule that has an offence: the line has the event's number and the offence
+  pub run_refused : (program inputs schedule : List ℕ) (config : Option (List ℕ)) → Asks asked (said.run program inputs schedule config) old new ends
+      ((plan : Plan) (s : Shape) (events : List Event) → HoldEvents old.files.named program inputs schedule config plan s events
+      → (i : ℕ) (offence : Offence) → IsFirstRefused s plan.setup.timing (length plan.inputs.rows) events i offence
+      → (ends ≡ status.Schedule) × TookLine (offence_line s (i + 1) offence) old new)
   -- what a run shows that ended well, fact by fact
   pub run_shown : (program inputs schedule : List ℕ) (config : Option (List ℕ)) → EndsWell asked (said.run program inputs schedule config) old new ends
       (IsRunShown old.files.named program inputs schedule config old new)
@@ -150,8 +166,12 @@ pub record Performs (asked : List (List ℕ)) (old new : Objects) (ends : Status
   pub outside : ends ≡ status.Outside → IsOutsideCaused old new
   pub failed : HasCallFailed old new → IsOfFailure ends
   pub write : ends ≡ status.Write → IsWriteCaused old new
-  -- no call on a sound fabric fails
+  -- no call on a sound fabric fails, nor on a sound sink
   pub steady : IsTrue old.fabric.sound → new.fabric.faults ≡ old.fabric.faults
+  pub out_steady : IsTrue old.out.sound → new.out.faults ≡ old.out.faults
+  pub err_steady : IsTrue old.err.sound → new.err.faults ≡ old.err.faults
+  -- where all of them are sound a command ends well that nothing refuses, unless memory is wanting
+  pub accepted : (said : Said) → command_of asked ≡ Some said → AreSound old → IsAccepted (command_verdict old.files.named (world_of new) said) → EndsWellOrShort ends
   -- over sound files a call on them fails exactly where the first file in order that is refused is missing
   pub check_missing : (program : List ℕ) (config : Option (List ℕ)) → AsksSound asked (said.check program config) old ends
       (IsMissingExact (check_verdict old.files.named program config) old new)
@@ -168,9 +188,9 @@ pub record Performs (asked : List (List ℕ)) (old new : Objects) (ends : Status
       (new.fabric.faults ≡ old.fabric.faults
       → IsMissingFor (watched.Command Read) (watch_verdict old.files.named program inputs schedule observer config (world_of new)) old new)
   pub audit_missing : (program inputs schedule config : List ℕ) → AsksSound asked (said.audit program inputs schedule config) old ends
-      (IsMissingExact (audit_verdict old.files.named program inputs schedule config) old new)
+      (IsMissingExact (audit_verdict old.files.named program inputs schedule config new.files) old new)
   pub trace_missing : (program inputs schedule config : List ℕ) (node : Option (List ℕ)) (from to : ℕ) → AsksSound asked (said.trace program inputs schedule config node from to) old ends
-      (IsMissingExact (trace_verdict old.files.named program inputs schedule config node from to) old new)
+      (IsMissingExact (trace_verdict old.files.named program inputs schedule config node from to new.files) old new)
   -- all of it: what was to be printed, how far it was, and whose count rose
   pub ran : Ran (words_verdict old.files.named (world_of new) asked) old new ends
 

@@ -44,8 +44,8 @@ command_verdict named new (plan config horizon) = text_verdict (λ setup. plan_o
 command_verdict named new (sim program inputs config seed horizon) = text_verdict drawing_text (sim_verdict named program inputs config seed horizon)
 command_verdict named new (big instants) = text_verdict (summarized_text instants) (big_verdict instants new.fabric)
 command_verdict named new (said.watch program inputs schedule observer config) = answer_verdict watch_refusal watched_text (watch_verdict named program inputs schedule observer config new)
-command_verdict named new (audit program inputs schedule config) = text_verdict audited_text (audit_verdict named program inputs schedule config)
-command_verdict named new (trace program inputs schedule config node from to) = text_verdict (λ text. text) (trace_verdict named program inputs schedule config node from to)
+command_verdict named new (audit program inputs schedule config) = text_verdict audited_text (audit_verdict named program inputs schedule config new.files)
+command_verdict named new (trace program inputs schedule config node from to) = text_verdict (λ text. text) (trace_verdict named program inputs schedule config node from to new.files)
 
 -- the files of a command, in their order, and how far each may be read; the large input is in none
 abbrev pub said_errands : Said → List Errand

@@ -2,11 +2,17 @@
 --
 -- `IsOutputShown` has the four facts of one output. `IsRunAlong` says what they are of: the program, the setup, the inputs and the schedule that
 -- the files hold, and the events that the schedule reads as, none of which is refused. `IsRunShown` adds that these cells are what was printed.
-use Rattle.std.specs.Prelude.{◌≡◌, ◌<◌, ◌≤◌, ℕ, min, IsTrue, List, [], length, take, Option, Some, Ok, slice_index_or}
+-- Of a schedule that is refused `IsFirstRefused` says at which event, and by which offence.
+use Rattle.std.specs.Prelude.{◌≡◌, ◌<◌, ◌≤◌, ℕ, min, IsTrue, List, [], length, take, Option, Some, None, Ok, slice_get, slice_index_or}
 use Rattle.lt_base.specs.declared.value.Value.{Value}
 use Rattle.lt_base.specs.declared.value.Cell.{Cell}
 use Rattle.lt_base.specs.Program.{WholeProgram}
+use Rattle.lt_arch.specs.declared.event.Event.{Event}
+use Rattle.lt_arch.specs.declared.event.Offence.{Offence}
 use Rattle.lt_arch.specs.declared.shape.Shape.{Shape}
+use Rattle.lt_arch.specs.declared.timing.Timing.{Timing}
+use Rattle.lt_arch.specs.Paced.{allowed_of}
+use Rattle.lt_arch.specs.Step.{offence_of}
 use Rattle.lt_arch.specs.State.{executed_of}
 use Rattle.lt_arch.specs.Schedule.{reached}
 use Rattle.lt_io.specs.FabricState.{FabricState}
@@ -17,6 +23,8 @@ use Rattle.lt_timing.specs.Bounds.{bound_of}
 use Rattle.lt_lead.specs.Paced.{IsShapeBy, bound_by}
 use Rattle.lt_net_node.specs.Local.{local_stream}
 use Rattle.lt_net_node.specs.Payloads.{payloads_between, row_at}
+use Rattle.lt_rows.specs.Rows.{rows_of}
+use Rattle.lt_schedule.specs.Settled.{ReadAs}
 use Rattle.lt_front.specs.Flattened.{flat_of}
 use Rattle.lt_evaluate.specs.Main.{output_streams}
 use Rattle.lt_load.specs.Plan.{Plan, load_verdict}
@@ -64,6 +72,26 @@ pub record IsRunAlong (named : List ℕ → Option (List ℕ)) (program inputs s
   pub outputs : (y n x : ℕ) → y < length layout.outs → n < length layout.nodes → PartGives (part_of layout n) (slice_index_or layout.outs y 0) x →
       IsOutputShown plan.checked.program layout shape plan.inputs.rows fabric shows.told.got
       (executed_by plan.setup.pace shape plan.setup.timing (length plan.inputs.rows) events n) (bound_by plan.setup.pace plan.setup.timing n shows.horizon) y n x (slice_index_or ran.cells y [])
+
+-- These files hold a program, inputs and a setup that are not refused, in which no link loses messages, and a schedule whose rows all read as
+-- these events, within the limits, over the nodes and channels of this shape.
+pub record HoldEvents (named : List ℕ → Option (List ℕ)) (program inputs schedule : List ℕ) (config : Option (List ℕ)) (plan : Plan) (s : Shape) (events : List Event) : Type 0 where
+  pub loaded : load_verdict named program inputs config (Ok plan)
+  pub lossless : allowed_of plan.setup.pace ≡ None
+  pub layout : Layout
+  pub laid : IsLayoutOf (flat_of plan.checked.program) plan.setup.placement layout
+  pub shaped : IsShapeBy layout plan.setup.pace plan.setup.timing s
+  pub bytes : List ℕ
+  pub file : named schedule ≡ Some bytes
+  pub reads : ReadAs s (length bytes) (rows_of bytes) events
+
+-- Event i of a list, counted from 0, is the first that has an offence: none before it has one in the state to which the events before that one
+-- lead from the start, and it has this one.
+pub record IsFirstRefused (s : Shape) (t : Timing) (rows : ℕ) (events : List Event) (i : ℕ) (offence : Offence) : Type 0 where
+  pub before : (j : ℕ) (e : Event) → j < i → slice_get events j ≡ Some e → offence_of s t (reached s t rows (take j events)) e ≡ None
+  pub event : Event
+  pub event_is : slice_get events i ≡ Some event
+  pub offence_is : offence_of s t (reached s t rows (take i events)) event ≡ Some offence
 
 -- such a run ended well
 pub record IsRunShown (named : List ℕ → Option (List ℕ)) (program inputs schedule : List ℕ) (config : Option (List ℕ)) (old new : Objects) : Type 0 where

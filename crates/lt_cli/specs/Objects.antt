@@ -2,7 +2,7 @@
 use Rattle.std.specs.Prelude.{◌≡◌, IsTrue}
 use Rattle.lt_io.specs.FilesState.{FilesState}
 use Rattle.lt_io.specs.FabricState.{FabricState}
-use Rattle.lt_io.specs.SinkState.{SinkState, KeepsSink}
+use Rattle.lt_io.specs.SinkState.{SinkState}
 use Rattle.lt_answer.specs.World.{World, KeepsWorld}
 
 pub record Objects : Type 0 where
@@ -33,14 +33,21 @@ pub record IsQuiet (old new : Objects) : Type 0 where
   pub out : new.out.faults ≡ old.out.faults
   pub err : new.err.faults ≡ old.err.faults
 
--- the files tell their bytes, and the sinks what they took
-pub record ObjectsTell (o : Objects) : Type 0 where
-  pub files : IsTrue o.files.told
-  pub out : IsTrue o.out.told
-  pub err : IsTrue o.err.told
+-- no call fails but an `open` of a file that is missing
+pub record AreSound (o : Objects) : Type 0 where
+  pub files : IsTrue o.files.sound
+  pub fabric : IsTrue o.fabric.sound
+  pub out : IsTrue o.out.sound
+  pub err : IsTrue o.err.sound
 
--- what no call changes: the map of files, and what each object tells and keeps
+-- what no call changes of a sink: whether it is sound and tells what it took, and the count of a sound one
+pub record KeepsSteady (old new : SinkState) : Type 0 where
+  pub sound : new.sound ≡ old.sound
+  pub told : new.told ≡ old.told
+  pub steady : IsTrue old.sound → new.faults ≡ old.faults
+
+-- what no call changes: the map of files, what each object tells and keeps, and the counts of those that are sound
 pub record KeepsObjects (old new : Objects) : Type 0 where
   pub world : KeepsWorld (world_of old) (world_of new)
-  pub out : KeepsSink old.out new.out
-  pub err : KeepsSink old.err new.err
+  pub out : KeepsSteady old.out new.out
+  pub err : KeepsSteady old.err new.err

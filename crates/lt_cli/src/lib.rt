@@ -7,5 +7,5 @@ mod process;
 mod top;
 
 pub use lt_text_answers::{Refusal, Status};
-pub use process::{Errors, Output, program};
+pub use process::program;
 pub use top::ltta;

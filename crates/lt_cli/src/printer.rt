@@ -4,9 +4,9 @@ ghost use Rattle.lt_io.specs.Counts.{MayFail};
 ghost use Rattle.lt_arch.specs.declared.limits.TheConstants.{GREATEST_TIME};
 ghost use Rattle.lt_base.specs.declared.memory.Or.TheVariants.{Memory as Wanting};
 ghost use Rattle.lt_io.specs.declared.fault.SinkErr.TheVariants.{Memory as SinkWanting};
-ghost use Rattle.lt_io.specs.SinkState.{KeepsSink};
 ghost use Rattle.lt_text_answers.specs.Texts.{refusal_line};
 ghost use Rattle.lt_cli.specs.Drawing.{RecordsDrawn};
+ghost use Rattle.lt_cli.specs.Objects.{KeepsSteady};
 ghost use Rattle.lt_cli.specs.Written.{PrintsText};
 
 use lt_base::{List, Memory, Or};
@@ -45,7 +45,7 @@ pub(crate) trait Printer: Sink {
         requires count { MayFail (Self.state self.old).faults }
         requires horizon { horizon ≤ GREATEST_TIME }
         ensures records { RecordsDrawn loaded.now seed horizon (Self.state self.old) (Self.state self.new) result }
-        ensures keeps { KeepsSink (Self.state self.old) (Self.state self.new) }
+        ensures keeps { KeepsSteady (Self.state self.old) (Self.state self.new) }
         ensures short { result ≡ Err Wanting → short };
 }
 
@@ -53,12 +53,12 @@ impl<S: Sink> Printer for S {
     ghost short = { Unit {0} };
 
     fn print_text(&mut self, text: &List<u8>) -> Result<(), SinkErr> {
-        write_all(self, text.as_slice())
+        write_all(self, text)
     }
 
     fn print_line(&mut self, alloc: Global, refusal: &Refusal) -> Result<(), SinkErr> {
         let line = whole_line(alloc, refusal)?;
-        write_all(self, line.as_slice())
+        write_all(self, &line)
     }
 
     fn print_drawn(

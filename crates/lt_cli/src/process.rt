@@ -1,37 +1,31 @@
-// The top call on the system's streams.
+// The top call on a line of words.
 ghost use Rattle.std.specs.Prelude.{◌≡◌, [], drop};
 ghost use Rattle.lt_io.specs.Counts.{MayFail};
 ghost use Rattle.lt_cli.specs.Clauses.{PerformsLine};
 
 use crate::top::ltta;
-use lt_io::{Fabric, Files, RealSink, Sink};
+use lt_io::{Fabric, Files, Sink};
 use lt_text_answers::Status;
 use std::alloc::Global;
 use std::io;
-use std::io::{ErrorKind, Stderr, Stdout};
-
-/// Standard output.
-pub type Output = RealSink<Stdout>;
-
-/// Standard error.
-pub type Errors = RealSink<Stderr>;
+use std::io::ErrorKind;
 
 /// The top call on the words of a line, of which the first is the program's name. Words that are no text are wrong words, as
-/// none at all are. A text goes to standard output, and a refusal's line to standard error.
-pub fn program<F: Files, W: Fabric>(
+/// none at all are. A text goes to `out`, and a refusal's line to `err`.
+pub fn program<F: Files, W: Fabric, O: Sink, E: Sink>(
     alloc: Global,
     line: io::Result<Vec<String>>,
     files: &mut F,
     fabric: &mut W,
-    out: &mut Output,
-    err: &mut Errors,
+    out: &mut O,
+    err: &mut E,
 ) -> Status
     requires files { MayFail (F.state files.old).faults }
     requires fabric { MayFail (W.state fabric.old).faults }
     requires empty { (W.state fabric.old).kinds ≡ [] }
-    requires out { MayFail (⟦<Output as Sink>⟧.state out.old).faults }
-    requires err { MayFail (⟦<Errors as Sink>⟧.state err.old).faults }
-    ensures { PerformsLine F.state W.state ⟦<Output as Sink>⟧.state ⟦<Errors as Sink>⟧.state line (files.old, fabric.old, out.old, err.old) (files.new, fabric.new, out.new, err.new) result }
+    requires out { MayFail (O.state out.old).faults }
+    requires err { MayFail (E.state err.old).faults }
+    ensures { PerformsLine F.state W.state O.state E.state line (files.old, fabric.old, out.old, err.old) (files.new, fabric.new, out.new, err.new) result }
 {
     match line {
         Ok(words) => ltta(alloc, behind_first(&words), files, fabric, out, err),

@@ -1,11 +1,9 @@
 // The top call.
-ghost use Rattle.std.specs.Prelude.{◌≡◌, ◌++◌, ◌∷◌, [], map, string_bytes};
+ghost use Rattle.std.specs.Prelude.{◌≡◌, ◌++◌, ◌∷◌, []};
 ghost use Rattle.lt_io.specs.Counts.{MayFail};
 ghost use Rattle.lt_cli.specs.Clauses.{PerformsOn};
-ghost use Rattle.lt_cli.specs.Objects.{Between};
-ghost use Rattle.lt_words.specs.Reading.{said_of};
 ghost use Rattle.lt_words.specs.Ranges.{HasRanges};
-ghost use Rattle.lt_cli.specs.Asked.{Asked, Finishes, IsCutShort, ObeysCommand};
+ghost use Rattle.lt_cli.specs.Asked.{AskedOn, Finishes, IsCutShort, ObeysOn};
 ghost use Rattle.lt_text_answers.specs.Texts.{refusal_status, refusal_line};
 ghost use Rattle.lt_cli.specs.Written.{Written, written_status};
 
@@ -59,7 +57,7 @@ fn perform<F: Files, W: Fabric, O: Sink, E: Sink>(
     requires empty { (W.state fabric.old).kinds ≡ [] }
     requires out { MayFail (O.state out.old).faults }
     requires err { MayFail (E.state err.old).faults }
-    ensures { Between F.state W.state O.state E.state (Asked (map string_bytes words.now)) (files.old, fabric.old, out.old, err.old) (files.new, fabric.new, out.new, err.new) result }
+    ensures { AskedOn F.state W.state O.state E.state words.now (files.old, fabric.old, out.old, err.old) (files.new, fabric.new, out.new, err.new) result }
 {
     match read_words(alloc, words) {
         Ok(Some(command)) => obey(alloc, command, files, fabric, out, err),
@@ -83,7 +81,7 @@ fn obey<F: Files, W: Fabric, O: Sink, E: Sink>(
     requires out { MayFail (O.state out.old).faults }
     requires err { MayFail (E.state err.old).faults }
     requires ranges { HasRanges command }
-    ensures { Between F.state W.state O.state E.state (ObeysCommand (said_of command.entry)) (files.old, fabric.old, out.old, err.old) (files.new, fabric.new, out.new, err.new) result }
+    ensures { ObeysOn F.state W.state O.state E.state command.entry (files.old, fabric.old, out.old, err.old) (files.new, fabric.new, out.new, err.new) result }
 {
     match command {
         Command::Check { program, config } => {

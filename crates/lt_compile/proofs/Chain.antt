@@ -23,7 +23,7 @@ use Rattle.lt_load_fit.specs.Fits.{HasWindowBy, placed_verdict, accepted_verdict
 use Rattle.lt_compile.specs.declared.site.Site.{Site}
 use Rattle.lt_compile.specs.Sites.{IsSiteOf, site_verdict}
 use Rattle.lt_compile.specs.Ready.{MachineIsReady}
-use Rattle.lt_compile.specs.Chain.{IsProgramOf, Shows, column, ShowsStreams, IsCompiled, ChainHolds}
+use Rattle.lt_compile.specs.Chain.{IsProgramOf, ShowsOnRows, cells_shown, ShowsStreams, IsCompiled, ChainHolds}
 use Rattle.lt_compile.proofs.Sited.{passed_both}
 
 -- the checks
@@ -49,7 +49,7 @@ fits x setup (inr (legal, first, second)) =
 
 -- the steps of a machine
 
-shows_on : (f : Function) (before rows : List (List Value)) (shown : List (List Cell)) (place y : ℕ) → Shows f before rows shown → slice_get f.outs place ≡ Some y → stream_of [] f (before ++ rows) y ≡ stream_of [] f before y ++ column place shown
+shows_on : (f : Function) (before rows : List (List Value)) (shown : List (List Cell)) (place y : ℕ) → ShowsOnRows f before rows shown → slice_get f.outs place ≡ Some y → stream_of [] f (before ++ rows) y ≡ stream_of [] f before y ++ cells_shown place shown
 shows_on f before [] [] place y shows at = ap (λ (rs : List (List Value)). stream_of [] f rs y) (append-nil before) ∙ sym (append-nil (stream_of [] f before y))
 shows_on f before [] (outs ∷ shown) place y shows at = absurd shows
 shows_on f before (row ∷ rows) [] place y shows at = absurd shows
@@ -59,8 +59,8 @@ shows_on f before (row ∷ rows) (outs ∷ shown) place y shows at =
     let rest = shows_on f (before ++ row ∷ []) rows shown place y shows.2 at in
     ap (λ (rs : List (List Value)). stream_of [] f rs y) (sym (append_assoc before (row ∷ []) rows))
     ∙ rest
-    ∙ ap (λ (cells : List Cell). cells ++ column place shown) here
-    ∙ append_assoc (stream_of [] f before y) (get_or outs place Absent ∷ []) (column place shown)
+    ∙ ap (λ (cells : List Cell). cells ++ cells_shown place shown) here
+    ∙ append_assoc (stream_of [] f before y) (get_or outs place Absent ∷ []) (cells_shown place shown)
 
 shows_streams : (f : Function) → ShowsStreams f
 shows_streams f rows shown place y shows at = shows_on f [] rows shown place y shows at

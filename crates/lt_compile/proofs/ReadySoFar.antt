@@ -1,5 +1,5 @@
 -- The machines of the first nodes, and one more.
-use Rattle.std.proofs.Common.{◌≡◌, ◌<◌, ℕ, zero, suc, List, [], ◌∷◌, ◌++◌, length, get_or, Some, sym, subst}
+use Rattle.std.proofs.Common.{◌≡◌, ◌<◌, ℕ, List, [], ◌∷◌, ◌++◌, length, get_or, Some, sym, subst}
 use Rattle.std.specs.Prelude.{slice_get}
 use Rattle.lt_base.specs.declared.value.Value.{Value}
 use Rattle.lt_base.specs.Program.{Function}
@@ -7,16 +7,10 @@ use Rattle.lt_place.specs.declared.layout.Part.{Part}
 use Rattle.lt_place.specs.declared.layout.Layout.{Layout}
 use Rattle.lt_place.specs.Layout.{part_of}
 use Rattle.lt_net_bench.specs.Starts.{AreReady}
+use Rattle.lt_lead.proofs.OneMore.{one_more}
 use Rattle.lt_compile.specs.Ready.{MachineIsReady, AreReadySoFar}
 use Rattle.lt_compile.proofs.PartRead.{part_read}
 use Rattle.lt_machine.specs.declared.machine.Machine.{Ghosts as Machines}
-
--- what holds of each element and its place holds so with one more at the end
-pub one_more : {A : Type 0} (P : ℕ → A → Type 0) (xs : List A) (y : A) → ((n : ℕ) (x : A) → slice_get xs n ≡ Some x → P n x) → P (length xs) y → (n : ℕ) (x : A) → slice_get (xs ++ y ∷ []) n ≡ Some x → P n x
-one_more P [] y all last zero x is = let same : y ≡ x = cc is in subst (P 0) same last
-one_more P [] y all last (suc n) x is = absurd (cc)
-one_more P (z ∷ xs) y all last zero x is = all zero x is
-one_more P (z ∷ xs) y all last (suc n) x is = one_more (λ j. P (suc j)) xs y (λ j w e. all (suc j) w e) last n x is
 
 module _ {M : Type 0} (mch : Machines M) (l : Layout) (rows : ℕ) (ms : List M) where
   -- one for each node

@@ -17,7 +17,8 @@ use Rattle.lt_net_bench.specs.Starts.{AreReady}
 use Rattle.lt_machine.specs.declared.machine.Machine.{Ghosts as Machines}
 use Rattle.lt_machine.specs.Follows.{Follows}
 use Rattle.lt_config.specs.declared.config.Config.{Config}
-use Rattle.lt_front.specs.Examined.{ExaminedText, ProgramIsWithin}
+use Rattle.lt_expand.specs.Expansion.{WithinLimits}
+use Rattle.lt_front.specs.Examined.{ExaminedText}
 use Rattle.lt_front.specs.Checked.{CheckedText, IsChecked, examined_part, front_verdict}
 use Rattle.lt_front.specs.Flattened.{main_function}
 use Rattle.lt_load_fit.specs.Fits.{HasWindowBy}
@@ -32,23 +33,23 @@ pub record IsProgramOf (bytes : List ℕ) (x : ExaminedText) : Type 0 where
   pub typed : TypedProgram x.program
   pub clocked : ClockedProgram x.program
   pub causal : CausalProgram x.program
-  pub within : ProgramIsWithin x.program
+  pub within : WithinLimits x.program
 
 -- what steps on these rows have shown, after those before them: each row its cells, by the contract of a step
-abbrev pub Shows : Function → (before rows : List (List Value)) → (shown : List (List Cell)) → Type 0
-Shows f before [] [] = Unit {0}
-Shows f before [] (outs ∷ shown) = ⊥
-Shows f before (row ∷ rows) [] = ⊥
-Shows f before (row ∷ rows) (outs ∷ shown) = (length outs ≡ length f.outs) × Follows f before row outs × Shows f (before ++ row ∷ []) rows shown
+abbrev pub ShowsOnRows : Function → (before rows : List (List Value)) → (shown : List (List Cell)) → Type 0
+ShowsOnRows f before [] [] = Unit {0}
+ShowsOnRows f before [] (outs ∷ shown) = ⊥
+ShowsOnRows f before (row ∷ rows) [] = ⊥
+ShowsOnRows f before (row ∷ rows) (outs ∷ shown) = (length outs ≡ length f.outs) × Follows f before row outs × ShowsOnRows f (before ++ row ∷ []) rows shown
 
 -- the cells that the output at a place has shown
-abbrev pub column : (place : ℕ) → List (List Cell) → List Cell
-column place shown = map (λ outs. get_or outs place Absent) shown
+abbrev pub cells_shown : (place : ℕ) → List (List Cell) → List Cell
+cells_shown place shown = map (λ outs. get_or outs place Absent) shown
 
 -- what is shown on rows from the first on are the streams of the outputs
 abbrev pub ShowsStreams : Function → Type 0
 ShowsStreams f =
-    (rows : List (List Value)) (shown : List (List Cell)) (place y : ℕ) → Shows f [] rows shown → slice_get f.outs place ≡ Some y → stream_of [] f rows y ≡ column place shown
+    (rows : List (List Value)) (shown : List (List Cell)) (place y : ℕ) → ShowsOnRows f [] rows shown → slice_get f.outs place ≡ Some y → stream_of [] f rows y ≡ cells_shown place shown
 
 -- a program, its parts on the nodes of a setup and a machine of each part, as the passes make them
 pub record IsCompiled {M : Type 0} (mch : Machines M) (bytes : List ℕ) (setup : Config) (rows : ℕ) (c : CheckedText) (s : Site) (ms : List M) : Type 0 where

@@ -52,8 +52,8 @@ pub fn check_program(alloc: Global, bytes: &[u8]) -> Result<Examined, Or<Program
     check_sizes(alloc, causal)
 }
 
-/// From bytes to a program that passes all checks, with its flat form.
-pub fn compile_program(alloc: Global, bytes: &[u8]) -> Result<Checked, Or<ProgramFault>>
+/// The front end: from bytes to a program that passes all checks, with its flat form.
+pub fn front(alloc: Global, bytes: &[u8]) -> Result<Checked, Or<ProgramFault>>
     requires { length bytes.now < 2 ^ 32 }
     ensures { Settles (front_verdict bytes.now) result }
 {

@@ -9,7 +9,7 @@ mod printing;
 mod site;
 
 pub use compile::{
-    check_program, compile_nodes, compile_part, compile_program, flatten, layout_of, place_program,
+    check_program, compile_nodes, compile_part, flatten, front, layout_of, place_program,
 };
 pub use printing::print_program;
 pub use site::Site;

@@ -46,7 +46,7 @@ fn add_machine(
     ensures count { OnOk result (length machines.new.items ≡ length machines.old.items + 1) }
     ensures ready { OnOk result (AreReadySoFar ⟦<StepMachine as Machine>⟧ layout.now rows machines.new.items) }
 {
-    let part = &layout.nodes.as_slice()[machines.len()];
+    let part = &layout.nodes[machines.len()];
     let machine = compile_part(alloc, &part.flat, import, rows)?;
     machines.push(machine)?;
     Ok(())

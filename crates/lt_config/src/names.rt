@@ -1,8 +1,8 @@
 // The names in a setup: nodes, and pairs of nodes.
-ghost use Rattle.std.specs.Prelude.{◌≡◌, ◌<◌, ◌==◌, ◌||◌, option_map, length, take, drop, slice_index_or};
+ghost use Rattle.std.specs.Prelude.{◌≡◌, ◌<◌, ◌==◌, ◌||◌, option_map, length};
 ghost use Rattle.std.specs.List.{list_all};
-ghost use Rattle.toml.specs.View.{view, table_view};
-ghost use Rattle.lt_arch.specs.Names.{is_ascii_letter, is_digit, is_word_start, is_word_byte, is_name_word, is_identifier};
+ghost use Rattle.toml.specs.View.{table_view};
+ghost use Rattle.lt_arch.specs.Names.{is_word_start, is_word_byte, is_name_word, is_identifier};
 ghost use Rattle.lt_config.specs.Faults.{first_not, is_key, is_cut, is_node_pair, is_entry_of, stray_of, first_stray, first_unknown, bad_name};
 ghost use Rattle.lt_config.specs.Keys.{table_at, tables};
 

@@ -27,7 +27,7 @@ fn vars_of(alloc: Global, value: &Value) -> Result<List<Name>, Memory>
     ensures { IfOk result (λ vars. vars ≡ vars_of (view value.now)) }
 {
     match value.as_array() {
-        Some(items) => texts_of(alloc, items.as_slice()),
+        Some(items) => texts_of(alloc, items),
         None => Ok(List::new(alloc)),
     }
 }

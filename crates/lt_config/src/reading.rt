@@ -38,7 +38,7 @@ fn setup_of(alloc: Global, table: &Table) -> Result<Config, Memory>
     let named = named_nodes(alloc, table)?;
     names_differ();
     let timing = timing_of(alloc, table, &named.nodes)?;
-    let pace = pace_of(table, named.nodes.as_slice());
+    let pace = pace_of(table, &named.nodes);
     Ok(Config {
         timing,
         placement: Placement::Named(named),

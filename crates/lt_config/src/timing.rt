@@ -4,7 +4,7 @@ ghost use Rattle.toml.specs.View.{table_view};
 ghost use Rattle.lt_arch.specs.Pairs.{ordered_pairs, pairs_from};
 ghost use Rattle.lt_arch.specs.NodeNames.{names_of as node_names};
 ghost use Rattle.lt_config.specs.Faults.{first_fault};
-ghost use Rattle.lt_config.specs.Setup.{setup_nodes, setup_names, node_numbers, pair_numbers, pair_name, most_delay, protocol_of, Setup, setup_of};
+ghost use Rattle.lt_config.specs.Setup.{setup_nodes, node_numbers, pair_numbers, pair_name, most_delay, protocol_of, setup_of};
 ghost use Rattle.lt_config.specs.Reading.{numbers_of, delays_of};
 
 use crate::judge::is_time_based;
@@ -87,7 +87,8 @@ fn push_pairs(
     requires none { first_fault (table_view table.now) ≡ None }
     requires from { from < length nodes.now }
     requires few { length nodes.now ≤ 32 }
-    ensures { OnOk result (map delays_of pairs.new ≡ map delays_of pairs.old ++ map (pair_numbers (table_view table.now) (node_names nodes.now)) (pairs_from from (length nodes.now))) }
+    ensures { OnOk result (map delays_of pairs.new ≡ map delays_of pairs.old
+        ++ map (pair_numbers (table_view table.now) (node_names nodes.now)) (pairs_from from (length nodes.now))) }
 {
     for to in 0..nodes.len() as u32 {
         if to != from {

@@ -1,10 +1,12 @@
 // What a value of a setup is, and whether it is in range.
-ghost use Rattle.std.specs.Prelude.{◌≡◌, option_map, false};
+ghost use Rattle.std.specs.Prelude.{◌≡◌, false};
 ghost use Rattle.std.specs.Option.{option_map_or};
 ghost use Rattle.toml.specs.View.{view, items_view, table_view};
 ghost use Rattle.toml.specs.Data.{as_str, as_table};
 ghost use Rattle.lt_config.specs.Wanted.{is_wanted};
-ghost use Rattle.lt_config.specs.Values.{pair_items, pair_of, all_texts, is_texts, all_values, is_table_of, is_pair, is_integer, has_kind, is_node, is_int_between, is_bounds, is_period, is_delay_pair, is_countdown, is_losses, names_protocol, is_count_of_nodes, in_range, count_members};
+ghost use Rattle.lt_config.specs.Values.{pair_items, pair_of, all_texts, is_texts, all_values, is_table_of, is_pair, is_integer, has_kind};
+ghost use Rattle.lt_config.specs.Values.{is_node, is_int_between, is_bounds, is_period, is_delay_pair, is_countdown, is_losses, names_protocol};
+ghost use Rattle.lt_config.specs.Values.{is_count_of_nodes, in_range, count_members};
 
 use crate::keys::{Key, entry_at};
 use crate::limits::{MOST_LOSSES, MOST_NODES};
@@ -28,7 +30,7 @@ pub fn pair_of(value: &Value) -> Option<(i64, i64)>
     ensures { result ≡ pair_of (view value.now) }
 {
     match value.as_array() {
-        Some(items) => pair_items(items.as_slice()),
+        Some(items) => pair_items(items),
         None => None,
     }
 }
@@ -48,7 +50,7 @@ fn is_texts(value: &Value) -> bool
     ensures { result ≡ is_texts (view value.now) }
 {
     match value.as_array() {
-        Some(items) => all_texts(items.as_slice()),
+        Some(items) => all_texts(items),
         None => false,
     }
 }

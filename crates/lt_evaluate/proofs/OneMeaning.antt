@@ -5,7 +5,8 @@ use Rattle.lt_base.specs.declared.value.Cell.{Cell}
 use Rattle.lt_base.specs.Program.{WholeProgram}
 use Rattle.lt_base.specs.Inputs.{InputTable}
 use Rattle.lt_front.specs.Examined.{ExaminedText}
-use Rattle.lt_meaning.specs.Streams.{cell_count, most_cells}
+use Rattle.lt_base.specs.Limits.{most_cells}
+use Rattle.lt_base.specs.Main.{cell_count}
 use Rattle.lt_answer.proofs.Decided.{HasOneKind, HasOneOutcome, of_rule, and_then}
 use Rattle.lt_load_fit.specs.declared.fault.CommandFault.{CommandFault}
 use Rattle.lt_load_fit.specs.declared.fault.CommandFault.TheVariants as fault

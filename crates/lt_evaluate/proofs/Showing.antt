@@ -5,7 +5,8 @@ use Rattle.lt_base.specs.declared.memory.Or.{Or}
 use Rattle.lt_base.specs.Inputs.{InputTable}
 use Rattle.lt_answer.specs.Answered.{Refuses, Settles}
 use Rattle.lt_front.specs.Examined.{ExaminedText}
-use Rattle.lt_meaning.specs.Streams.{cell_count, most_cells}
+use Rattle.lt_base.specs.Limits.{most_cells}
+use Rattle.lt_base.specs.Main.{cell_count}
 use Rattle.lt_load_fit.specs.declared.fault.CommandFault.{CommandFault}
 use Rattle.lt_load_fit.proofs.Settled.{stop_settled, then_settled}
 use Rattle.lt_evaluate.specs.declared.outputs.Outputs.{Outputs}

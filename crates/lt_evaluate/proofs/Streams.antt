@@ -8,7 +8,7 @@ use Rattle.lt_base.specs.Program.{Function, GoodProgram, WholeProgram}
 use Rattle.lt_base.specs.Meaning.{stream_of}
 use Rattle.lt_norm.specs.Flat.{Originated}
 use Rattle.lt_front.specs.Flattened.{KeepsMain}
-use Rattle.lt_meaning.specs.Streams.{streams_at, HasOutputStreams}
+use Rattle.lt_base.specs.Main.{streams_at, HasOutputStreams}
 use Rattle.lt_load_fit.specs.Main.{main_in}
 use Rattle.lt_load.proofs.Flattens.{flat_stream, main_good, outputs_same}
 use Rattle.lt_load.proofs.Mains.{has_main, of_main}
@@ -49,6 +49,5 @@ module _ (p : WholeProgram) (good : GoodProgram p) (flat : Originated) (keeps : 
       let inside : i < length main.outs = omega (arith, low, number) in
       get_or-map here main.outs i 0 [] inside ∙ flat_stream p good flat keeps rows (get_or main.outs i 0) ((main_good p good).outs i 0 inside) ∙ sym (get_or-map there main.outs i 0 [] inside))
 
-  pub main_streams : {E : Type 0} (r : Result (List (List Cell)) E) → IfOk r (HasColumns flat.func rows) → IfOk r (HasOutputStreams p rows)
-  main_streams (Ok columns) are = has_main (λ f. columns ≡ streams_at p.funcs f rows f.outs) p good.main (are ∙ same_columns)
-  main_streams (Err e) are = tt
+  pub main_streams : (columns : List (List Cell)) → HasColumns flat.func rows columns → HasOutputStreams p rows columns
+  main_streams columns are = has_main (λ f. columns ≡ streams_at p.funcs f rows f.outs) p good.main (are ∙ same_columns)

@@ -6,7 +6,8 @@ use Rattle.lt_base.specs.Program.{Function, WholeProgram}
 use Rattle.lt_base.specs.Meaning.{stream_of}
 use Rattle.lt_answer.specs.Answered.{Verdict}
 use Rattle.lt_answer.specs.Rules.{OfRule}
-use Rattle.lt_meaning.specs.Streams.{cell_count, most_cells}
+use Rattle.lt_base.specs.Limits.{most_cells}
+use Rattle.lt_base.specs.Main.{cell_count}
 use Rattle.lt_load_fit.specs.Main.{main_in}
 use Rattle.lt_load_fit.specs.declared.fault.CommandFault.{CommandFault}
 use Rattle.lt_load_fit.specs.declared.fault.CommandFault.TheVariants as fault

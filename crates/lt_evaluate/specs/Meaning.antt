@@ -9,6 +9,7 @@ use Rattle.lt_front.specs.Examined.{ExaminedText}
 use Rattle.lt_answer.specs.Answered.{Verdict, AndThen}
 use Rattle.lt_load_fit.specs.declared.fault.CommandFault.{CommandFault}
 use Rattle.lt_load.specs.Loaded.{program_verdict, inputs_verdict}
+use Rattle.lt_load.specs.Errands.{inputs_errand}
 use Rattle.lt_load.specs.OnFiles.{OnFiles}
 use Rattle.lt_evaluate.specs.Errands.{meaning_errands}
 use Rattle.lt_evaluate.specs.declared.outputs.Outputs.{Outputs}
@@ -39,3 +40,7 @@ meaning_verdict named program inputs = AndThen (program_verdict (named program))
 -- what a program means on the inputs of a file
 abbrev pub Means : (program inputs : List ℕ) (old new : FilesState) → Result Outputs (Or CommandFault) → Type 0
 Means program inputs old new result = OnFiles (meaning_errands program inputs) (meaning_verdict old.named program inputs) old new result
+
+-- what a program that passed all checks means on the inputs of a file
+abbrev pub MeansOn : ExaminedText → (inputs : List ℕ) (old new : FilesState) → Result Outputs (Or CommandFault) → Type 0
+MeansOn checked inputs old new result = OnFiles (inputs_errand inputs) (inputs_streams_verdict old.named inputs checked) old new result

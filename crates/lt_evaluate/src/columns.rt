@@ -1,7 +1,7 @@
 // Columns of cells, one for each output.
 
-ghost use Rattle.std.specs.Prelude.{◌≡◌, ◌<◌, ◌++◌, ◌∷◌, ℕ, [], IfOk, OnOk, length, replicate, slice_index_or};
-ghost use Rattle.lt_base.specs.declared.value.Cell.TheVariants.{Absent as AbsentCell};
+ghost use Rattle.std.specs.Prelude.{◌≡◌, [], IfOk, OnOk, length, replicate};
+ghost use Rattle.lt_evaluate.specs.Columns.{ColumnsGain};
 
 use lt_base::{Cell, List, Memory};
 use std::alloc::Global;
@@ -25,8 +25,7 @@ pub(crate) fn empty_columns(
 pub(crate) fn push_cells(columns: &mut Vec<List<Cell>>, cells: &[Cell]) -> Result<(), Memory>
     requires { length columns.old.items ≡ length cells.now }
     ensures size { length columns.new.items ≡ length columns.old.items }
-    ensures pushed { OnOk result ((i : ℕ) → i < length cells.now
-        → slice_index_or columns.new.items i [] ≡ slice_index_or columns.old.items i [] ++ slice_index_or cells.now i AbsentCell ∷ []) }
+    ensures pushed { OnOk result (ColumnsGain cells.now columns.old.items columns.new.items) }
 {
     for i in 0..cells.len() {
         columns[i].push(cells[i])?;

@@ -2,11 +2,9 @@
 ghost use Rattle.std.specs.Prelude.{◌<◌, ◌-◌, ◌^◌, IfOk};
 ghost use Rattle.lt_io.specs.Counts.{MayFail};
 ghost use Rattle.lt_answer.specs.Answered.{Settles};
-ghost use Rattle.lt_meaning.specs.Streams.{InputsFitMain};
-ghost use Rattle.lt_load.specs.Errands.{inputs_errand};
-ghost use Rattle.lt_load.specs.OnFiles.{OnFiles};
+ghost use Rattle.lt_base.specs.Main.{InputsFitMain};
 ghost use Rattle.lt_evaluate.specs.Main.{output_streams};
-ghost use Rattle.lt_evaluate.specs.Meaning.{Means, PrintsOutputs, inputs_streams_verdict, streams_verdict};
+ghost use Rattle.lt_evaluate.specs.Meaning.{Means, MeansOn, PrintsOutputs, streams_verdict};
 
 use crate::Outputs;
 use crate::evaluating::{evaluate, limit_cells};
@@ -40,7 +38,7 @@ fn mean<F: Files>(
     inputs: &str,
 ) -> Result<Outputs, Or<CommandFault>>
     requires { MayFail (F.state files.old).faults }
-    ensures { OnFiles (inputs_errand inputs.now) (inputs_streams_verdict (F.state files.old).named inputs.now checked) (F.state files.old) (F.state files.new) result }
+    ensures { MeansOn checked inputs.now (F.state files.old) (F.state files.new) result }
 {
     let table = load_inputs(alloc, files, inputs, &checked.program)?;
     streams(alloc, checked, &table)

@@ -1,21 +1,22 @@
 // The streams of a program's outputs on its inputs.
 ghost use Rattle.std.specs.Prelude.{◌≡◌, ◌<◌, ◌≤◌, true, false, IfOk, IfErr, OnOk};
 ghost use Rattle.lt_base.specs.Checked.{CheckedProgram};
+ghost use Rattle.lt_base.specs.Limits.{most_cells};
+ghost use Rattle.lt_base.specs.Main.{HasOutputStreams, InputsFitMain, cell_count};
 ghost use Rattle.lt_answer.specs.Answered.{Refuses};
-ghost use Rattle.lt_meaning.specs.Streams.{HasOutputStreams, InputsFitMain, cell_count, most_cells};
 ghost use Rattle.lt_place.specs.Sizes.{IsCompilable};
 ghost use Rattle.lt_step.specs.Run.{HasRowValues};
-ghost use Rattle.lt_evaluate.specs.Columns.{HasColumns};
+ghost use Rattle.lt_evaluate.specs.Columns.{HasColumns, HasStepped};
 ghost use Rattle.lt_evaluate.specs.Main.{cells_verdict};
 
 use crate::streaming::streams_by;
+use lt_base::limits::GREATEST_CELLS;
 use lt_base::tables::imp;
 use lt_base::{Cell, Inputs, List, Memory, Or, Program, sizes};
 use lt_compile::compile_part;
 use lt_front::Checked;
 use lt_load::CommandFault;
-use lt_machine::Import;
-use lt_meaning::GREATEST_CELLS;
+use lt_machine::{Import, Machine, StepMachine};
 use lt_norm::Flat;
 use std::alloc::Global;
 use std::marker::Brand;
@@ -48,15 +49,29 @@ pub(crate) fn limit_cells(
     Ok(())
 }
 
-// The streams of the outputs of a flat function.
-fn flat_streams(alloc: Global, flat: &Flat, inputs: &Inputs) -> Result<List<List<Cell>>, Memory>
+// The streams of the outputs of a flat function, and the machine of its step code, which made a step for each row.
+#[derive(Drop)]
+struct Evaluated {
+    columns: List<List<Cell>>,
+    machine: StepMachine,
+}
+
+// Evaluates a flat function on all rows.
+fn evaluate_flat(alloc: Global, flat: &Flat, inputs: &Inputs) -> Result<Evaluated, Memory>
     requires compilable { IsCompilable flat.now.func }
     requires width { inputs.now.width ≡ flat.now.func.n_in }
     requires rows { HasRowValues flat.now.func.n_in inputs.now.rows }
-    ensures { IfOk result (HasColumns flat.now.func inputs.now.rows) }
+    ensures columns { IfOk result (λ e. HasColumns flat.now.func inputs.now.rows e.columns) }
+    ensures stepped { IfOk result (λ e. HasStepped ⟦<StepMachine as Machine>⟧ flat.now.func inputs.now.rows e.machine) }
 {
     let mut machine = compile_part(alloc, flat, Import::new(imp), inputs.rows())?;
-    streams_by::<_, Brand>(alloc, &mut machine, &flat.func, inputs, Blank::new(1))
+    match streams_by::<_, Brand>(alloc, &mut machine, &flat.func, inputs, Blank::new(1)) {
+        Ok(columns) => Ok(Evaluated { columns, machine }),
+        Err(Memory) => {
+            drop(machine);
+            Err(Memory)
+        }
+    }
 }
 
 /// The streams of the outputs of `main`, in their order: those of the flat form, by a step of its machine for each row.
@@ -70,5 +85,6 @@ pub(crate) fn evaluate(
 {
     checked.invariant_holds();
     checked.program.invariant_holds();
-    flat_streams(alloc, &checked.flat, inputs)
+    let evaluated = evaluate_flat(alloc, &checked.flat, inputs)?;
+    Ok(evaluated.columns)
 }

@@ -19,8 +19,8 @@ pub fn output_names(alloc: Global, main: &Func) -> Result<List<Name>, Memory>
 {
     main.invariant_holds();
     let mut names = List::new(alloc);
-    for y in main.outs.as_slice() {
-        names.push(main.decls.as_slice()[*y as usize].name.copy()?)?;
+    for y in main.outs.iter() {
+        names.push(main.decls[*y as usize].name.copy()?)?;
     }
     Ok(names)
 }

@@ -1,11 +1,11 @@
 // The streams of a function's outputs by a machine: a step for each row.
 
-ghost use Rattle.std.specs.Prelude.{◌≡◌, ◌<◌, ◌≤◌, ◌+◌, ◌++◌, ◌∷◌, List, [], IfOk, OnOk, length, replicate};
+ghost use Rattle.std.specs.Prelude.{◌≡◌, ◌<◌, ◌≤◌, ◌+◌, ◌*◌, ◌++◌, ◌∷◌, List, [], IfOk, OnOk, length, replicate};
 ghost use Rattle.lt_base.specs.declared.value.Value.{Value as Datum};
 ghost use Rattle.lt_base.specs.declared.value.Cell.TheVariants.{Absent as AbsentCell};
 ghost use Rattle.lt_base.specs.Program.{Function};
 ghost use Rattle.lt_step.specs.Run.{HasRowValues};
-ghost use Rattle.lt_evaluate.specs.Columns.{GrowsBy, HasColumns};
+ghost use Rattle.lt_evaluate.specs.Columns.{GrowsBy, HasColumns, HasStepped};
 
 use crate::columns::{empty_columns, push_cells};
 use lt_base::{Cell, Func, Inputs, List, Memory, Steps, Value};
@@ -35,6 +35,9 @@ fn take_row<M: Machine, L: Ledger>(
     requires columns { length columns.old.items ≡ M.outputs machine.old }
     ensures stands { (f : Function) (rows : List (List Datum)) → M.stands machine.old f rows → M.stands machine.new f (rows ++ values.now ∷ []) }
     ensures left { M.left machine.old ≡ M.left machine.new + 1 }
+    ensures made { M.made machine.new ≡ M.made machine.old + 1 }
+    ensures size { M.size machine.new ≡ M.size machine.old }
+    ensures ticks { steps.new ≤ steps.old + M.size machine.old }
     ensures outs { length outs.new.items ≡ length outs.old.items }
     ensures columns { OnOk result (GrowsBy (M.stands machine.old) values.now columns.old.items columns.new.items) }
 {
@@ -54,13 +57,16 @@ fn take_rows<M: Machine, L: Ledger>(
     steps: &mut Steps<L>,
 ) -> Result<(), Memory>
     requires stands { M.stands machine.old function.now [] }
+    requires unmade { M.made machine.old ≡ 0 }
     requires left { length inputs.now.rows ≤ M.left machine.old }
     requires width { inputs.now.width ≡ function.now.n_in }
     requires rows { HasRowValues function.now.n_in inputs.now.rows }
     requires values { length values.old.items ≡ function.now.n_in }
     requires outs { length outs.old.items ≡ length function.now.outs }
     requires columns { HasColumns function.now [] columns.old.items }
-    ensures { OnOk result (HasColumns function.now inputs.now.rows columns.new.items) }
+    ensures columns { OnOk result (HasColumns function.now inputs.now.rows columns.new.items) }
+    ensures stepped { OnOk result (HasStepped M.Machine function.now inputs.now.rows machine.new) }
+    ensures ticks { steps.new ≤ steps.old + M.size machine.old * length inputs.now.rows }
 {
     for k in 0..inputs.rows() {
         read_row(inputs, k, function.n_in, values);
@@ -79,6 +85,7 @@ fn fill_columns<M: Machine, L: Ledger>(
     blank: Blank,
 ) -> Result<(), Memory>
     requires stands { M.stands machine.old function.now [] }
+    requires unmade { M.made machine.old ≡ 0 }
     requires left { length inputs.now.rows ≤ M.left machine.old }
     requires width { inputs.now.width ≡ function.now.n_in }
     requires rows { HasRowValues function.now.n_in inputs.now.rows }
@@ -86,7 +93,8 @@ fn fill_columns<M: Machine, L: Ledger>(
     requires name { blank.name ≡ L.name }
     requires parts { blank.parts ≡ L.parts }
     requires some { 0 < blank.parts }
-    ensures { OnOk result (HasColumns function.now inputs.now.rows columns.new.items) }
+    ensures columns { OnOk result (HasColumns function.now inputs.now.rows columns.new.items) }
+    ensures stepped { OnOk result (HasStepped M.Machine function.now inputs.now.rows machine.new) }
 {
     let mut steps = Steps::<L>::new(blank);
     let mut values = room_for(alloc, function.n_in)?;
@@ -114,13 +122,15 @@ pub(crate) fn streams_by<M: Machine, L: Ledger>(
     blank: Blank,
 ) -> Result<List<List<Cell>>, Memory>
     requires stands { M.stands machine.old function.now [] }
+    requires unmade { M.made machine.old ≡ 0 }
     requires left { length inputs.now.rows ≤ M.left machine.old }
     requires width { inputs.now.width ≡ function.now.n_in }
     requires rows { HasRowValues function.now.n_in inputs.now.rows }
     requires name { blank.name ≡ L.name }
     requires parts { blank.parts ≡ L.parts }
     requires some { 0 < blank.parts }
-    ensures { IfOk result (HasColumns function.now inputs.now.rows) }
+    ensures columns { IfOk result (HasColumns function.now inputs.now.rows) }
+    ensures stepped { OnOk result (HasStepped M.Machine function.now inputs.now.rows machine.new) }
 {
     let number = function.outs.len();
     let mut columns = empty_columns(alloc, number, inputs.rows() as usize)?;

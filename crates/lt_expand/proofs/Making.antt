@@ -9,8 +9,8 @@ use Rattle.lt_base.specs.Calls.{equations_called, function_called, CallsFunction
 use Rattle.lt_base.specs.Checked.{EachUse, CheckedProgram}
 use Rattle.lt_base.proofs.Lookups.{same_self}
 use Rattle.lt_base.proofs.Reading.{or_left, or_right}
-use Rattle.lt_expand.specs.Copies.{Library, equations_grown, with_copies, expanded}
-use Rattle.lt_expand.specs.Walk.{NestsWithin, version_in, made_of, library_of, IsMade, Copyable, AreVersions, KeepsVersions}
+use Rattle.lt_expand.specs.Copies.{Library, equations_grown, with_copies, function_or_none, expanded}
+use Rattle.lt_expand.specs.Walk.{NestsWithin, made_of, library_of, IsMade, Copyable, AreVersions, KeepsVersions}
 use Rattle.lt_expand.proofs.Expanded.{called_inside}
 use Rattle.lt_expand.proofs.Made.{called_smaller, opened_is, opened_good, all_copyable, room_for}
 use Rattle.lt_expand.proofs.Versions.{is_made, made_still, keeps_all, keeps_more, kept_over, all_made, set_are, set_made}
@@ -88,7 +88,7 @@ none_from : (o : Option Function) → is_some o ≡ false → o ≡ None
 none_from None t = refl
 none_from (Some F) t = absurd (cc)
 
-some_from : (o : Option Function) → is_some o ≡ true → o ≡ Some (version_in o)
+some_from : (o : Option Function) → is_some o ≡ true → o ≡ Some (function_or_none o)
 some_from None t = absurd (cc)
 some_from (Some F) t = refl
 
@@ -100,7 +100,7 @@ module _ (versions : List (Option Function)) (g : ℕ) (inside : g < length vers
   none_read f = made_read ∙ none_from o (sym told ∙ f)
 
   some_read : b ≡ true → IsMade versions g
-  some_read t = is_made versions g (version_in o) (made_read ∙ some_from o (sym told ∙ t))
+  some_read t = is_made versions g (function_or_none o) (made_read ∙ some_from o (sym told ∙ t))
 
 -- what is put there is there
 now_made : (versions after : List (Option Function)) (g : ℕ) (F : Function) → g < length versions → after ≡ set versions g (Some F) → IsMade after g

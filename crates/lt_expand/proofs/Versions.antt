@@ -6,10 +6,10 @@ use Rattle.std.proofs.lemmas.Bool.Decides.{nat_tests}
 use Rattle.lt_base.specs.Program.{Function}
 use Rattle.lt_base.specs.Dependence.{has}
 use Rattle.lt_base.proofs.Reading.{has_one}
-use Rattle.lt_expand.specs.Copies.{expanded}
-use Rattle.lt_expand.specs.Walk.{NestsWithin, version_in, made_of, IsMade, AreVersions, KeepsVersions}
+use Rattle.lt_expand.specs.Copies.{function_or_none, expanded}
+use Rattle.lt_expand.specs.Walk.{NestsWithin, made_of, IsMade, AreVersions, KeepsVersions}
 
-some_version : (o : Option Function) (F : Function) → o ≡ Some F → o ≡ Some (version_in o)
+some_version : (o : Option Function) (F : Function) → o ≡ Some F → o ≡ Some (function_or_none o)
 some_version None F h = absurd (cc)
 some_version (Some G) F h = refl
 

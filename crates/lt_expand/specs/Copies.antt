@@ -153,6 +153,11 @@ with_copies lib f =
 abbrev pub no_function : Function
 no_function = record { name = []; decls = []; n_in = 0; outs = []; eqs = [] }
 
+-- a function, or one that does nothing where there is none
+abbrev pub function_or_none : Option Function → Function
+function_or_none None = no_function
+function_or_none (Some f) = f
+
 abbrev pub opened_or : Library → Option Function → Function
 opened_or lib None = no_function
 opened_or lib (Some f) = with_copies lib f

@@ -12,6 +12,7 @@ use Rattle.lt_base.specs.Clocking.{ClockedFunction}
 use Rattle.lt_base.specs.Dependence.{Causal}
 use Rattle.lt_base.specs.Calls.{EachCall}
 use Rattle.lt_base.specs.Checked.{CheckedProgram}
+use Rattle.lt_base.specs.Limits.{greatest_weight, most_parts}
 use Rattle.lt_base.specs.Sizes.{cost, nested, weight_with, parts_with, program_weight, program_parts, cut}
 use Rattle.lt_expand.specs.Copies.{expansion}
 
@@ -59,7 +60,7 @@ pub record ProgramExpansion (p : WholeProgram) (F : Function) (origin : List ℕ
 
 -- the greatest weight and the greatest number of parts of a main function
 abbrev pub WithinLimits : WholeProgram → Type 0
-WithinLimits p = (program_weight p ≤ 4096) × (program_parts p ≤ 262144)
+WithinLimits p = (program_weight p ≤ greatest_weight) × (program_parts p ≤ most_parts)
 
 -- a program is too large, and these are its sizes
 pub record IsTooMany (p : WholeProgram) (needed : Sizes) : Type 0 where

@@ -2,11 +2,12 @@
 use Rattle.std.specs.Prelude.{◌≡◌, ℕ, zero, suc, ◌<◌, ◌++◌, List, [], ◌∷◌, Option, Some, None, length, replicate, slice_index_or}
 use Rattle.std.specs.List.{All, range_with_len}
 use Rattle.lt_base.specs.declared.function.Decl.{Decl}
-use Rattle.lt_base.specs.Expression.{Expression}
+use Rattle.lt_base.specs.Expression.{Expression, arguments_of}
 use Rattle.lt_base.specs.Program.{Function}
 use Rattle.lt_base.specs.Meaning.{ClockPairs}
 use Rattle.lt_base.specs.Calls.{EachCall, CallsFunction}
-use Rattle.lt_expand.specs.Copies.{Library, Copy, grown, inlined, copies, copied_decls, copied_equations, equations_inlined, equations_copies, no_function, expanded}
+use Rattle.lt_expand.specs.declared.inline.Pasted.{Pasted}
+use Rattle.lt_expand.specs.Copies.{Library, Copy, grown, inlined, copies, copied_decls, copied_equations, equations_inlined, equations_copies, function_or_none, expanded}
 
 -- fewer than n calls nest in function g
 abbrev pub NestsWithin : List Function → ℕ → ℕ → Type 0
@@ -18,22 +19,26 @@ pub record AddsCopies (cs : List Copy) (ds : List Decl) (es : List (ℕ × Expre
   pub decls : ds' ≡ ds ++ copied_decls cs
   pub eqs : es' ≡ es ++ copied_equations cs
 
+-- one copy was: that of this function, on the clock of a call's place, whose inputs have these right sides
+abbrev pub AddsCopy : ClockPairs → Function → List Expression → List Decl → List (ℕ × Expression) → List Decl → List (ℕ × Expression) → Type 0
+AddsCopy ck f inputs ds es ds' es' = AddsCopies (record { from = length ds; clock = ck; source = f; inputs = arguments_of inputs } ∷ []) ds es ds' es'
+
 -- so were the copies for the calls of an expression at a clock, and this form of it is left
 pub record InlinedTo (lib : Library) (ck : ClockPairs) (e : Expression) (ds : List Decl) (es : List (ℕ × Expression)) (ds' : List Decl) (es' : List (ℕ × Expression)) (e' : Expression) : Type 0 where
   pub form : e' ≡ inlined lib (length ds) e
   pub adds : AddsCopies (copies lib (length ds) ck e) ds es ds' es'
 
--- the versions without calls that are made, as a library
-abbrev pub version_in : Option Function → Function
-version_in None = no_function
-version_in (Some f) = f
+-- a step puts copies in place of the calls of an expression at a clock: what was pasted before it and after it, and the form that is left
+abbrev pub Inlines : Library → ClockPairs → Expression → Pasted → Pasted → Expression → Type 0
+Inlines lib ck e before after e' = InlinedTo lib ck e before.decls.items before.eqs.items after.decls.items after.eqs.items e'
 
 -- what is made for a function, if it is
 abbrev pub made_of : List (Option Function) → ℕ → Option Function
 made_of versions g = slice_index_or versions g None
 
+-- the versions without calls that are made, as a library
 abbrev pub library_of : List (Option Function) → Library
-library_of versions g = version_in (made_of versions g)
+library_of versions g = function_or_none (made_of versions g)
 
 -- the version of a function is made
 abbrev pub IsMade : List (Option Function) → ℕ → Type 0

@@ -40,7 +40,8 @@ fn open_equations(
     requires lefts { All (λ q. q.0 < length known.now) equations.now }
     requires ready { All (λ q. EachUse (λ h k. Copyable versions.now h k) q.1) equations.now }
     requires room { length known.now + equations_grown (library_of versions.now) equations.now < 2 ^ 32 }
-    ensures { IfOk result (λ r. AllInlined (library_of versions.now) known.now equations.now r.pasted.decls.items r.eqs.items r.pasted.eqs.items r.origins.items) }
+    ensures { IfOk result (λ r. AllInlined (library_of versions.now) known.now equations.now
+        r.pasted.decls.items r.eqs.items r.pasted.eqs.items r.origins.items) }
 {
     let mut pasted = Pasted {
         decls: known.copy()?.into_vec(),

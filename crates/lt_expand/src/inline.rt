@@ -1,12 +1,12 @@
 // Calls replaced by copies of what is made for the called functions.
 
-ghost use Rattle.std.specs.Prelude.{◌≡◌, ◌+◌, ◌<◌, ◌^◌, ◌∷◌, [], length, map, IfOk, OnOk};
+ghost use Rattle.std.specs.Prelude.{◌≡◌, ◌+◌, ◌<◌, ◌^◌, ◌∷◌, length, map, IfOk, OnOk};
 ghost use Rattle.lt_base.specs.declared.expression.Expr.{Call};
-ghost use Rattle.lt_base.specs.Expression.{shape, variable, arguments_of};
+ghost use Rattle.lt_base.specs.Expression.{shape, variable};
 ghost use Rattle.lt_base.specs.Checked.{EachUse};
 ghost use Rattle.lt_base.specs.Meaning.{clock_of, outer as outer_pairs};
 ghost use Rattle.lt_expand.specs.Copies.{first_or_zero, grown};
-ghost use Rattle.lt_expand.specs.Walk.{library_of, IsMade, Copyable, AddsCopies, InlinedTo};
+ghost use Rattle.lt_expand.specs.Walk.{library_of, IsMade, Copyable, AddsCopy, Inlines};
 
 use crate::paste::append_copy;
 use lt_base::{Clock, Decl, Equation, Expr, Func, List, Memory};
@@ -42,7 +42,8 @@ fn copy_for_call(
     requires ready { Copyable versions.now g (length inputs.items) }
     requires room { length into.old.decls.items + length (library_of versions.now g).decls < 2 ^ 32 }
     ensures output { IfOk result (λ y. y ≡ first_or_zero (library_of versions.now g).outs + length into.old.decls.items) }
-    ensures adds { IfOk result (λ y. AddsCopies (record { from = length into.old.decls.items; clock = place.now; source = library_of versions.now g; inputs = arguments_of (map shape inputs.items) } ∷ []) into.old.decls.items into.old.eqs.items into.new.decls.items into.new.eqs.items) }
+    ensures adds { IfOk result (λ y. AddsCopy place.now (library_of versions.now g) (map shape inputs.items)
+        into.old.decls.items into.old.eqs.items into.new.decls.items into.new.eqs.items) }
 {
     let source = version(versions, g);
     append_copy(&mut into.decls, &mut into.eqs, place, source, inputs)
@@ -60,7 +61,7 @@ pub(crate) fn inline(
     requires ready { EachUse (λ h k. Copyable versions.now h k) (shape e.old) }
     requires room { length into.old.decls.items + grown (library_of versions.now) (shape e.old) < 2 ^ 32 }
     ensures room { OnOk result (length into.new.decls.items ≡ length into.old.decls.items + grown (library_of versions.now) (shape e.old)) }
-    ensures all { OnOk result (InlinedTo (library_of versions.now) clock.now (shape e.old) into.old.decls.items into.old.eqs.items into.new.decls.items into.new.eqs.items (shape e.new)) }
+    ensures all { OnOk result (Inlines (library_of versions.now) clock.now (shape e.old) into.old into.new (shape e.new)) }
 {
     match e {
         Expr::Lit(_) => Ok(()),
@@ -113,7 +114,7 @@ fn inline_outside(
     requires ready { EachUse (λ h k. Copyable versions.now h k) (shape e.old) }
     requires room { length into.old.decls.items + grown (library_of versions.now) (shape e.old) < 2 ^ 32 }
     ensures room { OnOk result (length into.new.decls.items ≡ length into.old.decls.items + grown (library_of versions.now) (shape e.old)) }
-    ensures all { OnOk result (InlinedTo (library_of versions.now) (outer_pairs clock.now) (shape e.old) into.old.decls.items into.old.eqs.items into.new.decls.items into.new.eqs.items (shape e.new)) }
+    ensures all { OnOk result (Inlines (library_of versions.now) (outer_pairs clock.now) (shape e.old) into.old into.new (shape e.new)) }
 {
     let before = clock.outer()?;
     inline(alloc, versions, into, &before, e)
@@ -133,7 +134,7 @@ fn inline_branch(
     requires ready { EachUse (λ h k. Copyable versions.now h k) (shape e.old) }
     requires room { length into.old.decls.items + grown (library_of versions.now) (shape e.old) < 2 ^ 32 }
     ensures room { OnOk result (length into.new.decls.items ≡ length into.old.decls.items + grown (library_of versions.now) (shape e.old)) }
-    ensures all { OnOk result (InlinedTo (library_of versions.now) ((c, polarity) ∷ clock.now) (shape e.old) into.old.decls.items into.old.eqs.items into.new.decls.items into.new.eqs.items (shape e.new)) }
+    ensures all { OnOk result (Inlines (library_of versions.now) ((c, polarity) ∷ clock.now) (shape e.old) into.old into.new (shape e.new)) }
 {
     let branch = clock.inner(c, polarity)?;
     inline(alloc, versions, into, &branch, e)
@@ -152,7 +153,7 @@ fn inline_call(
     requires ready { EachUse (λ h k. Copyable versions.now h k) (shape (Call g args.old)) }
     requires room { length into.old.decls.items + grown (library_of versions.now) (shape (Call g args.old)) < 2 ^ 32 }
     ensures room { OnOk result (length into.new.decls.items ≡ length into.old.decls.items + grown (library_of versions.now) (shape (Call g args.old))) }
-    ensures all { IfOk result (λ y. InlinedTo (library_of versions.now) clock.now (shape (Call g args.old)) into.old.decls.items into.old.eqs.items into.new.decls.items into.new.eqs.items (variable y)) }
+    ensures all { IfOk result (λ y. Inlines (library_of versions.now) clock.now (shape (Call g args.old)) into.old into.new (variable y)) }
 {
     let taken = replace(args, Vec::new(alloc));
     let mut inputs = Vec::with_capacity(alloc, taken.len())?;
@@ -176,7 +177,7 @@ pub(crate) fn inline_side(
     requires left { equation.now.0 < length known.now }
     requires ready { EachUse (λ h k. Copyable versions.now h k) equation.now.1 }
     requires room { length into.old.decls.items + grown (library_of versions.now) equation.now.1 < 2 ^ 32 }
-    ensures { IfOk result (λ r. InlinedTo (library_of versions.now) (clock_of known.now equation.now.0) equation.now.1 into.old.decls.items into.old.eqs.items into.new.decls.items into.new.eqs.items (shape r)) }
+    ensures { IfOk result (λ r. Inlines (library_of versions.now) (clock_of known.now equation.now.0) equation.now.1 into.old into.new (shape r)) }
 {
     let decl = &known[equation.left() as usize];
     let mut right = equation.right().copy()?;

@@ -1,11 +1,11 @@
 // Copies of functions without calls.
 
-ghost use Rattle.std.specs.Prelude.{◌≡◌, ◌+◌, ◌-◌, ◌<◌, ◌≤◌, ◌^◌, ◌++◌, ◌∷◌, [], length, map, All, IfOk, OnOk};
+ghost use Rattle.std.specs.Prelude.{◌≡◌, ◌+◌, ◌-◌, ◌<◌, ◌^◌, ◌++◌, length, map, All, IfOk, OnOk};
 ghost use Rattle.lt_base.specs.Expression.{shape, arguments_of};
 ghost use Rattle.lt_base.specs.Program.{VarsBelow};
 ghost use Rattle.lt_base.specs.Calls.{EachCall};
 ghost use Rattle.lt_expand.specs.Copies.{first_or_zero, copy_decls, copy_equations, input_equations};
-ghost use Rattle.lt_expand.specs.Walk.{AddsCopies};
+ghost use Rattle.lt_expand.specs.Walk.{AddsCopy};
 
 use crate::raised::{raise_variables, raised_decl};
 use lt_base::{Clock, Decl, Equation, Expr, Func, List, Memory};
@@ -72,7 +72,7 @@ pub(crate) fn append_copy(
     requires output { 0 < length source.now.outs }
     requires room { length decls.old.items + length source.now.decls < 2 ^ 32 }
     ensures output { IfOk result (λ y. y ≡ first_or_zero source.now.outs + length decls.old.items) }
-    ensures adds { IfOk result (λ y. AddsCopies (record { from = length decls.old.items; clock = place.now; source = source.now; inputs = arguments_of (map shape inputs.items) } ∷ []) decls.old.items eqs.old.items decls.new.items eqs.new.items) }
+    ensures adds { IfOk result (λ y. AddsCopy place.now source.now (map shape inputs.items) decls.old.items eqs.old.items decls.new.items eqs.new.items) }
 {
     source.invariant_holds();
     let first = decls.len() as u32;

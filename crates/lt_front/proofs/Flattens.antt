@@ -17,10 +17,9 @@ use Rattle.lt_norm.specs.NormalForm.{NormalFormOf, lifted_origins}
 use Rattle.lt_norm.proofs.Loop.{lefts_inside}
 use Rattle.lt_norm.proofs.NormalForms.{normal_is, normal_good}
 use Rattle.lt_expand.specs.Copies.{expansion}
-use Rattle.lt_expand.specs.Expansion.{ExpansionOf, ProgramExpansion, origins_of, copied_origins}
+use Rattle.lt_expand.specs.Expansion.{ExpansionOf, ProgramExpansion, WithinLimits, origins_of, copied_origins}
 use Rattle.lt_expand.proofs.Expanded.{expands, within_all}
 use Rattle.lt_expand.proofs.Lawful.{programs_expand}
-use Rattle.lt_front.specs.Examined.{ProgramIsWithin}
 use Rattle.lt_front.specs.Flattened.{function_or_none, main_function, expansion_origins, flat_of, KeepsMain}
 use Rattle.lt_front.proofs.FlatSizes.{flat_weight, flat_parts, flat_pairs}
 
@@ -62,7 +61,7 @@ index_range n (suc m) ys (suc x) l = index_range (n + 1) m ys x (omega (arith, l
 
 -- ---- the flat form
 
-module _ (p : WholeProgram) (good : GoodProgram p) (checked : CheckedProgram p) (within : ProgramIsWithin p) where
+module _ (p : WholeProgram) (good : GoodProgram p) (checked : CheckedProgram p) (within : WithinLimits p) where
   module _ (f : Function) (found : function_of p.funcs p.main ≡ Some f) where
     main_is : main_function p ≡ f
     main_is = ap function_or_none found
@@ -111,7 +110,7 @@ module _ (p : WholeProgram) (good : GoodProgram p) (checked : CheckedProgram p) 
         (subst (λ k. All (λ q. q.0 < k) (expansion p).eqs) (sym o_each) (lefts_inside (expansion p) F_good)))
 
     few : length (normal_form (expansion p)).decls ≤ 4096
-    few = let w = n.within in let s = x.weight in let m = within.weight in omega (arith, w, s, m)
+    few = let w = n.within in let s = x.weight in let m = within.0 in omega (arith, w, s, m)
 
     kept : KeepsMain p (record { func = normal_form (expansion p); origin = expansion_origins p ++ lifted_origins (expansion_origins p) (expansion p).decls (expansion p).eqs })
     kept = record {
@@ -133,7 +132,7 @@ module _ (p : WholeProgram) (good : GoodProgram p) (checked : CheckedProgram p) 
       arose = subst (λ (g : Function). All (λ y. y < length g.decls) (expansion_origins p ++ lifted_origins (expansion_origins p) (expansion p).decls (expansion p).eqs)) (sym main_is) all_arose;
       few = few;
       slots = (let w = flat_weight (normal_form (expansion p)) (normal_good (expansion p) F_good k.typed k.clocked k.causal) n.flat in omega (arith, w, few));
-      parts = (let s = flat_parts (expansion p) in let e = x.parts in let m = within.parts in omega (arith, s, e, m));
+      parts = (let s = flat_parts (expansion p) in let e = x.parts in let m = within.1 in omega (arith, s, e, m));
       pairs = flat_pairs (normal_form (expansion p)).decls n.clocked.clocks few;
     }
 
@@ -157,7 +156,7 @@ is_flat p W flat form x normal n =
     }
 
 -- and keeps what main does
-pub flat_keeps : (p : WholeProgram) → GoodProgram p → CheckedProgram p → ProgramIsWithin p → (flat : Originated) → flat ≡ flat_of p → KeepsMain p flat
+pub flat_keeps : (p : WholeProgram) → GoodProgram p → CheckedProgram p → WithinLimits p → (flat : Originated) → flat ≡ flat_of p → KeepsMain p flat
 flat_keeps p good checked within flat is = subst (KeepsMain p) (sym is) (keeps_main p good checked within)
 
 module _ (p : WholeProgram) (W : Whole) (form : W.func ≡ expansion p) (x : ProgramExpansion p W.func W.origin) where
@@ -166,6 +165,6 @@ module _ (p : WholeProgram) (W : Whole) (form : W.func ≡ expansion p) (x : Pro
   flat_if (Ok flat) normal n = is_flat p W flat form x normal n
   flat_if (Err e) normal n = tt
 
-  pub keeps_if : GoodProgram p → CheckedProgram p → ProgramIsWithin p → (r : Result Originated Memory) → IfOk r (λ flat. flat.func ≡ normal_form W.func) → IfOk r (λ flat. NormalFormOf W.func W.origin flat.func flat.origin) → IfOk r (KeepsMain p)
+  pub keeps_if : GoodProgram p → CheckedProgram p → WithinLimits p → (r : Result Originated Memory) → IfOk r (λ flat. flat.func ≡ normal_form W.func) → IfOk r (λ flat. NormalFormOf W.func W.origin flat.func flat.origin) → IfOk r (KeepsMain p)
   keeps_if good checked within (Ok flat) normal n = flat_keeps p good checked within flat (is_flat p W flat form x normal n)
   keeps_if good checked within (Err e) normal n = tt

@@ -7,7 +7,8 @@ use Rattle.std.specs.List.{All, prefix_len}
 use Rattle.lt_tokens.specs.declared.token.Infix.{Infix}
 use Rattle.lt_tokens.specs.declared.token.Token.{Token}
 use Rattle.lt_tokens.specs.declared.token.Token.TheVariants as token
-use Rattle.lt_tokens.specs.Text.{is_blank, is_letter, is_word, is_digit, skip, skip_comment, Front, Begins, BadNumber, pair, single, symbol_of, span, word, number, front, Cuts}
+use Rattle.lt_base.specs.Digits.{is_digit}
+use Rattle.lt_tokens.specs.Text.{is_blank, is_letter, is_word, skip, skip_comment, Front, Begins, BadNumber, pair, single, symbol_of, span, word, number, front, Cuts}
 use Rattle.lt_syntax.specs.declared.tree.NodeText.{NodeText}
 use Rattle.lt_syntax.specs.Tree.{Tm}
 use Rattle.lt_syntax.specs.Grammar.{Form, Forms, meaning, tokens, arguments, polarity, number as numeral, truth, name, paren, minus, negated, binary, choice, sampled, merged, call, nil, cons}

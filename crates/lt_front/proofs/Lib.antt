@@ -1,9 +1,9 @@
 pub mod Lengths
 pub mod Rooms
+pub mod Numbered
 pub mod Outcomes
 pub mod Refused
 pub mod Printed
-pub mod OneProgram
 pub mod OneFault
 pub mod FlatSizes
 pub mod Flattens

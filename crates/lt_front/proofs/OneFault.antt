@@ -18,7 +18,7 @@ use Rattle.lt_front.specs.declared.fault.ProgramFault.TheVariants as fault
 use Rattle.lt_front.specs.Limits.{is_limit, is_limit_kind}
 use Rattle.lt_front.specs.Front.{syntax_verdict, name_verdict, IsTypeFault, IsClockFault, IsCycle, IsTooManyFault, fits_verdict, causal_verdict, clocked_verdict, typed_verdict, examine_verdict}
 use Rattle.lt_answer.proofs.Decided.{HasOneOutcome, of_rule, and_then_one}
-use Rattle.lt_front.proofs.OneProgram.{one_program}
+use Rattle.lt_resolve.proofs.One.{one_program}
 
 -- syntax
 

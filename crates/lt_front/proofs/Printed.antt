@@ -10,7 +10,8 @@ use Rattle.lt_print.specs.Canonical.{canonical}
 use Rattle.lt_check.specs.Fitting.{IsRightProgram}
 use Rattle.lt_resolve.specs.Resolves.{IsResolved}
 use Rattle.lt_answer.specs.Answered.{Settles}
-use Rattle.lt_front.specs.Examined.{ExaminedText, ProgramIsWithin}
+use Rattle.lt_expand.specs.Expansion.{WithinLimits}
+use Rattle.lt_front.specs.Examined.{ExaminedText}
 use Rattle.lt_front.specs.Front.{examine_verdict}
 use Rattle.lt_front.specs.Printed.{printed_verdict, IsPassing, IsPassingText}
 
@@ -43,7 +44,7 @@ pub fails : (P : Type 0) → (P → ⊥) → IsTrue false ↔ P
 fails P never = (λ t. absurd (cc), λ h. absurd (never h))
 
 -- causality and sizes are all that is left of a program with right types and clocks
-pub all_pass : (p : WholeProgram) → IsRightProgram p → (r : Result Bool Memory) → IfOk r (λ b. IsTrue b ↔ (CausalProgram p × ProgramIsWithin p)) → IfOk r (λ b. IsTrue b ↔ IsPassing p)
+pub all_pass : (p : WholeProgram) → IsRightProgram p → (r : Result Bool Memory) → IfOk r (λ b. IsTrue b ↔ (CausalProgram p × WithinLimits p)) → IfOk r (λ b. IsTrue b ↔ IsPassing p)
 all_pass p right (Ok b) h =
     (λ t. let k = h.0 t in record { typed = λ n f l. (right n f l).0; clocked = λ n f l. (right n f l).1; causal = k.0; within = k.1 }, λ k. h.1 (k.causal, k.within))
 all_pass p right (Err m) h = tt

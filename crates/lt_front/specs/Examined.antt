@@ -1,14 +1,14 @@
 -- A program that passed all checks.
-use Rattle.std.specs.Prelude.{◌<◌, ◌≤◌, ◌^◌, List, length}
+use Rattle.std.specs.Prelude.{◌<◌, ◌^◌, List, length}
 use Rattle.std.proofs.Common.{refl}
 use Rattle.std.specs.List.{All}
 use Rattle.std.specs.Coded.{Coded, code_by, coded×, coded_list}
 use Rattle.lt_base.specs.Program.{WholeProgram, coded_program}
 use Rattle.lt_base.specs.Checked.{CheckedProgram}
-use Rattle.lt_base.specs.Sizes.{program_weight, program_parts}
 use Rattle.lt_syntax.specs.declared.tree.NodeText.{NodeText}
 use Rattle.lt_syntax.specs.contracts.tree.NodeText.{the_row as node_row}
 use Rattle.lt_resolve.specs.Resolves.{IsResolved}
+use Rattle.lt_expand.specs.Expansion.{WithinLimits}
 
 -- the tree of a text, and the program that it names
 pub record ExaminedText : Type 0 where
@@ -17,11 +17,6 @@ pub record ExaminedText : Type 0 where
 
 abbrev pub coded_examined : Coded ExaminedText
 coded_examined = code_by (List NodeText × WholeProgram) (coded× (coded_list node_row.coded) coded_program) (λ c. (c.tree, c.program)) (λ p. record { tree = p.0; program = p.1 }) (λ _. refl)
-
--- `main` and all functions that it calls together are not too large
-pub record ProgramIsWithin (p : WholeProgram) : Type 0 where
-  pub weight : program_weight p ≤ 4096
-  pub parts : program_parts p ≤ 262144
 
 -- the functions of a tree, and the equations of each, are numbered in 32 bits
 pub record TreeNumbersFit (t : List NodeText) : Type 0 where
@@ -33,4 +28,4 @@ pub record IsExamined (c : ExaminedText) : Type 0 where
   pub room : TreeNumbersFit c.tree
   pub resolved : IsResolved c.tree c.program
   pub checked : CheckedProgram c.program
-  pub within : ProgramIsWithin c.program
+  pub within : WithinLimits c.program

@@ -1,5 +1,5 @@
 -- The flat form of a program: the normal form of its expansion.
-use Rattle.std.specs.Prelude.{◌≡◌, ℕ, ◌<◌, ◌≤◌, Option, Some, None, List, [], ◌++◌, length, All, slice_index}
+use Rattle.std.specs.Prelude.{◌≡◌, ℕ, ◌<◌, ◌≤◌, List, [], ◌++◌, length, All, slice_index}
 use Rattle.std.specs.List.{sum_by}
 use Rattle.lt_base.specs.declared.value.Value.{Value}
 use Rattle.lt_base.specs.declared.function.Decl.{Decl}
@@ -9,17 +9,14 @@ use Rattle.lt_base.specs.Meaning.{function_of, stream_of}
 use Rattle.lt_base.specs.Typing.{TypedFunction}
 use Rattle.lt_base.specs.Clocking.{ClockedFunction}
 use Rattle.lt_base.specs.Dependence.{Causal}
+use Rattle.lt_base.specs.Limits.{greatest_weight}
 use Rattle.lt_base.specs.Sizes.{weight_with}
-use Rattle.lt_expand.specs.Copies.{no_function, expansion}
+use Rattle.lt_expand.specs.Copies.{expansion}
+pub use Rattle.lt_expand.specs.Copies.{function_or_none}
 use Rattle.lt_expand.specs.Expansion.{origins_of}
 use Rattle.lt_norm.specs.Flat.{Originated, FlatFunction}
 use Rattle.lt_norm.specs.Lift.{normal_form}
 use Rattle.lt_norm.specs.NormalForm.{lifted_origins}
-
--- a function, or one that does nothing where there is none
-abbrev pub function_or_none : Option Function → Function
-function_or_none None = no_function
-function_or_none (Some f) = f
 
 -- the function that is run
 abbrev pub main_function : WholeProgram → Function
@@ -58,7 +55,7 @@ pub record KeepsMain (p : WholeProgram) (f : Originated) : Type 0 where
   pub own : (x : ℕ) → x < length (main_function p).decls → slice_index f.origin x ≡ x
   pub arose : All (λ x. x < length (main_function p).decls) f.origin
   -- there are no more variables than the greatest weight
-  pub few : length f.func.decls ≤ 4096
+  pub few : length f.func.decls ≤ greatest_weight
   -- with its delays, of which an equation has at most one, it has at most twice as many slots
   pub slots : weight_with (λ _. 0) f.func ≤ 8192
   -- it has at most eight times the greatest number of expression parts

@@ -4,6 +4,7 @@ use Rattle.lt_base.specs.Program.{WholeProgram}
 use Rattle.lt_base.specs.Typing.{TypedProgram}
 use Rattle.lt_base.specs.Clocking.{ClockedProgram}
 use Rattle.lt_base.specs.Dependence.{CausalProgram}
+use Rattle.lt_base.specs.Limits.{greatest_height}
 use Rattle.lt_base.specs.Sizes.{cut, program_weight, program_parts}
 use Rattle.lt_syntax.specs.declared.tree.NodeText.{NodeText}
 use Rattle.lt_syntax.specs.Program.{Spells}
@@ -15,13 +16,14 @@ use Rattle.lt_front.specs.declared.fault.ProgramFault.{ProgramFault}
 use Rattle.lt_front.specs.declared.fault.ProgramFault.TheVariants as fault
 use Rattle.lt_answer.specs.Answered.{Verdict, AndThen}
 use Rattle.lt_answer.specs.Rules.{OfRule}
-use Rattle.lt_front.specs.Examined.{ExaminedText, ProgramIsWithin}
+use Rattle.lt_expand.specs.Expansion.{WithinLimits}
+use Rattle.lt_front.specs.Examined.{ExaminedText}
 use Rattle.lt_front.specs.Causality.{IsFirstCycle}
 
 -- the bytes spell a tree, or else no tree, and then the fault is at the first place that shows it
 abbrev pub syntax_verdict : List ℕ → Verdict (List NodeText) ProgramFault
-syntax_verdict bytes (Ok t) = Spells 200 bytes t
-syntax_verdict bytes (Err (fault.Syntax f)) = ((t : List NodeText) → Spells 200 bytes t → ⊥) × IsFault 200 bytes f
+syntax_verdict bytes (Ok t) = Spells greatest_height bytes t
+syntax_verdict bytes (Err (fault.Syntax f)) = ((t : List NodeText) → Spells greatest_height bytes t → ⊥) × IsFault greatest_height bytes f
 syntax_verdict bytes (Err _) = ⊥
 
 -- the tree names a program, or it has a fault of names or passes a limit on them
@@ -49,8 +51,8 @@ IsTooManyFault p _ = ⊥
 
 -- the program within its limits
 abbrev pub fits_verdict : List NodeText → WholeProgram → Verdict ExaminedText ProgramFault
-fits_verdict t p (Ok c) = ProgramIsWithin p × (c ≡ record { tree = t; program = p })
-fits_verdict t p (Err e) = (ProgramIsWithin p → ⊥) × IsTooManyFault p e
+fits_verdict t p (Ok c) = WithinLimits p × (c ≡ record { tree = t; program = p })
+fits_verdict t p (Err e) = (WithinLimits p → ⊥) × IsTooManyFault p e
 
 abbrev pub causal_verdict : List NodeText → WholeProgram → Verdict ExaminedText ProgramFault
 causal_verdict t p = AndThen (OfRule (CausalProgram p) (IsCycle t p)) (λ _. fits_verdict t p)

@@ -10,7 +10,8 @@ use Rattle.lt_resolve.specs.Resolves.{IsResolved}
 use Rattle.lt_answer.specs.Answered.{Verdict}
 use Rattle.lt_answer.specs.Rules.{Shown}
 use Rattle.lt_front.specs.declared.fault.ProgramFault.{ProgramFault}
-use Rattle.lt_front.specs.Examined.{ExaminedText, TreeNumbersFit, ProgramIsWithin}
+use Rattle.lt_expand.specs.Expansion.{WithinLimits}
+use Rattle.lt_front.specs.Examined.{ExaminedText, TreeNumbersFit}
 use Rattle.lt_front.specs.Front.{examine_verdict}
 
 -- the canonical text of its tree
@@ -32,7 +33,7 @@ pub record IsPassing (p : WholeProgram) : Type 0 where
   pub typed : TypedProgram p
   pub clocked : ClockedProgram p
   pub causal : CausalProgram p
-  pub within : ProgramIsWithin p
+  pub within : WithinLimits p
 
 -- the text is the canonical one of the tree, whose program passes all checks
 pub record IsPassingText (t : List NodeText) (text : List ℕ) : Type 0 where

@@ -24,7 +24,7 @@ pub(crate) fn causality(alloc: Global, p: &Program) -> Result<(), Or<Circle>>
     requires equations { All (λ f. length f.eqs < 2 ^ 32) p.now.funcs }
     ensures { MatchResult result (λ _. CausalProgram p.now) (λ e. ForFault e (λ fault. IsFirstCycle p.now fault.func fault.cycle.vars)) }
 {
-    for (number, f) in p.funcs.as_slice().iter().enumerate() {
+    for (number, f) in p.funcs.iter().enumerate() {
         match causal(alloc, f) {
             Ok(_) => {}
             Err(e) => return Err(of_function(e, number as u32)),

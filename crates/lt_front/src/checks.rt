@@ -13,16 +13,11 @@ use crate::causality::causality;
 use crate::refusals::{of_circle, of_clocks, of_names};
 use crate::{Examined, Named, ProgramFault};
 use lt_base::Or;
+use lt_base::limits::{GREATEST_WEIGHT, MOST_PARTS};
 use lt_check::{clocks, sizes, types};
 use lt_resolve::resolve;
 use lt_syntax::{Tree, parse};
 use std::alloc::Global;
-
-/// The most that `main` may weigh, with all functions that it calls.
-pub(crate) const GREATEST_WEIGHT: u64 = 4_096;
-
-/// The most expression parts of `main`, with all functions that it calls.
-pub(crate) const MOST_PARTS: u64 = 262_144;
 
 /// The tree that bytes spell.
 pub fn parse_text(alloc: Global, bytes: &[u8]) -> Result<Tree, Or<ProgramFault>>

@@ -2,11 +2,12 @@
 ghost use Rattle.std.specs.Prelude.{◌≡◌, ◌<◌, ◌↔◌, ◌^◌, IfOk, IfSome, IsTrue, length};
 ghost use Rattle.lt_base.specs.Dependence.{CausalProgram};
 ghost use Rattle.lt_answer.specs.Answered.{Settles};
-ghost use Rattle.lt_front.specs.Examined.{TreeNumbersFit, ProgramIsWithin};
+ghost use Rattle.lt_expand.specs.Expansion.{WithinLimits};
+ghost use Rattle.lt_front.specs.Examined.{TreeNumbersFit};
 ghost use Rattle.lt_front.specs.Printed.{IsOfTree, IsPassing, IsPassingText, printed_verdict};
 
 use crate::causality::causality;
-use crate::checks::{GREATEST_WEIGHT, MOST_PARTS};
+use lt_base::limits::{GREATEST_WEIGHT, MOST_PARTS};
 use lt_base::{List, Memory, Or, Program};
 use lt_check::{sizes, types_and_clocks};
 use lt_print::print;
@@ -70,7 +71,7 @@ fn passes(alloc: Global, p: &Program) -> Result<bool, Memory>
 // Whether the causality and the sizes pass.
 fn order_passes(alloc: Global, p: &Program) -> Result<bool, Memory>
     requires { IsOfTree p.now }
-    ensures { IfOk result (λ b. IsTrue b ↔ (CausalProgram p.now × ProgramIsWithin p.now)) }
+    ensures { IfOk result (λ b. IsTrue b ↔ (CausalProgram p.now × WithinLimits p.now)) }
 {
     match causality(alloc, p) {
         Ok(()) => fits(alloc, p),
@@ -81,7 +82,7 @@ fn order_passes(alloc: Global, p: &Program) -> Result<bool, Memory>
 
 // Whether the sizes are within their limits.
 fn fits(alloc: Global, p: &Program) -> Result<bool, Memory>
-    ensures { IfOk result (λ b. IsTrue b ↔ ProgramIsWithin p.now) }
+    ensures { IfOk result (λ b. IsTrue b ↔ WithinLimits p.now) }
 {
     let sizes = sizes(alloc, p)?;
     Ok(sizes.weight <= GREATEST_WEIGHT && sizes.parts <= MOST_PARTS)

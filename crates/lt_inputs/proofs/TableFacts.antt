@@ -15,7 +15,8 @@ use Rattle.lt_base.specs.Typing.{RowFits, AllFit}
 use Rattle.lt_base.specs.Behaviour.{RowsFit}
 use Rattle.lt_base.specs.Digits.{number_of}
 use Rattle.lt_inputs.specs.Fields.{field_value, int_of, bool_of}
-use Rattle.lt_inputs.specs.Inputs.{inputs_in, inputs_of, input_table_of, input_rows_of, input_rows_from, row_of, then_rows, with_value, values_of, or_no_value, instant_and_values, is_this_number, is_text, same_fields, header_of, most_rows, at_header}
+use Rattle.lt_base.specs.Limits.{most_rows}
+use Rattle.lt_inputs.specs.Inputs.{inputs_in, inputs_of, input_table_of, input_rows_of, input_rows_from, row_of, then_rows, with_value, values_of, or_no_value, instant_and_values, is_this_number, is_text, same_fields, header_of, at_header}
 use Rattle.lt_inputs.specs.Told.{ToldWanted}
 use Rattle.lt_inputs.specs.declared.fault.InputFault.{InputFault}
 use Rattle.lt_inputs.specs.declared.fault.InputKind.{InputKind}

@@ -3,6 +3,7 @@ use Rattle.std.specs.Prelude.{ℕ, ◌+◌, ◌-◌, ◌==◌, Bool, true, false
 use Rattle.std.specs.List.{list_all}
 use Rattle.std.specs.Str.{bytes_eq, is_utf8}
 use Rattle.csv.specs.Reading.{records, default_config, strip_bom}
+use Rattle.lt_base.specs.Limits.{most_rows}
 use Rattle.lt_base.specs.declared.function.Decl.{Decl}
 use Rattle.lt_base.specs.declared.value.Value.{Value}
 use Rattle.lt_base.specs.Program.{Function}
@@ -12,10 +13,6 @@ use Rattle.lt_inputs.specs.Fields.{field_value}
 use Rattle.lt_inputs.specs.declared.fault.InputKind.{InputKind}
 use Rattle.lt_inputs.specs.declared.fault.InputKind.TheVariants.{NotCsv, Header, Instant, Value as NoValue, TooMany}
 use Rattle.lt_inputs.specs.declared.fault.InputFault.{InputFault}
-
--- the greatest number of rows
-abbrev pub most_rows : ℕ
-most_rows = 100000
 
 -- the declarations of a function's inputs
 abbrev pub inputs_in : Function → List Decl

@@ -2,7 +2,8 @@
 ghost use Rattle.std.specs.Prelude.{◌≡◌, ◌≤◌, ◌<◌, ◌+◌, ◌^◌, None, Some, IfOk, length};
 ghost use Rattle.csv.specs.Reading.{records, default_config, strip_bom};
 ghost use Rattle.lt_base.specs.Behaviour.{RowsFit};
-ghost use Rattle.lt_inputs.specs.Inputs.{inputs_of, input_table_of, input_rows_of, input_rows_from, most_rows};
+ghost use Rattle.lt_base.specs.Limits.{most_rows};
+ghost use Rattle.lt_inputs.specs.Inputs.{inputs_of, input_table_of, input_rows_of, input_rows_from};
 ghost use Rattle.lt_inputs.specs.Records.{rest_of, ReaderStands, ReadsHeader};
 ghost use Rattle.lt_inputs.specs.Told.{ToldWanted, at_row};
 

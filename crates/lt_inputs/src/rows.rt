@@ -2,7 +2,8 @@
 ghost use Rattle.std.specs.Prelude.{◌≡◌, ◌<◌, ◌+◌, ◌^◌, [], Ok, Err, IfOk, MatchOption, if◌then◌else◌, length, slice_index_or};
 ghost use Rattle.csv.specs.Records.{fields_of};
 ghost use Rattle.lt_base.specs.Digits.{number_of};
-ghost use Rattle.lt_inputs.specs.Inputs.{header_of, instant_and_values, is_this_number, is_text, most_rows, row_of, same_fields};
+ghost use Rattle.lt_base.specs.Limits.{most_rows};
+ghost use Rattle.lt_inputs.specs.Inputs.{header_of, instant_and_values, is_this_number, is_text, row_of, same_fields};
 ghost use Rattle.lt_inputs.specs.Told.{Fills};
 
 use crate::fault::InputKind;

@@ -1,6 +1,5 @@
 // What a field reads as.
-ghost use Rattle.std.specs.Prelude.{◌≡◌, ◌≤◌, ◌<◌, ◌-◌, ◌^◌};
-ghost use Rattle.lt_base.specs.Digits.{number_of, up_to};
+ghost use Rattle.std.specs.Prelude.{◌≡◌, ◌<◌, ◌-◌};
 ghost use Rattle.lt_inputs.specs.Fields.{int_of, bool_of, field_value};
 
 use lt_base::{Ty, Value, number_up_to};

@@ -1,7 +1,7 @@
 -- A schedule that was taken to its end, and what is told of it.
 use Rattle.std.proofs.Common.{◌≡◌, ◌∙◌, ℕ, List, [], Option, Result, Ok, Err, sym, ap, subst}
 use Rattle.std.proofs.lemmas.List.{append-nil}
-use Rattle.std.specs.Prelude.{IsErrAnd}
+use Rattle.std.specs.Prelude.{IsErrAnd, IfErr, IsTrue}
 use Rattle.lt_base.specs.declared.memory.Or.{Or}
 use Rattle.lt_base.specs.declared.memory.Or.TheVariants.{Fault, Memory}
 use Rattle.lt_arch.specs.declared.event.Event.{Event}
@@ -14,6 +14,7 @@ use Rattle.lt_answer.proofs.Stages.{runs_short}
 use Rattle.lt_answer.specs.Rules.{Raised}
 use Rattle.lt_load_fit.specs.declared.fault.CommandFault.{CommandFault}
 use Rattle.lt_load.specs.Blamed.{command_blame}
+use Rattle.lt_load.specs.Near.{IsNearCommand}
 use Rattle.lt_audit.specs.declared.selection.Selection.{Selection}
 use Rattle.lt_audit.specs.Audit.{AuditState}
 use Rattle.lt_audit.specs.Standing.{AuditStands}
@@ -23,7 +24,7 @@ use Rattle.lt_inspect.specs.Audits.{AuditIsTold}
 use Rattle.lt_inspect.specs.Inspected.{IsAudited, IsTraced, along_scene, schedule_command_fault, inspect_file_verdict, selection_of}
 use Rattle.lt_inspect.specs.Inspecting.{IsInspected}
 use Rattle.lt_inspect.specs.Traces.{trace_text, trace_header_text}
-use Rattle.lt_inspect.proofs.Carried.{told_on, halted_as, short_on, unreached}
+use Rattle.lt_inspect.proofs.Carried.{told_on, halted_as, none_by, short_on, unreached}
 use Rattle.lt_inspect.proofs.Noting.{by_own}
 use Rattle.lt_inspect.proofs.ToldFirst.{admissible, is_audited, not_too_many}
 
@@ -51,6 +52,14 @@ module _ (k : Scene) (a : AuditState) (sel : Selection) (q : Shape) (text : List
   audited (Err (Fault e)) is first =
       unreached k.shape k.timing k.rows Before (IsAudited k) file A B e (ap command_blame is.1) (λ bytes events reads before. not_too_many k a bytes events reads (stands_here events before) is.0) first
   audited (Err Memory) is first = short_on k.shape k.timing k.rows Before (IsAudited k) file A B first
+
+  -- more events than a schedule may have are told of no file that tells its bytes
+  pub near_told : {es : List Errand} (r : Result Audited (Or CommandFault)) (place : ℕ) → AuditIsTold a r → IsTrue A.files.told → Answered command_blame es (Raised (schedule_command_fault k.shape) (inspect_file_verdict Before k.shape k.timing k.rows file)) A B (Ok tt)
+      → IfErr r (IsNearCommand file place)
+  near_told (Ok told) place is tells first = tt
+  near_told (Err (Fault e)) place is tells first =
+      absurd (none_by k.shape k.timing k.rows Before (IsAudited k) file (λ bytes events reads before. not_too_many k a bytes events reads (stands_here events before) is.0) (first.exact tells first.cause))
+  near_told (Err Memory) place is tells first = tt
 
   -- the text
   pub traced : {es : List Errand} (from to : ℕ) (x : List ℕ) → x ≡ text → sel ≡ selection_of k from to → Answered command_blame es (Raised (schedule_command_fault k.shape) (inspect_file_verdict Before k.shape k.timing k.rows file)) A B (Ok tt)

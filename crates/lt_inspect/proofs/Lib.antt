@@ -7,3 +7,4 @@ pub mod ToldFirst
 mod Noting
 mod Told
 mod Finished
+pub mod Elsewhere

@@ -22,7 +22,7 @@ use Rattle.lt_inspect.specs.declared.region.Region.{Region}
 use Rattle.lt_inspect.specs.Clean.{AcceptedIsClean}
 use Rattle.lt_inspect.specs.Grounded.{IsGrounded}
 use Rattle.lt_inspect.specs.Regions.{node_verdict, region_verdict}
-use Rattle.lt_inspect.specs.Scenes.{named_node, named_verdict, named_place_verdict}
+use Rattle.lt_inspect.specs.Scenes.{named_node, named_node_verdict, named_place_verdict}
 
 module _ (checked : ExaminedText) (setup : Config) (node : Option (List ℕ)) where
   unplaced : (e : Or CommandFault) → Refuses (layout_verdict checked setup) e → Refuses (region_verdict checked setup node) e
@@ -55,7 +55,7 @@ module _ (checked : ExaminedText) (setup : Config) (node : Option (List ℕ)) wh
       nodes_are : s.nodes ≡ node_names setup.placement
       nodes_are = shaped.nodes ∙ layout_here.names
 
-      unnamed : (o : Option (List ℕ)) (e : CommandFault) → node_verdict checked s.nodes o (Err e) → named_verdict checked setup o (Err e)
+      unnamed : (o : Option (List ℕ)) (e : CommandFault) → node_verdict checked s.nodes o (Err e) → named_node_verdict checked setup o (Err e)
       unnamed None e is = absurd is
       unnamed (Some name) e is = (ap (λ (nodes : List (List ℕ)). position (λ n. bytes_eq n name) nodes) (sym nodes_are) ∙ is.0, is.1)
 
@@ -67,7 +67,7 @@ module _ (checked : ExaminedText) (setup : Config) (node : Option (List ℕ)) wh
       pub no_node : (e : Or CommandFault) (r : Result Region (Or CommandFault)) → IsErrAnd r (λ f. f ≡ e) → Refuses (node_verdict checked s.nodes node) e → Settles (region_verdict checked setup node) r
       no_node e r is refused = err_settled (region_verdict checked setup node) e r is (refused_node e refused)
 
-      node_found : (o : Option (List ℕ)) (found : Option ℕ) → node_verdict checked s.nodes o (Ok found) → (found ≡ named_node setup o) × named_verdict checked setup o (Ok setup)
+      node_found : (o : Option (List ℕ)) (found : Option ℕ) → node_verdict checked s.nodes o (Ok found) → (found ≡ named_node setup o) × named_node_verdict checked setup o (Ok setup)
       node_found None found is = (is, refl)
       node_found (Some name) found is =
           let there : position (λ n. bytes_eq n name) (node_names setup.placement) ≡ Some is.0 = ap (λ (nodes : List (List ℕ)). position (λ n. bytes_eq n name) nodes) (sym nodes_are) ∙ is.2 in

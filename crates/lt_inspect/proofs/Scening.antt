@@ -24,7 +24,7 @@ use Rattle.lt_load.proofs.Steps.{Names, IsContent, content_then, refused_step, n
 use Rattle.lt_inspect.specs.declared.region.Region.{Region}
 use Rattle.lt_inspect.specs.declared.scene.Scene.{Scene}
 use Rattle.lt_inspect.specs.Regions.{region_verdict}
-use Rattle.lt_inspect.specs.Scenes.{IsSceneOf, Scened, named_verdict, named_place_verdict, placed_plan_verdict}
+use Rattle.lt_inspect.specs.Scenes.{IsSceneOf, Scened, named_node_verdict, named_place_verdict, placed_plan_verdict}
 
 scened_then : {T : Type 0} (node : Option (List ℕ)) (V : Verdict T CommandFault) (next : T → Verdict Plan CommandFault) (o : Result Scene CommandFault) → AndThen V (λ x. Scened node (next x)) o → Scened node (AndThen V next) o
 scened_then place V next (Ok k) (inl p) = absurd p
@@ -48,7 +48,7 @@ module _ {T : Type 0} (node : Option (List ℕ)) (V : Verdict T CommandFault) (n
   next_scene x r first c second = widen c r (next_step command_blame V (λ names y. Scened node (next names y)) a b x r first c second)
 
 -- the placement and the node that is named touch nothing
-named_content : (checked : ExaminedText) (setup : Config) (node : Option (List ℕ)) → IsContent command_blame (named_verdict checked setup node)
+named_content : (checked : ExaminedText) (setup : Config) (node : Option (List ℕ)) → IsContent command_blame (named_node_verdict checked setup node)
 named_content checked setup None e is = cc
 named_content checked setup (Some name) e is = ap command_blame is.1
 
@@ -58,7 +58,7 @@ placed_content checked setup e right = ap command_blame (place_fault checked set
 
 region_content : (checked : ExaminedText) (setup : Config) (node : Option (List ℕ)) → IsContent command_blame (named_place_verdict checked setup node)
 unfolding named_place_verdict
-region_content checked setup node = content_then command_blame (placed_verdict checked setup) (λ legal. named_verdict checked legal node) (placed_content checked setup) (λ legal. named_content checked legal node)
+region_content checked setup node = content_then command_blame (placed_verdict checked setup) (λ legal. named_node_verdict checked legal node) (placed_content checked setup) (λ legal. named_content checked legal node)
 
 module _ (checked : ExaminedText) (setup : Config) (node : Option (List ℕ)) (inputs : List ℕ) (a : FilesState) where
   abbrev rest : Names → Config → Verdict Plan CommandFault

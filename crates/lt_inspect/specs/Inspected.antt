@@ -1,5 +1,6 @@
 -- What is told of a schedule that is judged with any number of messages in transit.
 use Rattle.std.specs.Prelude.{◌≡◌, ℕ, List, length, Option, None, Result, Ok, Err}
+use Rattle.lt_io.specs.FilesState.{FilesState}
 use Rattle.lt_arch.specs.declared.event.Event.{Event}
 use Rattle.lt_arch.specs.declared.shape.Shape.{Shape}
 use Rattle.lt_arch.specs.declared.timing.Timing.{Timing}
@@ -15,6 +16,7 @@ use Rattle.lt_answer.specs.Rules.{Raised}
 use Rattle.lt_load_fit.specs.declared.fault.What.TheVariants.{ScheduleBytes}
 use Rattle.lt_load_fit.specs.declared.fault.CommandFault.{CommandFault}
 use Rattle.lt_load_fit.specs.declared.fault.CommandFault.TheVariants as fault
+use Rattle.lt_load.specs.Near.{ReadNear}
 use Rattle.lt_load.specs.Plan.{Plan}
 use Rattle.lt_inspect.specs.declared.scene.Scene.{Scene}
 use Rattle.lt_inspect.specs.declared.audited.Audited.{Audited}
@@ -58,9 +60,13 @@ pub record IsAudited (k : Scene) (events : List Event) (a : Audited) : Type 0 wh
   pub clean : Accepts k.timing → a.miss ≡ None
 
 -- the program, the setup, the placement, the inputs and the schedule, in this order
-unfoldable pub audit_verdict : (named : List ℕ → Option (List ℕ)) (program inputs schedule config : List ℕ) → Verdict Audited CommandFault
-audit_verdict named program inputs schedule config =
+unfoldable pub ordered_audit_verdict : (named : List ℕ → Option (List ℕ)) (program inputs schedule config : List ℕ) → Verdict Audited CommandFault
+ordered_audit_verdict named program inputs schedule config =
     AndThen (scene_verdict named program inputs config None) (λ plan. inspect_along_verdict IsAudited None (named schedule) plan)
+
+-- and where it is the schedule that is refused, its file was read to at most a piece past the row that is refused
+abbrev pub audit_verdict : (named : List ℕ → Option (List ℕ)) (program inputs schedule config : List ℕ) → (new : FilesState) → Verdict Audited CommandFault
+audit_verdict named program inputs schedule config new = ReadNear (named schedule) new.place (ordered_audit_verdict named program inputs schedule config)
 
 -- The events that are selected.
 
@@ -74,6 +80,10 @@ pub record IsTraced (from to : ℕ) (k : Scene) (events : List Event) (text : Li
   pub text_is : text ≡ trace_text (selection_of k from to) k.shape events
 
 -- the program, the setup, the placement, the node that is named, the inputs and the schedule, in this order
-unfoldable pub trace_verdict : (named : List ℕ → Option (List ℕ)) (program inputs schedule config : List ℕ) (node : Option (List ℕ)) (from to : ℕ) → Verdict (List ℕ) CommandFault
-trace_verdict named program inputs schedule config node from to =
+unfoldable pub ordered_trace_verdict : (named : List ℕ → Option (List ℕ)) (program inputs schedule config : List ℕ) (node : Option (List ℕ)) (from to : ℕ) → Verdict (List ℕ) CommandFault
+ordered_trace_verdict named program inputs schedule config node from to =
     AndThen (scene_verdict named program inputs config node) (λ plan. inspect_along_verdict (IsTraced from to) node (named schedule) plan)
+
+-- and where it is the schedule that is refused, its file was read to at most a piece past the row that is refused
+abbrev pub trace_verdict : (named : List ℕ → Option (List ℕ)) (program inputs schedule config : List ℕ) (node : Option (List ℕ)) (from to : ℕ) → (new : FilesState) → Verdict (List ℕ) CommandFault
+trace_verdict named program inputs schedule config node from to new = ReadNear (named schedule) new.place (ordered_trace_verdict named program inputs schedule config node from to)

@@ -8,3 +8,5 @@ pub mod Inspected
 pub mod Inspecting
 pub mod Audits
 pub mod Clean
+pub mod OnFiles
+pub mod Taking

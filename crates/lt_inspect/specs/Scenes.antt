@@ -33,14 +33,14 @@ abbrev pub IsNoNode : ExaminedText → Config → List ℕ → CommandFault → 
 IsNoNode checked setup name e = (scene_node_of setup name ≡ None) × (e ≡ fault.Place (UnknownName name) (main_in checked.program))
 
 -- the setup, if the node that is named is one of its nodes
-abbrev pub named_verdict : ExaminedText → Config → Option (List ℕ) → Verdict Config CommandFault
-named_verdict checked setup None outcome = Exactly (Ok setup) outcome
-named_verdict checked setup (Some name) (Ok named) = (named ≡ setup) × ((n : ℕ) × (scene_node_of setup name ≡ Some n))
-named_verdict checked setup (Some name) (Err e) = IsNoNode checked setup name e
+abbrev pub named_node_verdict : ExaminedText → Config → Option (List ℕ) → Verdict Config CommandFault
+named_node_verdict checked setup None outcome = Exactly (Ok setup) outcome
+named_node_verdict checked setup (Some name) (Ok named) = (named ≡ setup) × ((n : ℕ) × (scene_node_of setup name ≡ Some n))
+named_node_verdict checked setup (Some name) (Err e) = IsNoNode checked setup name e
 
 -- a setup for a program: the placement and the node that is named, in this order
 unfoldable pub named_place_verdict : ExaminedText → Config → Option (List ℕ) → Verdict Config CommandFault
-named_place_verdict checked setup node = AndThen (placed_verdict checked setup) (λ legal. named_verdict checked legal node)
+named_place_verdict checked setup node = AndThen (placed_verdict checked setup) (λ legal. named_node_verdict checked legal node)
 
 -- a program with a setup: the placement, the node that is named, and the rows of inputs
 unfoldable pub placed_plan_verdict : (named : List ℕ → Option (List ℕ)) (inputs : List ℕ) (node : Option (List ℕ)) → ExaminedText → Config → Verdict Plan CommandFault

@@ -1,19 +1,16 @@
 // The first message too few or too many.
-ghost use Rattle.std.specs.Prelude.{◌≡◌, ◌<◌, ◌-◌, ◌^◌, ℕ, [], List};
+ghost use Rattle.std.specs.Prelude.{ℕ, [], List};
 ghost use Rattle.lt_io.specs.Counts.{MayFail};
 ghost use Rattle.lt_arch.specs.declared.event.Event.{Event};
 ghost use Rattle.lt_arch.specs.declared.shape.Shape.{Shape};
 ghost use Rattle.lt_arch.specs.declared.timing.Timing.{Timing};
-ghost use Rattle.lt_answer.specs.World.{alone};
-ghost use Rattle.lt_answer.specs.Answered.{Answered};
-ghost use Rattle.lt_schedule.specs.Errand.{schedule_errand};
-ghost use Rattle.lt_inspect.specs.Errands.{inspect_errands};
-ghost use Rattle.lt_load.specs.Blamed.{command_blame};
 ghost use Rattle.lt_audit.specs.Standing.{AuditStands};
+ghost use Rattle.lt_load.specs.Near.{IsReadNear};
 ghost use Rattle.lt_inspect.specs.Audits.{AuditIsTold};
 ghost use Rattle.lt_inspect.specs.declared.scene.Scene.{Scene as OfScene};
-ghost use Rattle.lt_inspect.specs.Inspected.{IsAudited, along_scene, audit_verdict};
-ghost use Rattle.lt_inspect.specs.Inspecting.{IsInspected};
+ghost use Rattle.lt_inspect.specs.Inspected.{IsAudited};
+ghost use Rattle.lt_inspect.specs.OnFiles.{AuditsFiles, IsInspectionOver, JudgesSchedule};
+ghost use Rattle.lt_inspect.specs.Taking.{HasInspected};
 
 use crate::Audited;
 use crate::inspecting::inspect;
@@ -47,8 +44,7 @@ pub fn audit<F: Files>(
     config: &str,
 ) -> Result<Audited, Or<CommandFault>>
     requires { MayFail (F.state files.old).faults }
-    ensures { Answered command_blame (inspect_errands program.now inputs.now schedule.now config.now) (audit_verdict (F.state files.old).named program.now inputs.now schedule.now config.now)
-        (alone (F.state files.old)) (alone (F.state files.new)) result }
+    ensures { AuditsFiles program.now inputs.now schedule.now config.now (F.state files.old) (F.state files.new) result }
 {
     let scene = load_scene(alloc, files, program, inputs, config, None)?;
     audit_scene(alloc, files, scene, schedule)
@@ -62,8 +58,8 @@ fn audit_scene<F: Files>(
     schedule: &str,
 ) -> Result<Audited, Or<CommandFault>>
     requires { MayFail (F.state files.old).faults }
-    ensures { Answered command_blame (schedule_errand schedule.now) (along_scene (IsAudited scene) scene ((F.state files.old).named schedule.now))
-        (alone (F.state files.old)) (alone (F.state files.new)) result }
+    ensures answered { JudgesSchedule (IsAudited scene) scene schedule.now (F.state files.old) (F.state files.new) result }
+    ensures near { IsReadNear schedule.now (F.state files.old) (F.state files.new) result }
 {
     let tap = Tap::new(NOTHING, scene.shape.copy()?, selects);
     let mut inspection = Inspection::over(alloc, scene, tap)?;
@@ -80,9 +76,9 @@ fn audit_by<F: Files>(
     inspection: &mut Inspection,
 ) -> Result<Audited, Or<CommandFault>>
     requires count { MayFail (F.state files.old).faults }
-    requires fresh { IsInspected inspection.old.auditor inspection.old.tap.selection inspection.old.tap.shape inspection.old.text [] }
-    ensures { (k : OfScene) → inspection.old.auditor.shape ≡ k.shape → inspection.old.auditor.watch.timing ≡ k.timing → inspection.old.auditor.rows ≡ k.rows
-        → Answered command_blame (schedule_errand schedule.now) (along_scene (IsAudited k) k ((F.state files.old).named schedule.now)) (alone (F.state files.old)) (alone (F.state files.new)) result }
+    requires fresh { HasInspected inspection.old [] }
+    ensures answered { (k : OfScene) → IsInspectionOver inspection.old k → JudgesSchedule (IsAudited k) k schedule.now (F.state files.old) (F.state files.new) result }
+    ensures near { (k : OfScene) → IsInspectionOver inspection.old k → IsReadNear schedule.now (F.state files.old) (F.state files.new) result }
 {
     inspect(alloc, files, schedule, inspection)?;
     tell(&inspection.auditor)

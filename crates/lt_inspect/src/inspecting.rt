@@ -1,14 +1,11 @@
 // A schedule file, taken row by row.
-ghost use Rattle.std.specs.Prelude.{◌≡◌, ◌<◌, ◌-◌, ◌^◌, [], List, OnOk};
+ghost use Rattle.std.specs.Prelude.{◌≡◌, [], List, OnOk};
 ghost use Rattle.lt_io.specs.Counts.{MayFail};
 ghost use Rattle.lt_arch.specs.declared.event.Event.{Event};
-ghost use Rattle.lt_answer.specs.World.{alone};
-ghost use Rattle.lt_answer.specs.Answered.{Answered};
-ghost use Rattle.lt_schedule.specs.Errand.{schedule_errand};
-ghost use Rattle.lt_answer.specs.Rules.{Raised};
-ghost use Rattle.lt_load.specs.Blamed.{command_blame};
-ghost use Rattle.lt_inspect.specs.Inspected.{schedule_command_fault, inspect_file_verdict};
-ghost use Rattle.lt_inspect.specs.Inspecting.{AsFault, IsInspected};
+ghost use Rattle.lt_load.specs.Near.{IsReadNear};
+ghost use Rattle.lt_inspect.specs.Inspecting.{AsFault};
+ghost use Rattle.lt_inspect.specs.OnFiles.{InspectsSchedule};
+ghost use Rattle.lt_inspect.specs.Taking.{HasInspected};
 ghost use Rattle.lt_schedule.specs.declared.halt.Halt.TheVariants as halts;
 
 use crate::inspection::Inspection;
@@ -31,11 +28,10 @@ pub fn inspect<F: Files>(
     inspection: &mut Inspection,
 ) -> Result<(), Or<CommandFault>>
     requires count { MayFail (F.state files.old).faults }
-    requires fresh { IsInspected inspection.old.auditor inspection.old.tap.selection inspection.old.tap.shape inspection.old.text [] }
-    ensures answered { Answered command_blame (schedule_errand schedule.now)
-        (Raised (schedule_command_fault inspection.old.auditor.shape) (inspect_file_verdict (λ events done. IsInspected inspection.new.auditor inspection.new.tap.selection inspection.new.tap.shape inspection.new.text events) inspection.old.auditor.shape inspection.old.auditor.watch.timing inspection.old.auditor.rows ((F.state files.old).named schedule.now)))
-        (alone (F.state files.old)) (alone (F.state files.new)) result }
-    ensures ended { OnOk result ((events : List Event) × IsInspected inspection.new.auditor inspection.new.tap.selection inspection.new.tap.shape inspection.new.text events) }
+    requires fresh { HasInspected inspection.old [] }
+    ensures answered { InspectsSchedule inspection.old inspection.new schedule.now (F.state files.old) (F.state files.new) result }
+    ensures near { IsReadNear schedule.now (F.state files.old) (F.state files.new) result }
+    ensures ended { OnOk result ((events : List Event) × HasInspected inspection.new events) }
     ensures shape { inspection.new.auditor.shape ≡ inspection.old.auditor.shape }
     ensures timing { inspection.new.auditor.watch.timing ≡ inspection.old.auditor.watch.timing }
     ensures rows { inspection.new.auditor.rows ≡ inspection.old.auditor.rows }

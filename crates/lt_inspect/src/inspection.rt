@@ -1,13 +1,12 @@
 // The events of a schedule, as they are taken one after another.
-ghost use Rattle.std.specs.Prelude.{◌≡◌, ◌<◌, ◌^◌, ◌++◌, ◌∷◌, [], List as Items, IfOk, OnOk, length};
+ghost use Rattle.std.specs.Prelude.{◌≡◌, ◌++◌, [], List as Items, IfOk, OnOk};
 ghost use Rattle.std.proofs.Common.{refl, ◌∙◌};
 ghost use Rattle.lt_arch.specs.declared.event.Event.{Event as OfEvent};
-ghost use Rattle.lt_arch.specs.Schedule.{IsEventOf, reached};
-ghost use Rattle.lt_arch.specs.Step.{offence_of};
+ghost use Rattle.lt_arch.specs.Schedule.{IsEventOf};
 ghost use Rattle.lt_schedule.specs.Long.{long_line};
 ghost use Rattle.lt_schedule.specs.Verdict.{rules_of};
-ghost use Rattle.lt_audit.specs.Standing.{JudgesEvent, AuditStands};
-ghost use Rattle.lt_inspect.specs.Inspecting.{IsInspected, added, stop_by};
+ghost use Rattle.lt_inspect.specs.Inspecting.{added, stop_by};
+ghost use Rattle.lt_inspect.specs.Taking.{HasInspected, JudgesInspected, KeepsInspection, TakesNext};
 ghost use Rattle.lt_inspect.specs.Traces.{trace_header_text};
 
 use crate::scene::Scene;
@@ -33,7 +32,7 @@ impl Inspection {
     /// Before the first event over what was loaded; the rows of the events that the tap picks are written.
     pub fn over(alloc: Global, scene: Scene, tap: Tap) -> Result<Inspection, Memory>
         requires { tap.shape ≡ scene.shape }
-        ensures fresh { IfOk result (λ i. IsInspected i.auditor i.tap.selection i.tap.shape i.text []) }
+        ensures fresh { IfOk result (λ i. HasInspected i []) }
         ensures shape { IfOk result (λ i. i.auditor.shape ≡ scene.shape) }
         ensures timing { IfOk result (λ i. i.auditor.watch.timing ≡ scene.timing) }
         ensures rows { IfOk result (λ i. i.auditor.rows ≡ scene.rows) }
@@ -54,7 +53,7 @@ impl Inspection {
     ) -> Result<Inspection, Memory>
         requires tapped { tap.shape ≡ scene.shape }
         requires header { text ≡ trace_header_text }
-        ensures fresh { IfOk result (λ i. IsInspected i.auditor i.tap.selection i.tap.shape i.text []) }
+        ensures fresh { IfOk result (λ i. HasInspected i []) }
         ensures shape { IfOk result (λ i. i.auditor.shape ≡ scene.shape) }
         ensures timing { IfOk result (λ i. i.auditor.watch.timing ≡ scene.timing) }
         ensures rows { IfOk result (λ i. i.auditor.rows ≡ scene.rows) }
@@ -80,9 +79,9 @@ impl Inspection {
     // Takes an event where it has no offence.
     fn take<L: Ledger>(&mut self, e: Event, steps: &mut Steps<L>) -> Result<(), AuditFault>
         requires event { IsEventOf self.old.auditor.shape e }
-        requires stands { (before : Items OfEvent) × IsInspected self.old.auditor self.old.tap.selection self.old.tap.shape self.old.text before }
-        ensures judges { (before : Items OfEvent) → IsInspected self.old.auditor self.old.tap.selection self.old.tap.shape self.old.text before → JudgesEvent (offence_of self.old.auditor.shape self.old.auditor.watch.timing (reached self.old.auditor.shape self.old.auditor.watch.timing self.old.auditor.rows before) e) result }
-        ensures takes { OnOk result ((before : Items OfEvent) → IsInspected self.old.auditor self.old.tap.selection self.old.tap.shape self.old.text before → IsInspected self.new.auditor self.new.tap.selection self.new.tap.shape self.new.text (before ++ e ∷ [])) }
+        requires stands { (before : Items OfEvent) × HasInspected self.old before }
+        ensures judges { JudgesInspected self.old e result }
+        ensures takes { OnOk result (TakesNext self.old self.new e) }
         ensures shape { self.new.auditor.shape ≡ self.old.auditor.shape }
         ensures timing { self.new.auditor.watch.timing ≡ self.old.auditor.watch.timing }
         ensures rows { self.new.auditor.rows ≡ self.old.auditor.rows }
@@ -107,7 +106,7 @@ impl Inspection {
     {
         if self.tap.picks(e) {
             let row = print_event(self.alloc, e, self.auditor.shape())?;
-            self.text.extend(row.as_slice())?;
+            self.text.extend(&row)?;
         }
         Ok(())
     }
@@ -127,9 +126,9 @@ impl Replica<()> for Inspection {
 
     ghost rules = { λ a. rules_of a.auditor.shape a.auditor.watch.timing a.auditor.rows };
 
-    ghost stands = { λ a outside steps before. IsInspected a.auditor a.tap.selection a.tap.shape a.text before };
+    ghost stands = { λ a outside steps before. HasInspected a before };
 
-    ghost keeps = { λ a v b w. (b.auditor.shape ≡ a.auditor.shape) × (b.auditor.watch.timing ≡ a.auditor.watch.timing) × (b.auditor.rows ≡ a.auditor.rows) × ((b.tap.selection ≡ a.tap.selection) × (b.tap.shape ≡ a.tap.shape)) };
+    ghost keeps = { λ a v b w. KeepsInspection a b };
 
     ghost faults = { λ outside. 0 };
 

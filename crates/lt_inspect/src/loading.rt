@@ -1,12 +1,9 @@
 // What a schedule is judged over, from its files.
-ghost use Rattle.std.specs.Prelude.{◌≡◌, ◌++◌, ◌<◌, ◌-◌, ◌^◌, Some, length, option_map};
+ghost use Rattle.std.specs.Prelude.{◌≡◌};
 ghost use Rattle.lt_io.specs.Counts.{MayFail};
-ghost use Rattle.lt_answer.specs.World.{alone};
-ghost use Rattle.lt_answer.specs.Answered.{Answered};
+ghost use Rattle.lt_answer.specs.Alone.{given_word};
 ghost use Rattle.lt_front.specs.Checked.{examined_part};
-ghost use Rattle.lt_load.specs.Blamed.{command_blame};
-ghost use Rattle.lt_load.specs.Errands.{config_errand, inputs_errand, load_errands};
-ghost use Rattle.lt_inspect.specs.Scenes.{Scened, placed_plan_verdict, scene_verdict, setup_scene_verdict};
+ghost use Rattle.lt_inspect.specs.OnFiles.{LoadsPlacedScene, LoadsScene, LoadsSetupScene};
 
 use crate::region::Region;
 use crate::regions::find_region;
@@ -18,9 +15,9 @@ use lt_io::Files;
 use lt_load::{CommandFault, load_flat, load_inputs, load_plain_config};
 use std::alloc::Global;
 
-/// Loads what a schedule is judged over. The program passes all checks, no node leads in the setup, its placement by the setup is legal, the node that is named,
-/// if one is, is one of the setup's, and the inputs are those of `main`. The files are read in this order: the program, the setup and
-/// the inputs.
+/// Loads what a schedule is judged over. The program passes all checks, no node leads in the setup, its placement by the setup is
+/// legal, the node that is named, if one is, is one of the setup's, and the inputs are those of `main`. The files are read in this
+/// order: the program, the setup and the inputs.
 pub fn load_scene<F: Files>(
     alloc: Global,
     files: &mut F,
@@ -30,8 +27,7 @@ pub fn load_scene<F: Files>(
     node: Option<&str>,
 ) -> Result<Scene, Or<CommandFault>>
     requires { MayFail (F.state files.old).faults }
-    ensures { Answered command_blame (load_errands program.now inputs.now (Some config.now)) (Scened (option_map (λ s. s.now) node.entry) (scene_verdict (F.state files.old).named program.now inputs.now config.now (option_map (λ s. s.now) node.entry)))
-        (alone (F.state files.old)) (alone (F.state files.new)) result }
+    ensures { LoadsScene program.now inputs.now config.now (given_word node.entry) (F.state files.old) (F.state files.new) result }
 {
     let checked = load_flat(alloc, files, program)?;
     let scene = load_setup(alloc, files, &checked, inputs, config, node);
@@ -49,8 +45,7 @@ fn load_setup<F: Files>(
     node: Option<&str>,
 ) -> Result<Scene, Or<CommandFault>>
     requires { MayFail (F.state files.old).faults }
-    ensures { Answered command_blame (config_errand config.now ++ inputs_errand inputs.now) (Scened (option_map (λ s. s.now) node.entry) (setup_scene_verdict (F.state files.old).named inputs.now config.now (option_map (λ s. s.now) node.entry) (examined_part checked.now)))
-        (alone (F.state files.old)) (alone (F.state files.new)) result }
+    ensures { LoadsSetupScene inputs.now config.now (given_word node.entry) (examined_part checked.now) (F.state files.old) (F.state files.new) result }
 {
     let setup = load_plain_config(alloc, files, config)?;
     load_placed(alloc, files, checked, setup, inputs, node)
@@ -66,8 +61,7 @@ fn load_placed<F: Files>(
     node: Option<&str>,
 ) -> Result<Scene, Or<CommandFault>>
     requires { MayFail (F.state files.old).faults }
-    ensures { Answered command_blame (inputs_errand inputs.now) (Scened (option_map (λ s. s.now) node.entry) (placed_plan_verdict (F.state files.old).named inputs.now (option_map (λ s. s.now) node.entry) (examined_part checked.now) setup))
-        (alone (F.state files.old)) (alone (F.state files.new)) result }
+    ensures { LoadsPlacedScene inputs.now (given_word node.entry) (examined_part checked.now) setup (F.state files.old) (F.state files.new) result }
 {
     let region = find_region(alloc, checked, setup, node)?;
     let table = load_inputs(alloc, files, inputs, &checked.program)?;

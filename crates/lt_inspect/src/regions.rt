@@ -1,5 +1,6 @@
 // The nodes of a program and the channels between them, by a setup whose timing need not be accepted.
-ghost use Rattle.std.specs.Prelude.{◌≡◌, ◌<◌, ◌^◌, IfSome, bytes_eq, length, option_map, position};
+ghost use Rattle.std.specs.Prelude.{◌≡◌, ◌<◌, ◌^◌, IfSome, bytes_eq, length, position};
+ghost use Rattle.lt_answer.specs.Alone.{given_word};
 ghost use Rattle.lt_front.specs.Checked.{examined_part};
 ghost use Rattle.lt_answer.specs.Answered.{Settles};
 ghost use Rattle.lt_inspect.specs.Regions.{node_name_verdict, node_verdict, region_verdict};
@@ -24,7 +25,7 @@ pub fn find_region(
     setup: Config,
     node: Option<&str>,
 ) -> Result<Region, Or<CommandFault>>
-    ensures { Settles (region_verdict (examined_part checked.now) setup (option_map (λ s. s.now) node.entry)) result }
+    ensures { Settles (region_verdict (examined_part checked.now) setup (given_word node.entry)) result }
 {
     shapes_fit();
     accepted_is_clean();
@@ -48,7 +49,7 @@ fn find_node(
     node: Option<&str>,
 ) -> Result<Option<u32>, Or<CommandFault>>
     requires { length shape.now.nodes < 2 ^ 32 }
-    ensures { Settles (node_verdict (examined_part checked.now) shape.now.nodes (option_map (λ s. s.now) node.entry)) result }
+    ensures { Settles (node_verdict (examined_part checked.now) shape.now.nodes (given_word node.entry)) result }
 {
     match node {
         Some(name) => Ok(Some(node_named(alloc, checked, shape, name)?)),
@@ -66,7 +67,7 @@ fn node_named(
     requires { length shape.now.nodes < 2 ^ 32 }
     ensures { Settles (node_name_verdict (examined_part checked.now) shape.now.nodes name.now) result }
 {
-    match place_of(shape.nodes.as_slice(), name.as_bytes()) {
+    match place_of(&shape.nodes, name.as_bytes()) {
         Some(node) => Ok(node as u32),
         None => {
             let name = Name::from_str(alloc, name)?;

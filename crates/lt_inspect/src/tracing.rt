@@ -1,12 +1,10 @@
 // The events that are selected.
-ghost use Rattle.std.specs.Prelude.{◌≡◌, ◌<◌, ◌-◌, ◌^◌, option_map};
+ghost use Rattle.std.specs.Prelude.{◌≡◌};
 ghost use Rattle.lt_io.specs.Counts.{MayFail};
-ghost use Rattle.lt_answer.specs.World.{alone};
-ghost use Rattle.lt_answer.specs.Answered.{Answered};
-ghost use Rattle.lt_schedule.specs.Errand.{schedule_errand};
-ghost use Rattle.lt_inspect.specs.Errands.{inspect_errands};
-ghost use Rattle.lt_load.specs.Blamed.{command_blame};
-ghost use Rattle.lt_inspect.specs.Inspected.{IsTraced, along_scene, selection_of, trace_verdict};
+ghost use Rattle.lt_answer.specs.Alone.{given_word};
+ghost use Rattle.lt_load.specs.Near.{IsReadNear};
+ghost use Rattle.lt_inspect.specs.Inspected.{IsTraced, selection_of};
+ghost use Rattle.lt_inspect.specs.OnFiles.{JudgesSchedule, TracesFiles};
 
 use crate::inspecting::inspect;
 use crate::inspection::Inspection;
@@ -35,8 +33,7 @@ pub fn trace<F: Files>(
     to: u64,
 ) -> Result<List<u8>, Or<CommandFault>>
     requires { MayFail (F.state files.old).faults }
-    ensures { Answered command_blame (inspect_errands program.now inputs.now schedule.now config.now) (trace_verdict (F.state files.old).named program.now inputs.now schedule.now config.now (option_map (λ s. s.now) node.entry) from to)
-        (alone (F.state files.old)) (alone (F.state files.new)) result }
+    ensures { TracesFiles program.now inputs.now schedule.now config.now (given_word node.entry) from to (F.state files.old) (F.state files.new) result }
 {
     let scene = load_scene(alloc, files, program, inputs, config, node)?;
     trace_scene(alloc, files, scene, schedule, from, to)
@@ -52,8 +49,8 @@ fn trace_scene<F: Files>(
     to: u64,
 ) -> Result<List<u8>, Or<CommandFault>>
     requires { MayFail (F.state files.old).faults }
-    ensures { Answered command_blame (schedule_errand schedule.now) (along_scene (IsTraced from to scene) scene ((F.state files.old).named schedule.now))
-        (alone (F.state files.old)) (alone (F.state files.new)) result }
+    ensures answered { JudgesSchedule (IsTraced from to scene) scene schedule.now (F.state files.old) (F.state files.new) result }
+    ensures near { IsReadNear schedule.now (F.state files.old) (F.state files.new) result }
 {
     let selection = selection_of(&scene, from, to);
     let tap = Tap::new(selection, scene.shape.copy()?, selects);

@@ -15,6 +15,10 @@ pub record RepeatState : Type 0 where
   pub visits : List Visit
   pub faults : ℕ
 
+abbrev pub repeat_state : (line : List ℕ) (times whole since : ℕ) (is_open : Bool) (visits : List Visit) (faults : ℕ) → RepeatState
+repeat_state line times whole since is_open visits faults =
+    record { line = line; times = times; whole = whole; since = since; is_open = is_open; visits = visits; faults = faults }
+
 -- these bytes, so many times
 unfoldable pub repeated_bytes : ℕ → List ℕ → List ℕ
 repeated_bytes zero line = []
@@ -31,4 +35,13 @@ abbrev pub only_file : List ℕ → List ℕ → Option (List ℕ)
 only_file bytes name = if bytes_eq name (codes "lines") then Some bytes else None
 
 abbrev pub repeat_files_state : RepeatState → FilesState
-repeat_files_state s = record { sound = true; told = true; named = only_file (repeated_bytes s.times s.line); bytes = repeated_bytes s.times s.line; place = s.whole * length s.line + s.since; visits = s.visits; is_open = s.is_open; faults = s.faults }
+repeat_files_state s = record {
+  sound = true;
+  told = true;
+  named = only_file (repeated_bytes s.times s.line);
+  bytes = repeated_bytes s.times s.line;
+  place = s.whole * length s.line + s.since;
+  visits = s.visits;
+  is_open = s.is_open;
+  faults = s.faults;
+}

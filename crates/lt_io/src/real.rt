@@ -44,9 +44,9 @@ impl<R: rt::Files> Files for RealFiles<R> {
     ghost use Rattle.std.specs.Prelude.{◌<◌, ◌-◌, ◌^◌, IsTrue};
     ghost use Rattle.std.specs.Io.KnownBytes.{ReadConsumes};
     ghost use Rattle.lt_io.specs.FilesState.{ReadsNext};
-    ghost use Rattle.lt_io.specs.Real.{left_in};
+    ghost use Rattle.lt_io.specs.Real.{left_in, untold_files};
 
-    ghost state = { λ s. record { sound = false; told = false; named = λ _. None; bytes = []; place = 0; visits = s.history.visits; is_open = is_some s.file; faults = s.faults } };
+    ghost state = { λ s. untold_files s.history.visits (is_some s.file) s.faults };
 
     ghost sound_tells = { λ files sound. sound };
 
@@ -99,9 +99,10 @@ impl<W: Write> RealSink<W> {
 impl<W: Write> Sink for RealSink<W> {
     ghost use Rattle.std.specs.Prelude.{◌<◌, ◌-◌, ◌^◌, false, [], length, IsErrOf};
     ghost use Rattle.std.specs.Io.KnownBytes.{WriteAppends};
+    ghost use Rattle.lt_io.specs.Real.{untold_sink};
     ghost use Rattle.lt_io.specs.SinkState.{SinkState, WritesFront};
 
-    ghost state = { λ s. record { sound = false; told = false; taken = []; faults = s.faults } };
+    ghost state = { λ s. untold_sink s.faults };
 
     fn write(&mut self, bytes: &[u8]) -> Result<usize, SinkErr>
         requires count { MayFail self.old.faults }

@@ -21,13 +21,13 @@ pub struct RepeatFiles {
 }
 
 impl Model for RepeatFiles {
-    ghost use Rattle.lt_io.specs.RepeatFiles.{RepeatState, RepeatIsWithin};
+    ghost use Rattle.lt_io.specs.RepeatFiles.{RepeatState, RepeatIsWithin, repeat_state};
 
     ghost Value = { RepeatState };
 
-    ghost view = { λ f. record { line = f.line; times = f.times; whole = f.whole; since = f.since; is_open = f.is_open; visits = f.history.visits; faults = f.faults } };
+    ghost view = { λ f. repeat_state f.line f.times f.whole f.since f.is_open f.history.visits f.faults };
 
-    ghost invariant = { λ f. RepeatIsWithin (record { line = f.line; times = f.times; whole = f.whole; since = f.since; is_open = f.is_open; visits = f.history.visits; faults = f.faults }) };
+    ghost invariant = { λ f. RepeatIsWithin (repeat_state f.line f.times f.whole f.since f.is_open f.history.visits f.faults) };
 }
 
 impl RepeatFiles {

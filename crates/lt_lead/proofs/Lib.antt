@@ -4,6 +4,6 @@ pub mod Led
 pub mod Keeping
 pub mod LeadShape
 pub mod ByPace
-pub mod Members
 pub mod NextController
 pub mod LossyBound
+pub mod OneMore

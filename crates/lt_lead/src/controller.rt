@@ -1,5 +1,5 @@
 // The controller of a node, of the protocol that its setup names.
-ghost use Rattle.std.specs.Prelude.{◌≡◌, ◌<◌, ℕ, length};
+ghost use Rattle.std.specs.Prelude.{◌≡◌, ◌<◌, length};
 ghost use Rattle.lt_arch.specs.State.{first_phase};
 ghost use Rattle.lt_arch.specs.Readers.{send_of, execute_of};
 ghost use Rattle.lt_arch.specs.declared.timing.Protocol.TheVariants.{TimeBased as ByTime};

@@ -9,7 +9,7 @@ use std::alloc::Global;
 
 /// A controller for each node of a timing, at its protocol's start.
 pub fn controllers_of(alloc: Global, timing: &Timing) -> Result<Vec<NodeController>, Memory>
-    ensures { IfOk result (λ controllers. AreControllers ⟦<NodeController as Controller>⟧.phase ⟦<NodeController as Controller>⟧.protocol ⟦<NodeController as Controller>⟧.send ⟦<NodeController as Controller>⟧.execute timing.now controllers.items) }
+    ensures { IfOk result (λ controllers. AreControllers ⟦<NodeController as Controller>⟧ timing.now controllers.items) }
 {
     let count = timing.nodes.len();
     let mut controllers = Vec::with_capacity(alloc, count)?;

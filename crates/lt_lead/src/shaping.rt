@@ -3,7 +3,7 @@ ghost use Rattle.std.specs.Prelude.{◌≡◌, ◌<◌, ◌^◌, length, IfOk, O
 ghost use Rattle.lt_arch.specs.declared.chan.ChanKind.TheVariants.{Data};
 ghost use Rattle.lt_norm.specs.Flat.{Originated};
 ghost use Rattle.lt_place.specs.Layout.{IsPlaced};
-ghost use Rattle.lt_net_node.specs.Channels.{channel, push_channel_if, chans_from, chans_below, all_chans};
+ghost use Rattle.lt_net_node.specs.Channels.{channel, push_channel_if, chans_from, all_chans};
 ghost use Rattle.lt_lead.specs.Channels.{is_leader_channel, IsLeadShapeOf};
 
 use lt_arch::laws::names_differ;
@@ -72,6 +72,6 @@ pub fn lead_shape(alloc: Global, layout: &Layout, leader: u32) -> Result<Shape, 
     names_differ();
     let nodes = layout.names.copy()?;
     let count = nodes.len() as u32;
-    let channels = channels_of(alloc, layout.cross.as_slice(), leader, count)?;
+    let channels = channels_of(alloc, &layout.cross, leader, count)?;
     Ok(Shape { nodes, channels })
 }

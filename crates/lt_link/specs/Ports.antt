@@ -1,13 +1,9 @@
 -- The channels of each node, as lists.
 use Rattle.std.specs.Prelude.{◌≡◌, ℕ, zero, suc, ◌<◌, ◌==◌, ◌&&◌, Bool, true, false, not, List, [], ◌∷◌, ◌++◌, length, slice_index_or}
+use Rattle.lt_base.specs.Truths.{same_truth}
 use Rattle.lt_arch.specs.declared.chan.Chan.{Chan}
 use Rattle.lt_arch.specs.Readers.{is_data, no_chan}
 use Rattle.lt_link.specs.declared.ports.Ports.{Ports}
-
--- the two are equal
-abbrev pub same_truth : Bool → Bool → Bool
-same_truth Bool.true b = b
-same_truth Bool.false b = not b
 
 -- c is a channel to node n that carries data, or acknowledgements
 abbrev pub is_to : List Chan → ℕ → Bool → ℕ → Bool

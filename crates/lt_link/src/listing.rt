@@ -1,7 +1,8 @@
 // The table of which channels lead to each node, and from it.
 ghost use Rattle.std.specs.Prelude.{◌≡◌, ◌<◌, ◌+◌, ◌*◌, ◌^◌, ◌==◌, ◌&&◌, false, length, IfOk, OnOk, Ok};
 ghost use Rattle.lt_arch.specs.Readers.{is_data, node_count, chan_count};
-ghost use Rattle.lt_link.specs.Ports.{same_truth, is_to, is_from, push_number, numbers, node_ports_of, all_ports};
+ghost use Rattle.lt_base.specs.Truths.{same_truth};
+ghost use Rattle.lt_link.specs.Ports.{is_to, is_from, push_number, numbers, node_ports_of, all_ports};
 
 use crate::ports::Ports;
 use lt_arch::{Chan, ChanKind, Shape};

@@ -17,7 +17,7 @@ use Rattle.lt_load.proofs.Steps.{IsContent, content_then}
 -- a blame by which the faults of a placement and of a timing are of what was read
 module _ (blame : CommandFault → Blame) (places : (f : PlaceFault) (main : Function) → blame (fault.Place f main) ≡ Content)
     (timings : (f : TimingFault) (names : List (List ℕ)) (mixed : Bool) → blame (fault.Timing f names mixed) ≡ Content) (windows : (f : WindowFault) (names : List (List ℕ)) → blame (fault.Window f names) ≡ Content) where
-  placed_blames : (checked : ExaminedText) (setup : Config) → IsContent blame (placed_verdict checked setup)
+  pub placed_blames : (checked : ExaminedText) (setup : Config) → IsContent blame (placed_verdict checked setup)
   unfolding placed_verdict
   placed_blames checked setup e right = let found = place_fault checked setup e right.1 in ap blame found.2 ∙ places found.0 found.1
 

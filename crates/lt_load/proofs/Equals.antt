@@ -6,7 +6,7 @@ use Rattle.lt_base.specs.Program.{WholeProgram}
 use Rattle.lt_io.specs.Visits.{Errand}
 use Rattle.lt_answer.specs.World.{World}
 use Rattle.lt_answer.specs.Answered.{Answered}
-use Rattle.lt_meaning.specs.Streams.{InputsFitMain}
+use Rattle.lt_base.specs.Main.{InputsFitMain}
 use Rattle.lt_load_fit.specs.declared.fault.CommandFault.{CommandFault}
 use Rattle.lt_load.specs.Blamed.{command_blame}
 use Rattle.lt_load.specs.Loaded.{inputs_verdict}

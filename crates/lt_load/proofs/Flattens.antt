@@ -1,25 +1,23 @@
 -- The inputs of a program's flat form, its streams, and how large its step code can get.
 use Rattle.std.proofs.Common.{◌≡◌, ◌∙◌, ℕ, zero, suc, ◌<◌, ◌≤◌, List, [], ◌∷◌, ◌++◌, length, map, take, get_or, refl, sym, ap, subst, arith}
-use Rattle.std.specs.Prelude.{Some, ◌^◌}
-use Rattle.std.specs.List.{All, sum_by}
+use Rattle.std.specs.Prelude.{Some}
+use Rattle.std.specs.List.{All}
 use Rattle.std.proofs.lemmas.List.{length-map, length-take-le, take-append-le}
 use Rattle.std.proofs.lemmas.List.Elements.{All-head, All-tail}
-use Rattle.std.proofs.lemmas.List.Sums.{sum_by-cons}
 use Rattle.lt_base.specs.declared.value.Ty.{Ty}
 use Rattle.lt_base.specs.declared.value.Value.{Value}
 use Rattle.lt_base.specs.declared.function.Decl.{Decl}
-use Rattle.lt_base.specs.Expression.{Expression, literal, variable, unary, binary, imported, choose, sampled, merged, delayed, follow, arrow, call, parts}
-use Rattle.lt_base.specs.Sizes.{weight_with}
 use Rattle.lt_base.specs.Program.{Function, WholeProgram, GoodFunction, GoodProgram}
 use Rattle.lt_base.specs.Inputs.{InputTable}
 use Rattle.lt_base.specs.Meaning.{function_of, stream_of}
 use Rattle.lt_base.specs.Typing.{RowFits, AllFit, input_types}
 use Rattle.lt_base.specs.Behaviour.{RowsFit}
+use Rattle.lt_base.specs.Main.{InputsFit, InputsFitMain}
 use Rattle.lt_norm.specs.Flat.{Originated}
 use Rattle.lt_step.specs.Run.{HasRowValues}
 use Rattle.lt_place.specs.Sizes.{HasCodeRoom}
 use Rattle.lt_front.specs.Flattened.{main_function, function_or_none, KeepsMain}
-use Rattle.lt_meaning.specs.Streams.{InputsFit, InputsFitMain}
+use Rattle.lt_front.proofs.Numbered.{few_variables, few_equations, few_slots}
 use Rattle.lt_load_fit.specs.Main.{main_in}
 use Rattle.lt_load.proofs.Mains.{of_main}
 
@@ -91,44 +89,10 @@ module _ (p : WholeProgram) (good : GoodProgram p) (flat : Originated) (keeps : 
   pub outputs_same : flat.func.outs ≡ (main_in p).outs
   outputs_same = keeps.outputs ∙ ap (λ (f : Function). f.outs) (main_is p good.main)
 
--- how large the step code can get
-
-has_part : (e : Expression) → 1 ≤ parts e
-has_part (literal v) = omega arith
-has_part (variable x) = omega arith
-has_part (unary o a) = omega arith
-has_part (binary o a b) = omega arith
-has_part (imported o a b) = omega arith
-has_part (choose e a b) = omega arith
-has_part (sampled e x b) = omega arith
-has_part (merged x a b) = omega arith
-has_part (delayed v e) = omega arith
-has_part (follow a b) = omega arith
-has_part (arrow a b) = omega arith
-has_part (call g args) = omega arith
-
-equations_fewer : (eqs : List (ℕ × Expression)) → length eqs ≤ sum_by (λ q. parts q.1) eqs
-equations_fewer [] = omega arith
-equations_fewer (q ∷ eqs) =
-    let all = sum_by-cons (λ (r : ℕ × Expression). parts r.1) q eqs in
-    let here = has_part q.1 in
-    let rest = equations_fewer eqs in
-    omega (arith, all, here, rest)
-
-module _ (p : WholeProgram) (flat : Originated) (keeps : KeepsMain p flat) where
-  few_variables : length flat.func.decls < 2 ^ 32
-  few_variables = let few = keeps.few in omega (arith, few)
-
-  few_equations : length flat.func.eqs < 2 ^ 32
-  few_equations = let fewer = equations_fewer flat.func.eqs in let parts = keeps.parts in omega (arith, fewer, parts)
-
-  few_slots : weight_with (λ _. 0) flat.func < 2 ^ 32
-  few_slots = let slots = keeps.slots in omega (arith, slots)
-
-  -- so step code has room for it
-  pub code_room : HasCodeRoom flat.func
-  code_room =
-      let few = keeps.few in
-      let parts = keeps.parts in
-      let pairs = keeps.pairs in
-      record { variables = few_variables; equations = few_equations; slots = few_slots; size = omega (arith, few, parts, pairs) }
+-- step code has room for it
+pub code_room : (p : WholeProgram) (flat : Originated) → KeepsMain p flat → HasCodeRoom flat.func
+code_room p flat keeps =
+    let few = keeps.few in
+    let parts = keeps.parts in
+    let pairs = keeps.pairs in
+    record { variables = few_variables p flat keeps; equations = few_equations p flat keeps; slots = few_slots p flat keeps; size = omega (arith, few, parts, pairs) }

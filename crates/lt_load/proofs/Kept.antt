@@ -1,7 +1,7 @@
 -- What a loaded plan keeps.
 use Rattle.lt_base.specs.Inputs.{InputTable}
 use Rattle.lt_base.specs.Program.{GoodProgram}
-use Rattle.lt_meaning.specs.Streams.{InputsFitMain}
+use Rattle.lt_base.specs.Main.{InputsFitMain}
 use Rattle.lt_front.specs.Checked.{CheckedText, IsChecked}
 use Rattle.lt_compile.specs.declared.site.Site.{Site}
 use Rattle.lt_load.specs.Plan.{IsLoaded}

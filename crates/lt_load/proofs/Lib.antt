@@ -15,3 +15,4 @@ pub mod Equals
 pub mod Planned
 pub mod Onward
 pub mod OnePlain
+pub mod Elsewhere

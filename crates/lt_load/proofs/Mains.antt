@@ -1,16 +1,11 @@
--- The function of a program that is run, and what a checked program keeps of it.
+-- The function of a program that is run.
 use Rattle.std.proofs.Common.{◌≡◌, ℕ, zero, suc, ◌<◌, List, [], ◌∷◌, length, get_or, arith}
-use Rattle.std.specs.Prelude.{◌^◌, MatchOption}
-use Rattle.std.specs.List.{All}
-use Rattle.std.proofs.lemmas.List.Elements.{All-nil, All-cons, All-head, All-tail}
+use Rattle.std.specs.Prelude.{MatchOption}
 use Rattle.lt_base.specs.Program.{Function, WholeProgram}
 use Rattle.lt_base.specs.Inputs.{InputTable}
 use Rattle.lt_base.specs.Meaning.{function_of}
 use Rattle.lt_base.specs.Behaviour.{RowsFit}
-use Rattle.lt_resolve.specs.Resolves.{IsSmallFunction}
-use Rattle.lt_front.specs.Examined.{ExaminedText, IsExamined}
-use Rattle.lt_front.proofs.Rooms.{equations_fit}
-use Rattle.lt_meaning.specs.Streams.{main_of, InputsFit, InputsFitMain, NumbersFit, ProgramNumbersFit}
+use Rattle.lt_base.specs.Main.{main_of, InputsFit, InputsFitMain}
 use Rattle.lt_load_fit.specs.Main.{main_in}
 
 at_number : (P : Function → Type 0) (d : Function) (fs : List Function) (n : ℕ) → MatchOption (function_of fs n) ⊥ P → P (get_or fs n d)
@@ -33,14 +28,3 @@ has_main P p low holds = has_number P _ p.funcs p.main low holds
 -- rows of its inputs fit it
 pub inputs_fit : (p : WholeProgram) (table : InputTable) → p.main < length p.funcs → table.width ≡ (main_in p).n_in → RowsFit (main_in p) table.rows → InputsFitMain p table
 inputs_fit p table low width rows = has_main (λ f. InputsFit f table) p low (record { width = width; rows = rows })
-
-numbers_fit : (fs : List Function) → All IsSmallFunction fs → All (λ f. length f.eqs < 2 ^ 32) fs → All NumbersFit fs
-numbers_fit [] small few = All-nil NumbersFit
-numbers_fit (f ∷ fs) small few =
-    let v = (All-head IsSmallFunction f fs small).variables in
-    All-cons NumbersFit f fs (record { variables = omega (arith, v); equations = All-head (λ g. length g.eqs < 2 ^ 32) f fs few })
-    (numbers_fit fs (All-tail IsSmallFunction f fs small) (All-tail (λ g. length g.eqs < 2 ^ 32) f fs few))
-
--- the variables and equations of a checked program are numbered in 32 bits
-pub has_room : (c : ExaminedText) → IsExamined c → ProgramNumbersFit c.program
-has_room c checked = numbers_fit c.program.funcs checked.resolved.small (equations_fit c.tree c.program checked.room checked.resolved)

@@ -7,3 +7,4 @@ pub mod Plan
 pub mod Sites
 pub mod Pacing
 pub mod OnFiles
+pub mod Near

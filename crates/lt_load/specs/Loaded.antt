@@ -1,6 +1,7 @@
 -- Files that a command reads before it runs.
 use Rattle.std.specs.Prelude.{◌≡◌, ◌≤◌, ℕ, nat_le, if◌then◌else◌, List, length, Option, Result, Ok, Err}
 use Rattle.lt_base.specs.declared.memory.Or.{Or}
+use Rattle.lt_base.specs.Limits.{most_program_bytes, most_config_bytes, most_inputs_bytes, most_observer_bytes, most_schedule_bytes}
 use Rattle.lt_base.specs.declared.memory.Or.TheVariants.{Fault}
 use Rattle.lt_io.specs.declared.transfer.Whole.{Whole}
 use Rattle.lt_io.specs.declared.transfer.Whole.TheVariants.{Bytes, TooLong}
@@ -23,11 +24,11 @@ use Rattle.lt_load_fit.specs.Main.{main_in}
 
 -- the most bytes of a file
 abbrev pub limit_of : What → ℕ
-limit_of ProgramBytes = 1048576
-limit_of ConfigBytes = 262144
-limit_of InputsBytes = 67108864
-limit_of ObserverBytes = 65536
-limit_of ScheduleBytes = 1073741824
+limit_of ProgramBytes = most_program_bytes
+limit_of ConfigBytes = most_config_bytes
+limit_of InputsBytes = most_inputs_bytes
+limit_of ObserverBytes = most_observer_bytes
+limit_of ScheduleBytes = most_schedule_bytes
 
 -- these are the bytes, and not too many
 pub record BytesAreWithin (most : ℕ) (bytes whole : List ℕ) : Type 0 where

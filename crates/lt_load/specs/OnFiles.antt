@@ -4,19 +4,22 @@ use Rattle.lt_base.specs.declared.memory.Or.{Or}
 use Rattle.lt_io.specs.Visits.{Errand}
 use Rattle.lt_io.specs.FilesState.{FilesState}
 use Rattle.lt_config.specs.declared.config.Config.{Config}
-use Rattle.lt_answer.specs.World.{alone}
-use Rattle.lt_answer.specs.Answered.{Answered, Verdict}
+use Rattle.lt_answer.specs.Alone.{AnsweredOnFiles}
+use Rattle.lt_answer.specs.Answered.{Verdict}
+use Rattle.lt_front.specs.Checked.{CheckedText}
 use Rattle.lt_front.specs.Examined.{ExaminedText}
+use Rattle.lt_compile.specs.declared.site.Site.{Site}
 use Rattle.lt_load_fit.specs.declared.fault.CommandFault.{CommandFault}
 use Rattle.lt_load.specs.Blamed.{command_blame}
 use Rattle.lt_load.specs.Errands.{program_errand, config_errand, setup_errand, inputs_errand, load_errands}
 use Rattle.lt_load.specs.Plan.{LoadedPlan, Loads, chosen_setup_verdict, fitting_plan_verdict, setup_plan_verdict, load_verdict}
 use Rattle.lt_load.specs.Pacing.{plain_setup_plan_verdict, plain_load_verdict}
-use Rattle.lt_load.specs.Setups.{with_setup_verdict}
+use Rattle.lt_load.specs.Setups.{fitted_verdict, with_setup_verdict}
+use Rattle.lt_load.specs.Sites.{sited_verdict}
 
 -- a step over files alone
 abbrev pub OnFiles : {T : Type 0} → List Errand → Verdict T CommandFault → (old new : FilesState) → Result T (Or CommandFault) → Type 0
-OnFiles errands V old new result = Answered command_blame errands V (alone old) (alone new) result
+OnFiles errands V old new result = AnsweredOnFiles command_blame errands V old new result
 
 -- a step that reads one file whole
 abbrev pub ReadsFile : {T : Type 0} → (name : List ℕ) → (List ℕ → List Errand) → (Option (List ℕ) → Verdict T CommandFault) → (old new : FilesState) → Result T (Or CommandFault) → Type 0
@@ -49,3 +52,11 @@ LoadsPlain program inputs config old new result = OnFiles (load_errands program 
 -- the same from the setup on
 abbrev pub LoadsPlainSetup : (inputs config : List ℕ) → ExaminedText → (old new : FilesState) → Result LoadedPlan (Or CommandFault) → Type 0
 LoadsPlainSetup inputs config checked old new result = OnFiles (config_errand config ++ inputs_errand inputs) (Loads (plain_setup_plan_verdict old.named inputs config checked)) old new result
+
+-- the setup of a file, if it fits a program
+abbrev pub FitsSetup : (config : List ℕ) → ExaminedText → (old new : FilesState) → Result Config (Or CommandFault) → Type 0
+FitsSetup config checked old new result = OnFiles (config_errand config) (fitted_verdict old.named config checked) old new result
+
+-- a program at its site, with the rows of inputs of a file
+abbrev pub LoadsRows : (inputs : List ℕ) → CheckedText → Site → (old new : FilesState) → Result LoadedPlan (Or CommandFault) → Type 0
+LoadsRows inputs checked site old new result = OnFiles (inputs_errand inputs) (sited_verdict old.named inputs checked site) old new result

@@ -17,7 +17,7 @@ use Rattle.lt_place.specs.contracts.layout.Layout.{the_row as layout_row}
 use Rattle.lt_place.specs.Layout.{IsLayoutOf, IsPlaced}
 use Rattle.lt_place.specs.Sizes.{HasCodeRoom}
 use Rattle.lt_lead.specs.Paced.{IsShapeBy, KeepsPace}
-use Rattle.lt_meaning.specs.Streams.{InputsFitMain}
+use Rattle.lt_base.specs.Main.{InputsFitMain}
 use Rattle.lt_front.specs.Checked.{CheckedText, coded_checked, examined_part}
 use Rattle.lt_front.specs.Examined.{ExaminedText}
 use Rattle.lt_front.specs.Flattened.{flat_of}

@@ -29,7 +29,8 @@ impl Model for Loaded {
 
     ghost view = { λ k. record { checked = k.checked; layout = k.layout; shape = k.shape; timing = k.timing; inputs = k.inputs; pace = k.pace } };
 
-    ghost invariant = { λ k. IsLoaded (record { checked = k.checked; layout = k.layout; shape = k.shape; timing = k.timing; inputs = k.inputs; pace = k.pace }) };
+    ghost invariant = { λ k.
+        IsLoaded (record { checked = k.checked; layout = k.layout; shape = k.shape; timing = k.timing; inputs = k.inputs; pace = k.pace }) };
 }
 
 impl Loaded {

@@ -5,7 +5,7 @@ ghost use Rattle.lt_answer.specs.World.{alone};
 ghost use Rattle.lt_answer.specs.Answered.{Answered};
 ghost use Rattle.lt_answer.specs.Rules.{Shown};
 ghost use Rattle.lt_front.specs.Printed.{canonical_text};
-ghost use Rattle.lt_meaning.specs.Streams.{InputsFitMain};
+ghost use Rattle.lt_base.specs.Main.{InputsFitMain};
 ghost use Rattle.lt_load.specs.Errands.{whole_errand, program_errand, config_errand, inputs_errand};
 ghost use Rattle.lt_load.specs.OnFiles.{ReadsFile};
 ghost use Rattle.lt_load.specs.Loaded.{Flattened, limit_of, whole_verdict, within_file_limit, program_verdict, config_verdict, inputs_verdict};
@@ -13,8 +13,12 @@ ghost use Rattle.lt_load.specs.Found.{fetched};
 
 use crate::raised::raise_fault;
 use crate::{CommandFault, What};
+use lt_base::limits::{
+    MOST_CONFIG_BYTES, MOST_INPUTS_BYTES, MOST_OBSERVER_BYTES, MOST_PROGRAM_BYTES,
+    MOST_SCHEDULE_BYTES,
+};
 use lt_base::{Inputs, List, Or, Program};
-use lt_compile::{check_program, compile_program, print_program};
+use lt_compile::{check_program, front, print_program};
 use lt_config::{Config, read_config};
 use lt_front::{Checked, Examined};
 use lt_inputs::read_inputs;
@@ -27,11 +31,11 @@ fn limit(what: What) -> usize
     ensures { result ≡ limit_of what }
 {
     match what {
-        What::ProgramBytes => 1_048_576,
-        What::ConfigBytes => 262_144,
-        What::InputsBytes => 67_108_864,
-        What::ObserverBytes => 65_536,
-        What::ScheduleBytes => 1_073_741_824,
+        What::ProgramBytes => MOST_PROGRAM_BYTES,
+        What::ConfigBytes => MOST_CONFIG_BYTES,
+        What::InputsBytes => MOST_INPUTS_BYTES,
+        What::ObserverBytes => MOST_OBSERVER_BYTES,
+        What::ScheduleBytes => MOST_SCHEDULE_BYTES as usize,
     }
 }
 
@@ -86,10 +90,7 @@ pub fn load_program<F: Files>(
     ensures { ReadsFile name.now program_errand program_verdict (F.state files.old) (F.state files.new) result }
 {
     let bytes = fetch_within(alloc, files, name, What::ProgramBytes)?;
-    raise_fault(
-        check_program(alloc, bytes.as_slice()),
-        CommandFault::Program,
-    )
+    raise_fault(check_program(alloc, &bytes), CommandFault::Program)
 }
 
 /// The canonical text of the program of a file that passes all checks. Neither its tree nor the program is kept, so this takes less memory
@@ -103,10 +104,7 @@ pub fn load_text<F: Files>(
     ensures { ReadsFile name.now program_errand (λ file. Shown canonical_text (program_verdict file)) (F.state files.old) (F.state files.new) result }
 {
     let bytes = fetch_within(alloc, files, name, What::ProgramBytes)?;
-    raise_fault(
-        print_program(alloc, bytes.as_slice()),
-        CommandFault::Program,
-    )
+    raise_fault(print_program(alloc, &bytes), CommandFault::Program)
 }
 
 /// Reads a program's file as `load_program` does, and puts the program into its flat form.
@@ -119,10 +117,7 @@ pub fn load_flat<F: Files>(
     ensures { ReadsFile name.now program_errand (λ file. Flattened (program_verdict file)) (F.state files.old) (F.state files.new) result }
 {
     let bytes = fetch_within(alloc, files, name, What::ProgramBytes)?;
-    raise_fault(
-        compile_program(alloc, bytes.as_slice()),
-        CommandFault::Program,
-    )
+    raise_fault(front(alloc, &bytes), CommandFault::Program)
 }
 
 /// Reads a setup's file.
@@ -135,7 +130,7 @@ pub fn load_config<F: Files>(
     ensures { ReadsFile name.now config_errand config_verdict (F.state files.old) (F.state files.new) result }
 {
     let bytes = fetch_within(alloc, files, name, What::ConfigBytes)?;
-    raise_fault(read_config(alloc, bytes.as_slice()), CommandFault::Config)
+    raise_fault(read_config(alloc, &bytes), CommandFault::Config)
 }
 
 /// Reads the file of a program's inputs: a row of values for each instant.
@@ -152,7 +147,7 @@ pub fn load_inputs<F: Files>(
     program.invariant_holds();
     let bytes = fetch_within(alloc, files, name, What::InputsBytes)?;
     raise_fault(
-        read_inputs(alloc, bytes.as_slice(), main_of(program)),
+        read_inputs(alloc, &bytes, main_of(program)),
         CommandFault::Inputs,
     )
 }

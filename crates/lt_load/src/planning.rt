@@ -1,12 +1,12 @@
 // The program, the setup and the inputs of a run.
-ghost use Rattle.std.specs.Prelude.{◌≡◌, ◌++◌, ◌<◌, ◌-◌, ◌^◌, option_map};
+ghost use Rattle.std.specs.Prelude.{◌≡◌, ◌++◌, ◌<◌, ◌-◌, ◌^◌};
 ghost use Rattle.lt_io.specs.Counts.{MayFail};
+ghost use Rattle.lt_answer.specs.Alone.{given_word};
 ghost use Rattle.lt_front.specs.Checked.{examined_part};
-ghost use Rattle.lt_meaning.specs.Streams.{InputsFitMain};
-ghost use Rattle.lt_load.specs.Errands.{inputs_errand};
-ghost use Rattle.lt_load.specs.OnFiles.{ChoosesSetup, LoadsFitting, LoadsRun, LoadsSetup, OnFiles};
+ghost use Rattle.lt_base.specs.Main.{InputsFitMain};
+ghost use Rattle.lt_load.specs.OnFiles.{ChoosesSetup, LoadsFitting, LoadsRows, LoadsRun, LoadsSetup};
 ghost use Rattle.lt_compile.specs.Sites.{IsSited};
-ghost use Rattle.lt_load.specs.Sites.{loaded_of, sited_verdict};
+ghost use Rattle.lt_load.specs.Sites.{loaded_of};
 
 use crate::loading::load_flat;
 use crate::{CommandFault, Loaded, load_config, load_inputs};
@@ -18,8 +18,8 @@ use lt_io::Files;
 use std::alloc::Global;
 
 /// Loads what a run is of. The program passes all checks, its placement by the setup is legal, the setup's timing is accepted, it has
-/// the window where links lose messages, and the inputs are those of `main`. Without a setup there is one node, under back-pressure. The files are read in this order: the
-/// program, the setup and the inputs.
+/// the window where links lose messages, and the inputs are those of `main`. Without a setup there is one node, under back-pressure.
+/// The files are read in this order: the program, the setup and the inputs.
 pub fn load<F: Files>(
     alloc: Global,
     files: &mut F,
@@ -28,7 +28,7 @@ pub fn load<F: Files>(
     config: Option<&str>,
 ) -> Result<Loaded, Or<CommandFault>>
     requires { MayFail (F.state files.old).faults }
-    ensures { LoadsRun program.now inputs.now (option_map (λ s. s.now) config.entry) (F.state files.old) (F.state files.new) result }
+    ensures { LoadsRun program.now inputs.now (given_word config.entry) (F.state files.old) (F.state files.new) result }
 {
     let checked = load_flat(alloc, files, program)?;
     load_setup(alloc, files, checked, inputs, config)
@@ -43,7 +43,7 @@ fn load_setup<F: Files>(
     config: Option<&str>,
 ) -> Result<Loaded, Or<CommandFault>>
     requires { MayFail (F.state files.old).faults }
-    ensures { LoadsSetup inputs.now (option_map (λ s. s.now) config.entry) (examined_part checked) (F.state files.old) (F.state files.new) result }
+    ensures { LoadsSetup inputs.now (given_word config.entry) (examined_part checked) (F.state files.old) (F.state files.new) result }
 {
     let setup = read_setup(alloc, files, config)?;
     load_fitting(alloc, files, checked, setup, inputs)
@@ -56,7 +56,7 @@ fn read_setup<F: Files>(
     config: Option<&str>,
 ) -> Result<Config, Or<CommandFault>>
     requires { MayFail (F.state files.old).faults }
-    ensures { ChoosesSetup (option_map (λ s. s.now) config.entry) (F.state files.old) (F.state files.new) result }
+    ensures { ChoosesSetup (given_word config.entry) (F.state files.old) (F.state files.new) result }
 {
     match config {
         Some(config) => load_config(alloc, files, config),
@@ -89,7 +89,7 @@ fn load_rows<F: Files>(
 ) -> Result<Loaded, Or<CommandFault>>
     requires count { MayFail (F.state files.old).faults }
     requires sited { IsSited checked.flat site }
-    ensures { OnFiles (inputs_errand inputs.now) (sited_verdict (F.state files.old).named inputs.now checked site) (F.state files.old) (F.state files.new) result }
+    ensures { LoadsRows inputs.now checked site (F.state files.old) (F.state files.new) result }
 {
     match load_inputs(alloc, files, inputs, &checked.program) {
         Ok(table) => Ok(with_inputs(checked, site, table)),

@@ -2,10 +2,8 @@
 ghost use Rattle.std.specs.Prelude.{◌≡◌, ◌++◌, ◌<◌, ◌-◌, ◌^◌};
 ghost use Rattle.lt_io.specs.Counts.{MayFail};
 ghost use Rattle.lt_front.specs.Checked.{examined_part};
-ghost use Rattle.lt_load.specs.Errands.{config_errand};
-ghost use Rattle.lt_load.specs.OnFiles.{ChecksWith, OnFiles};
+ghost use Rattle.lt_load.specs.OnFiles.{ChecksWith, FitsSetup};
 ghost use Rattle.lt_load.specs.Found.{fitted};
-ghost use Rattle.lt_load.specs.Setups.{fitted_verdict};
 
 use crate::loading::load_flat;
 use crate::{CommandFault, load_config};
@@ -59,7 +57,7 @@ fn check_setup<F: Files>(
     config: &str,
 ) -> Result<Config, Or<CommandFault>>
     requires { MayFail (F.state files.old).faults }
-    ensures { OnFiles (config_errand config.now) (fitted_verdict (F.state files.old).named config.now (examined_part checked.now)) (F.state files.old) (F.state files.new) result }
+    ensures { FitsSetup config.now (examined_part checked.now) (F.state files.old) (F.state files.new) result }
 {
     let setup = load_config(alloc, files, config)?;
     fitting(alloc, checked, setup)

@@ -9,5 +9,5 @@ pub fn main_of(program: &Program) -> &Func
     ensures { result.now ≡ main_in program.now }
 {
     program.invariant_holds();
-    &program.funcs.as_slice()[program.main as usize]
+    &program.funcs[program.main as usize]
 }

@@ -1,5 +1,5 @@
 // Whether few enough messages of a channel are in transit.
-ghost use Rattle.std.specs.Prelude.{ℕ, ◌≡◌, ◌≢◌, ◌<◌, ◌≤◌, ◌*◌, MatchResult, length};
+ghost use Rattle.std.specs.Prelude.{ℕ, ◌≢◌, ◌<◌, ◌*◌, MatchResult, length};
 ghost use Rattle.lt_lossy.specs.Window.{HasWindow, IsInWindow, IsFaultFrom, IsWindowFault};
 
 use lt_arch::Timing;

@@ -1,12 +1,13 @@
 // The watch over the times of events where links lose messages.
-ghost use Rattle.std.specs.Prelude.{◌≡◌, ◌≤◌, ◌<◌, ◌+◌, ◌*◌, ◌^◌, ℕ, List, length, Option, Some, None, IfOk, [], replicate, slice_index_or};
+ghost use Rattle.std.specs.Prelude.{◌≡◌, ◌≤◌, ◌<◌, ◌+◌, ◌*◌, ◌^◌, ℕ, length, Option, Some, None, IfOk, [], replicate};
 ghost use Rattle.lt_arch.specs.declared.limits.TheConstants.{GREATEST_TIME};
 ghost use Rattle.lt_arch.specs.declared.shape.Shape.{Shape};
 ghost use Rattle.lt_arch.specs.declared.timing.Timing.{Timing};
 ghost use Rattle.lt_arch.specs.Shapes.{HaveSameNodes};
-ghost use Rattle.lt_lossy.specs.State.{LossyState, lossy_start};
+ghost use Rattle.lt_lossy.specs.State.{lossy_start};
 ghost use Rattle.lt_lossy.specs.Step.{lossy_offence, too_many_lost, at_any_time};
-ghost use Rattle.lt_lossy.specs.Times.{HasLossyTimes, WhereverHasTimes, IsLossyPlaced, lossy_time_of, queue_at, losses_at, with_last, with_sent_on, without_oldest, with_losses, with_end};
+ghost use Rattle.lt_lossy.specs.Times.{HasLossyTimes, WhereverHasTimes, IsLossyPlaced, lossy_time_of, queue_at, losses_at};
+ghost use Rattle.lt_lossy.specs.Times.{with_last, with_sent_on, without_oldest, with_losses, with_end};
 ghost use Rattle.lt_lossy.specs.Window.{room};
 
 use crate::queue::Queue;

@@ -17,17 +17,16 @@ use Rattle.lt_meaning.specs.declared.plan.Plan.{Plan}
 use Rattle.lt_meaning.specs.declared.plan.Delay.{Delay}
 use Rattle.lt_meaning.specs.declared.state.State.{State, out-State}
 use Rattle.lt_meaning.specs.declared.state.State.TheOpen.{State-F}
-use Rattle.lt_meaning.specs.Plan.{delay_form, plan_inputs, inputs_at}
+use Rattle.lt_meaning.specs.Plan.{delay_form, next_kept, plan_inputs, inputs_at}
 use Rattle.lt_meaning.specs.Lift.{Wait, Item}
 use Rattle.lt_meaning.specs.Planned.{IsElement, Lifted, Answering, PlanAt, Planned}
 use Rattle.lt_meaning.specs.Stands.{cells_of, ChildStands, StandsOver, StateStands, StateAdvances, CanRun, StepHolds, row_in}
-use Rattle.lt_meaning.proofs.Keeping.{next_of}
 use Rattle.lt_meaning.proofs.Running.{kept_next}
 use Rattle.lt_meaning.proofs.Instant.{Partly, PartlyBy, Deeper, Along, plan_is, inputs_are, steps_number, some_at, map_at}
 
 -- the delays keep on after these cells' values
 abbrev pub KeepsOn : Plan → State-F State → List (Option Value) → Type 0
-KeepsOn plan v next = (j : ℕ) (d : Delay) → slice_get plan.delays.items j ≡ Some d → entry next j ≡ next_of (entry v.cells.items) (entry v.kept.items) d j
+KeepsOn plan v next = (j : ℕ) (d : Delay) → slice_get plan.delays.items j ≡ Some d → entry next j ≡ next_kept (entry v.cells.items) (entry v.kept.items) d j
 
 module _ (plans : List Plan) (g : ℕ) (s : State) (plan : Plan) (here : plan ≡ get_or plans g plan) (v : State-F State) (i : ℕ) (all : length plan.steps.items ≤ i)
     (w : State-F State) (same_cells : w.cells.items ≡ v.cells.items) (same_children : w.children.items ≡ v.children.items)
@@ -76,7 +75,7 @@ module _ (plans : List Plan) (g : ℕ) (s : State) (plan : Plan) (here : plan �
         let lifted = subst (Lifted pa.plan_of.items pa.plan_of.waits u) (map_at delay_form pa.plan.delays.items j d.0 d.1) (pa.plan_of.delays j u h) in
         let old : entry v.kept.items ≡ entry (out-State s).kept.items = ap entry p.kept in
         kept_next C (Deeper plans k n) pa.plan_of.items pa.plan_of.waits pa.plan_of.in_order pa.plan_of.needs es (entry (out-State s).kept.items) st.kept v.cells.items u (delay_form d.0) j (entry w.kept.items j) holds lifted h
-        (keeps j d.0 there ∙ ap (λ o. next_of env o d.0 j) old)
+        (keeps j d.0 there ∙ ap (λ o. next_kept env o d.0 j) old)
 
     stands : StandsOver plans k (Deeper plans k n) w g (row ∷ rows) (env ∷ es)
     stands =

@@ -8,7 +8,7 @@ use Rattle.lt_base.specs.Program.{Function, WholeProgram}
 use Rattle.lt_base.specs.Meaning.{clock_of, stream_of}
 use Rattle.lt_base.specs.Typing.{ty_at}
 use Rattle.lt_base.specs.Behaviour.{CellFits}
-pub use Rattle.lt_base.specs.Main.{main_of, streams_at, HasOutputStreams, cell_count, most_cells, InputsFit, InputsFitMain}
+pub use Rattle.lt_base.specs.Main.{main_of, streams_at, HasOutputStreams, cell_count, InputsFit, InputsFitMain}
 
 -- a table has the stream of each variable of a function on these rows, by the variable's number
 pub record HasStreams (fs : List Function) (f : Function) (rows : List (List Value)) (table : List (List Cell)) : Type 0 where

@@ -4,11 +4,13 @@ use denote.Bor.{Bor}
 use Rattle.lt_base.specs.declared.value.Value.TheVariants.{Bool as Truth}
 use Rattle.lt_base.specs.declared.expression.Expr.{Expr}
 use Rattle.lt_base.specs.Expression.{Expression, literal, Arguments, shape}
-use Rattle.lt_base.specs.Meaning.{ClockPairs}
+use Rattle.lt_base.specs.declared.function.Decl.{Decl}
+use Rattle.lt_base.specs.Meaning.{ClockPairs, clock_of}
 use Rattle.lt_meaning.specs.declared.lifter.Lifter.{Lifter}
 use Rattle.lt_meaning.specs.declared.lifter.Waiting.{Waiting}
-use Rattle.lt_meaning.specs.Plan.{StepForm, step_form}
-use Rattle.lt_meaning.specs.Lift.{call_count, call_counts, Wait, delays_in, arguments_delays, step_of, calls_in, arguments_calls}
+use Rattle.lt_meaning.specs.Form.{NodeForm}
+use Rattle.lt_meaning.specs.Plan.{StepForm, step_form, DelayForm}
+use Rattle.lt_meaning.specs.Lift.{call_count, call_counts, form_of, forms_of, Wait, delays_in, arguments_delays, whole, step_of, calls_in, arguments_calls}
 
 -- the number of cells, the steps, and the right sides that wait
 pub record Taken : Type 0 where
@@ -54,3 +56,19 @@ with_call x t = record { cells = x.cells + 1; steps = x.steps ++ t ∷ []; waits
 -- one more step
 abbrev pub with_step : Taken → StepForm → Taken
 with_step x t = record { cells = x.cells; steps = x.steps ++ t ∷ []; waits = x.waits }
+
+-- an expression over cells, where this much is taken
+abbrev pub form_in : Taken → Expression → NodeForm
+form_in x e = form_of (length x.waits) x.cells e
+
+-- so arguments
+abbrev pub forms_in : Taken → Arguments → List NodeForm
+forms_in x args = forms_of (length x.waits) x.cells args
+
+-- the delay of a right side that waits
+abbrev pub delay_in : Taken → Wait → DelayForm
+delay_in x w = record { clock = w.clock; first = w.first; right = form_in x w.right }
+
+-- the step of an equation over these declarations
+abbrev pub step_in : Taken → List Decl → ℕ × Expression → StepForm
+step_in x ds q = step_of (record { cell = q.0; clock = clock_of ds q.0; delays_before = length x.waits; cells_before = x.cells; source = whole q.1 })

@@ -1,15 +1,13 @@
 // How an expression is lifted.
 
-ghost use Rattle.std.specs.Prelude.{◌≡◌, ◌∷◌, ℕ, ◌+◌, true, false, List as Items, Option as Maybe, Ok, IfOk, OnOk, length, map};
-ghost use denote.Bor.{Bor};
-ghost use Rattle.lt_base.specs.declared.expression.Expr.{Expr as Tree};
+ghost use Rattle.std.specs.Prelude.{◌≡◌, ◌∷◌, true, false, Ok, IfOk, OnOk, length, map};
 ghost use Rattle.lt_base.specs.declared.value.Value.TheVariants.{Bool as Truth};
 ghost use Rattle.lt_base.specs.Expression.{shape, unary, binary, imported, choose, merged, follow, arrow, call as called, arguments_of};
 ghost use Rattle.lt_base.specs.Meaning.{outer as outer_pairs};
 ghost use Rattle.lt_meaning.specs.Form.{node_form, at as at_cell, kept as at_delay, one, two, named, either, joined};
 ghost use Rattle.lt_meaning.specs.Plan.{runs};
-ghost use Rattle.lt_meaning.specs.Lift.{form_of, forms_of, first_wait};
-ghost use Rattle.lt_meaning.specs.Taken.{taken, taken_after, after_arguments, with_wait, with_step, with_call, right_form};
+ghost use Rattle.lt_meaning.specs.Lift.{first_wait};
+ghost use Rattle.lt_meaning.specs.Taken.{taken, taken_after, after_arguments, with_wait, with_step, with_call, right_form, form_in, forms_in};
 
 use crate::lifter::{Lifter, Waiting};
 use crate::node::Node;
@@ -20,7 +18,7 @@ use std::alloc::Global;
 /// Lifts an expression at a clock: each delay gets a number, and each call a cell and a step.
 #[cycle(lifting)]
 pub fn lift<'a>(to: &mut Lifter<'a>, e: &'a Expr, clock: &Clock) -> Result<Node, Memory>
-    ensures form { IfOk result (λ node. node_form node ≡ form_of (length (taken to.old).waits) (taken to.old).cells (shape e.now)) }
+    ensures form { IfOk result (λ node. node_form node ≡ form_in (taken to.old) (shape e.now)) }
     ensures grown { OnOk result (taken to.new ≡ taken_after (taken to.old) (shape e.now) clock.now) }
 {
     match e {
@@ -42,7 +40,7 @@ pub fn lift<'a>(to: &mut Lifter<'a>, e: &'a Expr, clock: &Clock) -> Result<Node,
 // Lifts an operator's operand, and the operator.
 #[cycle(lifting)]
 fn lift_unary<'a>(to: &mut Lifter<'a>, o: Un, a: &'a Expr, clock: &Clock) -> Result<Node, Memory>
-    ensures form { IfOk result (λ node. node_form node ≡ form_of (length (taken to.old).waits) (taken to.old).cells (unary o (shape a.now))) }
+    ensures form { IfOk result (λ node. node_form node ≡ form_in (taken to.old) (unary o (shape a.now))) }
     ensures grown { OnOk result (taken to.new ≡ taken_after (taken to.old) (unary o (shape a.now)) clock.now) }
 {
     let a = lift(to, a, clock)?;
@@ -52,7 +50,7 @@ fn lift_unary<'a>(to: &mut Lifter<'a>, o: Un, a: &'a Expr, clock: &Clock) -> Res
 // Lifts an expression at the clock before the innermost pair.
 #[cycle(lifting)]
 fn lift_outside<'a>(to: &mut Lifter<'a>, e: &'a Expr, clock: &Clock) -> Result<Node, Memory>
-    ensures form { IfOk result (λ node. node_form node ≡ form_of (length (taken to.old).waits) (taken to.old).cells (shape e.now)) }
+    ensures form { IfOk result (λ node. node_form node ≡ form_in (taken to.old) (shape e.now)) }
     ensures grown { OnOk result (taken to.new ≡ taken_after (taken to.old) (shape e.now) (outer_pairs clock.now)) }
 {
     let before = clock.outer()?;
@@ -67,8 +65,8 @@ fn lift_two<'a>(
     b: &'a Expr,
     clock: &Clock,
 ) -> Result<(Node, Node), Memory>
-    ensures first { IfOk result (λ nodes. node_form nodes.0 ≡ form_of (length (taken to.old).waits) (taken to.old).cells (shape a.now)) }
-    ensures second { IfOk result (λ nodes. node_form nodes.1 ≡ form_of (length (taken_after (taken to.old) (shape a.now) clock.now).waits) (taken_after (taken to.old) (shape a.now) clock.now).cells (shape b.now)) }
+    ensures first { IfOk result (λ nodes. node_form nodes.0 ≡ form_in (taken to.old) (shape a.now)) }
+    ensures second { IfOk result (λ nodes. node_form nodes.1 ≡ form_in (taken_after (taken to.old) (shape a.now) clock.now) (shape b.now)) }
     ensures grown { OnOk result (taken to.new ≡ taken_after (taken_after (taken to.old) (shape a.now) clock.now) (shape b.now) clock.now) }
 {
     let first = lift(to, a, clock)?;
@@ -90,7 +88,7 @@ fn lift_binary<'a>(
     b: &'a Expr,
     clock: &Clock,
 ) -> Result<Node, Memory>
-    ensures form { IfOk result (λ node. node_form node ≡ form_of (length (taken to.old).waits) (taken to.old).cells (binary o (shape a.now) (shape b.now))) }
+    ensures form { IfOk result (λ node. node_form node ≡ form_in (taken to.old) (binary o (shape a.now) (shape b.now))) }
     ensures grown { OnOk result (taken to.new ≡ taken_after (taken to.old) (binary o (shape a.now) (shape b.now)) clock.now) }
 {
     let (a, b) = lift_two(to, a, b, clock)?;
@@ -106,7 +104,7 @@ fn lift_imported<'a>(
     b: &'a Expr,
     clock: &Clock,
 ) -> Result<Node, Memory>
-    ensures form { IfOk result (λ node. node_form node ≡ form_of (length (taken to.old).waits) (taken to.old).cells (imported o (shape a.now) (shape b.now))) }
+    ensures form { IfOk result (λ node. node_form node ≡ form_in (taken to.old) (imported o (shape a.now) (shape b.now))) }
     ensures grown { OnOk result (taken to.new ≡ taken_after (taken to.old) (imported o (shape a.now) (shape b.now)) clock.now) }
 {
     let (a, b) = lift_two(to, a, b, clock)?;
@@ -122,7 +120,7 @@ fn lift_choice<'a>(
     b: &'a Expr,
     clock: &Clock,
 ) -> Result<Node, Memory>
-    ensures form { IfOk result (λ node. node_form node ≡ form_of (length (taken to.old).waits) (taken to.old).cells (choose (shape c.now) (shape a.now) (shape b.now))) }
+    ensures form { IfOk result (λ node. node_form node ≡ form_in (taken to.old) (choose (shape c.now) (shape a.now) (shape b.now))) }
     ensures grown { OnOk result (taken to.new ≡ taken_after (taken to.old) (choose (shape c.now) (shape a.now) (shape b.now)) clock.now) }
 {
     let c = lift(to, c, clock)?;
@@ -144,7 +142,7 @@ fn lift_merge<'a>(
     b: &'a Expr,
     clock: &Clock,
 ) -> Result<Node, Memory>
-    ensures form { IfOk result (λ node. node_form node ≡ form_of (length (taken to.old).waits) (taken to.old).cells (merged c (shape a.now) (shape b.now))) }
+    ensures form { IfOk result (λ node. node_form node ≡ form_in (taken to.old) (merged c (shape a.now) (shape b.now))) }
     ensures grown { OnOk result (taken to.new ≡ taken_after (taken to.old) (merged c (shape a.now) (shape b.now)) clock.now) }
 {
     let a = lift_branch(to, c, true, a, clock)?;
@@ -161,7 +159,7 @@ fn lift_branch<'a>(
     e: &'a Expr,
     clock: &Clock,
 ) -> Result<Node, Memory>
-    ensures form { IfOk result (λ node. node_form node ≡ form_of (length (taken to.old).waits) (taken to.old).cells (shape e.now)) }
+    ensures form { IfOk result (λ node. node_form node ≡ form_in (taken to.old) (shape e.now)) }
     ensures grown { OnOk result (taken to.new ≡ taken_after (taken to.old) (shape e.now) ((c, polarity) ∷ clock.now)) }
 {
     let at = clock.inner(c, polarity)?;
@@ -176,7 +174,7 @@ fn lift_follow<'a>(
     b: &'a Expr,
     clock: &Clock,
 ) -> Result<Node, Memory>
-    ensures form { IfOk result (λ node. node_form node ≡ form_of (length (taken to.old).waits) (taken to.old).cells (follow (shape a.now) (shape b.now))) }
+    ensures form { IfOk result (λ node. node_form node ≡ form_in (taken to.old) (follow (shape a.now) (shape b.now))) }
     ensures grown { OnOk result (taken to.new ≡ taken_after (taken to.old) (follow (shape a.now) (shape b.now)) clock.now) }
 {
     let a = lift(to, a, clock)?;
@@ -197,7 +195,7 @@ fn lift_arrow<'a>(
     b: &'a Expr,
     clock: &Clock,
 ) -> Result<Node, Memory>
-    ensures form { IfOk result (λ node. node_form node ≡ form_of (length (taken to.old).waits) (taken to.old).cells (arrow (shape a.now) (shape b.now))) }
+    ensures form { IfOk result (λ node. node_form node ≡ form_in (taken to.old) (arrow (shape a.now) (shape b.now))) }
     ensures grown { OnOk result (taken to.new ≡ taken_after (taken to.old) (arrow (shape a.now) (shape b.now)) clock.now) }
 {
     let (a, b) = lift_two(to, a, b, clock)?;
@@ -219,7 +217,7 @@ fn lift_call<'a>(
     args: &'a Vec<Expr>,
     clock: &Clock,
 ) -> Result<Node, Memory>
-    ensures form { IfOk result (λ node. node_form node ≡ form_of (length (taken to.old).waits) (taken to.old).cells (called g (arguments_of (map shape args.now.items)))) }
+    ensures form { IfOk result (λ node. node_form node ≡ form_in (taken to.old) (called g (arguments_of (map shape args.now.items)))) }
     ensures grown { OnOk result (taken to.new ≡ taken_after (taken to.old) (called g (arguments_of (map shape args.now.items))) clock.now) }
 {
     let lifted = lift_all(to, args, clock)?;
@@ -233,7 +231,7 @@ fn lift_all<'a>(
     args: &'a Vec<Expr>,
     clock: &Clock,
 ) -> Result<Vec<Node>, Memory>
-    ensures forms { IfOk result (λ nodes. map node_form nodes.items ≡ forms_of (length (taken to.old).waits) (taken to.old).cells (arguments_of (map shape args.now.items))) }
+    ensures forms { IfOk result (λ nodes. map node_form nodes.items ≡ forms_in (taken to.old) (arguments_of (map shape args.now.items))) }
     ensures grown { OnOk result (taken to.new ≡ after_arguments (taken to.old) (arguments_of (map shape args.now.items)) clock.now) }
 {
     let mut nodes = Vec::with_capacity(to.alloc, args.len())?;
@@ -271,7 +269,8 @@ fn wait_twice<'a>(
 ) -> Result<(Node, Node), Memory>
     ensures flag { IfOk result (λ nodes. node_form nodes.0 ≡ at_delay (length (taken to.old).waits)) }
     ensures delay { IfOk result (λ nodes. node_form nodes.1 ≡ at_delay (length (with_wait (taken to.old) (first_wait clock.now)).waits)) }
-    ensures grown { OnOk result (taken to.new ≡ with_wait (with_wait (taken to.old) (first_wait clock.now)) (record { clock = clock.now; first = Truth true; right = shape right.now })) }
+    ensures grown { OnOk result (taken to.new ≡ with_wait (with_wait (taken to.old) (first_wait clock.now))
+        (record { clock = clock.now; first = Truth true; right = shape right.now })) }
 {
     let begins = wait(to, clock, Value::Bool(true), None)?;
     match wait(to, clock, Value::Bool(true), Some(right)) {
@@ -298,7 +297,8 @@ fn push_call(
     function: usize,
     args: Vec<Node>,
 ) -> Result<(), Memory>
-    ensures { OnOk result (taken to.new ≡ with_step (taken to.old) (record { cell = cell; clock = clock.now; action = runs function (map node_form args.items) })) }
+    ensures { OnOk result (taken to.new ≡ with_step (taken to.old)
+        (record { cell = cell; clock = clock.now; action = runs function (map node_form args.items) })) }
 {
     let copied = clock.copy();
     match copied {
@@ -325,7 +325,8 @@ fn call(
     args: Vec<Node>,
 ) -> Result<Node, Memory>
     ensures form { IfOk result (λ node. node_form node ≡ at_cell (taken to.old).cells) }
-    ensures grown { OnOk result (taken to.new ≡ with_call (taken to.old) (record { cell = (taken to.old).cells; clock = clock.now; action = runs function (map node_form args.items) })) }
+    ensures grown { OnOk result (taken to.new ≡ with_call (taken to.old)
+        (record { cell = (taken to.old).cells; clock = clock.now; action = runs function (map node_form args.items) })) }
 {
     let cell = next_cell(to);
     push_call(to, cell, clock, function, args)?;

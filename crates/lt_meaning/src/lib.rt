@@ -12,6 +12,5 @@ mod starting;
 mod state;
 mod table;
 
-pub use lt_base::limits::GREATEST_CELLS;
 pub use program::{StreamsFault, output_streams, streams};
 pub use table::Table;

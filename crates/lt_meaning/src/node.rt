@@ -78,7 +78,7 @@ pub fn at(cells: &[Slot], x: usize) -> Slot
 pub fn is_present(clock: &Clock, cells: &[Slot]) -> bool
     ensures { result ≡ present (entry cells.now) clock.now }
 {
-    for (c, b) in clock.steps.as_slice() {
+    for (c, b) in clock.steps.iter() {
         if !at(cells, *c as usize).is_that(*b) {
             return false;
         }

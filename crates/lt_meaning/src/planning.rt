@@ -1,14 +1,13 @@
 // The plan of a function.
 
 ghost use Rattle.std.specs.Prelude.{◌≡◌, ℕ, ◌<◌, ◌++◌, ◌∷◌, [], List as Items, Some, IfOk, OnOk, length, map, slice_get};
-ghost use Rattle.lt_base.specs.Expression.{Expression};
 ghost use Rattle.lt_base.specs.Program.{Function};
 ghost use Rattle.lt_base.specs.Meaning.{clock_of};
 ghost use Rattle.lt_base.specs.Dependence.{Causal};
 ghost use Rattle.lt_meaning.specs.Form.{node_form};
 ghost use Rattle.lt_meaning.specs.Plan.{sets, delay_form};
-ghost use Rattle.lt_meaning.specs.Lift.{Wait, form_of, whole, step_of};
-ghost use Rattle.lt_meaning.specs.Taken.{taken, taken_after, with_step, right_form};
+ghost use Rattle.lt_meaning.specs.Lift.{Wait};
+ghost use Rattle.lt_meaning.specs.Taken.{taken, taken_after, with_step, right_form, form_in, delay_in, step_in};
 ghost use Rattle.lt_meaning.specs.Fine.{FunctionPasses};
 ghost use Rattle.lt_meaning.specs.Planned.{PlanOf};
 ghost use Rattle.lt_meaning.specs.Streams.{NumbersFit};
@@ -31,8 +30,8 @@ pub fn plan_of(alloc: Global, f: &Func) -> Result<Plan, Memory>
     f.invariant_holds();
     let order = order_of(alloc, f)?;
     let mut to = start(alloc, f)?;
-    for k in order.eqs.as_slice() {
-        set(&mut to, &f.decls, &f.eqs.as_slice()[*k as usize])?;
+    for k in order.eqs.iter() {
+        set(&mut to, &f.decls, &f.eqs[*k as usize])?;
     }
     drop(order);
     let mut delays = Vec::new(alloc);
@@ -62,9 +61,9 @@ fn start<'a>(alloc: Global, f: &Func) -> Result<Lifter<'a>, Memory>
 fn set<'a>(to: &mut Lifter<'a>, decls: &List<Decl>, equation: &'a Equation) -> Result<(), Memory>
     requires { equation.now.0 < length decls.now }
     ensures { OnOk result (taken to.new ≡ with_step (taken_after (taken to.old) equation.now.1 (clock_of decls.now equation.now.0))
-        (step_of (record { cell = equation.now.0; clock = clock_of decls.now equation.now.0; delays_before = length (taken to.old).waits; cells_before = (taken to.old).cells; source = whole equation.now.1 }))) }
+        (step_in (taken to.old) decls.now equation.now)) }
 {
-    let clock = &decls.as_slice()[equation.left() as usize].clock;
+    let clock = &decls[equation.left() as usize].clock;
     let node = lift(to, equation.right(), clock)?;
     push_step(to, equation.left() as usize, clock, node)
 }
@@ -85,8 +84,9 @@ fn push_step(to: &mut Lifter<'_>, cell: usize, clock: &Clock, node: Node) -> Res
 fn next_delay(to: &mut Lifter<'_>, number: usize) -> Result<Delay, Memory>
     requires { number < length (taken to.old).waits }
     ensures delay { (w : Wait) → slice_get (taken to.old).waits number ≡ Some w
-        → IfOk result (λ d. delay_form d ≡ record { clock = w.clock; first = w.first; right = form_of (length (taken to.old).waits) (taken to.old).cells w.right }) }
-    ensures grown { (w : Wait) → slice_get (taken to.old).waits number ≡ Some w → OnOk result (taken to.new ≡ taken_after (taken to.old) w.right w.clock) }
+        → IfOk result (λ d. delay_form d ≡ delay_in (taken to.old) w) }
+    ensures grown { (w : Wait) → slice_get (taken to.old).waits number ≡ Some w
+        → OnOk result (taken to.new ≡ taken_after (taken to.old) w.right w.clock) }
 {
     let waiting = &to.waiting[number];
     let first = waiting.first;
@@ -104,8 +104,9 @@ fn next_delay(to: &mut Lifter<'_>, number: usize) -> Result<Delay, Memory>
 fn push_delay(to: &mut Lifter<'_>, delays: &mut Vec<Delay>) -> Result<(), Memory>
     requires { length delays.old.items < length (taken to.old).waits }
     ensures delay { (w : Wait) → slice_get (taken to.old).waits (length delays.old.items) ≡ Some w
-        → OnOk result (map delay_form delays.new.items ≡ map delay_form delays.old.items ++ record { clock = w.clock; first = w.first; right = form_of (length (taken to.old).waits) (taken to.old).cells w.right } ∷ []) }
-    ensures grown { (w : Wait) → slice_get (taken to.old).waits (length delays.old.items) ≡ Some w → OnOk result (taken to.new ≡ taken_after (taken to.old) w.right w.clock) }
+        → OnOk result (map delay_form delays.new.items ≡ map delay_form delays.old.items ++ delay_in (taken to.old) w ∷ []) }
+    ensures grown { (w : Wait) → slice_get (taken to.old).waits (length delays.old.items) ≡ Some w
+        → OnOk result (taken to.new ≡ taken_after (taken to.old) w.right w.clock) }
 {
     let delay = next_delay(to, delays.len())?;
     delays.push(delay)?;
@@ -117,7 +118,7 @@ fn lift_right<'a>(
     right: Option<&'a Expr>,
     clock: &Clock,
 ) -> Result<Node, Memory>
-    ensures form { IfOk result (λ node. node_form node ≡ form_of (length (taken to.old).waits) (taken to.old).cells (right_form right.entry)) }
+    ensures form { IfOk result (λ node. node_form node ≡ form_in (taken to.old) (right_form right.entry)) }
     ensures grown { OnOk result (taken to.new ≡ taken_after (taken to.old) (right_form right.entry) clock.now) }
 {
     match right {
@@ -166,7 +167,7 @@ fn steps_of(to: Lifter<'_>) -> Vec<Step>
 fn first_output(f: &Func) -> usize
     ensures { (y : ℕ) (ys : Items ℕ) → f.now.outs ≡ y ∷ ys → result ≡ y }
 {
-    match f.outs.as_slice().first() {
+    match f.outs.first() {
         Some(y) => *y as usize,
         None => 0,
     }

@@ -5,7 +5,8 @@ ghost use Rattle.lt_base.specs.Or.{ForFault};
 ghost use Rattle.lt_base.specs.Inputs.{entry_at};
 ghost use Rattle.lt_base.specs.Checked.{CheckedProgram};
 ghost use Rattle.lt_meaning.specs.Ready.{ArePlans, AreOfMain};
-ghost use Rattle.lt_base.specs.Main.{main_of, HasOutputStreams, cell_count, most_cells, InputsFitMain};
+ghost use Rattle.lt_base.specs.Limits.{most_cells};
+ghost use Rattle.lt_base.specs.Main.{main_of, HasOutputStreams, cell_count, InputsFitMain};
 ghost use Rattle.lt_meaning.specs.Streams.{HasMainStreams, HasMainTypes, HasStreamsOf, ProgramNumbersFit};
 
 use crate::Table;
@@ -38,7 +39,7 @@ pub fn streams(alloc: Global, p: &Program, inputs: &Inputs) -> Result<Table, Or<
 {
     p.invariant_holds();
     let variables = variables_of(alloc, main_function(p))?;
-    match chosen_streams(alloc, p, inputs, variables.as_slice()) {
+    match chosen_streams(alloc, p, inputs, &variables) {
         Ok(columns) => Ok(Table::of(columns)),
         Err(fault) => Err(fault),
     }
@@ -60,7 +61,7 @@ pub fn output_streams(
 {
     let main = main_function(p);
     main.invariant_holds();
-    chosen_streams(alloc, p, inputs, main.outs.as_slice())
+    chosen_streams(alloc, p, inputs, &main.outs)
 }
 
 // The streams of these variables of main.
@@ -84,7 +85,7 @@ fn chosen_streams(
         return Err(Or::Fault(StreamsFault::TooMany));
     }
     let plans = plans_of(alloc, p)?;
-    let columns = columns_of(alloc, p, plans.as_slice(), inputs, variables)?;
+    let columns = columns_of(alloc, p, &plans, inputs, variables)?;
     Ok(List::of(columns))
 }
 
@@ -94,7 +95,7 @@ fn main_function(p: &Program) -> &Func
 {
     p.invariant_holds();
     let number = p.main as usize;
-    &p.funcs.as_slice()[number]
+    &p.funcs[number]
 }
 
 // The numbers of a function's variables.
@@ -129,7 +130,7 @@ fn plans_of(alloc: Global, p: &Program) -> Result<Vec<Plan>, Memory>
 {
     p.invariant_holds();
     let mut plans = Vec::with_capacity(alloc, p.funcs.len())?;
-    for f in p.funcs.as_slice() {
+    for f in p.funcs.iter() {
         plans.push(plan_of(alloc, f)?)?;
     }
     Ok(plans)
@@ -156,7 +157,7 @@ fn columns_of(
     for k in 0..inputs.rows() {
         load(inputs, main.n_in, k, &mut state.cells);
         run(plans, number, &mut state);
-        show(&mut columns, variables, decls, state.cells.as_slice())?;
+        show(&mut columns, variables, decls, &state.cells)?;
     }
     drop(state);
     Ok(columns)

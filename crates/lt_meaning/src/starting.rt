@@ -1,6 +1,6 @@
 // Functions before the first instant.
 
-ghost use Rattle.std.specs.Prelude.{◌≡◌, ◌<◌, ◌-◌, None, Some, IfOk, length, map, replicate};
+ghost use Rattle.std.specs.Prelude.{◌≡◌, ◌<◌, ◌-◌, None, Some, IfOk, length, map};
 ghost use Rattle.lt_meaning.specs.Plan.{action_form};
 ghost use Rattle.lt_meaning.specs.Stands.{CanStart, StateStarts, CanStartChild, ChildStarts};
 

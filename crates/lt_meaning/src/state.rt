@@ -1,10 +1,10 @@
 // A function on its way through the instants.
 
-ghost use Rattle.std.specs.Prelude.{◌≡◌, ◌≢◌, ◌<◌, ◌≤◌, ℕ, true, false, Some, length, map, take, slice_get, if◌then◌else◌};
+ghost use Rattle.std.specs.Prelude.{◌≡◌, ◌≢◌, ◌<◌, ◌≤◌, ℕ, true, false, Some, length, map, take, slice_get};
 ghost use Rattle.lt_base.specs.Meaning.{entry, present};
 ghost use Rattle.lt_meaning.specs.declared.plan.Delay.{Delay as DelayAt};
 ghost use Rattle.lt_meaning.specs.Form.{node_form, value_in};
-ghost use Rattle.lt_meaning.specs.Plan.{action_form};
+ghost use Rattle.lt_meaning.specs.Plan.{action_form, next_kept};
 ghost use Rattle.lt_meaning.specs.Stands.{StandsSomewhere, StateAdvances, StepCanAct, StepActs, CanAnswer, CallAnswers, CanRun, CallRuns};
 
 use crate::node::{Node, at, is_present};
@@ -34,24 +34,19 @@ pub fn run(plans: &[Plan], g: usize, state: &mut State)
         take(
             plans,
             &plan.steps[i],
-            state.kept.as_slice(),
+            &state.kept,
             &mut state.cells,
             &mut state.children[i],
         );
     }
-    advance(
-        plan.delays.as_slice(),
-        state.cells.as_slice(),
-        state.kept.as_slice(),
-        &mut state.next,
-    );
+    advance(&plan.delays, &state.cells, &state.kept, &mut state.next);
     swap(&mut state.kept, &mut state.next);
 }
 
 // What a delay keeps next: its right side's value where its clock is present, and else what it kept.
 #[inline(always)]
 fn newest(delay: &Delay, j: usize, cells: &[Slot], kept: &[Slot]) -> Slot
-    ensures { result ≡ (if present (entry cells.now) delay.now.clock then value_in (entry cells.now) (entry kept.now) (node_form delay.now.right) else entry kept.now j) }
+    ensures { result ≡ next_kept (entry cells.now) (entry kept.now) delay.now j }
 {
     if is_present(&delay.clock, cells) {
         delay.right.value(cells, kept)
@@ -65,10 +60,11 @@ fn advance(delays: &[Delay], cells: &[Slot], kept: &[Slot], next: &mut Vec<Slot>
     requires kept { length kept.now ≡ length delays.now }
     requires next { length next.old.items ≡ length delays.now }
     ensures size { length next.new.items ≡ length next.old.items }
-    ensures next { (j : ℕ) (d : DelayAt) → slice_get delays.now j ≡ Some d → entry next.new.items j ≡ (if present (entry cells.now) d.clock then value_in (entry cells.now) (entry kept.now) (node_form d.right) else entry kept.now j) }
+    ensures next { (j : ℕ) (d : DelayAt) → slice_get delays.now j ≡ Some d
+        → entry next.new.items j ≡ next_kept (entry cells.now) (entry kept.now) d j }
 {
-    for j in 0..delays.len() {
-        next[j] = newest(&delays[j], j, cells, kept);
+    for (j, delay) in delays.iter().enumerate() {
+        next[j] = newest(delay, j, cells, kept);
     }
 }
 
@@ -89,10 +85,10 @@ fn take(
     ensures acts { present (entry cells.old.items) step.now.clock ≡ true
         → StepActs plans.now (action_form step.now.action) (entry cells.old.items) (entry kept.now) child.old child.new (entry cells.new.items step.now.cell) }
 {
-    if !is_present(&step.clock, cells.as_slice()) {
+    if !is_present(&step.clock, cells) {
         return;
     }
-    let value = action(plans, &step.action, cells.as_slice(), kept, child);
+    let value = action(plans, &step.action, cells, kept, child);
     cells[step.cell] = value;
 }
 

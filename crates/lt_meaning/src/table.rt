@@ -39,7 +39,7 @@ impl Table {
         requires { var < length self.now }
         ensures { result.now ≡ slice_index_or self.now var [] }
     {
-        self.columns.as_slice()[var as usize].as_slice()
+        &self.columns[var as usize]
     }
 
     /// The cell of a variable at an instant, counted from 0.

@@ -1,7 +1,9 @@
 -- How a net answers an event without an offence.
 use Rattle.std.specs.Prelude.{◌≡◌, ℕ, ◌+◌, ◌^◌, ◌≤◌, List, map, Option, None, IsTrue, Result, OnOk, OnErr, IsErrOf}
 use Rattle.lt_base.specs.declared.value.Value.{Value}
+use denote.Bor.{Bor}
 use Rattle.lt_arch.specs.declared.event.Event.{Event}
+use Rattle.lt_arch.specs.declared.event.Event.TheVariants.{Act, Del}
 use Rattle.lt_arch.specs.declared.shape.Shape.{Shape}
 use Rattle.lt_arch.specs.declared.timing.Timing.{Timing}
 use Rattle.lt_arch.specs.State.{State}
@@ -20,7 +22,7 @@ use Rattle.lt_net.specs.Kept.{Kept, IsSized, NetHasRoom}
 use Rattle.lt_net.specs.Given.{IsRowFor}
 use Rattle.lt_net.specs.Halts.{HasHalted}
 use Rattle.lt_net.specs.Ticks.{cost_by}
-use Rattle.lt_net.specs.Event.{FabricHolds, HasKinds, SameStatic, EventIsTaken}
+use Rattle.lt_net.specs.Event.{FabricHolds, HasKinds, SameStatic, EventIsTaken, given_row}
 use Rattle.lt_machine.specs.declared.machine.Machine.{Ghosts as Machines}
 use Rattle.lt_arch.specs.declared.controller.Controller.{Ghosts as Controls}
 
@@ -51,3 +53,18 @@ pub record AnswersEvent {C M : Type 0} (ctl : Controls C) (mch : Machines M) (ol
   pub sound : IsTrue fabric.sound → fabric'.faults ≡ fabric.faults
   pub prompt : IsTrue fabric.prompt → IsErrOf result NoMemory → ⊥
   pub ticks : (ls : Lists) → NetStands ctl mch old ls → (d : ℕ) → node_count old.shape + chan_count old.shape ≤ 2 ^ d → steps' ≤ steps + cost_by mch.size old ls e d
+
+-- where this row is given
+abbrev pub AnswersGiven : {C M : Type 0} (ctl : Controls C) (mch : Machines M) → (old new : TimedBenchState C M) → Event → Option (Bor (List Value)) →
+    (fabric fabric' : FabricState) → (steps steps' : ℕ) → Result (Unit {0}) LinkErr → Type 0
+AnswersGiven ctl mch old new e row fabric fabric' steps steps' result = AnswersEvent ctl mch old new e (given_row row) fabric fabric' steps steps' result
+
+-- an activation of node n
+abbrev pub AnswersAct : {C M : Type 0} (ctl : Controls C) (mch : Machines M) → (old new : TimedBenchState C M) → (n at : ℕ) → Option (Bor (List Value)) →
+    (fabric fabric' : FabricState) → (steps steps' : ℕ) → Result (Unit {0}) LinkErr → Type 0
+AnswersAct ctl mch old new n at row fabric fabric' steps steps' result = AnswersGiven ctl mch old new (Act n at) row fabric fabric' steps steps' result
+
+-- a delivery on channel c, whatever row is given
+abbrev pub AnswersDelivery : {C M : Type 0} (ctl : Controls C) (mch : Machines M) → (old new : TimedBenchState C M) → (c at : ℕ) →
+    (fabric fabric' : FabricState) → (steps steps' : ℕ) → Result (Unit {0}) LinkErr → Type 0
+AnswersDelivery ctl mch old new c at fabric fabric' steps steps' result = (row : Option (List Value)) → AnswersEvent ctl mch old new (Del c at) row fabric fabric' steps steps' result

@@ -1,5 +1,6 @@
 -- How a net that runs answers an event.
 use Rattle.std.specs.Prelude.{◌≡◌, ◌↔◌, ◌<◌, ◌≤◌, ◌+◌, ◌^◌, ℕ, List, length, map, Option, Some, None, IsTrue, Result, Err, OnOk, IsErrOf}
+use denote.Bor.{Bor}
 use Rattle.lt_base.specs.declared.value.Value.{Value}
 use Rattle.lt_arch.specs.declared.event.Event.{Event}
 use Rattle.lt_arch.specs.declared.event.Offence as arch
@@ -15,7 +16,7 @@ use Rattle.lt_net.specs.NetModel.{NetState}
 use Rattle.lt_net.specs.Stands.{NetStands}
 use Rattle.lt_net.specs.Ticks.{cost_by}
 use Rattle.lt_net.specs.Halts.{Halts, HasHalted}
-use Rattle.lt_net.specs.Event.{FabricHolds, HasKinds, SameStatic, NetRefuses, Happens}
+use Rattle.lt_net.specs.Event.{FabricHolds, HasKinds, SameStatic, NetRefuses, Happens, given_row}
 use Rattle.lt_machine.specs.declared.machine.Machine.{Ghosts as Machines}
 use Rattle.lt_arch.specs.declared.controller.Controller.{Ghosts as Controls}
 
@@ -30,6 +31,10 @@ CostsAtMost ctl mch net e before now = (ls : Lists) → NetStands ctl mch net ls
 -- the event happened, for all lists for which the net stood
 abbrev pub HappensOn : {C M : Type 0} (ctl : Controls C) (mch : Machines M) → (old new : TimedBenchState C M) → Event → Option (List Value) → (fabric fabric' : FabricState) → Type 0
 HappensOn ctl mch old new e row fabric fabric' = Happens (NetStands ctl mch old) (NetStands ctl mch new) old e row fabric fabric'
+
+-- where this row was given
+abbrev pub HappensBy : {C M : Type 0} (ctl : Controls C) (mch : Machines M) → (old new : TimedBenchState C M) → Event → Option (Bor (List Value)) → (fabric fabric' : FabricState) → Type 0
+HappensBy ctl mch old new e row fabric fabric' = HappensOn ctl mch old new e (given_row row) fabric fabric'
 
 -- what a fault left, for all lists for which the net stood
 abbrev pub LeavesHalted : {C M : Type 0} (ctl : Controls C) (mch : Machines M) → (old new : TimedBenchState C M) → Event → Option (List Value) → Type 0
@@ -63,3 +68,8 @@ pub record AnswersJudged {C M : Type 0} (ctl : Controls C) (mch : Machines M) (o
   pub fixed : SameStatic old.bench new.bench
   pub keeps : KeepsFabric fabric fabric'
   pub sound : IsTrue fabric.sound → fabric'.faults ≡ fabric.faults
+
+-- where this row is given
+abbrev pub JudgesGiven : {C M : Type 0} (ctl : Controls C) (mch : Machines M) → (old new : NetState C M) → Event → Option (Bor (List Value)) →
+    (fabric fabric' : FabricState) → (steps steps' : ℕ) → Result (Unit {0}) NetFault → Type 0
+JudgesGiven ctl mch old new e row fabric fabric' steps steps' result = AnswersJudged ctl mch old new e (given_row row) fabric fabric' steps steps' result

@@ -5,7 +5,7 @@ ghost use Rattle.lt_base.specs.declared.value.Value.{Value as Datum};
 ghost use Rattle.lt_arch.specs.declared.limits.TheConstants.{GREATEST_TIME};
 ghost use Rattle.lt_arch.specs.declared.event.Event.TheVariants.{Act, Del};
 ghost use Rattle.lt_net.specs.Event.{given_row};
-ghost use Rattle.lt_net.specs.Answered.{CanTake, AnswersEvent};
+ghost use Rattle.lt_net.specs.Answered.{CanTake, AnswersGiven, AnswersAct, AnswersDelivery};
 ghost use Rattle.lt_net.specs.Ran.{CanSend, HasSent};
 
 use crate::receiving::receive;
@@ -35,7 +35,24 @@ impl<C: Controller, M: Machine> Model for TimedBench<C, M> {
 
     ghost coded = { Prim.hlevel (codes, coded_function) };
 
-    ghost view = { λ a. record { layout = a.inner.layout; shape = a.inner.shape; timing = a.timing; rows = a.inner.rows; watch = a.watch; machines = a.inner.machines; controllers = a.inner.controllers; executed = a.inner.executed; inboxes = a.inner.inboxes; buffers = a.inner.buffers; tracks = a.inner.tracks; routes = a.inner.routes; exits = a.inner.exits; ports = a.inner.ports; values = a.inner.values; outs = a.inner.outs } };
+    ghost view = { λ a. record {
+      layout = a.inner.layout;
+      shape = a.inner.shape;
+      timing = a.timing;
+      rows = a.inner.rows;
+      watch = a.watch;
+      machines = a.inner.machines;
+      controllers = a.inner.controllers;
+      executed = a.inner.executed;
+      inboxes = a.inner.inboxes;
+      buffers = a.inner.buffers;
+      tracks = a.inner.tracks;
+      routes = a.inner.routes;
+      exits = a.inner.exits;
+      ports = a.inner.ports;
+      values = a.inner.values;
+      outs = a.inner.outs;
+    } };
 }
 
 impl<C: Controller, M: Machine> TimedBench<C, M> {
@@ -49,7 +66,7 @@ impl<C: Controller, M: Machine> TimedBench<C, M> {
     ) -> Result<(), LinkErr>
         requires can { CanTake C.Controller M.Machine self.old e (given_row row) (W.state fabric.old) }
         requires count { MayFail (W.state fabric.old).faults }
-        ensures { AnswersEvent C.Controller M.Machine self.old self.new e (given_row row.entry) (W.state fabric.old) (W.state fabric.new) steps.old steps.new result }
+        ensures { AnswersGiven C.Controller M.Machine self.old self.new e row.entry (W.state fabric.old) (W.state fabric.new) steps.old steps.new result }
     {
         match e {
             Event::Act(node, at) => self.act(node, at, row, fabric, steps),
@@ -71,7 +88,7 @@ impl<C: Controller, M: Machine> TimedBench<C, M> {
     ) -> Result<(), LinkErr>
         requires can { (row : Option (Items Datum)) × CanTake C.Controller M.Machine self.old (Del ch at) row (W.state fabric.old) }
         requires count { MayFail (W.state fabric.old).faults }
-        ensures { (row : Option (Items Datum)) → AnswersEvent C.Controller M.Machine self.old self.new (Del ch at) row (W.state fabric.old) (W.state fabric.new) steps.old steps.new result }
+        ensures { AnswersDelivery C.Controller M.Machine self.old self.new ch at (W.state fabric.old) (W.state fabric.new) steps.old steps.new result }
     {
         let bench = &mut self.inner;
         receive(&mut bench.inboxes, &mut bench.values, ch, fabric)?;
@@ -90,7 +107,7 @@ impl<C: Controller, M: Machine> TimedBench<C, M> {
     ) -> Result<(), LinkErr>
         requires can { CanTake C.Controller M.Machine self.old (Act node at) (given_row row) (W.state fabric.old) }
         requires count { MayFail (W.state fabric.old).faults }
-        ensures { AnswersEvent C.Controller M.Machine self.old self.new (Act node at) (given_row row.entry) (W.state fabric.old) (W.state fabric.new) steps.old steps.new result }
+        ensures { AnswersAct C.Controller M.Machine self.old self.new node at row.entry (W.state fabric.old) (W.state fabric.new) steps.old steps.new result }
     {
         let deed = self.inner.wake(node);
         match deed {
@@ -127,7 +144,7 @@ impl<C: Controller, M: Machine> TimedBench<C, M> {
     {
         let bench = &self.inner;
         send_all(
-            bench.shape.channels.as_slice(),
+            &bench.shape.channels,
             &bench.ports,
             &bench.buffers,
             &bench.inboxes,

@@ -6,6 +6,8 @@ use Rattle.lt_net_node.specs.Steps.{MachineSteps}
 use Rattle.lt_net_node.specs.Wakes.{Bits, bits_of}
 use Rattle.lt_place_reads.specs.declared.crossing.Crossing.{Crossing}
 use Rattle.lt_place.specs.declared.layout.Feed.{Feed}
+use Rattle.lt_place.specs.declared.layout.Part.{Part}
+use Rattle.lt_link.specs.Inbox.{InboxState}
 use Rattle.lt_place.specs.Layout.{part_of, no_crossing}
 use Rattle.lt_net_node.specs.Freshness.{TakenUpTo}
 use Rattle.lt_link.specs.Ports.{is_to, HasPorts}
@@ -25,6 +27,12 @@ pub record MachineRuns {M : Type 0} (mch : Machines M) (before after : M) (ins :
   pub steps : MachineSteps mch before after ins outs
   pub buffers_are : buffers' ≡ filled cross routes i outs (length cross) buffers
   pub tracks_are : tracks' ≡ tracked exits i outs (length exits) tracks
+
+-- a part's machine made a step on what the part is fed with, on this row and by these inboxes, and its outputs were put where they go
+abbrev pub PartRuns : {M : Type 0} (mch : Machines M) → Part → List Crossing → List Route → List Exit → List InboxState → (row : List Value) → (i : ℕ) →
+    (before after : M) → (buffers buffers' : List (List Value)) → (tracks tracks' : List TrackState) → Type 0
+PartRuns mch part cross routes exits inboxes row i before after buffers buffers' tracks tracks' =
+    MachineRuns mch before after (map (fed_by routes inboxes row) part.feeds) (length part.outs) cross routes exits i buffers buffers' tracks tracks'
 
 -- what node n's controller is told
 abbrev pub bits_at : {C M : Type 0} → BenchState C M → (n : ℕ) → Bits
@@ -56,6 +64,10 @@ pub record CanExecute {C M : Type 0} (mch : Machines M) (p : BenchState C M) (n 
   pub track_room : (y : ℕ) → y < length p.exits → ((exit_of p.exits y).node == n) ≡ true → length (track_at p.tracks y).cells < (track_at p.tracks y).room
   pub inboxes : length p.inboxes ≡ length p.shape.channels
   pub ports : HasPorts p.shape.channels n p.ports
+
+-- only what an instant changes is new: machines, counts, inboxes, payloads and cells
+abbrev pub ChangesByInstant : {C M : Type 0} → (old new : BenchState C M) → Type 0
+ChangesByInstant old new = new ≡ record old { machines = new.machines; executed = new.executed; inboxes = new.inboxes; buffers = new.buffers; tracks = new.tracks }
 
 -- node n ran it
 pub record Executes {C M : Type 0} (mch : Machines M) (old new : BenchState C M) (n : ℕ) (row : List Value) : Type 0 where

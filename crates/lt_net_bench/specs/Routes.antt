@@ -59,3 +59,26 @@ push_cell_if true y cell ts = slice_set ts y (record (track_at ts y) { cells = (
 abbrev pub tracked : List Exit → (i : ℕ) → (outs : List Cell) → (n : ℕ) → List TrackState → List TrackState
 tracked exits i outs zero ts = ts
 tracked exits i outs (suc y) ts = push_cell_if ((exit_of exits y).node == i) y (slice_index_or outs (exit_of exits y).out Absent) (tracked exits i outs y ts)
+
+-- What a step needs of the tables.
+
+-- the route of each crossing that node i sends has one of so many outputs
+abbrev pub RoutesHaveOuts : List Crossing → List Route → (i outs : ℕ) → Type 0
+RoutesHaveOuts cross routes i outs = (c : ℕ) → c < length cross → ((slice_index_or cross c no_crossing).from == i) ≡ true → (route_of routes c).out < outs
+
+-- it leads to one of these payloads
+abbrev pub RoutesHaveChannels : List Crossing → List Route → (i : ℕ) → List (List Value) → Type 0
+RoutesHaveChannels cross routes i ps = (c : ℕ) → c < length cross → ((slice_index_or cross c no_crossing).from == i) ≡ true → (route_of routes c).channel < length ps
+
+-- and to a place in it
+abbrev pub RoutesHavePlaces : List Crossing → List Route → (i : ℕ) → List (List Value) → Type 0
+RoutesHavePlaces cross routes i ps =
+    (c : ℕ) → c < length cross → ((slice_index_or cross c no_crossing).from == i) ≡ true → (route_of routes c).place < length (slice_index_or ps (route_of routes c).channel [])
+
+-- each exit of node i has one of so many outputs
+abbrev pub ExitsHaveOuts : List Exit → (i outs : ℕ) → Type 0
+ExitsHaveOuts exits i outs = (y : ℕ) → y < length exits → ((exit_of exits y).node == i) ≡ true → (exit_of exits y).out < outs
+
+-- and a track with room for a cell
+abbrev pub ExitsHaveRoom : List Exit → (i : ℕ) → List TrackState → Type 0
+ExitsHaveRoom exits i ts = (y : ℕ) → y < length exits → ((exit_of exits y).node == i) ≡ true → length (track_at ts y).cells < (track_at ts y).room

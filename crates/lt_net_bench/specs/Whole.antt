@@ -1,10 +1,11 @@
 -- When the messages that nodes are given are those that the other nodes' own parts make.
-use Rattle.std.specs.Prelude.{◌≡◌, ℕ, suc, ◌<◌, ◌≤◌, List, [], length, take, None, Some, slice_index_or}
+use Rattle.std.specs.Prelude.{◌≡◌, ℕ, suc, ◌<◌, ◌≤◌, List, [], length, take, None, Some, slice_get, slice_index_or}
 use Rattle.lt_base.specs.declared.value.Value.{Value}
+use Rattle.lt_base.specs.declared.value.Cell.TheVariants.{Here}
 use Rattle.lt_base.specs.Program.{Function}
 use Rattle.lt_base.specs.Meaning.{Callee, calls, right_of, stream_of}
 use Rattle.lt_place.specs.declared.layout.Layout.{Layout}
-use Rattle.lt_net_node.specs.Layout.{IsLaidOut, origin_in}
+use Rattle.lt_net_node.specs.Layout.{IsLaidOut, origin_in, crossing_place}
 use Rattle.lt_place.specs.Layout.{PartGives, part_of, crossing_of}
 use Rattle.lt_net_node.specs.Local.{Messages, arrived, local_value, local_stream}
 
@@ -28,3 +29,9 @@ Fronts =
     CarriesOwn (calls [] 0) l got (λ k. slice_index_or rows k []) executed →
     (n x : ℕ) → n < length l.nodes → x < length (part_of l n).flat.func.decls →
     local_stream l got n (λ k. slice_index_or rows k []) (executed n) x ≡ take (executed n) (stream_of [] f rows (origin_in (part_of l n) x))
+
+-- a payload from node i to node j has, of each variable that crosses between them, entry k of its stream in the whole
+abbrev pub HasWholeValues : Function → Layout → (rows : List (List Value)) → (i j k : ℕ) → (payload : List Value) → Type 0
+HasWholeValues f l rows i j k payload =
+    (c : ℕ) → c < length l.cross → (crossing_of l c).from ≡ i → (crossing_of l c).to ≡ j →
+    slice_get (stream_of [] f rows (crossing_of l c).var) k ≡ Some (Here (slice_index_or payload (crossing_place l c) (crossing_of l c).first))

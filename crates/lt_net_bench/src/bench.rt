@@ -1,6 +1,6 @@
 // The nodes and the channels of a network that runs, without time.
 ghost use Rattle.std.specs.Prelude.{◌≡◌, ◌<◌, ◌≤◌, ◌+◌, Some, length, map, slice_get};
-ghost use Rattle.lt_net_bench.specs.Executes.{bits_at, CanExecute, Executes};
+ghost use Rattle.lt_net_bench.specs.Executes.{bits_at, CanExecute, Executes, ChangesByInstant};
 ghost use Rattle.lt_net_node.specs.Freshness.{TakenUpTo};
 ghost use Rattle.lt_link.specs.Ports.{is_to, HasPorts};
 ghost use Rattle.lt_net_node.specs.Wakes.{Wakes};
@@ -52,7 +52,22 @@ impl<C: Controller, M: Machine> Model for Bench<C, M> {
 
     ghost coded = { Prim.hlevel (codes, coded_function) };
 
-    ghost view = { λ a. record { layout = a.layout; shape = a.shape; rows = a.rows; machines = a.machines.items; controllers = a.controllers.items; executed = a.executed.items; inboxes = a.inboxes.items; buffers = a.buffers.items; tracks = a.tracks.items; routes = a.routes.items; exits = a.exits.items; ports = a.ports; values = length a.values.items; outs = length a.outs.items } };
+    ghost view = { λ a. record {
+      layout = a.layout;
+      shape = a.shape;
+      rows = a.rows;
+      machines = a.machines.items;
+      controllers = a.controllers.items;
+      executed = a.executed.items;
+      inboxes = a.inboxes.items;
+      buffers = a.buffers.items;
+      tracks = a.tracks.items;
+      routes = a.routes.items;
+      exits = a.exits.items;
+      ports = a.ports;
+      values = length a.values.items;
+      outs = length a.outs.items;
+    } };
 }
 
 impl<C: Controller, M: Machine> Bench<C, M> {
@@ -67,7 +82,7 @@ impl<C: Controller, M: Machine> Bench<C, M> {
     {
         let shape = &self.shape;
         wake(
-            shape.channels.as_slice(),
+            &shape.channels,
             &self.ports,
             &self.inboxes,
             &self.executed,
@@ -86,7 +101,7 @@ impl<C: Controller, M: Machine> Bench<C, M> {
     {
         let shape = &self.shape;
         take_all(
-            shape.channels.as_slice(),
+            &shape.channels,
             &self.ports,
             &mut self.inboxes,
             node,
@@ -99,14 +114,14 @@ impl<C: Controller, M: Machine> Bench<C, M> {
         requires rows { rows ≡ self.old.rows }
         requires can { CanExecute M.Machine self.old node row.now }
         ensures runs { Executes M.Machine self.old self.new node row.now }
-        ensures rest { self.new ≡ record self.old { machines = self.new.machines; executed = self.new.executed; inboxes = self.new.inboxes; buffers = self.new.buffers; tracks = self.new.tracks } }
+        ensures rest { ChangesByInstant self.old self.new }
         ensures sizes { map M.size self.new.machines ≡ map M.size self.old.machines }
         ensures cost { (m : M) → slice_get self.old.machines node ≡ Some m → steps.new ≤ steps.old + M.size m }
     {
         let layout = &self.layout;
         instant(
-            &layout.nodes.as_slice()[node as usize],
-            layout.cross.as_slice(),
+            &layout.nodes[node as usize],
+            &layout.cross,
             &self.routes,
             &self.exits,
             &self.inboxes,
@@ -120,8 +135,7 @@ impl<C: Controller, M: Machine> Bench<C, M> {
             steps,
         );
         let shape = &self.shape;
-        let channels = shape.channels.as_slice();
-        take_all(channels, &self.ports, &mut self.inboxes, node, true);
+        take_all(&shape.channels, &self.ports, &mut self.inboxes, node, true);
         self.executed[node as usize] += 1;
     }
 

@@ -17,5 +17,4 @@ pub use bench::Bench;
 pub use exit::Exit;
 pub use lt_net_node::{Route, is_crossed, shape_of};
 pub use payload::Payload;
-pub use stepping::instant;
 pub use track::{Track, cells_of};

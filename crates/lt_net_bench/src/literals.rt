@@ -80,8 +80,9 @@ pub fn kinds_of(alloc: Global, layout: &Layout, shape: &Shape) -> Result<List<Li
     ensures { IfOk result (λ kinds. kinds ≡ kinds_for layout.now shape.now) }
 {
     let mut kinds = List::new(alloc);
-    for channel in shape.channels.as_slice() {
-        kinds.push(types(alloc, layout.cross.as_slice(), channel)?)?;
+    let channels: &[Chan] = &shape.channels;
+    for channel in channels {
+        kinds.push(types(alloc, &layout.cross, channel)?)?;
     }
     Ok(kinds)
 }
@@ -97,10 +98,10 @@ fn first_inbox(alloc: Global, cross: &[Crossing], channel: &Chan) -> Result<Inbo
 pub fn inboxes(alloc: Global, layout: &Layout, shape: &Shape) -> Result<Vec<Inbox>, Memory>
     ensures { IfOk result (λ inboxes. inboxes.items ≡ map (first_inbox layout.now.cross) shape.now.channels) }
 {
-    let channels = shape.channels.as_slice();
+    let channels: &[Chan] = &shape.channels;
     let mut inboxes = Vec::with_capacity(alloc, channels.len())?;
     for channel in channels {
-        inboxes.push(first_inbox(alloc, layout.cross.as_slice(), channel)?)?;
+        inboxes.push(first_inbox(alloc, &layout.cross, channel)?)?;
     }
     Ok(inboxes)
 }
@@ -109,10 +110,10 @@ pub fn inboxes(alloc: Global, layout: &Layout, shape: &Shape) -> Result<Vec<Inbo
 pub fn buffers(alloc: Global, layout: &Layout, shape: &Shape) -> Result<Vec<Payload>, Memory>
     ensures { IfOk result (λ buffers. buffers.items ≡ map (literals_on layout.now.cross) shape.now.channels) }
 {
-    let channels = shape.channels.as_slice();
+    let channels: &[Chan] = &shape.channels;
     let mut buffers = Vec::with_capacity(alloc, channels.len())?;
     for channel in channels {
-        let values = literals(alloc, layout.cross.as_slice(), channel)?;
+        let values = literals(alloc, &layout.cross, channel)?;
         buffers.push(Payload::of(List::of(values)))?;
     }
     Ok(buffers)

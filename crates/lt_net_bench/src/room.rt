@@ -35,7 +35,7 @@ fn most_given(nodes: &[Part]) -> usize
 pub fn values(alloc: Global, layout: &Layout) -> Result<Vec<Value>, Memory>
     ensures { IfOk result (λ values. length values.items ≡ max (length layout.now.cross) (most_fed layout.now.nodes)) }
 {
-    let room = layout.cross.len().max(most_fed(layout.nodes.as_slice()));
+    let room = layout.cross.len().max(most_fed(&layout.nodes));
     Ok(vec![in alloc; Value::Bool(false); room]?)
 }
 
@@ -43,7 +43,7 @@ pub fn values(alloc: Global, layout: &Layout) -> Result<Vec<Value>, Memory>
 pub fn outs(alloc: Global, layout: &Layout) -> Result<Vec<Cell>, Memory>
     ensures { IfOk result (λ outs. length outs.items ≡ most_given layout.now.nodes) }
 {
-    let room = most_given(layout.nodes.as_slice());
+    let room = most_given(&layout.nodes);
     Ok(vec![in alloc; Cell::Absent; room]?)
 }
 

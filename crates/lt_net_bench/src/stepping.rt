@@ -1,12 +1,11 @@
 // An instant of a node: the step of its machine, and where its outputs go.
-ghost use Rattle.std.specs.Prelude.{◌≡◌, ◌<◌, ◌≤◌, ◌+◌, ◌==◌, ℕ, [], true, Some, length, map, slice_get, slice_index_or};
+ghost use Rattle.std.specs.Prelude.{◌≡◌, ◌<◌, ◌≤◌, ◌+◌, ℕ, [], true, Some, length, slice_get, slice_index_or};
 ghost use Rattle.lt_place.specs.declared.layout.Feed.{Feed as OfFeed};
-ghost use Rattle.lt_place.specs.Layout.{no_crossing};
 ghost use Rattle.lt_base.specs.declared.value.Cell.TheVariants.{Absent};
 ghost use Rattle.lt_net_bench.specs.Track.{track_at};
-ghost use Rattle.lt_net_bench.specs.Executes.{MachineRuns};
-ghost use Rattle.lt_net_node.specs.Fed.{fed_by, CanFeed, route_of};
-ghost use Rattle.lt_net_bench.specs.Routes.{put_if, push_cell_if, filled, tracked, exit_of};
+ghost use Rattle.lt_net_bench.specs.Executes.{PartRuns};
+ghost use Rattle.lt_net_node.specs.Fed.{CanFeed};
+ghost use Rattle.lt_net_bench.specs.Routes.{put_if, push_cell_if, filled, tracked, RoutesHaveOuts, RoutesHaveChannels, RoutesHavePlaces, ExitsHaveOuts, ExitsHaveRoom};
 
 use crate::exit::Exit;
 use crate::payload::Payload;
@@ -43,18 +42,12 @@ fn push_if(gives: bool, outs: &[Cell], out: usize, cells: &mut Vec<Track>, y: us
     }
 }
 
-/// Puts a node's outputs into the payloads of the channels that they cross on.
-pub fn fill(
-    cross: &[Crossing],
-    routes: &[Route],
-    node: u32,
-    outs: &[Cell],
-    buffers: &mut Vec<Payload>,
-)
+// Puts a node's outputs into the payloads of the channels that they cross on.
+fn fill(cross: &[Crossing], routes: &[Route], node: u32, outs: &[Cell], buffers: &mut Vec<Payload>)
     requires routes { length routes.now ≡ length cross.now }
-    requires outs { (c : ℕ) → c < length cross.now → ((slice_index_or cross.now c no_crossing).from == node) ≡ true → (route_of routes.now c).out < length outs.now }
-    requires channels { (c : ℕ) → c < length cross.now → ((slice_index_or cross.now c no_crossing).from == node) ≡ true → (route_of routes.now c).channel < length buffers.old.items }
-    requires places { (c : ℕ) → c < length cross.now → ((slice_index_or cross.now c no_crossing).from == node) ≡ true → (route_of routes.now c).place < length (slice_index_or buffers.old.items (route_of routes.now c).channel []) }
+    requires outs { RoutesHaveOuts cross.now routes.now node (length outs.now) }
+    requires channels { RoutesHaveChannels cross.now routes.now node buffers.old.items }
+    requires places { RoutesHavePlaces cross.now routes.now node buffers.old.items }
     ensures { buffers.new.items ≡ filled cross.now routes.now node outs.now (length cross.now) buffers.old.items }
 {
     for c in 0..cross.len() {
@@ -62,11 +55,11 @@ pub fn fill(
     }
 }
 
-/// Appends a node's outputs to the cells of the outputs of the whole.
-pub fn append(exits: &[Exit], node: u32, outs: &[Cell], cells: &mut Vec<Track>)
+// Appends a node's outputs to the cells of the outputs of the whole.
+fn append(exits: &[Exit], node: u32, outs: &[Cell], cells: &mut Vec<Track>)
     requires size { length exits.now ≡ length cells.old.items }
-    requires outs { (y : ℕ) → y < length exits.now → ((exit_of exits.now y).node == node) ≡ true → (exit_of exits.now y).out < length outs.now }
-    requires room { (y : ℕ) → y < length exits.now → ((exit_of exits.now y).node == node) ≡ true → length (track_at cells.old.items y).cells < (track_at cells.old.items y).room }
+    requires outs { ExitsHaveOuts exits.now node (length outs.now) }
+    requires room { ExitsHaveRoom exits.now node cells.old.items }
     ensures { cells.new.items ≡ tracked exits.now node outs.now (length exits.now) cells.old.items }
 {
     for y in 0..exits.len() {
@@ -76,7 +69,7 @@ pub fn append(exits: &[Exit], node: u32, outs: &[Cell], cells: &mut Vec<Track>)
 }
 
 /// Runs an instant of a node's part on its input row, and puts its outputs where they go.
-pub fn instant<M: Machine, L: Ledger>(
+pub(crate) fn instant<M: Machine, L: Ledger>(
     part: &Part,
     cross: &[Crossing],
     routes: &[Route],
@@ -98,13 +91,14 @@ pub fn instant<M: Machine, L: Ledger>(
     requires wide { M.inputs machine.old ≡ length part.now.feeds }
     requires long { M.outputs machine.old ≡ length part.now.outs }
     requires routes { length routes.now ≡ length cross.now }
-    requires crossing_outs { (c : ℕ) → c < length cross.now → ((slice_index_or cross.now c no_crossing).from == node) ≡ true → (route_of routes.now c).out < length part.now.outs }
-    requires channels { (c : ℕ) → c < length cross.now → ((slice_index_or cross.now c no_crossing).from == node) ≡ true → (route_of routes.now c).channel < length buffers.old.items }
-    requires places { (c : ℕ) → c < length cross.now → ((slice_index_or cross.now c no_crossing).from == node) ≡ true → (route_of routes.now c).place < length (slice_index_or buffers.old.items (route_of routes.now c).channel []) }
+    requires crossing_outs { RoutesHaveOuts cross.now routes.now node (length part.now.outs) }
+    requires channels { RoutesHaveChannels cross.now routes.now node buffers.old.items }
+    requires places { RoutesHavePlaces cross.now routes.now node buffers.old.items }
     requires exits { length exits.now ≡ length tracks.old.items }
-    requires exit_outs { (y : ℕ) → y < length exits.now → ((exit_of exits.now y).node == node) ≡ true → (exit_of exits.now y).out < length part.now.outs }
-    requires track_room { (y : ℕ) → y < length exits.now → ((exit_of exits.now y).node == node) ≡ true → length (track_at tracks.old.items y).cells < (track_at tracks.old.items y).room }
-    ensures runs { MachineRuns M.Machine machine.old machine.new (map (fed_by routes.now inboxes.now row.now) part.now.feeds) (length part.now.outs) cross.now routes.now exits.now node buffers.old.items buffers.new.items tracks.old.items tracks.new.items }
+    requires exit_outs { ExitsHaveOuts exits.now node (length part.now.outs) }
+    requires track_room { ExitsHaveRoom exits.now node tracks.old.items }
+    ensures runs { PartRuns M.Machine part.now cross.now routes.now exits.now inboxes.now row.now node
+        machine.old machine.new buffers.old.items buffers.new.items tracks.old.items tracks.new.items }
     ensures values { length values.new.items ≡ length values.old.items }
     ensures outs { length outs.new.items ≡ length outs.old.items }
     ensures size { M.size machine.new ≡ M.size machine.old }

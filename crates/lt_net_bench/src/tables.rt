@@ -62,11 +62,11 @@ fn route_to(layout: &Layout, channels: &[Chan], c: usize) -> Route
     requires sender { (slice_index_or layout.now.cross c no_crossing).from < length layout.now.nodes }
     ensures { result ≡ route_to layout.now channels.now c }
 {
-    let cross = layout.cross.as_slice();
+    let cross: &[Crossing] = &layout.cross;
     let crossing = cross[c];
-    let sender = &layout.nodes.as_slice()[crossing.from as usize];
+    let sender = &layout.nodes[crossing.from as usize];
     Route {
-        out: place_among(sender.outs.as_slice(), crossing.var),
+        out: place_among(&sender.outs, crossing.var),
         channel: channel_between(channels, crossing.from, crossing.to),
         place: count_between(&cross[..c], crossing.from, crossing.to),
     }
@@ -77,11 +77,10 @@ pub fn routes(alloc: Global, layout: &Layout, shape: &Shape) -> Result<Vec<Route
     requires senders { (c : ℕ) → c < length layout.now.cross → (slice_index_or layout.now.cross c no_crossing).from < length layout.now.nodes }
     ensures { IfOk result (λ routes. routes.items ≡ firsts (route_to layout.now shape.now.channels) (length layout.now.cross)) }
 {
-    let channels = shape.channels.as_slice();
     let count = layout.cross.len();
     let mut routes = Vec::with_capacity(alloc, count)?;
     for c in 0..count {
-        routes.push(route_to(layout, channels, c))?;
+        routes.push(route_to(layout, &shape.channels, c))?;
     }
     Ok(routes)
 }
@@ -89,7 +88,7 @@ pub fn routes(alloc: Global, layout: &Layout, shape: &Shape) -> Result<Vec<Route
 fn gives_out(part: &Part, variable: u32) -> bool
     ensures { result ≡ gives_out variable part.now }
 {
-    part.outs.as_slice().iter().any(|out| *out == variable)
+    part.outs.iter().any(|out| *out == variable)
 }
 
 fn position_of_giver(nodes: &[Part], variable: u32) -> Option<usize>
@@ -114,7 +113,7 @@ fn exit_for(nodes: &[Part], variable: u32) -> Exit
     let node = giver(nodes, variable);
     Exit {
         node,
-        out: place_among(nodes[node].outs.as_slice(), variable),
+        out: place_among(&nodes[node].outs, variable),
     }
 }
 
@@ -123,8 +122,8 @@ pub fn exits(alloc: Global, layout: &Layout) -> Result<Vec<Exit>, Memory>
     requires { 0 < length layout.now.nodes }
     ensures { IfOk result (λ exits. exits.items ≡ map (exit_for layout.now.nodes) layout.now.outs) }
 {
-    let nodes = layout.nodes.as_slice();
-    let outs = layout.outs.as_slice();
+    let nodes: &[Part] = &layout.nodes;
+    let outs: &[u32] = &layout.outs;
     let mut exits = Vec::with_capacity(alloc, outs.len())?;
     for variable in outs {
         exits.push(exit_for(nodes, *variable))?;

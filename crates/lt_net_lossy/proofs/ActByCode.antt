@@ -3,14 +3,13 @@ use Rattle.std.proofs.Common.{◌≡◌, inl, inr, ℕ, ◌+◌, ◌<◌, ◌≤
 use Rattle.std.specs.Prelude.{slice_index_or}
 use Rattle.std.proofs.lemmas.List.{get_or-set_same}
 use Rattle.lt_base.specs.declared.value.Value.{Value}
-use Rattle.lt_base.specs.Program.{Function}
 use Rattle.lt_arch.specs.declared.event.Deed.{Deed}
 use Rattle.lt_arch.specs.declared.event.Deed.TheVariants.{Nothing, Execute, Send}
 use Rattle.lt_arch.specs.declared.event.Event.TheVariants.{Act}
 use Rattle.lt_arch.specs.declared.limits.TheConstants.{GREATEST_TIME}
 use Rattle.lt_arch.specs.Deeds.{deed_at}
 use Rattle.lt_arch.specs.Readers.{node_count, chan_count}
-use Rattle.lt_arch.specs.State.{Phase, executed_of}
+use Rattle.lt_arch.specs.State.{executed_of}
 use Rattle.lt_arch.specs.Step.{is_execute}
 use Rattle.lt_io.specs.FabricState.{FabricState}
 use Rattle.lt_lossy.specs.declared.event.LossyEvent.TheVariants.{Plain}
@@ -19,7 +18,7 @@ use Rattle.lt_lossy.proofs.Changes.{node-act_here}
 use Rattle.lt_net_bench.proofs.Entries.{either_way}
 use Rattle.lt_net_lossy.specs.Changes.{NotesAct, sent_after}
 use Rattle.lt_net_lossy.specs.Deeds.{DoesDeed, LossyCanAct}
-use Rattle.lt_net_lossy.specs.Event.{PassesLossy, LossyGoesOn}
+use Rattle.lt_net_lossy.specs.Event.{PassesLossy, LossyGoesOn, lossy_deed_by}
 use Rattle.lt_net_lossy.specs.Given.{HasLossyRow}
 use Rattle.lt_net_lossy.specs.Halts.{HasHaltedLossy, MayTakeLossy, SendsBehind}
 use Rattle.lt_net_lossy.specs.Holds.{SendsLossy}
@@ -30,7 +29,7 @@ use Rattle.lt_net_lossy.specs.Stands.{StandsLossy}
 use Rattle.lt_net_lossy.specs.Taken.{LossyHeld, HasLossyKinds, SameLossyStatic, IsKeptLossy, IsTakenLossy}
 use Rattle.lt_net_lossy.proofs.Fronts.{law-own}
 use Rattle.lt_net_lossy.proofs.InstantOf.{takes, instant_ran}
-use Rattle.lt_net_lossy.proofs.Keeps.{law-events_keep}
+use Rattle.lt_net_lossy.proofs.Keeps.{law-events_keep, rows_stay}
 use Rattle.lt_net_lossy.proofs.NextLossy.{next_lossy, row_there}
 use Rattle.lt_net_lossy.proofs.SentAgain.{sent_next}
 use Rattle.lt_net_lossy.proofs.SentTwice.{notes_again, sends_again, room_for}
@@ -179,6 +178,7 @@ module _ {C M : Type 0} (ctl : Controls C) (mch : Machines M) (net : LossyBenchS
           goes = goes_on;
           carried = λ ls next with goes. subst (λ ps. SendsLossy net.shape n (woken_in net ls n at) ps fabric fabric') (sym (ap (λ (z : LossyBenchState C M). z.posted) is)) (sends_now ls with.standing);
           own = λ faithful ls next with goes own. law-own ctl mch net ls next row [] fabric (Plain (Act n at)) kept.fixed with own nb goes tt;
+          stays = λ ls next with goes. rows_stay ctl mch net ls next row [] fabric kept.fixed kept.sized with n (lossy_deed_by net ls (Plain (Act n at))) row goes.inputs (λ i c. goes.got c i);
           kept = kept_new;
           static = static_now limit;
           kinds = again.kinds;

@@ -1,24 +1,22 @@
 -- A net after a copy of the newest message of a channel came again.
-use Rattle.std.proofs.Common.{◌≡◌, ◌≢◌, ◌⊎◌, inl, inr, ℕ, suc, ◌+◌, ◌<◌, ◌≤◌, Bool, true, false, List, [], ◌∷◌, length, set, Option, Some, refl, sym, ap, ◌∙◌, subst, arith, nat_le}
+use Rattle.std.proofs.Common.{◌≡◌, ◌≢◌, ℕ, suc, ◌<◌, ◌≤◌, Bool, true, false, List, [], length, set, Option, Some, refl, sym, ap, ◌∙◌, subst, arith, nat_le}
 use Rattle.std.specs.Prelude.{slice_index_or, ◌&&◌, ◌||◌, if◌then◌else◌}
 use Rattle.std.specs.List.{slice_get}
 use Rattle.lt_base.specs.declared.value.Value.{Value}
-use Rattle.lt_base.specs.Program.{Function}
 use Rattle.lt_arch.specs.declared.event.Event.TheVariants.{Del}
-use Rattle.lt_arch.specs.State.{Phase}
 use Rattle.lt_arch.specs.Readers.{node_count, chan_count, from_of, to_of, carries_data}
 use Rattle.lt_link.specs.Bits.{bit_of, differ}
 use Rattle.lt_link.specs.Inbox.{InboxState, has_unread}
 use Rattle.lt_lossy.specs.declared.event.LossyEvent.TheVariants.{Plain}
-use Rattle.lt_lossy.specs.State.{LinkState, LossyState, plain_of, sent_count}
-use Rattle.lt_lossy.specs.Times.{LossyTimes, without_oldest, with_losses}
+use Rattle.lt_lossy.specs.State.{LossyState, plain_of, sent_count}
+use Rattle.lt_lossy.specs.Times.{without_oldest, with_losses}
 use Rattle.lt_lossy.proofs.Changes.{node-del, link-del}
 use Rattle.lt_lossy.proofs.Noted.{law-times}
 use Rattle.lt_place.specs.Layout.{crossing_of}
 use Rattle.lt_net_node.specs.Payloads.{payloads_between, message_of}
 use Rattle.lt_net_bench.specs.Standing.{HasOwnValues, StandsAt}
 use Rattle.lt_net_bench.proofs.Bits.{differ_same, data_fresh, leb-le}
-use Rattle.lt_net_bench.proofs.Entries.{and_parts, either_way}
+use Rattle.lt_net_bench.proofs.Entries.{and_parts}
 use Rattle.lt_net_bench.proofs.OwnValues.{SeesSame, own_seen}
 use Rattle.lt_net_bench.proofs.Replaced.{replaced_length, replaced_last, sees_replaced, replaced_at}
 use Rattle.lt_net_lossy.specs.Net.{LossyBenchState, LossyLists, bench_of_lossy, lossy_state_of}
@@ -26,7 +24,7 @@ use Rattle.lt_net_lossy.specs.Stands.{StandsLossy}
 use Rattle.lt_net_lossy.specs.Event.{PassesLossy, LossyGoesOn, GetsBy, is_unread, brings_new}
 use Rattle.lt_net_lossy.specs.Kept.{IsFixedLossy, HasLossySizes}
 use Rattle.lt_net_lossy.specs.Receives.{with_latest}
-use Rattle.lt_net_lossy.proofs.Arrived.{old_number, got_copy, ascends, stays_stands}
+use Rattle.lt_net_lossy.proofs.Arrived.{old_number, ascends, stays_stands}
 use Rattle.lt_net_lossy.proofs.Reached.{one_now}
 use Rattle.lt_machine.specs.declared.machine.Machine.{Ghosts as Machines}
 use Rattle.lt_arch.specs.declared.controller.Controller.{Ghosts as Controls}

@@ -7,11 +7,10 @@ use Rattle.lt_base.specs.Program.{Function}
 use Rattle.lt_arch.specs.declared.event.Deed.{Deed}
 use Rattle.lt_arch.specs.declared.event.Deed.TheVariants.{Nothing, Execute, Send}
 use Rattle.lt_arch.specs.declared.event.Event.TheVariants.{Act}
-use Rattle.lt_arch.specs.declared.timing.Protocol.{Protocol}
 use Rattle.lt_arch.specs.declared.timing.Timing.{Timing}
 use Rattle.lt_arch.specs.State.{Phase, Wait, Ready, First, Sending, Executing, unsent}
 use Rattle.lt_arch.specs.Readers.{node_count, chan_count, chan_of, send_of, execute_of}
-use Rattle.lt_arch.specs.Deeds.{all_below, some_below, deed_at, phase_at, phase_after}
+use Rattle.lt_arch.specs.Deeds.{deed_at, phase_at, phase_after}
 use Rattle.lt_bp.proofs.Balance.{IsPhase}
 use Rattle.lt_link.specs.Inbox.{InboxState}
 use Rattle.lt_lossy.specs.State.{plain_of}
@@ -20,7 +19,7 @@ use Rattle.lt_lossy.specs.declared.event.LossyEvent.TheVariants.{Plain}
 use Rattle.lt_lossy.proofs.Balance.{woke-n}
 use Rattle.lt_net_node.specs.Acts.{takes_on}
 use Rattle.lt_net_bench.specs.Executes.{CanExecute, Executes}
-use Rattle.lt_net_node.specs.Freshness.{fresh_or_other, fresh_one, TakenUpTo}
+use Rattle.lt_net_node.specs.Freshness.{TakenUpTo}
 use Rattle.lt_link.specs.Ports.{is_to, is_from, HasPorts}
 use Rattle.lt_net_bench.specs.Given.{FitsPart}
 use Rattle.lt_net_node.specs.Payloads.{types_for}

@@ -3,12 +3,10 @@ use Rattle.std.proofs.Common.{◌≡◌, inl, inr, ℕ, suc, ◌<◌, ◌≤◌,
 use Rattle.std.specs.Prelude.{slice_index_or}
 use Rattle.std.proofs.lemmas.Bool.Decides.{eqb_tells}
 use Rattle.lt_base.specs.declared.value.Value.{Value}
-use Rattle.lt_base.specs.Program.{Function}
 use Rattle.lt_arch.specs.declared.event.Deed.{Deed}
 use Rattle.lt_arch.specs.declared.event.Deed.TheVariants.{Nothing, Execute, Send}
 use Rattle.lt_arch.specs.declared.event.Event.TheVariants.{Act, Del, End}
 use Rattle.lt_arch.specs.declared.shape.Shape.{Shape}
-use Rattle.lt_arch.specs.State.{Phase}
 use Rattle.lt_arch.specs.Readers.{node_count, chan_count, from_of, to_of, carries_data}
 use Rattle.lt_lossy.specs.declared.event.LossyEvent.TheVariants.{Plain, Lose}
 use Rattle.lt_lossy.specs.State.{plain_of}

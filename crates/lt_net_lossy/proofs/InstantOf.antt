@@ -3,12 +3,10 @@ use Rattle.std.proofs.Common.{◌≡◌, ℕ, ◌<◌, List, [], map, set, Optio
 use Rattle.std.specs.Prelude.{slice_index_or}
 use Rattle.lt_base.specs.declared.value.Value.{Value}
 use Rattle.lt_base.specs.Value.{ty_of}
-use Rattle.lt_base.specs.Program.{Function}
 use Rattle.lt_arch.specs.declared.event.Deed.TheVariants.{Execute}
 use Rattle.lt_arch.specs.declared.event.Event.TheVariants.{Act}
 use Rattle.lt_arch.specs.Deeds.{deed_at, phase_at}
 use Rattle.lt_arch.specs.Readers.{node_count, chan_count}
-use Rattle.lt_arch.specs.State.{Phase}
 use Rattle.lt_lossy.specs.declared.event.LossyEvent.TheVariants.{Plain}
 use Rattle.lt_lossy.specs.State.{plain_of}
 use Rattle.lt_net_bench.specs.Changes.{ActsOn, GrowsByRow}

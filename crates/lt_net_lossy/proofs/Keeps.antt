@@ -1,17 +1,17 @@
 -- Every event without an offence leaves a net that stands, and a fabric that has in transit what its state says.
-use Rattle.std.proofs.Common.{◌≡◌, inl, inr, ℕ, suc, ◌<◌, true, false, not, Bool, List, [], ◌∷◌, ◌++◌, length, set, Option, refl, sym, ap, ◌∙◌, subst, arith}
-use Rattle.std.specs.Prelude.{◌||◌, if◌then◌else◌}
+use Rattle.std.proofs.Common.{◌≡◌, inl, inr, ℕ, suc, ◌<◌, true, false, not, Bool, List, [], ◌∷◌, ◌++◌, length, set, Option, Some, None, refl, sym, ap, ◌∙◌, subst, arith}
+use Rattle.std.specs.Prelude.{◌||◌, if◌then◌else◌, slice_index_or}
+use Rattle.std.proofs.lemmas.Option.{slice_get-get_or}
 use Rattle.std.specs.List.{slice_get}
 use Rattle.lt_base.specs.declared.value.Value.{Value}
-use Rattle.lt_base.specs.Program.{Function}
-use Rattle.lt_arch.specs.declared.event.Deed.TheVariants.{Execute}
+use Rattle.lt_arch.specs.declared.event.Deed.{Deed}
+use Rattle.lt_arch.specs.declared.event.Deed.TheVariants.{Nothing, Send, Execute}
 use Rattle.lt_arch.specs.declared.event.Event.TheVariants.{Act, Del}
-use Rattle.lt_arch.specs.State.{Phase}
 use Rattle.lt_arch.specs.Readers.{node_count, chan_count, from_of, to_of}
 use Rattle.lt_io.specs.declared.message.Message.{Message}
 use Rattle.lt_io.specs.FabricState.{FabricState, Delivers}
 use Rattle.lt_link.specs.Bits.{differ}
-use Rattle.lt_link.specs.Inbox.{InboxState, has_unread}
+use Rattle.lt_link.specs.Inbox.{InboxState, has_unread, no_inbox}
 use Rattle.lt_lossy.specs.declared.event.LossyEvent.TheVariants.{Plain}
 use Rattle.lt_lossy.specs.Times.{without_oldest, with_losses}
 use Rattle.lt_net_bench.specs.Standing.{HasOwnValues}
@@ -19,7 +19,8 @@ use Rattle.lt_net_bench.proofs.Bits.{differ_is, differ_none}
 use Rattle.lt_net_bench.proofs.Entries.{either_way}
 use Rattle.lt_net_bench.proofs.OwnValues.{own_taken}
 use Rattle.lt_net_lossy.specs.Net.{LossyBenchState, LossyLists, lossy_state_of}
-use Rattle.lt_net_lossy.specs.Event.{PassesLossy, LossyGoesOn, lossy_deed_by, brings_new, is_unread}
+use Rattle.lt_net_lossy.specs.Event.{PassesLossy, RowsGo, LossyGoesOn, lossy_deed_by, brings_new, is_unread}
+use Rattle.lt_net_lossy.specs.Taken.{OwnStays}
 use Rattle.lt_net_lossy.specs.Kept.{IsFixedLossy, HasLossySizes}
 use Rattle.lt_net_lossy.specs.Receives.{with_latest}
 use Rattle.lt_net_lossy.specs.Laws.{StandsWith, KeepsAct, KeepsDel, KeepsStanding, EventsKeep}
@@ -37,7 +38,7 @@ new_latest b payload bit new = ap (λ x. if x || has_unread b then record b { pa
 module _ {C M : Type 0} (ctl : Controls C) (mch : Machines M) (net : LossyBenchState C M) (ls next : LossyLists) (row : Option (List Value)) (payload : List Value) (fabric : FabricState)
     (fixed : IsFixedLossy net.layout net.shape net.timing) (sized : HasLossySizes net) (with : StandsWith ctl mch net ls fabric) where
   -- where the lists are the same
-  same_own : next.inputs ≡ ls.inputs → next.got ≡ ls.got → (c k : ℕ) (p : List Value) → c < chan_count net.shape → k < length (ls.inputs (from_of net.shape c)) → HasOwnValues net.layout net.shape ls.inputs ls.got (from_of net.shape c) (to_of net.shape c) k p →
+  pub same_own : next.inputs ≡ ls.inputs → next.got ≡ ls.got → (c k : ℕ) (p : List Value) → c < chan_count net.shape → k < length (ls.inputs (from_of net.shape c)) → HasOwnValues net.layout net.shape ls.inputs ls.got (from_of net.shape c) (to_of net.shape c) k p →
       HasOwnValues net.layout net.shape next.inputs next.got (from_of net.shape c) (to_of net.shape c) k p
   same_own inputs got c k p lt h own = subst (λ rs. HasOwnValues net.layout net.shape rs next.got (from_of net.shape c) (to_of net.shape c) k p) (sym inputs)
       (subst (λ g. HasOwnValues net.layout net.shape ls.inputs g (from_of net.shape c) (to_of net.shape c) k p) (sym got) own)
@@ -116,6 +117,45 @@ module _ {C M : Type 0} (ctl : Controls C) (mch : Machines M) (net : LossyBenchS
                   ch at m fabric' from_fabric passes goes.events).transit;
             };
           }
+
+  -- Own values of executed instants stay own values.
+
+  pub rows_stay : (n : ℕ) (d : Deed) (r : Option (List Value)) → RowsGo n d r ls.inputs next.inputs → next.got ≡ ls.got → OwnStays net.layout net.shape ls next
+  rows_stay n Nothing r go got = same_own (λ i m. go m i) got
+  rows_stay n Send r go got = same_own (λ i m. go m i) got
+  rows_stay n Execute None go got = absurd go
+  rows_stay n Execute (Some input) go got = λ c k p lt h own. subst (λ g. HasOwnValues net.layout net.shape next.inputs g (from_of net.shape c) (to_of net.shape c) k p) (sym got)
+      (own_taken net.layout net.shape ls.inputs next.inputs ls.got n input go (from_of net.shape c) (to_of net.shape c) k p h own)
+
+  pub delivery_stays : (ch at : ℕ) → PassesLossy net ls (Plain (Del ch at)) → ch < chan_count net.shape → LossyGoesOn net ls next (Plain (Del ch at)) row payload →
+      (o : Message) (later : List Message) → fabric.transit ch ≡ o ∷ later → OwnStays net.layout net.shape ls next
+  delivery_stays ch at passes here goes o later taken c k p lt h own = elim (either_way (brings_new (lossy_state_of net ls) ch)) [
+    | inl new ↦
+        own_still ctl mch net ls next with.standing sized row payload ch at here passes goes fixed new box at_inbox o.bit (differ_is o.bit box.bit (sym tells ∙ new))
+        (from_of net.shape c) (to_of net.shape c) k p sender h own
+    | inr old ↦
+        let some = copies_own ctl mch net ls next with.standing fixed fabric with.holds ch here o later taken old in
+        let is_copy : Copied ctl mch net ls next with.standing sized fixed ch here box at_inbox payload (is_unread net.shape (lossy_state_of net ls) ch) =
+        copied_lists ctl mch net ls next with.standing sized fixed ch here box at_inbox payload (is_unread net.shape (lossy_state_of net ls) ch) some.0 refl some.1
+        (got_copy _ _ ls.got next.got ch payload old goes.got) in
+        subst (λ rs. HasOwnValues net.layout net.shape rs next.got (from_of net.shape c) (to_of net.shape c) k p) (sym inputs_are)
+        (copy_own ctl mch net ls next with.standing sized fixed ch here box at_inbox payload is_copy (from_of net.shape c) (to_of net.shape c) k p sender h own)
+  ]
+    where
+      inputs_are : next.inputs ≡ ls.inputs
+      inputs_are = λ i n. goes.inputs n i
+
+      sender : from_of net.shape c < node_count net.shape
+      sender = let e = fixed.channels.ends c lt in omega (arith, e, fixed.channels.nodes)
+
+      box : InboxState
+      box = slice_index_or net.inboxes ch no_inbox
+
+      at_inbox : slice_get net.inboxes ch ≡ Some box
+      at_inbox = slice_get-get_or net.inboxes ch no_inbox (omega (arith, here, sized.bench.inboxes))
+
+      tells : brings_new (lossy_state_of net ls) ch ≡ differ o.bit box.bit
+      tells = bit_tells ctl mch net ls next with.standing fixed fabric with.holds ch here o later taken ∙ ap (differ o.bit) (sym (with.standing.bench.bits ch box at_inbox))
 
   pub events_keep : KeepsStanding ctl mch net ls next row payload fabric
   events_keep = record {

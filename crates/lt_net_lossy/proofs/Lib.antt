@@ -29,3 +29,4 @@ pub mod LossyOutcomes
 pub mod LossyPerformed
 pub mod LossySoundNetworks
 pub mod LossyStopping
+pub mod SentOn

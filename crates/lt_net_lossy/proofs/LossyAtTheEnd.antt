@@ -1,24 +1,21 @@
 -- What a net at the end of a schedule over links that lose messages has, in the architecture's words.
-use Rattle.std.proofs.Common.{◌≡◌, ℕ, zero, suc, ◌+◌, ◌<◌, List, [], ◌∷◌, length, map, take, Option, Some, None, IsTrue, refl, sym, ap, ◌∙◌, subst, arith}
+use Rattle.std.proofs.Common.{◌≡◌, ℕ, ◌+◌, ◌<◌, List, [], ◌∷◌, length, map, take, Option, Some, None, IsTrue, refl, sym, ap, ◌∙◌, subst, arith}
 use Rattle.std.specs.Prelude.{slice_get, slice_index_or, is_some, if◌then◌else◌}
 use Rattle.std.proofs.lemmas.List.{get_or-map, length-map}
 use Rattle.std.proofs.lemmas.Option.{slice_get_within}
 use Rattle.lt_base.specs.declared.value.Value.{Value}
 use Rattle.lt_base.specs.declared.value.Cell.{Cell}
-use Rattle.lt_base.specs.Program.{Function}
 use Rattle.lt_base.specs.Meaning.{calls, stream_of}
 use Rattle.lt_arch.specs.declared.event.Offence.TheVariants.{NoEnd}
 use Rattle.lt_arch.specs.declared.shape.Shape.{Shape}
 use Rattle.lt_arch.specs.declared.timing.Timing.{Timing}
-use Rattle.lt_arch.specs.State.{Phase}
 use Rattle.lt_arch.specs.Readers.{node_count, chan_count, from_of, to_of}
-use Rattle.lt_io.specs.declared.message.Message.{Message}
 use Rattle.lt_io.specs.FabricState.{FabricState}
 use Rattle.lt_place.specs.Layout.{part_of}
 use Rattle.lt_lossy.specs.declared.event.LossyEvent.{LossyEvent}
 use Rattle.lt_lossy.specs.declared.event.LossyOffence.{LossyOffence}
 use Rattle.lt_lossy.specs.declared.event.LossyOffence.TheVariants.{Common}
-use Rattle.lt_lossy.specs.State.{Message as Numbered, LossyState, lossy_start}
+use Rattle.lt_lossy.specs.State.{LossyState, lossy_start}
 use Rattle.lt_lossy.specs.Step.{lossy_after}
 use Rattle.lt_lossy.specs.Schedule.{lossy_reached, lossy_after_all, HasNoLossyOffence, IsLossyAdmissible, first_lossy_offence_from, numbered_lossy_or, missing_lossy_end}
 use Rattle.lt_lossy.proofs.Pace.{law as least_length}
@@ -33,15 +30,16 @@ use Rattle.lt_net_bench.proofs.LaidOut.{laid_out}
 use Rattle.lt_net_bench.proofs.LocalFronts.{local_stream_same}
 use Rattle.lt_net_bench.proofs.OutputFronts.{same_rows_of}
 use Rattle.lt_net_lossy.specs.Net.{LossyBenchState, LossyLists, lossy_state_of}
-use Rattle.lt_net_lossy.specs.Holds.{OwnOf, AreSent, OwnOn}
+use Rattle.lt_net_lossy.specs.Holds.{AreSent, OwnOn}
 use Rattle.lt_net_lossy.specs.Kept.{IsFixedLossy, HasLossySizes}
 use Rattle.lt_net_lossy.proofs.Fronts.{law-fronts}
+use Rattle.lt_net_lossy.proofs.Transit.{sent_mapped}
 use Rattle.lt_net.specs.declared.replayed.Replayed.{Replayed}
 use Rattle.lt_net_lossy.specs.Rules.{lossy_unended}
-use Rattle.lt_net_lossy.specs.Told.{IsToldLossy}
+use Rattle.lt_net_lossy.specs.Told.{IsToldLossy, messages_of}
 use Rattle.lt_net_lossy.specs.LossyRun.{executed_in, rows_in, IsOwnOn, HasLossySteps}
 use Rattle.lt_net_lossy.specs.LossyReplays.{IsLossyReplay}
-use Rattle.lt_net_lossy.specs.LossyPlays.{KeepsLossy, IsTakenFrom}
+use Rattle.lt_net_lossy.specs.LossyPlays.{IsOwnSoFar, KeepsLossy, IsTakenFrom}
 use Rattle.lt_machine.specs.declared.machine.Machine.{Ghosts as Machines}
 use Rattle.lt_arch.specs.declared.controller.Controller.{Ghosts as Controls}
 
@@ -66,17 +64,6 @@ stopped_at st none = ended_at st.horizon none
 admissible_by : (s : Shape) (t : Timing) (limit rows : ℕ) (es : List LossyEvent) (h : ℕ) → HasNoLossyOffence s t limit rows lossy_start es → (lossy_reached s t rows es).horizon ≡ Some h → IsLossyAdmissible s t limit rows es
 admissible_by s t limit rows es h free is =
     first_none s t limit rows lossy_start 1 es free ∙ ap (λ (z : Option ℕ). if is_some z then None else Some (1 + length es, Common NoEnd)) is
-
--- messages that are their senders' own by one reading are so by another
-own_mapped : (own own' : ℕ → List Value → Type 0) → ((k : ℕ) (p : List Value) → own k p → own' k p) → (number : ℕ) (p : List Value) → OwnOf own number p → OwnOf own' number p
-own_mapped own own' f zero p h = h
-own_mapped own own' f (suc k) p h = f k p h
-
-sent_mapped : (own own' : ℕ → List Value → Type 0) → ((k : ℕ) (p : List Value) → own k p → own' k p) → (ns : List Numbered) (ms : List Message) → AreSent own ns ms → AreSent own' ns ms
-sent_mapped own own' f [] [] h = tt
-sent_mapped own own' f [] (m ∷ ms) h = absurd h
-sent_mapped own own' f (n ∷ ns) [] h = absurd h
-sent_mapped own own' f (n ∷ ns) (m ∷ ms) h = (h.0, own_mapped own own' f n.number m.payload h.1, sent_mapped own own' f ns ms h.2)
 
 -- the cells of an output
 cells_at : (tracks : List TrackState) (cells : List (List Cell)) (y : ℕ) → cells ≡ map (λ (track : TrackState). track.cells) tracks → y < length tracks → slice_index_or cells y [] ≡ (track_at tracks y).cells
@@ -119,6 +106,12 @@ module _ {C M : Type 0} (ctl : Controls C) (mch : Machines M) (net : LossyBenchS
         unread = tells.unread;
       }))
 
+  are_sent : IsTrue fabric.told → (c : ℕ) → c < chan_count net.shape → AreSent (IsOwnOn net.layout net.shape last inputs ls.got c) (messages_of net.shape net.timing (length inputs) c events) (fabric.sent c)
+  are_sent told c lt = subst (λ m. AreSent (IsOwnOn net.layout net.shape last inputs ls.got c) (messages_of net.shape net.timing m c events) (fabric.sent c)) rows
+      (subst (λ es. AreSent (IsOwnOn net.layout net.shape last inputs ls.got c) (messages_of net.shape net.timing net.rows c es) (fabric.sent c)) k.events
+      (sent_mapped (IsOwnSoFar net.layout net.shape ls c) (IsOwnOn net.layout net.shape last inputs ls.got c) (λ m p own carries. own_on (from_of net.shape c) (to_of net.shape c) m p (sender c lt) (own carries).1)
+      (messages_of net.shape net.timing net.rows c ls.events) (fabric.sent c) ((k.sent told).each c lt)))
+
   are_own : IsTrue fabric.faithful → PayloadsAreOwn net.layout net.shape (rows_in last inputs) ls.got
   are_own faithful =
       let own = k.own faithful in
@@ -159,6 +152,7 @@ module _ {C M : Type 0} (ctl : Controls C) (mch : Machines M) (net : LossyBenchS
           ∙ ap (λ m. local_stream net.layout (payloads_between net.shape ls.got) n (row_at inputs) m x) (count_is n b);
       in_transit = in_transit;
       told = is_told;
+      sent = are_sent;
       own = are_own;
       fronts = λ f placed fit faithful y n x yb nb gives.
           cells_at net.tracks taken.cells y is.cells (omega (arith, yb, tracks))

@@ -3,12 +3,10 @@ use Rattle.std.proofs.Common.{◌≡◌, ◌<◌, ◌+◌, ◌*◌, ◌^◌, ℕ
 use Rattle.std.specs.List.{slice_get}
 use Rattle.std.proofs.lemmas.Option.{slice_get_within}
 use Rattle.lt_base.specs.declared.value.Value.{Value}
-use Rattle.lt_base.specs.Program.{Function}
 use Rattle.lt_base.specs.Behaviour.{RowsFit}
 use Rattle.lt_arch.specs.declared.shape.Shape.{Shape}
 use Rattle.lt_arch.specs.declared.timing.Timing.{Timing}
 use Rattle.lt_arch.specs.declared.event.Event.TheVariants.{Act}
-use Rattle.lt_arch.specs.State.{Phase}
 use Rattle.lt_arch.specs.Readers.{node_count, chan_count}
 use Rattle.lt_io.specs.declared.message.Message.{Message}
 use Rattle.lt_io.specs.FabricState.{FabricState, KeepsPromises, OpensFabric}
@@ -26,7 +24,8 @@ use Rattle.lt_net_lossy.specs.Kept.{IsFixedLossy}
 use Rattle.lt_net_lossy.specs.Laws.{StandsWith}
 use Rattle.lt_net_lossy.specs.Starts.{no_lossy_lists, IsMadeOfLossy}
 use Rattle.lt_net_lossy.specs.Taken.{HasLossyKinds}
-use Rattle.lt_net_lossy.specs.LossyPlays.{PlaysLossy, TellsAt}
+use Rattle.lt_net_lossy.specs.Holds.{AreSent}
+use Rattle.lt_net_lossy.specs.LossyPlays.{IsOwnSoFar, PlaysLossy, TellsAt}
 use Rattle.lt_machine.specs.declared.machine.Machine.{Ghosts as Machines}
 use Rattle.lt_arch.specs.declared.controller.Controller.{Ghosts as Controls}
 
@@ -41,6 +40,10 @@ nothing_told : (sent delivered transit : List Message) → sent ≡ [] → deliv
 nothing_told sent delivered transit a b c =
     subst (λ ms. TellsAt [] 0 ms delivered transit) (sym a) (subst (λ ms. TellsAt [] 0 [] ms transit) (sym b) (subst (λ ms. TellsAt [] 0 [] [] ms) (sym c)
     (record { taken = refl; counted = refl; total = refl; last = refl })))
+
+-- and nothing was sent
+nothing_sent : (own : ℕ → List Value → Type 0) (sent : List Message) → sent ≡ [] → AreSent own [] sent
+nothing_sent own sent none = subst (AreSent own []) (sym none) tt
 
 -- before the first event no instant was executed, and no message is unread
 no_event : (i : ℕ) (e : LossyEvent) → slice_get {X = LossyEvent} [] i ≡ Some e → ⊥
@@ -78,6 +81,7 @@ plays_first ctl mch inputs l s t losses count ms net old new running is counted 
             ran_on = λ i n k x. absurd (no_event i (Plain (Act n x.at)) x.is);
             unread = λ c k lt unread count. absurd (omega (arith, count));
           };
+      sent = λ told. record { each = λ c lt. nothing_sent (IsOwnSoFar net.bench.layout net.bench.shape no_lossy_lists c) (new.sent c) (opened.sent (subst IsTrue keeps.told told) c) };
     },
   );
 }

@@ -4,8 +4,6 @@ use Rattle.std.specs.Prelude.{IsSome, IsErrAnd, MatchResult, OnOk, is_ok}
 use Rattle.lt_base.specs.declared.value.Value.{Value}
 use Rattle.lt_base.specs.declared.memory.Or.{Or}
 use Rattle.lt_base.specs.declared.memory.Or.TheVariants.{Fault, Memory}
-use Rattle.lt_base.specs.Program.{Function}
-use Rattle.lt_arch.specs.State.{Phase}
 use Rattle.lt_io.specs.FilesState.{FilesState, KeepsNames}
 use Rattle.lt_io.specs.Visits.{Visited}
 use Rattle.lt_io.specs.FabricState.{FabricState}
@@ -14,7 +12,7 @@ use Rattle.lt_io.proofs.Visiting.{visited_any}
 use Rattle.lt_lossy.specs.declared.event.LossyEvent.{LossyEvent}
 use Rattle.lt_lossy.specs.declared.event.LossyOffence.{LossyOffence}
 use Rattle.lt_lossy.specs.Schedule.{lossy_reached}
-use Rattle.lt_answer.specs.World.{KeepsWorld}
+use Rattle.lt_answer.specs.World.{KeepsWorld, world}
 use Rattle.lt_answer.specs.Answered.{OfFile, Verdict, RefusesReading}
 use Rattle.lt_schedule.specs.declared.halt.ScheduleRefusal.{ScheduleRefusal}
 use Rattle.lt_schedule.specs.declared.halt.Halt.{Halt}
@@ -25,7 +23,6 @@ use Rattle.lt_schedule.specs.Rules.{Rules, file_judged_by}
 use Rattle.lt_schedule.specs.Replayed.{TakesFile, RefusesFile}
 use Rattle.lt_net_lossy.specs.NetModel.{LossyNetState}
 use Rattle.lt_net_lossy.specs.Taken.{IsKeptLossy}
-use Rattle.lt_net_start.specs.Outside.{world}
 use Rattle.lt_net_start.proofs.Onward.{stands_too}
 use Rattle.lt_net.specs.declared.replayed.Replayed.{Replayed}
 use Rattle.lt_net_start.proofs.Onward.{at_error}
@@ -34,7 +31,8 @@ use Rattle.lt_net_start.specs.declared.fault.PlayFault.TheVariants.{Refused, Rea
 use Rattle.lt_net_lossy.specs.Rules.{lossy_rules_of}
 use Rattle.lt_net_start.specs.Blamed.{ReplayEndsWith, play_blame, play_fault, IsNearPlay}
 use Rattle.lt_net_lossy.specs.LossyReplays.{IsLossyReplay, lossy_replay_verdict, HasLossyPlayed}
-use Rattle.lt_net_lossy.specs.LossyPlays.{PlaysLossy, KeepsLossyPlay, IsTakenFrom, FinishesBy}
+use Rattle.lt_net_lossy.specs.LossyPlays.{PlaysLossy, KeepsLossyPlay, IsTakenFrom}
+use Rattle.lt_net_start.specs.Ends.{FinishesBy, played_by}
 use Rattle.lt_net_lossy.proofs.LossyAtTheEnd.{is_replay, stopped_at}
 use Rattle.lt_machine.specs.declared.machine.Machine.{Ghosts as Machines}
 use Rattle.lt_arch.specs.declared.controller.Controller.{Ghosts as Controls}
@@ -215,7 +213,7 @@ module _ {C M : Type 0} (mch : Machines M) (old new : LossyNetState C M) (inputs
       ended_by (Err h) visits calm link_calm judged = tt
 
       pub finished : (r : Result (Unit {0}) (Halt LossyOffence)) → Visited (schedule_errand name) files.visits files'.visits (is_ok r) → ReadCounted files.faults files'.faults r → HaltCounted fabric.faults fabric'.faults r → Judged r →
-          (IsTrue files.sound → IsSome (files.named name) → files'.faults ≡ files.faults) → IsKeptLossy new.bench → length new.bench.tracks ≡ length new.bench.layout.outs → (result : Result (Replayed M) (Or (PlayFault LossyOffence))) → FinishesBy new.bench r result → Replays result
+          (IsTrue files.sound → IsSome (files.named name) → files'.faults ≡ files.faults) → IsKeptLossy new.bench → length new.bench.tracks ≡ length new.bench.layout.outs → (result : Result (Replayed M) (Or (PlayFault LossyOffence))) → FinishesBy (IsTakenFrom new.bench) (played_by r) result → Replays result
       finished (Ok x) visits calm link_calm judged found kept tracks (Ok taken) is = taken_so (taken_by x judged) visits calm link_calm kept tracks taken is
       finished (Ok x) visits calm link_calm judged found kept tracks (Err fault) is = untaken (taken_by x judged) visits calm link_calm (Err fault) is
       finished (Err h) visits calm link_calm judged found kept tracks result is = subst Replays (sym is) (halted h visits calm link_calm found judged)

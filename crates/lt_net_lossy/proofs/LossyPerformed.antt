@@ -4,7 +4,6 @@ use Rattle.std.specs.Prelude.{IsErrAnd}
 use Rattle.lt_base.specs.declared.value.Value.{Value}
 use Rattle.lt_base.specs.declared.memory.Or.{Or}
 use Rattle.lt_base.specs.declared.memory.Or.TheVariants.{Memory}
-use Rattle.lt_base.specs.Program.{Function}
 use Rattle.lt_arch.specs.declared.shape.Shape.{Shape}
 use Rattle.lt_arch.specs.declared.timing.Timing.{Timing}
 use Rattle.lt_io.specs.declared.fault.LinkErr.{LinkErr}
@@ -13,14 +12,13 @@ use Rattle.lt_io.specs.Counts.{LinkCountedBy}
 use Rattle.lt_io.proofs.Visiting.{visited_none, unvisited}
 use Rattle.lt_io.specs.FilesState.{FilesState}
 use Rattle.lt_io.specs.FabricState.{FabricState, KeepsPromises, OpensAtMostOnce, OpensOnce}
-use Rattle.lt_answer.specs.World.{KeepsWorld}
+use Rattle.lt_answer.specs.World.{KeepsWorld, world}
 use Rattle.lt_answer.specs.Answered.{Answered, Verdict, AndThen}
 use Rattle.lt_answer.proofs.Stages.{goes_on, opens_none, runs_short, widened}
 use Rattle.lt_schedule.specs.Errand.{schedule_errand}
 use Rattle.lt_place.specs.declared.layout.Layout.{Layout}
 use Rattle.lt_net_lossy.specs.Net.{LossyBenchState}
 use Rattle.lt_net_lossy.specs.Starts.{IsMadeOfLossy}
-use Rattle.lt_net_start.specs.Outside.{world}
 use Rattle.lt_net.specs.declared.replayed.Replayed.{Replayed}
 use Rattle.lt_net_start.proofs.Onward.{at_error, Allowed, after_leave}
 use Rattle.lt_net_start.specs.declared.fault.PlayFault.{PlayFault}

@@ -12,7 +12,7 @@ use Rattle.lt_net_lossy.specs.declared.fault.LossyFault.TheVariants as net
 use Rattle.lt_net.specs.declared.fault.First.TheVariants as first
 use Rattle.lt_net_lossy.specs.Halts.{RefusesLossy}
 use Rattle.lt_net_lossy.specs.NetModel.{LossyNetState}
-use Rattle.lt_net_lossy.specs.LossyPlays.{LeavesNet}
+use Rattle.lt_net_start.specs.Ends.{LeavesNet}
 use Rattle.lt_net_lossy.specs.Rules.{IsLossyStopOf}
 
 -- a net that runs was not stopped
@@ -37,8 +37,8 @@ module _ {T : Type 0} (r : Result T LossyFault) where
 
   -- what a fault leaves of the net
   pub leaves : {C M : Type 0} (before after : LossyNetState C M) (fault : LossyFault) (why : Stop LossyOffence) → r ≡ Err fault → IsLossyStopOf fault why → (RefusesLossy r → after ≡ before) →
-      (IsErrOf r net.Link → after.stopped ≡ Some first.Link) → (IsErrOf r net.Memory → after.stopped ≡ Some first.Memory) → LeavesNet before after (Err why)
-  leaves before after (net.Offence o) why is same refused link memory = subst (λ x. LeavesNet before after (Err x)) (sym same) (refused (subst RefusesLossy (sym is) tt))
-  leaves before after net.Link why is same refused link memory = subst (λ x. LeavesNet before after (Err x)) (sym same) (link is)
-  leaves before after net.Memory why is same refused link memory = subst (λ x. LeavesNet before after (Err x)) (sym same) (memory is)
+      (IsErrOf r net.Link → after.stopped ≡ Some first.Link) → (IsErrOf r net.Memory → after.stopped ≡ Some first.Memory) → LeavesNet before after after.stopped (Err why)
+  leaves before after (net.Offence o) why is same refused link memory = subst (λ x. LeavesNet before after after.stopped (Err x)) (sym same) (refused (subst RefusesLossy (sym is) tt))
+  leaves before after net.Link why is same refused link memory = subst (λ x. LeavesNet before after after.stopped (Err x)) (sym same) (link is)
+  leaves before after net.Memory why is same refused link memory = subst (λ x. LeavesNet before after after.stopped (Err x)) (sym same) (memory is)
   leaves before after (net.Stopped f) why is same refused link memory = absurd same

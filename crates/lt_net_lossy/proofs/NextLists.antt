@@ -6,11 +6,10 @@ use Rattle.std.proofs.Math.Seq.{take-suc}
 use Rattle.std.proofs.lemmas.Bool.Decides.{eqb_tells}
 use Rattle.std.proofs.lemmas.Option.{slice_get-get_or}
 use Rattle.lt_base.specs.declared.value.Value.{Value}
-use Rattle.lt_base.specs.Program.{Function}
 use Rattle.lt_arch.specs.declared.event.Deed.{Deed}
 use Rattle.lt_arch.specs.declared.event.Deed.TheVariants.{Nothing, Execute, Send}
 use Rattle.lt_arch.specs.declared.event.Event.TheVariants.{Act, Del, End}
-use Rattle.lt_arch.specs.State.{State, Phase, executed_of}
+use Rattle.lt_arch.specs.State.{State, executed_of}
 use Rattle.lt_arch.specs.Readers.{node_count, chan_count}
 use Rattle.lt_arch.specs.Deeds.{deed_at, more, all_in, any_in, all_ack}
 use Rattle.lt_io.specs.FabricState.{FabricState, KeepsFabric}
@@ -28,7 +27,8 @@ use Rattle.lt_net_lossy.specs.Event.{RowsGo, LossyGoesOn, lossy_deed_by}
 use Rattle.lt_net_lossy.specs.Given.{IsLossyRowFor}
 use Rattle.lt_net_lossy.specs.Taken.{HasLossyKinds, IsTakenLossy}
 use Rattle.lt_net_lossy.proofs.NextLossy.{next_lossy}
-use Rattle.lt_net_lossy.specs.LossyPlays.{lossy_row_for, IsFedLossy, KeepsLossy, TellsLossy}
+use Rattle.lt_net_lossy.specs.LossyPlays.{lossy_row_for, IsFedLossy, KeepsLossy, SentSoFar, TellsLossy}
+use Rattle.lt_net_lossy.proofs.SentOn.{sent_on}
 use Rattle.lt_net_lossy.proofs.ToldOn.{tells_on}
 use Rattle.lt_net_lossy.proofs.TellsNext.{tells_next}
 use Rattle.lt_machine.specs.declared.machine.Machine.{Ghosts as Machines}
@@ -124,6 +124,14 @@ module _ {C M : Type 0} (ctl : Controls C) (mch : Machines M) (inputs : List (Li
               (subst (λ k. TellsLossy net.shape net.timing k go.0 new) (sym same.rows)
               (tells_next ctl mch net next_net ls go.0 old new fed.fixed kept.stood before tells
               (tells_on ctl mch net next_net ls go.0 old new fed.fixed kept.stood before tells.each e row taken.payload there go.1 carried) messages e row taken.payload there go.1 carried)));
+          sent = λ told.
+              let same = taken.static in
+              subst (λ l. SentSoFar l next_net.shape next_net.timing next_net.rows go.0 new) (sym same.layout)
+              (subst (λ s. SentSoFar net.layout s next_net.timing next_net.rows go.0 new) (sym same.shape)
+              (subst (λ t. SentSoFar net.layout net.shape t next_net.rows go.0 new) (sym same.timing)
+              (subst (λ k. SentSoFar net.layout net.shape net.timing k go.0 new) (sym same.rows)
+              (sent_on ctl mch net next_net ls go.0 old new fed.fixed same (taken.goes ls go.0 kept.stood go.1).standing (taken.stays ls go.0 kept.stood go.1)
+              (subst IsTrue keeps.told told) (kept.sent (subst IsTrue keeps.told told)) e row taken.payload there go.1 (taken.carried ls go.0 kept.stood go.1)))));
         },
       )
 

@@ -2,13 +2,12 @@
 use Rattle.std.proofs.Common.{◌≡◌, ◌≢◌, ℕ, ◌-◌, ◌<◌, Bool, true, false, List, [], ◌∷◌, ◌++◌, length, set, Option, Some, None, refl, sym, ap, ◌∙◌, subst, arith}
 use Rattle.std.specs.Prelude.{slice_index_or}
 use Rattle.lt_base.specs.declared.value.Value.{Value}
-use Rattle.lt_base.specs.Program.{Function}
 use Rattle.lt_arch.specs.declared.event.Deed.{Deed}
 use Rattle.lt_arch.specs.declared.event.Deed.TheVariants.{Nothing, Execute, Send}
 use Rattle.lt_arch.specs.declared.event.Event.TheVariants.{Act, Del, End}
 use Rattle.lt_arch.specs.Deeds.{deed_at, more, all_in, any_in, all_ack}
 use Rattle.lt_arch.specs.Readers.{node_count, chan_count}
-use Rattle.lt_arch.specs.State.{Phase, executed_of}
+use Rattle.lt_arch.specs.State.{executed_of}
 use Rattle.lt_arch.specs.Step.{updated}
 use Rattle.lt_arch.proofs.Changes.{updated-here, updated-other}
 use Rattle.lt_io.specs.FabricState.{FabricState}

@@ -4,12 +4,11 @@ use Rattle.std.specs.Prelude.{◌&&◌, ◌==◌, nat_lt, slice_index_or, if◌t
 use Rattle.std.proofs.lemmas.Bool.Decides.{Decides-eqb}
 use Rattle.std.proofs.lemmas.List.{length-map, get_or_default}
 use Rattle.lt_base.specs.declared.value.Value.{Value}
-use Rattle.lt_base.specs.Program.{Function}
 use Rattle.lt_arch.specs.declared.chan.Chan.{Chan}
 use Rattle.lt_arch.specs.declared.event.Event.TheVariants.{Act}
 use Rattle.lt_arch.specs.declared.shape.Shape.{Shape}
 use Rattle.lt_arch.specs.declared.timing.Timing.{Timing}
-use Rattle.lt_arch.specs.State.{NodeState, Phase}
+use Rattle.lt_arch.specs.State.{NodeState}
 use Rattle.lt_arch.specs.Readers.{node_count, chan_of, from_of, is_data, no_chan}
 use Rattle.lt_arch.specs.Step.{woken}
 use Rattle.lt_io.specs.declared.message.Message.{Message}

@@ -4,11 +4,10 @@ use Rattle.std.specs.Prelude.{slice_index_or, IfOk}
 use Rattle.std.proofs.lemmas.List.{length-map, length-replicate, get_or-replicate}
 use Rattle.std.proofs.lemmas.Option.{slice_get_within, get_or_from_slice_get}
 use Rattle.lt_base.specs.declared.value.Value.{Value}
-use Rattle.lt_base.specs.Program.{Function}
 use Rattle.lt_arch.specs.declared.shape.Shape.{Shape}
 use Rattle.lt_arch.specs.declared.timing.Timing.{Timing}
 use Rattle.lt_arch.specs.declared.timing.Protocol.TheVariants.{BackPressure}
-use Rattle.lt_arch.specs.State.{Phase, Wait, start, first_phase}
+use Rattle.lt_arch.specs.State.{Wait, start, first_phase}
 use Rattle.lt_arch.specs.Readers.{node_count, chan_count}
 use Rattle.lt_arch.specs.Shapes.{HaveSameNodes}
 use Rattle.lt_io.specs.FabricState.{FabricState, OpensFabric}

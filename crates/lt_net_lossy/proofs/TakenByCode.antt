@@ -1,16 +1,14 @@
 -- A delivery and a loss, by what code has.
-use Rattle.std.proofs.Common.{◌≡◌, ◌≢◌, inl, inr, ℕ, ◌+◌, ◌<◌, ◌≤◌, Bool, true, false, List, [], length, map, set, Option, Some, None, refl, sym, ap, ◌∙◌, subst, arith, length-set}
+use Rattle.std.proofs.Common.{◌≡◌, ◌≢◌, ℕ, ◌+◌, ◌<◌, ◌≤◌, Bool, true, false, List, [], length, map, set, Option, Some, None, refl, sym, ap, ◌∙◌, subst, arith, length-set}
 use Rattle.std.specs.Prelude.{slice_index_or, ◌||◌, if◌then◌else◌}
 use Rattle.std.specs.List.{slice_get}
 use Rattle.std.proofs.lemmas.Option.{slice_get-get_or}
 use Rattle.lt_base.specs.declared.value.Value.{Value}
 use Rattle.lt_base.specs.Value.{ty_of}
-use Rattle.lt_base.specs.Program.{Function}
 use Rattle.lt_arch.specs.declared.limits.TheConstants.{GREATEST_TIME}
 use Rattle.lt_arch.specs.declared.event.Event.TheVariants.{Del, End}
 use Rattle.lt_arch.specs.declared.shape.Shape.{Shape}
 use Rattle.lt_arch.specs.declared.timing.Timing.{Timing}
-use Rattle.lt_arch.specs.State.{Phase}
 use Rattle.lt_arch.specs.Readers.{chan_count}
 use Rattle.lt_io.specs.FabricState.{FabricState}
 use Rattle.lt_link.specs.Bits.{differ}
@@ -32,7 +30,7 @@ use Rattle.lt_net_lossy.specs.Laws.{StandsWith, KeepsDel}
 use Rattle.lt_net_lossy.specs.Receives.{with_latest, ReceivesLossy, DropsOldest}
 use Rattle.lt_net_lossy.specs.Taken.{LossyHeld, HasLossyKinds, SameLossyStatic, IsKeptLossy, IsTakenLossy}
 use Rattle.lt_net_lossy.proofs.Fronts.{law-own}
-use Rattle.lt_net_lossy.proofs.Keeps.{law-events_keep}
+use Rattle.lt_net_lossy.proofs.Keeps.{law-events_keep, same_own, delivery_stays}
 use Rattle.lt_net_lossy.proofs.Oldest.{delivery_some, loss_some, some_held}
 use Rattle.lt_net_lossy.proofs.Reached.{balanced}
 use Rattle.lt_machine.specs.declared.machine.Machine.{Ghosts as Machines}
@@ -142,6 +140,8 @@ module _ {C M : Type 0} (ctl : Controls C) (mch : Machines M) where
         goes = goes_on;
         carried = λ ls next with goes. (received.message, refl, received.delivers);
         own = λ faithful ls next with goes own. law-own ctl mch net ls next row payload old (Plain (Del ch at)) kept.fixed with own here goes (received.delivers.oldest, new.transit ch, received.delivers.taken, received.delivers.values faithful);
+        stays = λ ls next with goes. delivery_stays ctl mch net ls next row payload old kept.fixed kept.sized with ch at (passes_for net (Plain (Del ch at)) timely passes ls old with) here goes
+            received.delivers.oldest (new.transit ch) received.delivers.taken;
         kept = record { fixed = kept.fixed; sized = sized_with ibs sizes w 0 watch; space = space_with ibs };
         static = record { layout = refl; shape = refl; timing = refl; rows = refl; limit = ap (λ (w : LossyTimes). w.limit) watch };
         kinds = received.delivers.kinds;
@@ -161,6 +161,7 @@ module _ {C M : Type 0} (ctl : Controls C) (mch : Machines M) where
         goes = lost_on;
         carried = λ ls next with goes. (dropped.message, dropped.delivers);
         own = λ faithful ls next with goes own. law-own ctl mch net ls next row [] old (Lose ch at) kept.fixed with own here goes tt;
+        stays = λ ls next with goes. same_own ctl mch net ls next row [] old kept.fixed kept.sized with (λ i n. goes.inputs n i) (λ i c. goes.got c i);
         kept = record { fixed = kept.fixed; sized = sized_with p.inboxes kept.sized.bench w (losses_at w0 ch + 1) watch; space = space_with p.inboxes };
         static = record { layout = refl; shape = refl; timing = refl; rows = refl; limit = ap (λ (w : LossyTimes). w.limit) watch };
         kinds = dropped.delivers.kinds;
@@ -177,6 +178,7 @@ module _ {C M : Type 0} (ctl : Controls C) (mch : Machines M) where
             ((law-events_keep ctl mch net ls next row [] fabric kept.fixed kept.sized with).ending at (passes_for net (Plain (End at)) timely passes ls fabric with) goes);
         carried = λ ls next with goes. record { kinds = refl; transit = λ c. refl; sent = λ told c. refl; delivered = λ told c. refl };
         own = λ faithful ls next with goes own. law-own ctl mch net ls next row [] fabric (Plain (End at)) kept.fixed with own tt goes tt;
+        stays = λ ls next with goes. same_own ctl mch net ls next row [] fabric kept.fixed kept.sized with (λ i n. goes.inputs n i) (λ i c. goes.got c i);
         kept = record {
           fixed = kept.fixed;
           sized =

@@ -5,10 +5,9 @@ use Rattle.std.proofs.Math.Seq.{get_or-append_seam}
 use Rattle.std.proofs.lemmas.Bool.Decides.{eqb_tells}
 use Rattle.std.proofs.lemmas.List.{append-nil}
 use Rattle.lt_base.specs.declared.value.Value.{Value}
-use Rattle.lt_base.specs.Program.{Function}
 use Rattle.lt_arch.specs.declared.event.Deed.TheVariants.{Execute}
 use Rattle.lt_arch.specs.declared.event.Event.TheVariants.{Act, Del, End}
-use Rattle.lt_arch.specs.State.{NodeState, Phase}
+use Rattle.lt_arch.specs.State.{NodeState}
 use Rattle.lt_arch.specs.Deeds.{deed_at}
 use Rattle.lt_arch.specs.Readers.{chan_count, to_of, carries_data}
 use Rattle.lt_arch.specs.Step.{is_execute}

@@ -1,12 +1,11 @@
 -- What is in transit after one event more.
-use Rattle.std.proofs.Common.{◌≡◌, ◌≢◌, inl, inr, ℕ, zero, suc, ◌+◌, ◌<◌, ◌≤◌, Bool, true, false, not, List, [], ◌∷◌, ◌++◌, length, refl, sym, ap, ◌∙◌, subst, arith}
+use Rattle.std.proofs.Common.{◌≡◌, ◌≢◌, inl, inr, ℕ, zero, suc, ◌+◌, ◌<◌, ◌≤◌, Bool, true, false, List, [], ◌∷◌, ◌++◌, length, refl, sym, ap, ◌∙◌, subst, arith}
 use Rattle.std.specs.Prelude.{slice_index_or, ◌==◌, nat_lt, if◌then◌else◌}
 use Rattle.std.proofs.lemmas.Bool.{cases_lt, lt-ltb, le-ltb, ltb-true, ltb-false}
 use Rattle.std.proofs.lemmas.Bool.Decides.{eqb_tells}
 use Rattle.lt_base.specs.declared.value.Value.{Value}
-use Rattle.lt_base.specs.Program.{Function}
 use Rattle.lt_arch.specs.declared.event.Event.TheVariants.{Act, Del, End}
-use Rattle.lt_arch.specs.State.{NodeState, Phase}
+use Rattle.lt_arch.specs.State.{NodeState}
 use Rattle.lt_arch.specs.Readers.{node_count, chan_count, from_of, to_of, carries_data}
 use Rattle.lt_arch.specs.Step.{woken}
 use Rattle.lt_io.specs.declared.message.Message.{Message}
@@ -30,13 +29,24 @@ use Rattle.lt_net_lossy.proofs.Reached.{balanced, one_now, state_is}
 use Rattle.lt_machine.specs.declared.machine.Machine.{Ghosts as Machines}
 use Rattle.lt_arch.specs.declared.controller.Controller.{Ghosts as Controls}
 
-own_of : (own : ℕ → List Value → Type 0) (number : ℕ) (p : List Value) → 0 < number → ((k : ℕ) → number ≡ suc k → own k p) → OwnOf own number p
+pub own_of : (own : ℕ → List Value → Type 0) (number : ℕ) (p : List Value) → 0 < number → ((k : ℕ) → number ≡ suc k → own k p) → OwnOf own number p
 own_of own zero p some h = absurd (omega (arith, some))
 own_of own (suc k) p some h = h k refl
 
 own_more : (own own' : ℕ → List Value → Type 0) (number high : ℕ) (p : List Value) → number ≤ high → ((k : ℕ) (p : List Value) → k < high → own k p → own' k p) → OwnOf own number p → OwnOf own' number p
 own_more own own' zero high p le f h = h
 own_more own own' (suc k) high p le f h = f k p (omega (arith, le)) h
+
+-- messages that are their senders' own by one reading are so by another
+own_mapped : (own own' : ℕ → List Value → Type 0) → ((k : ℕ) (p : List Value) → own k p → own' k p) → (number : ℕ) (p : List Value) → OwnOf own number p → OwnOf own' number p
+own_mapped own own' f zero p h = h
+own_mapped own own' f (suc k) p h = f k p h
+
+pub sent_mapped : (own own' : ℕ → List Value → Type 0) → ((k : ℕ) (p : List Value) → own k p → own' k p) → (ns : List Numbered) (ms : List Message) → AreSent own ns ms → AreSent own' ns ms
+sent_mapped own own' f [] [] h = tt
+sent_mapped own own' f [] (m ∷ ms) h = absurd h
+sent_mapped own own' f (n ∷ ns) [] h = absurd h
+sent_mapped own own' f (n ∷ ns) (m ∷ ms) h = (h.0, own_mapped own own' f n.number m.payload h.1, sent_mapped own own' f ns ms h.2)
 
 -- the values stay those of the instants
 sent-still : (own own' : ℕ → List Value → Type 0) (ns : List Numbered) (ms : List Message) (low high : ℕ) → Ascends low ns high → ((k : ℕ) (p : List Value) → k < high → own k p → own' k p) → AreSent own ns ms → AreSent own' ns ms
@@ -46,7 +56,7 @@ sent-still own own' (n ∷ ns) [] low high up f h = absurd h
 sent-still own own' (n ∷ ns) (m ∷ ms) low high up f h = (h.0, own_more own own' n.number high m.payload (ascends-ends n.number ns high up.1) f h.1, sent-still own own' ns ms n.number high up.1 f h.2)
 
 -- one was sent
-sent-more : (own : ℕ → List Value → Type 0) (ns : List Numbered) (ms : List Message) (n : Numbered) (m : Message) → m.bit ≡ bit_of n.number → OwnOf own n.number m.payload → AreSent own ns ms → AreSent own (ns ++ n ∷ []) (ms ++ m ∷ [])
+pub sent-more : (own : ℕ → List Value → Type 0) (ns : List Numbered) (ms : List Message) (n : Numbered) (m : Message) → m.bit ≡ bit_of n.number → OwnOf own n.number m.payload → AreSent own ns ms → AreSent own (ns ++ n ∷ []) (ms ++ m ∷ [])
 sent-more own [] [] n m bit is h = (bit, is, tt)
 sent-more own [] (x ∷ ms) n m bit is h = absurd h
 sent-more own (x ∷ ns) [] n m bit is h = absurd h

@@ -1,7 +1,7 @@
 -- The deed of an activation, without messages.
-use Rattle.std.specs.Prelude.{◌≡◌, ℕ, false, List, Option, Some, slice_set}
+use Rattle.std.specs.Prelude.{◌≡◌, ℕ, false, List, Option, Some, slice_set, slice_index_or}
+use denote.Bor.{Bor}
 use Rattle.lt_base.specs.declared.value.Value.{Value}
-use Rattle.lt_base.specs.Program.{Function}
 use Rattle.lt_arch.specs.declared.event.Deed.{Deed}
 use Rattle.lt_arch.specs.declared.event.Deed.TheVariants.{Execute}
 use Rattle.lt_arch.specs.declared.event.Event.TheVariants.{Act}
@@ -14,6 +14,7 @@ use Rattle.lt_lossy.specs.State.{plain_of}
 use Rattle.lt_net_node.specs.Acts.{takes_on, MarkedOn}
 use Rattle.lt_net_bench.specs.Executes.{Executes}
 use Rattle.lt_net_bench.specs.Given.{FitsPart}
+use Rattle.lt_net.specs.Event.{given_row}
 use Rattle.lt_net_bench.specs.Bench.{BenchState}
 use Rattle.lt_net_lossy.specs.Stands.{StandsLossy}
 use Rattle.lt_net_lossy.specs.Event.{PassesLossy}
@@ -53,3 +54,11 @@ pub record DoesDeed {C M : Type 0} (ctl : Controls C) (mch : Machines M) (old ne
 -- node n has an activation without an offence, where some lists lead for which the net stands
 abbrev pub LossyCanAct : {C M : Type 0} (ctl : Controls C) (mch : Machines M) → LossyBenchState C M → (n : ℕ) → Type 0
 LossyCanAct ctl mch net n = (ls : LossyLists) × StandsLossy ctl mch net ls × (at : ℕ) × PassesLossy net ls (Plain (Act n at))
+
+-- it did that deed with this row, for all lists for which the net stood
+abbrev pub DoesGiven : {C M : Type 0} (ctl : Controls C) (mch : Machines M) → (old new : LossyBenchState C M) → (n : ℕ) → Option (Bor (List Value)) → Type 0
+DoesGiven ctl mch old new n row = (ls : LossyLists) → StandsLossy ctl mch old ls → DoesDeed ctl mch old new n (given_row row) ls
+
+-- node n has sent as many instants as it has executed, and else only inboxes and what is sent again changed
+abbrev pub PostsNewest : {C M : Type 0} → (old new : LossyBenchState C M) → (n : ℕ) → Type 0
+PostsNewest old new n = new ≡ record old { inboxes = new.inboxes; sent = slice_set old.sent n (slice_index_or old.executed n 0); posted = new.posted }

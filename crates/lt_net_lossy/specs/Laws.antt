@@ -1,11 +1,10 @@
 -- Each event without an offence leaves a net that stands for the lists with its entries, and a fabric that has in transit what the next state says.
-use Rattle.std.specs.Prelude.{◌≡◌, ℕ, ◌+◌, ◌<◌, true, false, List, [], ◌∷◌, length, Option, Some, slice_get, slice_set, take, slice_index_or}
+use Rattle.std.specs.Prelude.{◌≡◌, ℕ, ◌+◌, ◌<◌, false, List, [], ◌∷◌, length, Option, Some, slice_get, slice_set, take, slice_index_or}
 use Rattle.lt_base.specs.declared.value.Value.{Value}
-use Rattle.lt_base.specs.Program.{Function}
 use Rattle.lt_base.specs.Meaning.{stream_of}
 use Rattle.lt_arch.specs.declared.event.Deed.TheVariants.{Execute}
 use Rattle.lt_arch.specs.declared.event.Event.TheVariants.{Act, Del, End}
-use Rattle.lt_arch.specs.State.{NodeState, Phase}
+use Rattle.lt_arch.specs.State.{NodeState}
 use Rattle.lt_arch.specs.Readers.{node_count, chan_count}
 use Rattle.lt_arch.specs.Step.{is_execute, woken}
 use Rattle.lt_io.specs.declared.message.Message.{Message}

@@ -20,3 +20,4 @@ pub mod LossyReplays
 pub mod LossySound
 pub mod LossyPlays
 pub mod LossyKeeping
+pub mod LossyPlaying

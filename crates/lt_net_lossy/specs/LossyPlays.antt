@@ -1,28 +1,21 @@
 -- What a net along a schedule over links that lose messages keeps.
-use Rattle.std.specs.Prelude.{◌≡◌, ℕ, suc, ◌+◌, ◌<◌, ◌^◌, Bool, true, false, List, [], ◌∷◌, length, take, map, Option, Some, None, IsTrue, Result, Ok, Err, slice_get, slice_index_or}
+use Rattle.std.specs.Prelude.{◌≡◌, ℕ, suc, ◌+◌, ◌<◌, ◌^◌, Bool, true, false, List, [], ◌∷◌, length, take, map, Option, Some, None, IsTrue, slice_get, slice_index_or}
 use Rattle.lt_base.specs.declared.value.Value.{Value}
-use Rattle.lt_base.specs.declared.memory.Or.{Or}
-use Rattle.lt_base.specs.declared.memory.Or.TheVariants as either
-use Rattle.lt_base.specs.Program.{Function}
 use Rattle.lt_base.specs.Inputs.{InputTable}
 use Rattle.lt_arch.specs.declared.event.Event.TheVariants.{Act, Del, End}
-use Rattle.lt_arch.specs.State.{Phase}
 use Rattle.lt_arch.specs.declared.shape.Shape.{Shape}
 use Rattle.lt_arch.specs.declared.timing.Timing.{Timing}
-use Rattle.lt_arch.specs.Readers.{node_count, chan_count, to_of, carries_data}
+use Rattle.lt_arch.specs.Readers.{node_count, chan_count, from_of, to_of, carries_data}
 use Rattle.lt_io.specs.declared.message.Message.{Message}
 use Rattle.lt_io.specs.FabricState.{FabricState, KeepsFabric}
 use Rattle.lt_link.specs.Bits.{bit_of}
-use Rattle.lt_schedule.specs.declared.halt.Halt.{Halt}
-use Rattle.lt_schedule.specs.declared.halt.Stop.{Stop}
-use Rattle.lt_schedule.specs.declared.halt.Stop.TheVariants as stop
-use Rattle.lt_net.specs.declared.fault.First.TheVariants as first
-use Rattle.lt_lossy.specs.declared.event.LossyOffence.{LossyOffence}
 use Rattle.lt_lossy.specs.declared.event.LossyEvent.{LossyEvent}
 use Rattle.lt_lossy.specs.declared.event.LossyEvent.TheVariants.{Plain, Lose}
 use Rattle.lt_net_bench.specs.Given.{FitsPart}
 use Rattle.lt_net_bench.specs.Own.{PayloadsAreOwn, AreFronts}
 use Rattle.lt_net_node.specs.Payloads.{row_at}
+use Rattle.lt_net_bench.specs.Standing.{HasOwnValues}
+use Rattle.lt_place.specs.declared.layout.Layout.{Layout}
 use Rattle.lt_lossy.specs.Schedule.{lossy_reached}
 use Rattle.lt_net_lossy.specs.Event.{is_unread}
 use Rattle.lt_net_lossy.specs.Net.{LossyBenchState, LossyLists}
@@ -32,9 +25,8 @@ use Rattle.lt_net_lossy.specs.Laws.{StandsWith}
 use Rattle.lt_net_lossy.specs.Taken.{HasLossyKinds, SameLossyStatic}
 use Rattle.lt_net_start.specs.Reads.{CanRead}
 use Rattle.lt_net.specs.declared.replayed.Replayed.{Replayed}
-use Rattle.lt_net_start.specs.declared.fault.PlayFault.{PlayFault}
-use Rattle.lt_net_start.specs.Blamed.{play_fault}
-use Rattle.lt_net_lossy.specs.Told.{fates_of, came, without_copies, ExecutesAt, EndsInCopy}
+use Rattle.lt_net_lossy.specs.Holds.{AreSent}
+use Rattle.lt_net_lossy.specs.Told.{fates_of, came, without_copies, messages_of, ExecutesAt, EndsInCopy}
 use Rattle.lt_machine.specs.declared.machine.Machine.{Ghosts as Machines}
 use Rattle.lt_arch.specs.declared.controller.Controller.{Ghosts as Controls}
 
@@ -80,6 +72,15 @@ pub record TellsLossy (s : Shape) (t : Timing) (rows : ℕ) (ls : LossyLists) (f
   -- and what the next ones would run on
   pub unread : (c k : ℕ) → c < chan_count s → is_unread s (lossy_reached s t rows ls.events) c ≡ true → length (ls.got c) ≡ suc k → EndsInCopy s t rows ls.events c (suc k) (fabric.delivered c) (slice_index_or (ls.got c) k [])
 
+-- on channel c, if it carries data, the payload of message k + 1 has its sender's own values of instant k, which that has executed
+abbrev pub IsOwnSoFar : Layout → Shape → LossyLists → (c k : ℕ) → List Value → Type 0
+IsOwnSoFar l s ls c k payload =
+    carries_data s c ≡ true → (k < length (ls.inputs (from_of s c))) × HasOwnValues l s ls.inputs ls.got (from_of s c) (to_of s c) k payload
+
+-- what was sent on each channel
+pub record SentSoFar (l : Layout) (s : Shape) (t : Timing) (rows : ℕ) (ls : LossyLists) (fabric : FabricState) : Type 0 where
+  pub each : (c : ℕ) → c < chan_count s → AreSent (IsOwnSoFar l s ls c) (messages_of s t rows c ls.events) (fabric.sent c)
+
 -- the net and its fabric stand for these lists, which are those of these events on these inputs
 pub record KeepsLossy {C M : Type 0} (ctl : Controls C) (mch : Machines M) (inputs : List (List Value)) (read : List LossyEvent) (net : LossyBenchState C M) (fabric : FabricState) (ls : LossyLists) : Type 0 where
   pub stood : StandsWith ctl mch net ls fabric
@@ -88,6 +89,7 @@ pub record KeepsLossy {C M : Type 0} (ctl : Controls C) (mch : Machines M) (inpu
   pub kinds : HasLossyKinds net fabric
   pub own : IsTrue fabric.faithful → PayloadsAreOwn net.layout net.shape ls.inputs ls.got
   pub tells : IsTrue fabric.told → TellsLossy net.shape net.timing net.rows ls fabric
+  pub sent : IsTrue fabric.told → SentSoFar net.layout net.shape net.timing net.rows ls fabric
 
 -- the net runs, and stands for some lists of these events
 pub record PlaysLossy {C M : Type 0} (ctl : Controls C) (mch : Machines M) (inputs : List (List Value)) (before : List LossyEvent) (net : LossyNetState C M) (fabric : FabricState) : Type 0 where
@@ -114,17 +116,3 @@ pub record IsTakenFrom {C M : Type 0} (net : LossyBenchState C M) (taken : Repla
   pub horizon : net.watch.horizon ≡ Some taken.horizon
   pub machines : taken.machines ≡ net.machines
   pub layout : taken.layout ≡ net.layout
-
--- after an answer to a whole file: what is taken from the net, or want of memory; else the fault of the answer
-abbrev pub FinishesBy : {C M : Type 0} → LossyBenchState C M → Result (Unit {0}) (Halt LossyOffence) → Result (Replayed M) (Or (PlayFault LossyOffence)) → Type 0
-FinishesBy net (Ok x) (Ok taken) = IsTakenFrom net taken
-FinishesBy net (Ok x) (Err fault) = fault ≡ either.Memory
-FinishesBy net (Err halt) result = result ≡ Err (play_fault halt)
-
--- a line that is taken leaves a net that runs; one that is refused leaves it as it was; a failed call or want of memory has stopped it
-abbrev pub LeavesNet : {C M : Type 0} → (old new : LossyNetState C M) → Result (Unit {0}) (Stop LossyOffence) → Type 0
-LeavesNet old new (Ok x) = new.stopped ≡ None
-LeavesNet old new (Err (stop.Row fault)) = new ≡ old
-LeavesNet old new (Err (stop.Offence offence)) = new ≡ old
-LeavesNet old new (Err stop.Link) = new.stopped ≡ Some first.Link
-LeavesNet old new (Err stop.Memory) = new.stopped ≡ Some first.Memory

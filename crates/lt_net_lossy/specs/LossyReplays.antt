@@ -1,23 +1,23 @@
 -- What a network along a schedule file over links that lose messages answers.
-use Rattle.std.specs.Prelude.{◌≡◌, ℕ, List, Option, length, IsTrue, Result, Ok, Err, IfOk, IfErr}
+use Rattle.std.specs.Prelude.{◌≡◌, ℕ, List, Option, length, IsTrue, Result, IfOk, IfErr}
 use Rattle.lt_base.specs.declared.value.Value.{Value}
 use Rattle.lt_base.specs.declared.memory.Or.{Or}
-use Rattle.lt_base.specs.Program.{Function}
+use Rattle.lt_base.specs.Inputs.{InputTable}
 use Rattle.lt_arch.specs.declared.shape.Shape.{Shape}
 use Rattle.lt_arch.specs.declared.timing.Timing.{Timing}
 use Rattle.lt_io.specs.FilesState.{FilesState}
 use Rattle.lt_io.specs.FabricState.{FabricState, OpensOnce}
 use Rattle.lt_answer.specs.Answered.{Answered, OfFile, Verdict}
-use Rattle.lt_schedule.specs.declared.halt.ScheduleRefusal.{ScheduleRefusal}
+use Rattle.lt_answer.specs.World.{world}
 use Rattle.lt_schedule.specs.Errand.{schedule_errand}
 use Rattle.lt_schedule.specs.Rules.{file_judged_by}
 use Rattle.lt_lossy.specs.declared.event.LossyEvent.{LossyEvent}
 use Rattle.lt_lossy.specs.declared.event.LossyOffence.{LossyOffence}
 use Rattle.lt_place.specs.declared.layout.Layout.{Layout}
-use Rattle.lt_net_start.specs.Outside.{world}
+use Rattle.lt_net_start.specs.declared.plan.NetPlan.{NetPlan}
 use Rattle.lt_net.specs.declared.replayed.Replayed.{Replayed}
 use Rattle.lt_net_start.specs.declared.fault.PlayFault.{PlayFault}
-use Rattle.lt_net_start.specs.declared.fault.PlayFault.TheVariants.{Refused, Read}
+use Rattle.lt_net_start.specs.declared.fault.PlayFault.TheVariants.{Read}
 use Rattle.lt_net_lossy.specs.Rules.{lossy_rules_of}
 use Rattle.lt_net_start.specs.Blamed.{ReplayEndsWith, play_blame, IsNearPlay}
 use Rattle.lt_net_lossy.specs.LossyRun.{IsLossyRun, HasLossySteps}
@@ -59,3 +59,7 @@ pub record HasLossyReplayed {M : Type 0} (mch : Machines M) (l : Layout) (s : Sh
   pub opens : OpensOnce fabric fabric' result
   -- the layout is given back
   pub layout : IfOk result (λ taken. taken.layout ≡ l)
+
+-- so did the network of a plan on these inputs
+abbrev pub ReplaysLossy : {M : Type 0} (mch : Machines M) → NetPlan → (losses : ℕ) → InputTable → (name : List ℕ) → (files files' : FilesState) → (fabric fabric' : FabricState) → Result (Replayed M) (Or (PlayFault LossyOffence)) → Type 0
+ReplaysLossy mch plan losses inputs name files files' fabric fabric' result = HasLossyReplayed mch plan.layout plan.shape plan.timing losses inputs.rows name files files' fabric fabric' result

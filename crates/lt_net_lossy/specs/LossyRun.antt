@@ -2,7 +2,6 @@
 use Rattle.std.specs.Prelude.{◌≡◌, ℕ, ◌<◌, ◌≤◌, min, true, IsTrue, List, [], length, take, Some, slice_get, slice_index_or}
 use Rattle.lt_base.specs.declared.value.Value.{Value}
 use Rattle.lt_base.specs.declared.value.Cell.{Cell}
-use Rattle.lt_base.specs.Program.{Function}
 use Rattle.lt_base.specs.Meaning.{stream_of}
 use Rattle.lt_base.specs.Behaviour.{RowsFit}
 use Rattle.lt_arch.specs.declared.shape.Shape.{Shape}
@@ -21,7 +20,7 @@ use Rattle.lt_net_bench.specs.Own.{PayloadsAreOwn}
 use Rattle.lt_net_node.specs.Payloads.{payloads_between, row_at}
 use Rattle.lt_net_bench.specs.Standing.{HasOwnValues}
 use Rattle.lt_net_lossy.specs.Holds.{AreSent}
-use Rattle.lt_net_lossy.specs.Told.{IsToldLossy}
+use Rattle.lt_net_lossy.specs.Told.{IsToldLossy, messages_of}
 use Rattle.lt_machine.specs.declared.machine.Machine.{Ghosts as Machines}
 
 -- how many instants node n has executed
@@ -51,6 +50,9 @@ pub record IsLossyRun (l : Layout) (s : Shape) (t : Timing) (losses : ℕ) (inpu
   -- the fabric has in transit what the architecture leaves there, in order: of each number a message with the number's bit, as its sender sent it
   pub in_transit : (c : ℕ) → c < chan_count s → AreSent (IsOwnOn l s (lossy_reached s t (length inputs) events) inputs got c) ((lossy_reached s t (length inputs) events).link c).transit (fabric.transit c)
   pub told : IsTrue fabric.told → IsToldLossy s t (length inputs) events got fabric
+  -- of all messages that were sent, in order, it tells one with the bit of its number, as its sender sent it
+  pub sent : IsTrue fabric.told → (c : ℕ) → c < chan_count s →
+      AreSent (IsOwnOn l s (lossy_reached s t (length inputs) events) inputs got c) (messages_of s t (length inputs) c events) (fabric.sent c)
   -- over a faithful fabric what was delivered has the senders' own values, and the cells are the first of the whole program's stream
   pub own : IsTrue fabric.faithful → PayloadsAreOwn l s (rows_in (lossy_reached s t (length inputs) events) inputs) got
   pub fronts : (f : Originated) → IsPlaced f l → RowsFit f.func inputs → IsTrue fabric.faithful →

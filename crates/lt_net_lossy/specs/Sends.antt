@@ -12,6 +12,7 @@ use Rattle.lt_lossy.specs.Window.{room}
 use Rattle.lt_link.specs.Ports.{is_from}
 use Rattle.lt_net.specs.Sends.{SendsOn}
 use Rattle.lt_net_lossy.specs.Holds.{with_one}
+use Rattle.lt_net_lossy.specs.Net.{LossyBenchState}
 
 -- the watch has these queues, and is else as it was
 pub record Queues (on : ℕ → Bool) (at : ℕ) (before after : LossyTimes) : Type 0 where
@@ -33,6 +34,14 @@ numbered_from cs n kind number c = is_from cs n kind c && nat_lt 0 number
 -- the payload posted, with this bit
 abbrev pub posted_message : List (List Value) → (bit : Bool) → (c : ℕ) → Message
 posted_message posted bit c = record { payload = slice_index_or posted c []; bit = bit }
+
+-- the payload posted on each channel of a kind from node n was sent with this bit, and the watch was told of it
+abbrev pub SendsPosted : List Chan → (n : ℕ) → (kind : Bool) → List (List Value) → (bit : Bool) → (at : ℕ) → (old new : FabricState) → (w v : LossyTimes) → Type 0
+SendsPosted cs n kind posted bit at old new w v = SentUpTo (length cs) (is_from cs n kind) (posted_message posted bit) at old new w v
+
+-- with the bit of this number, where that is one to send
+abbrev pub SendsNumber : List Chan → (n : ℕ) → (kind : Bool) → List (List Value) → (number : ℕ) → (at : ℕ) → (old new : FabricState) → (w v : LossyTimes) → Type 0
+SendsNumber cs n kind posted number at old new w v = SentUpTo (length cs) (numbered_from cs n kind number) (posted_message posted (bit_of number)) at old new w v
 
 -- a channel from node n has something in transit
 abbrev pub IsBehind : List Chan → (n : ℕ) → (kind : Bool) → FabricState → Type 0
@@ -63,3 +72,7 @@ pub record SendsAgain (s : Shape) (n at newest acks : ℕ) (posted : List (List 
   pub transit : (c : ℕ) → c < chan_count s → new.transit c ≡ with_one (sends_counted s n newest acks c) (old.transit c) (counted_message s newest acks posted c)
   pub sent : IsTrue old.told → (c : ℕ) → c < chan_count s → new.sent c ≡ with_one (sends_counted s n newest acks c) (old.sent c) (counted_message s newest acks posted c)
   pub delivered : IsTrue old.told → (c : ℕ) → c < chan_count s → new.delivered c ≡ old.delivered c
+
+-- node n of a net sent what it posted again, by the counts of its instants
+abbrev pub NodeSendsAgain : {C M : Type 0} → (old new : LossyBenchState C M) → (n at : ℕ) → (fabric fabric' : FabricState) → Type 0
+NodeSendsAgain old new n at fabric fabric' = SendsAgain old.shape n at (slice_index_or old.sent n 0) (slice_index_or old.executed n 0) old.posted fabric fabric' old.watch new.watch

@@ -1,10 +1,8 @@
 -- A net over links that lose messages before its first event.
 use Rattle.std.specs.Prelude.{◌≡◌, ℕ, ◌<◌, List, [], length, map, max, All, replicate, slice_index_or}
 use Rattle.lt_base.specs.declared.value.Value.{Value}
-use Rattle.lt_base.specs.Program.{Function}
 use Rattle.lt_arch.specs.declared.shape.Shape.{Shape}
 use Rattle.lt_arch.specs.declared.timing.Timing.{Timing}
-use Rattle.lt_arch.specs.State.{Phase}
 use Rattle.lt_arch.specs.Readers.{node_count}
 use Rattle.lt_lossy.specs.Times.{LossyTimes}
 use Rattle.lt_place.specs.declared.layout.Layout.{Layout}

@@ -1,9 +1,8 @@
 -- What an event that was taken leaves.
 use Rattle.std.specs.Prelude.{◌≡◌, ◌↔◌, ℕ, ◌<◌, IsTrue, List, length, Option, Some, Result, Err}
+use denote.Bor.{Bor}
 use Rattle.lt_base.specs.declared.value.Value.{Value}
-use Rattle.lt_base.specs.Program.{Function}
-use Rattle.lt_arch.specs.State.{Phase}
-use Rattle.lt_arch.specs.Readers.{chan_count}
+use Rattle.lt_arch.specs.Readers.{chan_count, from_of, to_of}
 use Rattle.lt_arch.specs.declared.event.Event.TheVariants.{Act, Del, End}
 use Rattle.lt_io.specs.declared.message.Message.{Message}
 use Rattle.lt_io.specs.FabricState.{FabricState, Delivers, OpensFabric, SameLists, channel_kind}
@@ -11,8 +10,11 @@ use Rattle.lt_lossy.specs.declared.event.LossyEvent.{LossyEvent}
 use Rattle.lt_lossy.specs.declared.event.LossyEvent.TheVariants.{Plain, Lose}
 use Rattle.lt_net_bench.specs.Own.{PayloadsAreOwn}
 use Rattle.lt_net_node.specs.Payloads.{types_for}
+use Rattle.lt_net.specs.Event.{given_row}
 use Rattle.lt_net_bench.specs.Room.{HasSpace}
+use Rattle.lt_net_bench.specs.Standing.{HasOwnValues}
 use Rattle.lt_net_lossy.specs.Net.{LossyBenchState, LossyLists, bench_of_lossy, lossy_state_of}
+use Rattle.lt_net_lossy.specs.NetModel.{LossyNetState}
 use Rattle.lt_net_lossy.specs.Event.{LossyGoesOn}
 use Rattle.lt_net_lossy.specs.Kept.{IsFixedLossy, HasLossySizes}
 use Rattle.lt_net_lossy.specs.Holds.{SendsLossy}
@@ -74,6 +76,12 @@ CarriedLossy old new ls (Plain (Del c at)) fabric fabric' payload = (m : Message
 CarriedLossy old new ls (Plain (End at)) fabric fabric' payload = SameLists fabric fabric'
 CarriedLossy old new ls (Lose c at) fabric fabric' payload = (m : Message) × Delivers fabric fabric' c m
 
+-- payloads with their senders' own values of instants that these have executed have them by later lists too
+abbrev pub OwnStays : Layout → Shape → (ls next : LossyLists) → Type 0
+OwnStays l s ls next =
+    (c k : ℕ) (p : List Value) → c < chan_count s → k < length (ls.inputs (from_of s c)) →
+    HasOwnValues l s ls.inputs ls.got (from_of s c) (to_of s c) k p → HasOwnValues l s next.inputs next.got (from_of s c) (to_of s c) k p
+
 -- an event was taken: for all lists for which the net stood over the fabric, it stands for those with the event's entries, and over a
 -- faithful fabric the payloads that were delivered stay their senders' own
 pub record IsTakenLossy {C M : Type 0} (ctl : Controls C) (mch : Machines M) (old new : LossyBenchState C M) (e : LossyEvent) (row : Option (List Value)) (fabric fabric' : FabricState) : Type 0 where
@@ -81,6 +89,24 @@ pub record IsTakenLossy {C M : Type 0} (ctl : Controls C) (mch : Machines M) (ol
   pub goes : (ls next : LossyLists) → StandsWith ctl mch old ls fabric → LossyGoesOn old ls next e row payload → StandsWith ctl mch new next fabric'
   pub carried : (ls next : LossyLists) → StandsWith ctl mch old ls fabric → LossyGoesOn old ls next e row payload → CarriedLossy old new ls e fabric fabric' payload
   pub own : IsTrue fabric.faithful → (ls next : LossyLists) → StandsWith ctl mch old ls fabric → LossyGoesOn old ls next e row payload → PayloadsAreOwn old.layout old.shape ls.inputs ls.got → PayloadsAreOwn old.layout old.shape next.inputs next.got
+  -- a sender's own values of an instant that it has executed stay its own
+  pub stays : (ls next : LossyLists) → StandsWith ctl mch old ls fabric → LossyGoesOn old ls next e row payload → OwnStays old.layout old.shape ls next
   pub kept : IsKeptLossy new
   pub static : SameLossyStatic old new
   pub kinds : fabric'.kinds ≡ fabric.kinds
+
+-- where this row was given
+abbrev pub TakesGiven : {C M : Type 0} (ctl : Controls C) (mch : Machines M) → (old new : LossyBenchState C M) → LossyEvent → Option (Bor (List Value)) → (fabric fabric' : FabricState) → Type 0
+TakesGiven ctl mch old new e row fabric fabric' = IsTakenLossy ctl mch old new e (given_row row) fabric fabric'
+
+-- a net took it
+abbrev pub Takes : {C M : Type 0} (ctl : Controls C) (mch : Machines M) → (old new : LossyNetState C M) → LossyEvent → Option (Bor (List Value)) → (fabric fabric' : FabricState) → Type 0
+Takes ctl mch old new e row fabric fabric' = TakesGiven ctl mch old.bench new.bench e row fabric fabric'
+
+-- an activation of node n
+abbrev pub TakesAct : {C M : Type 0} (ctl : Controls C) (mch : Machines M) → (old new : LossyBenchState C M) → (n at : ℕ) → Option (Bor (List Value)) → (fabric fabric' : FabricState) → Type 0
+TakesAct ctl mch old new n at row fabric fabric' = TakesGiven ctl mch old new (Plain (Act n at)) row fabric fabric'
+
+-- an event that needs no row, whatever row is given
+abbrev pub TakesRowless : {C M : Type 0} (ctl : Controls C) (mch : Machines M) → (old new : LossyBenchState C M) → LossyEvent → (fabric fabric' : FabricState) → Type 0
+TakesRowless ctl mch old new e fabric fabric' = (row : Option (List Value)) → IsTakenLossy ctl mch old new e row fabric fabric'

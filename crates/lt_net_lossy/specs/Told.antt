@@ -6,13 +6,15 @@ use Rattle.lt_arch.specs.declared.event.Event.TheVariants.{Act, Del, End}
 use Rattle.lt_arch.specs.declared.shape.Shape.{Shape}
 use Rattle.lt_arch.specs.declared.timing.Timing.{Timing}
 use Rattle.lt_arch.specs.Deeds.{deed_at}
+use Rattle.lt_arch.specs.Step.{woken}
 use Rattle.lt_arch.specs.Readers.{chan_count, to_of, carries_data}
 use Rattle.lt_io.specs.declared.message.Message.{Message}
 use Rattle.lt_io.specs.FabricState.{FabricState}
 use Rattle.lt_link.specs.Bits.{bit_of, differ}
 use Rattle.lt_lossy.specs.declared.event.LossyEvent.{LossyEvent}
 use Rattle.lt_lossy.specs.declared.event.LossyEvent.TheVariants.{Plain, Lose}
-use Rattle.lt_lossy.specs.State.{plain_of}
+use Rattle.lt_lossy.specs.State.{Message as Numbered, LossyState, lossy_start, number_on, plain_of}
+use Rattle.lt_lossy.specs.Step.{lossy_after, sends_number}
 use Rattle.lt_lossy.specs.Schedule.{lossy_reached}
 use Rattle.lt_net_lossy.specs.Event.{is_unread}
 
@@ -27,6 +29,22 @@ fate_of c (Lose d at) = if d == c then false ∷ [] else []
 abbrev pub fates_of : (c : ℕ) → List LossyEvent → List Bool
 fates_of c [] = []
 fates_of c (e ∷ es) = fate_of c e ++ fates_of c es
+
+-- the message that an event sends on channel c, if it sends one: where the channel's sender is activated, that of the number that it counts there then
+abbrev pub message_by : Shape → Timing → (rows c : ℕ) → LossyState → LossyEvent → List Numbered
+message_by s t rows c st (Plain (Act n at)) =
+    if sends_number s n (woken s t rows (plain_of st) n at) c then record { number = number_on s (woken s t rows (plain_of st) n at) c; sent_at = at } ∷ [] else []
+message_by s t rows c st (Plain (Del d at)) = []
+message_by s t rows c st (Plain (End at)) = []
+message_by s t rows c st (Lose d at) = []
+
+-- the messages that these events send on channel c, in order
+abbrev pub messages_from : Shape → Timing → (rows c : ℕ) → LossyState → List LossyEvent → List Numbered
+messages_from s t rows c st [] = []
+messages_from s t rows c st (e ∷ es) = message_by s t rows c st e ++ messages_from s t rows c (lossy_after s t rows st e) es
+
+abbrev pub messages_of : Shape → Timing → (rows c : ℕ) → List LossyEvent → List Numbered
+messages_of s t rows c es = messages_from s t rows c lossy_start es
 
 -- a message, if it is kept
 abbrev pub kept_if : Bool → Message → List Message

@@ -1,6 +1,5 @@
 // The nodes and the channels of a net that runs over links that lose messages.
-ghost use Rattle.std.specs.Prelude.{List as Items, Option, ◌≡◌, ◌≢◌, ◌<◌, ◌≤◌, ◌-◌, ◌^◌, ℕ, None, IsTrue, true, false, [], OnOk, OnErr, IsErrOf, map, slice_set, slice_index_or};
-ghost use Rattle.lt_base.specs.declared.value.Value.{Value as Datum};
+ghost use Rattle.std.specs.Prelude.{Option, ◌≡◌, ◌<◌, ◌≤◌, ◌-◌, IsTrue, true, false, OnOk, OnErr, IsErrOf, map, slice_index_or};
 ghost use Rattle.lt_arch.specs.declared.limits.TheConstants.{GREATEST_TIME};
 ghost use Rattle.lt_arch.specs.declared.event.Event.TheVariants.{Act, Del, End};
 ghost use Rattle.lt_arch.specs.Readers.{node_count, chan_count};
@@ -12,22 +11,20 @@ ghost use Rattle.lt_lossy.specs.Events.{IsLossyEventOf};
 ghost use Rattle.lt_net_node.specs.Freshness.{TakenUpTo};
 ghost use Rattle.lt_link.specs.Ports.{is_to, HasPorts, is_from};
 ghost use Rattle.lt_net.specs.Event.{given_row};
-ghost use Rattle.lt_net_lossy.specs.Net.{LossyLists};
-ghost use Rattle.lt_net_lossy.specs.Stands.{StandsLossy};
 ghost use Rattle.lt_net_lossy.specs.Kept.{HasLossySizes};
 ghost use Rattle.lt_net_lossy.specs.Changes.{PostedUpTo};
-ghost use Rattle.lt_net_lossy.specs.Deeds.{DoesDeed, LossyCanAct};
-ghost use Rattle.lt_net_lossy.specs.Sends.{HasRoomToSend, SendsAgain};
+ghost use Rattle.lt_net_lossy.specs.Deeds.{DoesGiven, PostsNewest, LossyCanAct};
+ghost use Rattle.lt_net_lossy.specs.Sends.{HasRoomToSend, NodeSendsAgain};
 ghost use Rattle.lt_net_lossy.specs.Given.{HasLossyRow, IsLossyRowFor};
 ghost use Rattle.lt_net_lossy.specs.Halts.{SendsBehind, WantsRoom};
 ghost use Rattle.lt_net_lossy.specs.Event.{PassesWatch};
-ghost use Rattle.lt_net_lossy.specs.Taken.{LossyHeld, HasLossyKinds, SameLossyStatic, IsKeptLossy, IsTakenLossy, LeavesHaltedLossy};
+ghost use Rattle.lt_net_lossy.specs.Taken.{LossyHeld, HasLossyKinds, SameLossyStatic, IsKeptLossy, TakesGiven, TakesAct, TakesRowless, LeavesHaltedLossy};
 
 use crate::posted::Posted;
 use crate::posting::post_all;
 use crate::receiving::{lose, receive};
 use crate::sending::send_number;
-use lt_arch::{Controller, Deed, Event, Timing};
+use lt_arch::{Chan, Controller, Deed, Event, Timing};
 use lt_base::{Steps, Value};
 use lt_io::{Fabric, LinkErr};
 use lt_lossy::{LossyEvent, LossyWatch};
@@ -56,7 +53,26 @@ impl<C: Controller, M: Machine> Model for LossyBench<C, M> {
 
     ghost coded = { Prim.hlevel (codes, coded_function) };
 
-    ghost view = { λ a. record { layout = a.inner.layout; shape = a.inner.shape; timing = a.timing; rows = a.inner.rows; watch = a.watch; machines = a.inner.machines; controllers = a.inner.controllers; executed = a.inner.executed; sent = a.sent.items; inboxes = a.inner.inboxes; buffers = a.inner.buffers; posted = a.posted.items; tracks = a.inner.tracks; routes = a.inner.routes; exits = a.inner.exits; ports = a.inner.ports; values = a.inner.values; outs = a.inner.outs } };
+    ghost view = { λ a. record {
+      layout = a.inner.layout;
+      shape = a.inner.shape;
+      timing = a.timing;
+      rows = a.inner.rows;
+      watch = a.watch;
+      machines = a.inner.machines;
+      controllers = a.inner.controllers;
+      executed = a.inner.executed;
+      sent = a.sent.items;
+      inboxes = a.inner.inboxes;
+      buffers = a.inner.buffers;
+      posted = a.posted.items;
+      tracks = a.inner.tracks;
+      routes = a.inner.routes;
+      exits = a.inner.exits;
+      ports = a.inner.ports;
+      values = a.inner.values;
+      outs = a.inner.outs;
+    } };
 }
 
 impl<C: Controller, M: Machine> LossyBench<C, M> {
@@ -75,7 +91,7 @@ impl<C: Controller, M: Machine> LossyBench<C, M> {
         requires passes { PassesWatch self.old.watch e }
         requires count { MayFail (W.state fabric.old).faults }
         requires row { IsLossyRowFor self.old e (given_row row) }
-        ensures taken { OnOk result (IsTakenLossy C.Controller M.Machine self.old self.new e (given_row row.entry) (W.state fabric.old) (W.state fabric.new)) }
+        ensures taken { OnOk result (TakesGiven C.Controller M.Machine self.old self.new e row.entry (W.state fabric.old) (W.state fabric.new)) }
         ensures halted { OnErr result (LeavesHaltedLossy C.Controller M.Machine self.old self.new e (given_row row.entry)) }
         ensures kept { IsKeptLossy self.new }
         ensures fixed { SameLossyStatic self.old self.new }
@@ -113,7 +129,7 @@ impl<C: Controller, M: Machine> LossyBench<C, M> {
         requires passes { PassesWatch self.old.watch (Plain (Act node at)) }
         requires count { MayFail (W.state fabric.old).faults }
         requires row { HasLossyRow self.old node (given_row row) }
-        ensures taken { OnOk result (IsTakenLossy C.Controller M.Machine self.old self.new (Plain (Act node at)) (given_row row.entry) (W.state fabric.old) (W.state fabric.new)) }
+        ensures taken { OnOk result (TakesAct C.Controller M.Machine self.old self.new node at row.entry (W.state fabric.old) (W.state fabric.new)) }
         ensures halted { OnErr result (LeavesHaltedLossy C.Controller M.Machine self.old self.new (Plain (Act node at)) (given_row row.entry)) }
         ensures kept { IsKeptLossy self.new }
         ensures fixed { SameLossyStatic self.old self.new }
@@ -133,7 +149,7 @@ impl<C: Controller, M: Machine> LossyBench<C, M> {
         requires can { LossyCanAct C.Controller M.Machine self.old node }
         requires node { node < node_count self.old.shape }
         requires row { HasLossyRow self.old node (given_row row) }
-        ensures does { (ls : LossyLists) → StandsLossy C.Controller M.Machine self.old ls → DoesDeed C.Controller M.Machine self.old self.new node (given_row row.entry) ls }
+        ensures does { DoesGiven C.Controller M.Machine self.old self.new node row.entry }
         ensures kept { IsKeptLossy self.new }
         ensures fixed { SameLossyStatic self.old self.new }
         ensures watch { self.new.watch ≡ self.old.watch }
@@ -158,13 +174,12 @@ impl<C: Controller, M: Machine> LossyBench<C, M> {
         requires node { node < node_count self.old.shape }
         ensures posts { PostedUpTo (chan_count self.old.shape) (is_from self.old.shape.channels node true) self.old.buffers self.old.posted self.new.posted }
         ensures taken { TakenUpTo (chan_count self.old.shape) (is_to self.old.shape.channels node false) self.old.inboxes self.new.inboxes }
-        ensures is { self.new ≡ record self.old { inboxes = self.new.inboxes; sent = slice_set self.old.sent node (slice_index_or self.old.executed node 0); posted = self.new.posted } }
+        ensures is { PostsNewest self.old self.new node }
     {
         self.inner.read(node, false);
         let bench = &self.inner;
-        let channels = bench.shape.channels.as_slice();
         post_all(
-            channels,
+            &bench.shape.channels,
             &bench.ports,
             &bench.buffers,
             &mut self.posted,
@@ -187,7 +202,7 @@ impl<C: Controller, M: Machine> LossyBench<C, M> {
         requires time { at ≤ GREATEST_TIME }
         requires space { HasRoomToSend self.old.shape node (slice_index_or self.old.sent node 0) (slice_index_or self.old.executed node 0) self.old.watch }
         requires count { MayFail (W.state fabric.old).faults }
-        ensures again { OnOk result (SendsAgain self.old.shape node at (slice_index_or self.old.sent node 0) (slice_index_or self.old.executed node 0) self.old.posted (W.state fabric.old) (W.state fabric.new) self.old.watch self.new.watch) }
+        ensures again { OnOk result (NodeSendsAgain self.old self.new node at (W.state fabric.old) (W.state fabric.new)) }
         ensures kept { IsKeptLossy self.new }
         ensures is { self.new ≡ record self.old { watch = self.new.watch } }
         ensures limit { self.new.watch.limit ≡ self.old.watch.limit }
@@ -199,7 +214,7 @@ impl<C: Controller, M: Machine> LossyBench<C, M> {
         let sent = self.sent[node as usize];
         let bench = &self.inner;
         let executed = bench.executed[node as usize];
-        let channels = bench.shape.channels.as_slice();
+        let channels: &[Chan] = &bench.shape.channels;
         send_number(
             channels,
             &bench.ports,
@@ -243,7 +258,7 @@ impl<C: Controller, M: Machine> LossyBench<C, M> {
         requires time { at ≤ GREATEST_TIME }
         requires passes { PassesWatch self.old.watch (Plain (Del ch at)) }
         requires count { MayFail (W.state fabric.old).faults }
-        ensures taken { OnOk result ((row : Option (Items Datum)) → IsTakenLossy C.Controller M.Machine self.old self.new (Plain (Del ch at)) row (W.state fabric.old) (W.state fabric.new)) }
+        ensures taken { OnOk result (TakesRowless C.Controller M.Machine self.old self.new (Plain (Del ch at)) (W.state fabric.old) (W.state fabric.new)) }
         ensures unchanged { OnErr result (self.new ≡ self.old) }
         ensures kept { IsKeptLossy self.new }
         ensures fixed { SameLossyStatic self.old self.new }
@@ -275,7 +290,7 @@ impl<C: Controller, M: Machine> LossyBench<C, M> {
         requires time { at ≤ GREATEST_TIME }
         requires passes { PassesWatch self.old.watch (Lose ch at) }
         requires count { MayFail (W.state fabric.old).faults }
-        ensures taken { OnOk result ((row : Option (Items Datum)) → IsTakenLossy C.Controller M.Machine self.old self.new (Lose ch at) row (W.state fabric.old) (W.state fabric.new)) }
+        ensures taken { OnOk result (TakesRowless C.Controller M.Machine self.old self.new (Lose ch at) (W.state fabric.old) (W.state fabric.new)) }
         ensures unchanged { OnErr result (self.new ≡ self.old) }
         ensures kept { IsKeptLossy self.new }
         ensures fixed { SameLossyStatic self.old self.new }
@@ -297,7 +312,7 @@ impl<C: Controller, M: Machine> LossyBench<C, M> {
         requires kept { IsKeptLossy self.old }
         requires time { at ≤ GREATEST_TIME }
         requires passes { PassesWatch self.old.watch (Plain (End at)) }
-        ensures taken { (row : Option (Items Datum)) (fabric : FabricState) → IsTakenLossy C.Controller M.Machine self.old self.new (Plain (End at)) row fabric fabric }
+        ensures taken { (fabric : FabricState) → TakesRowless C.Controller M.Machine self.old self.new (Plain (End at)) fabric fabric }
         ensures kept { IsKeptLossy self.new }
         ensures fixed { SameLossyStatic self.old self.new }
         ensures machines { self.new.machines ≡ self.old.machines }

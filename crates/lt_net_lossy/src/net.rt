@@ -16,7 +16,7 @@ ghost use Rattle.lt_net.specs.Event.{given_row};
 ghost use Rattle.lt_net_lossy.specs.Starts.{IsMadeOfLossy, IsFreshLossy};
 ghost use Rattle.lt_net_lossy.specs.Given.{IsLossyRowFor};
 ghost use Rattle.lt_net_lossy.specs.Halts.{RefusesLossy, HaltsLossy, WantsRoom};
-ghost use Rattle.lt_net_lossy.specs.Taken.{LossyHeld, HasLossyKinds, SameLossyStatic, IsKeptLossy, IsTakenLossy, LeavesHaltedLossy, StandsOpened, TellsLossyOffence};
+ghost use Rattle.lt_net_lossy.specs.Taken.{LossyHeld, HasLossyKinds, SameLossyStatic, IsKeptLossy, Takes, LeavesHaltedLossy, StandsOpened, TellsLossyOffence};
 
 use crate::LossyFault;
 use crate::bench::LossyBench;
@@ -198,7 +198,7 @@ impl<M: Machine> LossyNet<M> {
 
         // What an event that is taken does.
         ensures running { OnOk result (self.new.stopped ≡ None) }
-        ensures happens { OnOk result (IsTakenLossy ⟦<BackPressure as Controller>⟧ M.Machine self.old.bench self.new.bench e (given_row row.entry) (W.state fabric.old) (W.state fabric.new)) }
+        ensures happens { OnOk result (Takes ⟦<BackPressure as Controller>⟧ M.Machine self.old self.new e row.entry (W.state fabric.old) (W.state fabric.new)) }
         ensures holds { OnOk result (LossyHeld ⟦<BackPressure as Controller>⟧ M.Machine self.new.bench (W.state fabric.new)) }
         ensures kinds { OnOk result (HasLossyKinds self.new.bench (W.state fabric.new)) }
 

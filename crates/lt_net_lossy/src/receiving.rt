@@ -1,5 +1,5 @@
 // A delivery, and a loss.
-ghost use Rattle.std.specs.Prelude.{◌≡◌, ◌≢◌, ◌<◌, ◌≤◌, ◌-◌, ◌^◌, [], IsTrue, IsErrOf, length, map, OnOk, OnErr, slice_index_or};
+ghost use Rattle.std.specs.Prelude.{◌≡◌, ◌≢◌, ◌<◌, ◌≤◌, ◌-◌, [], IsTrue, IsErrOf, length, map, OnOk, OnErr, slice_index_or};
 ghost use Rattle.lt_base.specs.Value.{ty_of};
 ghost use Rattle.lt_io.specs.declared.fault.LinkErr.TheVariants.{Memory as NoMemory};
 ghost use Rattle.lt_io.specs.Counts.{MayFail, LinkCounted};

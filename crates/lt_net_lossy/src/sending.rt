@@ -1,15 +1,15 @@
 // The messages that a node sends again.
-ghost use Rattle.std.specs.Prelude.{◌≡◌, ◌<◌, ◌≤◌, ◌-◌, ◌^◌, ℕ, true, [], IsTrue, length, map, OnOk, IsErrOf, slice_index_or};
-ghost use Rattle.lt_base.specs.Value.{ty_of};
+ghost use Rattle.std.specs.Prelude.{◌≡◌, ◌<◌, ◌≤◌, ◌-◌, ℕ, true, IsTrue, length, OnOk, IsErrOf};
 ghost use Rattle.lt_arch.specs.declared.limits.TheConstants.{GREATEST_TIME};
 ghost use Rattle.lt_io.specs.declared.fault.LinkErr.TheVariants.{Memory as NoMemory};
 ghost use Rattle.lt_io.specs.Counts.{MayFail, LinkCounted};
-ghost use Rattle.lt_io.specs.FabricState.{KeepsFabric, channel_kind};
+ghost use Rattle.lt_io.specs.FabricState.{KeepsFabric};
 ghost use Rattle.lt_link.specs.Bits.{bit_of};
 ghost use Rattle.lt_lossy.specs.Times.{queue_at};
 ghost use Rattle.lt_lossy.specs.Window.{room};
 ghost use Rattle.lt_link.specs.Ports.{HasPorts, is_from};
-ghost use Rattle.lt_net_lossy.specs.Sends.{SentUpTo, numbered_from, posted_message, IsBehind};
+ghost use Rattle.lt_net.specs.Sends.{PayloadsFit};
+ghost use Rattle.lt_net_lossy.specs.Sends.{SendsPosted, SendsNumber, numbered_from, IsBehind};
 
 use crate::posted::Posted;
 use lt_arch::Chan;
@@ -45,10 +45,10 @@ fn send_all<W: Fabric, L: Ledger>(
     requires posted { length posted.now ≡ length channels.now }
     requires queues { length watch.old.queues ≡ length channels.now }
     requires kinds { length (W.state fabric.old).kinds ≡ length channels.now }
-    requires types { (c : ℕ) → c < length channels.now → is_from channels.now node kind c ≡ true → map ty_of (slice_index_or posted.now c []) ≡ channel_kind (W.state fabric.old) c }
+    requires types { PayloadsFit channels.now node kind posted.now (W.state fabric.old) }
     requires space { (c : ℕ) → c < length channels.now → is_from channels.now node kind c ≡ true → length (queue_at watch.old c) < room }
     requires time { at ≤ GREATEST_TIME }
-    ensures sent { OnOk result (SentUpTo (length channels.now) (is_from channels.now node kind) (posted_message posted.now bit) at (W.state fabric.old) (W.state fabric.new) watch.old watch.new) }
+    ensures sent { OnOk result (SendsPosted channels.now node kind posted.now bit at (W.state fabric.old) (W.state fabric.new) watch.old watch.new) }
     ensures watch { watch.new ≡ record watch.old { queues = watch.new.queues } }
     ensures length { length watch.new.queues ≡ length watch.old.queues }
     ensures cause { LinkCounted (W.state fabric.old).faults (W.state fabric.new).faults result }
@@ -84,10 +84,10 @@ pub fn send_number<W: Fabric, L: Ledger>(
     requires posted { length posted.now ≡ length channels.now }
     requires queues { length watch.old.queues ≡ length channels.now }
     requires kinds { length (W.state fabric.old).kinds ≡ length channels.now }
-    requires types { (c : ℕ) → c < length channels.now → is_from channels.now node kind c ≡ true → map ty_of (slice_index_or posted.now c []) ≡ channel_kind (W.state fabric.old) c }
+    requires types { PayloadsFit channels.now node kind posted.now (W.state fabric.old) }
     requires space { (c : ℕ) → c < length channels.now → numbered_from channels.now node kind number c ≡ true → length (queue_at watch.old c) < room }
     requires time { at ≤ GREATEST_TIME }
-    ensures sent { OnOk result (SentUpTo (length channels.now) (numbered_from channels.now node kind number) (posted_message posted.now (bit_of number)) at (W.state fabric.old) (W.state fabric.new) watch.old watch.new) }
+    ensures sent { OnOk result (SendsNumber channels.now node kind posted.now number at (W.state fabric.old) (W.state fabric.new) watch.old watch.new) }
     ensures watch { watch.new ≡ record watch.old { queues = watch.new.queues } }
     ensures length { length watch.new.queues ≡ length watch.old.queues }
     ensures cause { LinkCounted (W.state fabric.old).faults (W.state fabric.new).faults result }

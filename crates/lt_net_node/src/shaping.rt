@@ -115,6 +115,6 @@ pub fn shape_of(alloc: Global, layout: &Layout, timing: &Timing) -> Result<Shape
     names_differ();
     let nodes = layout.names.copy()?;
     let count = nodes.len() as u32;
-    let channels = channels_of(alloc, layout.cross.as_slice(), timing.protocol, count)?;
+    let channels = channels_of(alloc, &layout.cross, timing.protocol, count)?;
     Ok(Shape { nodes, channels })
 }

@@ -80,6 +80,6 @@ pub fn run<M: Machine, L: Ledger>(
     ensures size { M.size machine.new ≡ M.size machine.old }
     ensures cost { steps.new ≤ steps.old + M.size machine.old }
 {
-    feed(part.feeds.as_slice(), routes, inboxes, row, values);
+    feed(&part.feeds, routes, inboxes, row, values);
     step_on(machine, &values[..part.feeds.len()], outs, steps);
 }

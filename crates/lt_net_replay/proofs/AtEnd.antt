@@ -1,12 +1,10 @@
 -- A net that has taken a whole list of events.
-use Rattle.std.proofs.Common.{◌≡◌, ℕ, ◌+◌, ◌≤◌, List, Option, Some, None, refl, ◌∙◌, subst, arith}
+use Rattle.std.proofs.Common.{◌≡◌, ℕ, List, Option, Some, None, refl, ◌∙◌, subst}
 use Rattle.std.specs.Prelude.{is_some, if◌then◌else◌}
 use Rattle.lt_base.specs.declared.value.Value.{Value}
-use Rattle.lt_base.specs.Program.{Function}
 use Rattle.lt_arch.specs.declared.event.Event.{Event}
 use Rattle.lt_arch.specs.declared.event.Offence.{Offence}
 use Rattle.lt_arch.specs.declared.event.Offence.TheVariants.{NoEnd}
-use Rattle.lt_arch.specs.State.{Phase}
 use Rattle.lt_arch.specs.Schedule.{reached, first_offence, IsAdmissible}
 use Rattle.lt_io.specs.FabricState.{FabricState}
 use Rattle.lt_schedule.specs.Verdict.{unended}

@@ -11,16 +11,17 @@ use Rattle.lt_base.specs.Behaviour.{RowsFit}
 use Rattle.lt_arch.specs.declared.event.Event.{Event}
 use Rattle.lt_arch.specs.declared.shape.Shape.{Shape}
 use Rattle.lt_arch.specs.declared.timing.Timing.{Timing}
-use Rattle.lt_arch.specs.State.{Phase, State, sent_of, executed_of}
-use Rattle.lt_arch.specs.Times.{in_transit, sent_in}
-use Rattle.lt_arch.specs.Readers.{node_count, chan_count, from_of}
-use Rattle.lt_arch.specs.Schedule.{IsAdmissible, reached}
+use Rattle.lt_arch.specs.State.{State, start as at_start, sent_of, executed_of}
+use Rattle.lt_arch.specs.Step.{after}
+use Rattle.lt_arch.specs.declared.limits.TheConstants.{GREATEST_TIME}
+use Rattle.lt_arch.specs.Times.{in_transit}
+use Rattle.lt_arch.specs.Readers.{node_count, chan_count, from_of, to_of}
+use Rattle.lt_arch.specs.Schedule.{AreUpTo, HasNoOffence, IsOffenceFree, IsAdmissible, OnePlace, reached}
 use Rattle.lt_io.specs.declared.message.Message.{Message}
 use Rattle.lt_io.specs.FabricState.{FabricState}
 use Rattle.lt_link.specs.Bits.{bit_of}
-use Rattle.lt_link.specs.Inbox.{InboxState, no_inbox}
+use Rattle.lt_link.specs.Inbox.{no_inbox}
 use Rattle.lt_norm.specs.Flat.{Originated}
-use Rattle.lt_place.specs.declared.layout.Layout.{Layout}
 use Rattle.lt_place.specs.Layout.{IsPlaced, part_of}
 use Rattle.lt_net_bench.specs.Track.{TrackState, track_at}
 use Rattle.lt_net_node.specs.Local.{fed_row, firsts, local_stream}
@@ -30,7 +31,7 @@ use Rattle.lt_net.specs.Kept.{IsSized}
 use Rattle.lt_net.specs.Event.{HeldBy}
 use Rattle.lt_net.specs.Replay.{ReplayKeeps, ReplayEnds}
 use Rattle.lt_net_bench.proofs.Firsts.{firsts-same}
-use Rattle.lt_net.proofs.OutputFronts.{same_rows_of}
+use Rattle.lt_net.proofs.OutputFronts.{same_rows_of, payloads_are_whole}
 use Rattle.lt_net_bench.proofs.LaidOut.{laid_out}
 use Rattle.lt_net_bench.proofs.Fitting.{has_inputs}
 use Rattle.lt_net_node.specs.Layout.{IsLaidOut}
@@ -44,6 +45,18 @@ use Rattle.lt_net_replay.specs.Run.{WereGiven, message_at, IsLeft, RunIsTold, De
 use Rattle.lt_net_replay.specs.Replays.{ReplayIsTaken, IsReplay}
 use Rattle.lt_machine.specs.declared.machine.Machine.{Ghosts as Machines}
 use Rattle.lt_arch.specs.declared.controller.Controller.{Ghosts as Controls}
+
+-- events up to a time, and without an offence, from the front
+
+timely_front : (limit i : ℕ) (es : List Event) → AreUpTo limit es → AreUpTo limit (take i es)
+timely_front limit zero es up = tt
+timely_front limit (suc i) [] up = tt
+timely_front limit (suc i) (e ∷ es) up = (up.0, timely_front limit i es up.1)
+
+clean_front : (s : Shape) (t : Timing) (rows : ℕ) (st : State) (i : ℕ) (es : List Event) → HasNoOffence s t rows st es → HasNoOffence s t rows st (take i es)
+clean_front s t rows st zero es free = tt
+clean_front s t rows st (suc i) [] free = tt
+clean_front s t rows st (suc i) (e ∷ es) free = (free.0, clean_front s t rows (after s t rows st e) i es free.1)
 
 -- what a channel holds
 
@@ -142,6 +155,20 @@ module _ {C M : Type 0} (ctl : Controls C) (mch : Machines M) (net : TimedBenchS
       fronts = λ g g_placed g_fit faithful y n x yb nb gives.
           cells_at net.tracks taken.cells y is.cells (omega (arith, yb, tracks)) ∙ (ends_of sound.paced.0 sound.paced.1 g g_placed g_fit).fronts faithful y n x yb nb gives
           ∙ ap (λ (st : State). take (executed_of st n) (stream_of [] g.func inputs (slice_index_or net.layout.outs y 0))) state_is;
+      crosses = λ g g_placed g_fit faithful.
+          let own = k.owns faithful in
+          let later = k.owns_transit faithful in
+          let whole = payloads_are_whole C M ctl mch net ls g.func (laid_out g net.layout g_placed) sound.fits.channels (subst (OnePlace net.shape net.timing) (sym rows) sound.one_place) k.stands_for own inputs
+          (has_inputs g.func g_placed.good inputs g_fit) k.same_inputs in
+          record {
+            delivered = λ c j b carries low. whole (from_of net.shape c) (to_of net.shape c) j (slice_index_or (ls.got c) j []) (own.before c j b carries low) (own.own c j b carries low);
+            under_way = λ c j b carries low.
+                whole (from_of net.shape c) (to_of net.shape c) (length (ls.got c) + j) (message_at (fabric.transit c) j).payload (later.before c j b carries low) (later.own c j b carries low);
+          };
+      exact = λ counts i. sound.exact counts (take i events)
+          (timely_front GREATEST_TIME i events (subst (AreUpTo GREATEST_TIME) k.events k.stands_for.timely))
+          (clean_front net.shape net.timing (length inputs) (at_start net.timing.protocol) i events
+          (subst (λ m. IsOffenceFree net.shape net.timing m events) rows (subst (λ es. IsOffenceFree net.shape net.timing net.rows es) k.events k.stands_for.clean)));
       enough = λ pace kept n b. subst (λ (st : State). min (bound_by pace net.timing n taken.horizon) (length inputs) ≤ executed_of st n) state_is
           ((ends_of pace kept f placed fit).enough taken.horizon n (ap (λ (st : State). st.horizon) state_is ∙ horizon_is) b);
     };

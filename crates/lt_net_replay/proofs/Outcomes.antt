@@ -1,18 +1,16 @@
 -- What a play answers.
-use Rattle.std.proofs.Common.{◌≡◌, ◌<◌, ℕ, Bool, false, List, Option, Some, None, Result, Ok, Err, IsTrue, refl, sym, ap, subst, arith}
+use Rattle.std.proofs.Common.{◌≡◌, ◌<◌, ℕ, false, List, Option, Some, None, Result, Ok, Err, IsTrue, refl, sym, subst, arith}
 use Rattle.std.specs.Prelude.{IsSome, MatchResult, is_ok}
 use Rattle.lt_base.specs.declared.value.Value.{Value}
 use Rattle.lt_base.specs.declared.memory.Or.{Or}
 use Rattle.lt_base.specs.declared.memory.Or.TheVariants.{Fault}
-use Rattle.lt_base.specs.Program.{Function}
 use Rattle.lt_arch.specs.declared.event.Event.{Event}
 use Rattle.lt_arch.specs.declared.event.Offence as arch
-use Rattle.lt_arch.specs.State.{Phase}
 use Rattle.lt_io.specs.FilesState.{FilesState, KeepsNames}
 use Rattle.lt_io.specs.Visits.{Visited}
 use Rattle.lt_io.specs.FabricState.{FabricState}
 use Rattle.lt_io.proofs.Keeps.{promises_kept}
-use Rattle.lt_answer.specs.World.{KeepsWorld}
+use Rattle.lt_answer.specs.World.{KeepsWorld, world}
 use Rattle.lt_answer.specs.Answered.{OfFile, Verdict, RefusesReading}
 use Rattle.lt_schedule.specs.declared.halt.ScheduleRefusal.{ScheduleRefusal}
 use Rattle.lt_schedule.specs.declared.halt.Halt.{Halt}
@@ -27,12 +25,10 @@ use Rattle.lt_net_start.specs.declared.fault.PlayFault.{PlayFault}
 use Rattle.lt_net_start.specs.declared.fault.PlayFault.TheVariants.{Refused, Read}
 use Rattle.lt_net_start.specs.Blamed.{ReplayEndsWith, play_blame, play_fault, IsNearPlay}
 use Rattle.lt_net_replay.specs.Plays.{Plays, KeepsPlay}
-use Rattle.lt_net_start.specs.Outside.{world}
 use Rattle.lt_net_replay.specs.Played.{IsAtEnd, AtEndOf, play_verdict, HasPlayed}
 use Rattle.lt_net_replay.proofs.AtEnd.{at_end}
 use Rattle.lt_machine.specs.declared.machine.Machine.{Ghosts as Machines}
 use Rattle.lt_arch.specs.declared.controller.Controller.{Ghosts as Controls}
-use Rattle.lt_net_start.proofs.Onward.{stands_too}
 
 -- the answer to what the row loop answers
 abbrev pub answer_of : Result (Unit {0}) (Halt arch.Offence) → Result (Unit {0}) (Or (PlayFault arch.Offence))

@@ -1,16 +1,14 @@
 -- What a network along a schedule answers, from what its net did.
-use Rattle.std.proofs.Common.{◌≡◌, ◌<◌, inl, inr, ℕ, suc, List, [], length, Option, Some, None, Result, Ok, Err, IsTrue, false, refl, sym, ap, ◌∙◌, subst, arith}
+use Rattle.std.proofs.Common.{◌≡◌, ℕ, suc, List, [], length, Option, Some, None, Result, Ok, Err, IsTrue, false, refl, sym, ap, ◌∙◌, subst, arith}
 use Rattle.std.specs.Prelude.{IsErrAnd, OnOk}
 use Rattle.lt_base.specs.declared.value.Value.{Value}
 use Rattle.lt_base.specs.declared.memory.Or.{Or}
 use Rattle.lt_base.specs.declared.memory.Or.TheVariants.{Fault, Memory}
-use Rattle.lt_base.specs.Program.{Function}
 use Rattle.lt_base.specs.Behaviour.{RowsFit}
 use Rattle.lt_arch.specs.declared.event.Event.{Event}
 use Rattle.lt_arch.specs.declared.event.Offence.{Offence}
 use Rattle.lt_arch.specs.declared.shape.Shape.{Shape}
 use Rattle.lt_arch.specs.declared.timing.Timing.{Timing}
-use Rattle.lt_arch.specs.State.{Phase}
 use Rattle.lt_arch.specs.Readers.{node_count}
 use Rattle.lt_arch.specs.Schedule.{first_offence}
 use Rattle.lt_io.specs.declared.fault.LinkErr.{LinkErr}
@@ -20,7 +18,7 @@ use Rattle.lt_io.specs.Visits.{Errand}
 use Rattle.lt_io.proofs.Visiting.{visited_none, unvisited, visited_any}
 use Rattle.lt_io.specs.FilesState.{FilesState}
 use Rattle.lt_io.specs.FabricState.{FabricState, KeepsPromises, OpensAtMostOnce}
-use Rattle.lt_answer.specs.World.{World, KeepsWorld, Blame}
+use Rattle.lt_answer.specs.World.{World, KeepsWorld, Blame, world}
 use Rattle.lt_answer.specs.Answered.{Answered, Verdict, RefusesReading, AndThen}
 use Rattle.lt_answer.proofs.Stages.{goes_on, opens_none, runs_short, widened}
 use Rattle.lt_schedule.specs.declared.halt.ScheduleRefusal.{ScheduleRefusal}
@@ -35,13 +33,13 @@ use Rattle.lt_net.specs.Kept.{IsSized}
 use Rattle.lt_net.specs.Starts.{IsMadeOf}
 use Rattle.lt_net_start.specs.declared.fault.PlayFault.{PlayFault}
 use Rattle.lt_net_start.specs.declared.fault.PlayFault.TheVariants.{Refused, Read}
-use Rattle.lt_net_start.specs.Outside.{world}
 use Rattle.lt_net_replay.specs.Played.{IsAtEnd, AtEndOf, play_verdict, HasPlayed}
 use Rattle.lt_net_replay.specs.Plays.{KeepsPlay}
 use Rattle.lt_net_start.specs.Blamed.{ReplayEndsWith, play_blame, link_fault}
 use Rattle.lt_net.specs.declared.replayed.Replayed.{Replayed}
 use Rattle.lt_net_replay.specs.Sound.{PlanIsSound}
-use Rattle.lt_net_replay.specs.Replays.{FinishesBy, ReplayIsTaken, IsReplay, replay_verdict, HasReplayed}
+use Rattle.lt_net_start.specs.Ends.{FinishesBy}
+use Rattle.lt_net_replay.specs.Replays.{ReplayIsTaken, IsReplay, replay_verdict, HasReplayed}
 use Rattle.lt_net_replay.proofs.AtTheEnd.{is_replay}
 use Rattle.lt_net_replay.proofs.SoundNetworks.{sound_of_equals}
 use Rattle.lt_machine.specs.declared.machine.Machine.{Ghosts as Machines}
@@ -261,7 +259,7 @@ module _ {C M : Type 0} (ctl : Controls C) (mch : Machines M)
     at_end (Err e) played = tt
 
     pub finished : (f : Originated) → IsPlaced f l → RowsFit f.func inputs → PlanIsSound l s t (length inputs) → IsSized new.bench → length new.bench.tracks ≡ length new.bench.layout.outs → (p : Result (Unit {0}) (Or (PlayFault Offence))) →
-        HasPlayed ctl mch old new lent later name files files' mid fabric' p → (r : Result (Replayed M) (Or (PlayFault Offence))) → FinishesBy new.bench p r → HasReplayed mch l s t inputs name files files' fabric fabric' r
+        HasPlayed ctl mch old new lent later name files files' mid fabric' p → (r : Result (Replayed M) (Or (PlayFault Offence))) → FinishesBy (ReplayIsTaken new.bench) p r → HasReplayed mch l s t inputs name files files' fabric fabric' r
     finished f placed fit networks sized tracks (Ok x) played (Ok taken) ends = taken_so x lent same played f placed fit networks sized tracks taken ends
     finished f placed fit networks sized tracks (Ok x) played (Err e) ends = untaken_by x lent same played (Err e) ends
     finished f placed fit networks sized tracks (Err e) played r ends =

@@ -1,20 +1,22 @@
 -- A network whose layout is placed and whose timing is accepted is sound.
-use Rattle.std.proofs.Common.{◌≡◌, ◌⊎◌, inl, inr, ℕ, ◌+◌, ◌*◌, ◌^◌, ◌<◌, ◌≤◌, length, min, refl, sym, ap, subst, arith}
+use Rattle.std.proofs.Common.{◌≡◌, ◌⊎◌, inl, inr, ℕ, ◌+◌, ◌*◌, ◌^◌, ◌<◌, ◌≤◌, List, length, min, refl, sym, ap, ◌∙◌, subst, arith}
 use Rattle.std.specs.Prelude.{if◌then◌else◌}
 use Rattle.std.proofs.lemmas.Nat.{mul-le}
+use Rattle.lt_arch.specs.declared.event.Event.{Event}
+use Rattle.lt_arch.specs.declared.limits.TheConstants.{GREATEST_TIME}
 use Rattle.lt_arch.specs.declared.timing.Protocol.{Protocol}
 use Rattle.lt_arch.specs.declared.timing.Protocol.TheVariants.{BackPressure, TimeBased}
 use Rattle.lt_arch.specs.declared.timing.Timing.{Timing}
 use Rattle.lt_arch.specs.declared.shape.Shape.{Shape}
 use Rattle.lt_arch.specs.Readers.{node_count, chan_count, is_back_pressure}
 use Rattle.lt_arch.specs.State.{executed_of}
-use Rattle.lt_arch.specs.Schedule.{reached}
-use Rattle.lt_arch.specs.Schedule.{OnePlace}
+use Rattle.lt_arch.specs.Schedule.{AreUpTo, IsOffenceFree, OnePlace, reached}
 use Rattle.lt_arch.specs.Shapes.{HaveSameNodes}
 use Rattle.lt_timing.specs.Accepts.{Accepts}
 use Rattle.lt_timing.specs.Bounds.{time_based_bound, back_pressure_bound}
 use Rattle.lt_bp.specs.Laws as pressure
 use Rattle.lt_tb.specs.Laws as counting
+use Rattle.lt_tb.specs.Rounds.{HasExactMessages}
 use Rattle.lt_place.specs.declared.layout.Layout.{Layout}
 use Rattle.lt_place.specs.Layout.{IsPlaced}
 use Rattle.lt_net_node.specs.Channels.{FitsLayout, IsShapeOf, ShapesFit}
@@ -28,7 +30,7 @@ use Rattle.lt_lead.specs.Paced.{KeepsPace, bound_by}
 use Rattle.lt_lead.specs.Laws as leading
 use Rattle.lt_lead.proofs.ByPace.{nodes_are}
 use Rattle.lt_net_replay.specs.Played.{IsLeastBound}
-use Rattle.lt_net_replay.specs.Sound.{PlanIsSound, AreSound}
+use Rattle.lt_net_replay.specs.Sound.{PlanIsSound, PlansAreSound}
 use Rattle.lt_lead.proofs.LossyBound.{lossy_at_most}
 
 either : (p : Protocol) → (p ≡ BackPressure) ⊎ (p ≡ TimeBased)
@@ -85,6 +87,14 @@ module _ (shapes_fit : ShapesFit) (lead_shapes_fit : LeadShapesFit) (f : Origina
       by_pressure s t rows (acknowledges losses k) (fit.0.back_pressure (acknowledges losses k))
   one_by by_pressure by_counting by_leading (Leader leader) k = by_leading s t rows leader (fits_led leader k).1 (same_led leader k) (led leader k) accepted
 
+  exact_by : counting.TimeBasedExecutesOnExactMessages → leading.LeaderExecutesOnExactMessages → (pace : Pace) → KeepsPace l s t pace → t.protocol ≡ TimeBased →
+      (es : List Event) → AreUpTo GREATEST_TIME es → IsOffenceFree s t rows es → HasExactMessages s t rows (reached s t rows es)
+  exact_by by_counting by_leading Plain k counts es timely free =
+      let fit = shapes_fit f l t.protocol s placed k.shaped in
+      by_counting s t rows counts (fit.1 counts) (fit.0.timed t same) accepted es free
+  exact_by by_counting by_leading (Lossy losses) k counts es timely free = absurd (let both : BackPressure ≡ TimeBased = sym (acknowledges losses k) ∙ counts in cc)
+  exact_by by_counting by_leading (Leader leader) k counts es timely free = by_leading s t rows leader (fits_led leader k).1 (same_led leader k) (led leader k) accepted es timely free
+
   least_by : pressure.BackPressureReachesBound → counting.TimeBasedReachesBound → leading.LeaderReachesBound → (pace : Pace) → KeepsPace l s t pace → IsLeastBound (bound_by pace) s t rows
   least_by by_pressure by_counting by_leading Plain k es h n timely admissible ends b =
       let fit = shapes_fit f l t.protocol s placed k.shaped in
@@ -104,14 +114,16 @@ module _ (shapes_fit : ShapesFit) (lead_shapes_fit : LeadShapesFit) (f : Origina
   least_by by_pressure by_counting by_leading (Leader leader) k es h n timely admissible ends b =
       by_leading s t rows leader (fits_led leader k).1 (same_led leader k) (led leader k) accepted es h n timely admissible ends b
 
-pub are_sound : ShapesFit → LeadShapesFit → pressure.BackPressureKeepsOnePlace → pressure.BackPressureReachesBound → counting.TimeBasedKeepsOnePlace → counting.TimeBasedReachesBound → leading.LeaderKeepsOnePlace → leading.LeaderReachesBound → AreSound
-are_sound shapes_fit lead_shapes_fit one_by_pressure least_by_pressure one_by_counting least_by_counting one_by_leading least_by_leading f l s t rows placed paced same accepted =
+pub are_sound : ShapesFit → LeadShapesFit → pressure.BackPressureKeepsOnePlace → pressure.BackPressureReachesBound → counting.TimeBasedKeepsOnePlace → counting.TimeBasedReachesBound → leading.LeaderKeepsOnePlace → leading.LeaderReachesBound →
+    counting.TimeBasedExecutesOnExactMessages → leading.LeaderExecutesOnExactMessages → PlansAreSound
+are_sound shapes_fit lead_shapes_fit one_by_pressure least_by_pressure one_by_counting least_by_counting one_by_leading least_by_leading exact_by_counting exact_by_leading f l s t rows placed paced same accepted =
     let fits = fits_by shapes_fit lead_shapes_fit f l s t rows placed same accepted paced.0 paced.1 in
     let nodes = nodes_are l paced.0 t s paced.1.shaped in
     record {
       fits = fits;
       same_nodes = fits.timed t same;
       one_place = one_by shapes_fit lead_shapes_fit f l s t rows placed same accepted one_by_pressure one_by_counting one_by_leading paced.0 paced.1;
+      exact = exact_by shapes_fit lead_shapes_fit f l s t rows placed same accepted exact_by_counting exact_by_leading paced.0 paced.1;
       paced = paced;
       least = least_by shapes_fit lead_shapes_fit f l s t rows placed same accepted least_by_pressure least_by_counting least_by_leading;
       numbered = λ low. few_channels (node_count s) (chan_count s) (length l.names) (ap length nodes) fits.few low;

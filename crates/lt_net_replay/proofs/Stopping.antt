@@ -13,7 +13,7 @@ use Rattle.lt_net.specs.declared.fault.First.TheVariants as first
 use Rattle.lt_net.specs.Event.{NetRefuses}
 use Rattle.lt_net.specs.NetModel.{NetState}
 use Rattle.lt_net_replay.specs.Blamed.{IsStopOf}
-use Rattle.lt_net_replay.specs.Plays.{LeavesNet}
+use Rattle.lt_net_start.specs.Ends.{LeavesNet}
 
 -- a net that runs was not stopped
 pub runs_on : {T : Type 0} (r : Result T NetFault) (fault : NetFault) → r ≡ Err fault → (stopped : Option First) → stopped ≡ None → ((f : First) → r ≡ Err (net.Stopped f) → stopped ≡ Some f) → (f : First) → fault ≡ net.Stopped f → ⊥
@@ -44,8 +44,8 @@ module _ {T : Type 0} (r : Result T NetFault) where
 
   -- what a fault leaves of the net
   pub leaves : {C M : Type 0} (before after : NetState C M) (fault : NetFault) (why : Stop Offence) → r ≡ Err fault → IsStopOf fault why → (NetRefuses r → after ≡ before) →
-      (IsErrOf r net.Link → after.stopped ≡ Some first.Link) → (IsErrOf r net.Memory → after.stopped ≡ Some first.Memory) → LeavesNet before after (Err why)
-  leaves before after (net.Offence o) why is same refused link memory = subst (λ x. LeavesNet before after (Err x)) (sym same) (refused (subst NetRefuses (sym is) tt))
-  leaves before after net.Link why is same refused link memory = subst (λ x. LeavesNet before after (Err x)) (sym same) (link is)
-  leaves before after net.Memory why is same refused link memory = subst (λ x. LeavesNet before after (Err x)) (sym same) (memory is)
+      (IsErrOf r net.Link → after.stopped ≡ Some first.Link) → (IsErrOf r net.Memory → after.stopped ≡ Some first.Memory) → LeavesNet before after after.stopped (Err why)
+  leaves before after (net.Offence o) why is same refused link memory = subst (λ x. LeavesNet before after after.stopped (Err x)) (sym same) (refused (subst NetRefuses (sym is) tt))
+  leaves before after net.Link why is same refused link memory = subst (λ x. LeavesNet before after after.stopped (Err x)) (sym same) (link is)
+  leaves before after net.Memory why is same refused link memory = subst (λ x. LeavesNet before after after.stopped (Err x)) (sym same) (memory is)
   leaves before after (net.Stopped f) why is same refused link memory = absurd same

@@ -5,3 +5,4 @@ pub mod Played
 pub mod Sound
 pub mod Run
 pub mod Replays
+pub mod Playing

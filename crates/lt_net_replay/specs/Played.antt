@@ -1,5 +1,5 @@
 -- What a net along a schedule file answers.
-use Rattle.std.specs.Prelude.{◌≡◌, ◌<◌, ◌≤◌, ℕ, min, Some, List, Option, None, IsTrue, Result, Ok, Err, OnOk, IfErr}
+use Rattle.std.specs.Prelude.{◌≡◌, ◌<◌, ◌≤◌, ℕ, min, Some, List, Option, None, IsTrue, Result, OnOk, IfErr}
 use Rattle.lt_base.specs.declared.value.Value.{Value}
 use Rattle.lt_base.specs.declared.memory.Or.{Or}
 use Rattle.lt_base.specs.Program.{Function}
@@ -7,14 +7,14 @@ use Rattle.lt_arch.specs.declared.event.Event.{Event}
 use Rattle.lt_arch.specs.declared.event.Offence.{Offence}
 use Rattle.lt_arch.specs.declared.shape.Shape.{Shape}
 use Rattle.lt_arch.specs.declared.timing.Timing.{Timing}
-use Rattle.lt_arch.specs.State.{Phase, start, executed_of}
+use Rattle.lt_arch.specs.State.{start, executed_of}
 use Rattle.lt_arch.specs.Readers.{node_count}
 use Rattle.lt_arch.specs.declared.limits.TheConstants.{GREATEST_TIME}
 use Rattle.lt_arch.specs.Schedule.{AreUpTo, IsAdmissible, after_all}
 use Rattle.lt_io.specs.Counts.{IsMemory}
 use Rattle.lt_io.specs.FilesState.{FilesState}
 use Rattle.lt_io.specs.FabricState.{FabricState}
-use Rattle.lt_answer.specs.World.{World}
+use Rattle.lt_answer.specs.World.{world}
 use Rattle.lt_answer.specs.Answered.{Answered, OfFile, Verdict}
 use Rattle.lt_schedule.specs.Errand.{schedule_errand}
 use Rattle.lt_schedule.specs.Rules.{file_judged_by}
@@ -32,7 +32,6 @@ use Rattle.lt_net_replay.specs.Plays.{KeepsPlay}
 use Rattle.lt_net_start.specs.Blamed.{ReplayEndsWith, play_blame, IsNearPlay}
 use Rattle.lt_machine.specs.declared.machine.Machine.{Ghosts as Machines}
 use Rattle.lt_arch.specs.declared.controller.Controller.{Ghosts as Controls}
-use Rattle.lt_net_start.specs.Outside.{world}
 
 -- along events in the range of times each node executes at least as many instants as this bound for its horizon, or all rows: the law of a protocol
 abbrev pub IsLeastBound : (bound : Timing → ℕ → ℕ → ℕ) → Shape → Timing → (rows : ℕ) → Type 0

@@ -1,16 +1,10 @@
 -- What a net along a schedule keeps.
-use Rattle.std.specs.Prelude.{◌≡◌, ◌<◌, ◌≤◌, ◌+◌, ◌*◌, ◌^◌, ℕ, List, All, IsTrue, Some, None, Result, Ok, Err, length, map}
+use Rattle.std.specs.Prelude.{◌≡◌, ◌<◌, ◌≤◌, ◌+◌, ◌*◌, ◌^◌, ℕ, List, All, IsTrue, None, length, map}
 use Rattle.lt_base.specs.declared.value.Value.{Value}
-use Rattle.lt_base.specs.Program.{Function}
 use Rattle.lt_base.specs.Inputs.{InputTable}
 use Rattle.lt_arch.specs.declared.event.Event.{Event}
-use Rattle.lt_arch.specs.declared.event.Offence.{Offence}
-use Rattle.lt_arch.specs.State.{Phase}
 use Rattle.lt_arch.specs.Readers.{node_count, chan_count}
 use Rattle.lt_io.specs.FabricState.{FabricState, KeepsFabric}
-use Rattle.lt_schedule.specs.declared.halt.Stop.{Stop}
-use Rattle.lt_schedule.specs.declared.halt.Stop.TheVariants as stop
-use Rattle.lt_net.specs.declared.fault.First.TheVariants as first
 use Rattle.lt_net.specs.NetModel.{NetState}
 use Rattle.lt_net.specs.Event.{SameStatic}
 use Rattle.lt_net.specs.Loop.{Kept, ReplayIsGiven}
@@ -41,11 +35,3 @@ pub record KeepsPlay {C M : Type 0} (size : M → ℕ) (old new : NetState C M) 
   pub fabric_kept : KeepsFabric fabric fabric'
   -- the count of a sound fabric stays
   pub steady : IsTrue fabric.sound → fabric'.faults ≡ fabric.faults
-
--- a line that is taken leaves a net that runs; one that is refused leaves it as it was; a failed call or want of memory has stopped it
-abbrev pub LeavesNet : {C M : Type 0} → (old new : NetState C M) → Result (Unit {0}) (Stop Offence) → Type 0
-LeavesNet old new (Ok x) = new.stopped ≡ None
-LeavesNet old new (Err (stop.Row fault)) = new ≡ old
-LeavesNet old new (Err (stop.Offence offence)) = new ≡ old
-LeavesNet old new (Err stop.Link) = new.stopped ≡ Some first.Link
-LeavesNet old new (Err stop.Memory) = new.stopped ≡ Some first.Memory

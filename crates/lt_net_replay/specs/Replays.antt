@@ -1,9 +1,8 @@
 -- What a network along a schedule file answers.
-use Rattle.std.specs.Prelude.{◌≡◌, ℕ, List, Option, Some, length, map, IsTrue, Result, Ok, Err, IfOk, IfErr}
+use Rattle.std.specs.Prelude.{◌≡◌, ℕ, List, Option, Some, length, map, IsTrue, Result, IfOk, IfErr}
 use Rattle.lt_base.specs.declared.value.Value.{Value}
 use Rattle.lt_base.specs.declared.memory.Or.{Or}
-use Rattle.lt_base.specs.declared.memory.Or.TheVariants.{Memory}
-use Rattle.lt_base.specs.Program.{Function}
+use Rattle.lt_base.specs.Inputs.{InputTable}
 use Rattle.lt_arch.specs.declared.event.Event.{Event}
 use Rattle.lt_arch.specs.declared.event.Offence.{Offence}
 use Rattle.lt_arch.specs.declared.shape.Shape.{Shape}
@@ -11,6 +10,7 @@ use Rattle.lt_arch.specs.declared.timing.Timing.{Timing}
 use Rattle.lt_io.specs.FilesState.{FilesState}
 use Rattle.lt_io.specs.FabricState.{FabricState, OpensOnce}
 use Rattle.lt_answer.specs.Answered.{Answered, OfFile, Verdict}
+use Rattle.lt_answer.specs.World.{world}
 use Rattle.lt_schedule.specs.Errand.{schedule_errand}
 use Rattle.lt_schedule.specs.Rules.{file_judged_by}
 use Rattle.lt_schedule.specs.Verdict.{rules_of}
@@ -18,7 +18,7 @@ use Rattle.lt_place.specs.declared.layout.Layout.{Layout}
 use Rattle.lt_net.specs.Net.{TimedBenchState}
 use Rattle.lt_net_start.specs.declared.fault.PlayFault.{PlayFault}
 use Rattle.lt_net_start.specs.declared.fault.PlayFault.TheVariants.{Read}
-use Rattle.lt_net_start.specs.Outside.{world}
+use Rattle.lt_net_start.specs.declared.plan.NetPlan.{NetPlan}
 use Rattle.lt_net_start.specs.Blamed.{ReplayEndsWith, play_blame, IsNearPlay}
 use Rattle.lt_net.specs.declared.replayed.Replayed.{Replayed}
 use Rattle.lt_net_replay.specs.Run.{IsRun, HasSteps}
@@ -30,12 +30,6 @@ pub record ReplayIsTaken {C M : Type 0} (net : TimedBenchState C M) (taken : Rep
   pub horizon : net.watch.horizon ≡ Some taken.horizon
   pub machines : taken.machines ≡ net.machines
   pub layout : taken.layout ≡ net.layout
-
--- after an answer to a whole file: what is taken from the net, or want of memory; else the fault of the answer
-abbrev pub FinishesBy : {C M : Type 0} → TimedBenchState C M → Result (Unit {0}) (Or (PlayFault Offence)) → Result (Replayed M) (Or (PlayFault Offence)) → Type 0
-FinishesBy net (Ok x) (Ok taken) = ReplayIsTaken net taken
-FinishesBy net (Ok x) (Err fault) = fault ≡ Memory
-FinishesBy net (Err e) result = result ≡ Err e
 
 -- the cells and the machines are those to which these events lead
 pub record IsReplay {M : Type 0} (mch : Machines M) (l : Layout) (s : Shape) (t : Timing) (inputs : List (List Value)) (fabric : FabricState) (events : List Event) (taken : Replayed M) : Type 0 where
@@ -59,3 +53,7 @@ pub record HasReplayed {M : Type 0} (mch : Machines M) (l : Layout) (s : Shape) 
   pub opens : OpensOnce fabric fabric' result
   -- the layout is given back
   pub layout : IfOk result (λ taken. taken.layout ≡ l)
+
+-- so did the network of a plan on these inputs
+abbrev pub ReplaysPlan : {M : Type 0} (mch : Machines M) → NetPlan → InputTable → (name : List ℕ) → (files files' : FilesState) → (fabric fabric' : FabricState) → Result (Replayed M) (Or (PlayFault Offence)) → Type 0
+ReplaysPlan mch plan inputs name files files' fabric fabric' result = HasReplayed mch plan.layout plan.shape plan.timing inputs.rows name files files' fabric fabric' result

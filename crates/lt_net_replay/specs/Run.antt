@@ -8,6 +8,7 @@ use Rattle.lt_base.specs.Behaviour.{RowsFit}
 use Rattle.lt_arch.specs.declared.event.Event.{Event}
 use Rattle.lt_arch.specs.declared.shape.Shape.{Shape}
 use Rattle.lt_arch.specs.declared.timing.Timing.{Timing}
+use Rattle.lt_arch.specs.declared.timing.Protocol.TheVariants.{TimeBased}
 use Rattle.lt_arch.specs.State.{State, sent_of, executed_of}
 use Rattle.lt_arch.specs.Readers.{node_count, chan_count, from_of, to_of, carries_data}
 use Rattle.lt_arch.specs.Schedule.{IsAdmissible, EndsAt, reached}
@@ -19,6 +20,8 @@ use Rattle.lt_place.specs.declared.layout.Layout.{Layout}
 use Rattle.lt_place.specs.Layout.{IsPlaced, PartGives, part_of}
 use Rattle.lt_net_node.specs.Local.{fed_row, firsts, local_stream}
 use Rattle.lt_net_node.specs.Payloads.{payloads_between, row_at}
+use Rattle.lt_net_bench.specs.Whole.{HasWholeValues}
+use Rattle.lt_tb.specs.Rounds.{HasExactMessages}
 use Rattle.lt_net.specs.Net.{Lists}
 use Rattle.lt_net.specs.Owns.{OwnPayload}
 use Rattle.lt_arch.specs.declared.pace.Pace.{Pace}
@@ -57,6 +60,19 @@ pub record DeliveredAreOwn (l : Layout) (s : Shape) (ls : Lists) (fabric : Fabri
   pub transit_own : (c k : ℕ) → c < chan_count s → carries_data s c ≡ true → k < length (fabric.transit c) →
       OwnPayload l s ls (from_of s c) (to_of s c) (length (ls.got c) + k) (message_at (fabric.transit c) k).payload
 
+-- what was delivered, and what is in transit, has entries of the whole program's streams: message number k + 1 of a data channel entry k of each
+-- variable that crosses there
+pub record MessagesAreWhole (f : Function) (l : Layout) (s : Shape) (inputs : List (List Value)) (ls : Lists) (fabric : FabricState) : Type 0 where
+  pub delivered : (c k : ℕ) → c < chan_count s → carries_data s c ≡ true → k < length (ls.got c) →
+      HasWholeValues f l inputs (from_of s c) (to_of s c) k (slice_index_or (ls.got c) k [])
+  pub under_way : (c k : ℕ) → c < chan_count s → carries_data s c ≡ true → k < length (fabric.transit c) →
+      HasWholeValues f l inputs (from_of s c) (to_of s c) (length (ls.got c) + k) (message_at (fabric.transit c) k).payload
+
+-- wherever these events lead, a node that executes an instant next has as many messages delivered on each data channel to it as it has executed
+-- instants
+abbrev pub ExecutesOnExactMessages : Shape → Timing → (rows : ℕ) → List Event → Type 0
+ExecutesOnExactMessages s t rows events = (i : ℕ) → HasExactMessages s t rows (reached s t rows (take i events))
+
 -- these cells are those of the outputs at the end of the events, and the fabric is as it is there
 pub record IsRun (l : Layout) (s : Shape) (t : Timing) (inputs : List (List Value)) (fabric : FabricState) (events : List Event) (cells : List (List Cell)) (horizon : ℕ) : Type 0 where
   pub admissible : IsAdmissible s t (length inputs) events
@@ -76,6 +92,10 @@ pub record IsRun (l : Layout) (s : Shape) (t : Timing) (inputs : List (List Valu
   pub fronts : (f : Originated) → IsPlaced f l → RowsFit f.func inputs → IsTrue fabric.faithful →
       (y n x : ℕ) → y < length l.outs → n < length l.nodes → PartGives (part_of l n) (slice_index_or l.outs y 0) x →
       slice_index_or cells y [] ≡ take (executed_of (reached s t (length inputs) events) n) (stream_of [] f.func inputs (slice_index_or l.outs y 0))
+  -- so are all messages of what crosses
+  pub crosses : (f : Originated) → IsPlaced f l → RowsFit f.func inputs → IsTrue fabric.faithful → MessagesAreWhole f.func l s inputs lists fabric
+  -- under the time-based protocol, with a leader or without, each instant is executed on exactly the messages before it
+  pub exact : t.protocol ≡ TimeBased → ExecutesOnExactMessages s t (length inputs) events
   -- and there are at least as many as the bound of the pace that the shape and the timing are for, or one for each row
   pub enough : (pace : Pace) → KeepsPace l s t pace → (n : ℕ) → n < node_count s → min (bound_by pace t n horizon) (length inputs) ≤ executed_of (reached s t (length inputs) events) n
 

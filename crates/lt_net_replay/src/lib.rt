@@ -8,6 +8,4 @@ mod playing;
 mod replaying;
 mod taking;
 
-pub use playback::Playback;
-pub use playing::play;
 pub use replaying::replay;

@@ -1,5 +1,5 @@
 // A net, as it takes the events of a schedule.
-ghost use Rattle.std.specs.Prelude.{◌≡◌, ◌≢◌, ◌<◌, ◌+◌, ◌-◌, ◌*◌, ◌^◌, IsTrue, [], List as Items, length, IfOk, MatchResult};
+ghost use Rattle.std.specs.Prelude.{◌≡◌, ◌≢◌, ◌<◌, ◌+◌, ◌-◌, ◌*◌, ◌^◌, IsTrue, [], List as Items, length, IfOk};
 ghost use Rattle.lt_arch.specs.declared.event.Event.{Event as OfEvent};
 ghost use Rattle.lt_base.specs.Behaviour.{RowsFit};
 ghost use Rattle.lt_arch.specs.Readers.{node_count, chan_count};
@@ -7,7 +7,7 @@ ghost use Rattle.lt_arch.specs.Schedule.{OnePlace};
 ghost use Rattle.lt_arch.specs.Shapes.{HaveSameNodes};
 ghost use Rattle.lt_io.specs.Counts.{MayFail, LinkCounted};
 ghost use Rattle.lt_io.specs.FabricState.{KeepsPromises, OpensOnce};
-ghost use Rattle.lt_schedule.specs.Taken.{IsMemoryStop, StopCounted, StopsAt, ScheduleTakesLine};
+ghost use Rattle.lt_schedule.specs.Taken.{IsMemoryStop, StopCounted};
 ghost use Rattle.lt_schedule.specs.Verdict.{rules_of};
 ghost use Rattle.lt_schedule.specs.Long.{long_line};
 ghost use Rattle.lt_norm.specs.Flat.{Originated};
@@ -20,7 +20,8 @@ ghost use Rattle.lt_net_node.specs.Wakes.{AreConfigured};
 ghost use Rattle.lt_net.specs.declared.fault.First.{First};
 ghost use Rattle.lt_net.specs.declared.fault.NetFault.TheVariants.{Stopped};
 ghost use Rattle.lt_net_replay.specs.Blamed.{IsStopOf};
-ghost use Rattle.lt_net_replay.specs.Plays.{IsPlaying, KeepsPlay, LeavesNet};
+ghost use Rattle.lt_net_start.specs.Ends.{LeavesNet};
+ghost use Rattle.lt_net_replay.specs.Playing.{rules_for, PlaysFor, PlaysLine, KeepsPlayback};
 ghost use Rattle.lt_net_replay.specs.Keeping.{keeps_itself, keeps_on};
 
 use lt_arch::{Controller, Event, Offence, Shape, Timing};
@@ -73,7 +74,7 @@ impl<'a, C: Controller, M: Machine> Playback<'a, C, M> {
         requires empty { (W.state fabric.old).kinds ≡ [] }
         ensures inputs { IfOk result (λ playback. playback.inputs.now ≡ inputs.now) }
         ensures made { IfOk result (λ playback. IsMadeOf layout shape timing (length inputs.now.rows) machines.items controllers.items playback.net.bench) }
-        ensures ready { IfOk result (λ playback. IsPlaying C.Controller M.Machine playback.inputs.now playback.width playback.row.items [] 0 playback.net (W.state fabric.new)) }
+        ensures ready { IfOk result (λ playback. PlaysFor C.Controller M.Machine playback 0 (W.state fabric.new) []) }
         ensures opens { OpensOnce (W.state fabric.old) (W.state fabric.new) result }
         ensures cause { LinkCounted (W.state fabric.old).faults (W.state fabric.new).faults result }
         ensures keeps { KeepsPromises (W.state fabric.old) (W.state fabric.new) }
@@ -114,11 +115,11 @@ impl<C: Controller, M: Machine, W: Fabric> Replica<W> for Playback<'_, C, M> {
 
     type Offence = Offence;
 
-    ghost rules = { λ a. rules_of a.net.bench.shape a.net.bench.timing a.net.bench.rows };
+    ghost rules = { λ a. rules_for a };
 
-    ghost stands = { λ a w steps before. IsPlaying C.Controller M.Machine a.inputs.now a.width a.row.items before steps a.net (W.state w) };
+    ghost stands = { λ a w steps before. PlaysFor C.Controller M.Machine a steps (W.state w) before };
 
-    ghost keeps = { λ a v b w. KeepsPlay M.size a.net b.net a.inputs.now.rows b.inputs.now.rows (W.state v) (W.state w) };
+    ghost keeps = { λ a v b w. KeepsPlayback M.size a b (W.state v) (W.state w) };
 
     ghost faults = { λ w. (W.state w).faults };
 
@@ -131,16 +132,14 @@ impl<C: Controller, M: Machine, W: Fabric> Replica<W> for Playback<'_, C, M> {
         steps: &mut Steps<L>,
     ) -> Result<(), Stop<Offence>>
         requires count { MayFail (W.state outside.old).faults }
-        requires stands { (before : Items OfEvent) × IsPlaying C.Controller M.Machine self.old.inputs.now self.old.width self.old.row.items before steps.old self.old.net (W.state outside.old) }
+        requires stands { (before : Items OfEvent) × PlaysFor C.Controller M.Machine self.old steps.old (W.state outside.old) before }
         ensures cause { StopCounted (W.state outside.old).faults (W.state outside.new).faults result }
         ensures prompt { IsTrue (W.state outside.old).prompt → ¬ IsMemoryStop result }
-        ensures keeps { KeepsPlay M.size self.old.net self.new.net self.old.inputs.now.rows self.new.inputs.now.rows (W.state outside.old) (W.state outside.new) }
-        ensures takes { (before : Items OfEvent) → IsPlaying C.Controller M.Machine self.old.inputs.now self.old.width self.old.row.items before steps.old self.old.net (W.state outside.old) → MatchResult result
-            (λ _. ScheduleTakesLine (rules_of self.old.net.bench.shape self.old.net.bench.timing self.old.net.bench.rows) line.now (λ after. IsPlaying C.Controller M.Machine self.new.inputs.now self.new.width self.new.row.items after steps.new self.new.net (W.state outside.new)) before)
-            (StopsAt (rules_of self.old.net.bench.shape self.old.net.bench.timing self.old.net.bench.rows) line.now before) }
+        ensures keeps { KeepsPlayback M.size self.old self.new (W.state outside.old) (W.state outside.new) }
+        ensures takes { PlaysLine C.Controller M.Machine self.old self.new line.now steps.old steps.new (W.state outside.old) (W.state outside.new) result }
 
         // A line that is refused leaves the net as it was; a failed call or want of memory has stopped it.
-        ensures leaves { LeavesNet self.old.net self.new.net result }
+        ensures leaves { LeavesNet self.old.net self.new.net self.new.net.stopped result }
     {
         match self.places.read_event(line, self.net.shape()) {
             Err(fault) => Err(Stop::Row(fault)),
@@ -167,7 +166,8 @@ impl<C: Controller, M: Machine, W: Fabric> Replica<W> for Playback<'_, C, M> {
 
     ghost keeps_same = { λ r w. keeps_itself M.size r.net r.inputs.now.rows (W.state w) };
 
-    ghost keeps_on = { λ a u b v c w x y. keeps_on M.size a.net b.net c.net a.inputs.now.rows b.inputs.now.rows c.inputs.now.rows (W.state u) (W.state v) (W.state w) x y };
+    ghost keeps_on = { λ a u b v c w x y.
+        keeps_on M.size a.net b.net c.net a.inputs.now.rows b.inputs.now.rows c.inputs.now.rows (W.state u) (W.state v) (W.state w) x y };
 
     ghost keeps_rules = { λ a v b w x. λ i. rules_of (x.fixed.shape i) (x.fixed.timing i) (x.fixed.rows i) };
 

@@ -1,11 +1,10 @@
 // A whole schedule file.
-ghost use Rattle.std.specs.Prelude.{◌≡◌, ◌<◌, ◌-◌, ◌^◌, []};
+ghost use Rattle.std.specs.Prelude.{◌≡◌, ◌<◌, ◌-◌, []};
 ghost use Rattle.lt_io.specs.Counts.{MayFail};
 ghost use Rattle.lt_rows.specs.Lines.{fresh_lines};
-ghost use Rattle.lt_net_replay.specs.Plays.{IsPlaying};
-ghost use Rattle.lt_net_replay.specs.Played.{HasPlayed};
+ghost use Rattle.lt_net_replay.specs.Playing.{PlaysFor, HasTakenFile};
 
-use crate::Playback;
+use crate::playback::Playback;
 use lt_arch::{Controller, Offence};
 use lt_base::Or;
 use lt_io::{Fabric, Files};
@@ -18,7 +17,7 @@ use lt_schedule::replay_schedule;
 ///
 /// The file is refused at its first row or event that is refused. After a fault nothing is said of the net but what no event
 /// changes.
-pub fn play<F: Files, W: Fabric, C: Controller, M: Machine>(
+pub(crate) fn play<F: Files, W: Fabric, C: Controller, M: Machine>(
     lines: &mut Lines,
     files: &mut F,
     name: &str,
@@ -28,8 +27,8 @@ pub fn play<F: Files, W: Fabric, C: Controller, M: Machine>(
     requires count { MayFail (F.state files.old).faults }
     requires link_count { MayFail (W.state fabric.old).faults }
     requires fresh { lines.old ≡ fresh_lines }
-    requires ready { IsPlaying C.Controller M.Machine playback.old.inputs.now playback.old.width playback.old.row.items [] 0 playback.old.net (W.state fabric.old) }
-    ensures { HasPlayed C.Controller M.Machine playback.old.net playback.new.net playback.old.inputs.now.rows playback.new.inputs.now.rows name.now
+    requires ready { PlaysFor C.Controller M.Machine playback.old 0 (W.state fabric.old) [] }
+    ensures { HasTakenFile C.Controller M.Machine playback.old playback.new name.now
         (F.state files.old) (F.state files.new) (W.state fabric.old) (W.state fabric.new) result }
 {
     match replay_schedule(lines, files, name, playback, fabric) {

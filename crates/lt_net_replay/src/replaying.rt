@@ -1,8 +1,7 @@
 // A network from its layout to what its outputs show.
-ghost use Rattle.std.specs.Prelude.{◌≡◌, ◌<◌, ◌≤◌, ◌-◌, ◌^◌, ℕ, [], length, Some, OnOk};
+ghost use Rattle.std.specs.Prelude.{◌≡◌, ◌<◌, ◌≤◌, ◌-◌, ℕ, [], length, Some, OnOk};
 ghost use Rattle.lt_io.specs.Counts.{MayFail};
 ghost use Rattle.lt_base.specs.Behaviour.{RowsFit};
-ghost use Rattle.lt_arch.specs.Readers.{node_count, chan_count};
 ghost use Rattle.lt_timing.specs.Accepts.{Accepts};
 ghost use Rattle.lt_norm.specs.Flat.{Originated};
 ghost use Rattle.lt_rows.specs.Lines.{fresh_lines};
@@ -12,11 +11,13 @@ ghost use Rattle.lt_place.specs.Sizes.{HasCodeRoom};
 ghost use Rattle.lt_net_bench.specs.Starts.{AreReady};
 ghost use Rattle.lt_lead.specs.Controllers.{AreControllers};
 ghost use Rattle.lt_net_replay.specs.Sound.{FitsSomePace, PlanIsSound};
-ghost use Rattle.lt_net_replay.specs.Replays.{FinishesBy, HasReplayed};
+ghost use Rattle.lt_net_start.specs.Ends.{FinishesBy};
+ghost use Rattle.lt_net_replay.specs.Replays.{ReplayIsTaken, ReplaysPlan};
 
 use crate::laws::networks_are_sound;
+use crate::playback::Playback;
+use crate::playing::play;
 use crate::taking::take;
-use crate::{Playback, play};
 use lt_arch::{Controller, Offence};
 use lt_base::{Inputs, Memory, Or};
 use lt_io::{Fabric, Files};
@@ -34,7 +35,7 @@ fn finish<C: Controller, M: Machine>(
     played: Result<(), Or<PlayFault<Offence>>>,
 ) -> Result<Replayed<M>, Or<PlayFault<Offence>>>
     requires { OnOk played ((h : ℕ) × (net.bench.watch.horizon ≡ Some h)) }
-    ensures { FinishesBy net.bench played result }
+    ensures { FinishesBy (ReplayIsTaken net.bench) played result }
 {
     match played {
         Ok(()) => Ok(take(alloc, net)?),
@@ -66,10 +67,10 @@ fn perform<F: Files, W: Fabric, C: Controller, M: Machine>(
     requires sound { PlanIsSound setup.layout setup.shape setup.timing (length inputs.now.rows) }
     requires few { length setup.layout.names ≤ 32 }
     requires machines { AreReady M.Machine setup.layout (length inputs.now.rows) machines.items }
-    requires controllers { AreControllers C.phase C.protocol C.send C.execute setup.timing controllers.items }
+    requires controllers { AreControllers C.Controller setup.timing controllers.items }
     requires width { inputs.now.width ≡ width }
     requires wide { HasRowValues width inputs.now.rows }
-    ensures { HasReplayed M.Machine setup.layout setup.shape setup.timing inputs.now.rows schedule.now
+    ensures { ReplaysPlan M.Machine setup inputs.now schedule.now
         (F.state files.old) (F.state files.new) (W.state fabric.old) (W.state fabric.new) result }
 {
     let started = Playback::start(
@@ -115,7 +116,7 @@ fn replay_by<F: Files, W: Fabric, M: Machine>(
     requires machines { AreReady M.Machine setup.layout (length inputs.now.rows) machines.items }
     requires width { inputs.now.width ≡ width }
     requires wide { HasRowValues width inputs.now.rows }
-    ensures { HasReplayed M.Machine setup.layout setup.shape setup.timing inputs.now.rows schedule.now
+    ensures { ReplaysPlan M.Machine setup inputs.now schedule.now
         (F.state files.old) (F.state files.new) (W.state fabric.old) (W.state fabric.new) result }
 {
     let mut lines = lines;
@@ -171,7 +172,7 @@ pub fn replay<F: Files, W: Fabric, M: Machine>(
     requires width { inputs.now.width ≡ width }
     requires wide { HasRowValues width inputs.now.rows }
     requires machines { AreReady M.Machine setup.layout (length inputs.now.rows) machines.items }
-    ensures { HasReplayed M.Machine setup.layout setup.shape setup.timing inputs.now.rows schedule.now
+    ensures { ReplaysPlan M.Machine setup inputs.now schedule.now
         (F.state files.old) (F.state files.new) (W.state fabric.old) (W.state fabric.new) result }
 {
     networks_are_sound();

@@ -1,3 +1,3 @@
-pub mod Outside
 pub mod Reads
 pub mod Blamed
+pub mod Ends

@@ -35,6 +35,6 @@ pub fn open<W: Fabric>(
     let places = PlaceTable::new(alloc, shape)?;
     let row = room_for(alloc, width)?;
     let kinds = kinds_of(alloc, layout, shape)?;
-    fabric.open(kinds.as_slice())?;
+    fabric.open(&kinds)?;
     Ok((places, row))
 }

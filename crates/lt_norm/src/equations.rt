@@ -10,7 +10,7 @@ ghost use Rattle.lt_base.specs.Sizes.{cost, weight_with};
 ghost use Rattle.lt_norm.specs.Plain.{plain};
 ghost use Rattle.lt_norm.specs.Lift.{normal_form, right_delays};
 ghost use Rattle.lt_norm.specs.NormalForm.{NormalFormOf};
-ghost use Rattle.lt_norm.specs.Walk.{AllLifted, RightTo};
+ghost use Rattle.lt_norm.specs.Walk.{LiftsRight, HaveLifted};
 
 use crate::flat::Flat;
 use crate::lift::Lifting;
@@ -42,7 +42,7 @@ fn lift_out(
 ) -> Result<Expr, Memory>
     requires left { equation.0 < length known.now }
     requires room { length into.old.decls.items + right_delays (plain known.now equation.1) < 2 ^ 32 }
-    ensures { IfOk result (λ r. RightTo (clock_of known.now equation.0) (plain known.now equation.1) into.old.decls.items into.old.delays.items into.new.decls.items into.new.delays.items (shape r)) }
+    ensures { IfOk result (λ r. LiftsRight (clock_of known.now equation.0) (plain known.now equation.1) into.old into.new (shape r)) }
 {
     let left = equation.left();
     let mut right = right_of(equation);
@@ -69,8 +69,8 @@ fn lift_equation(
     requires left { equation.0 < length known.now }
     requires origins { length origin.now ≡ length known.now }
     requires room { length parts.old.lifting.decls.items + right_delays (plain known.now equation.1) < 2 ^ 32 }
-    ensures { (before : Items (ℕ × Expression)) → AllLifted known.now origin.now before parts.old.lifting.decls.items parts.old.eqs.items parts.old.lifting.delays.items parts.old.origins.items
-        → OnOk result (AllLifted known.now origin.now (before ++ equation ∷ []) parts.new.lifting.decls.items parts.new.eqs.items parts.new.lifting.delays.items parts.new.origins.items) }
+    ensures { (before : Items (ℕ × Expression)) → HaveLifted known.now origin.now before parts.old
+        → OnOk result (HaveLifted known.now origin.now (before ++ equation ∷ []) parts.new) }
 {
     let left = equation.left();
     let right = lift_out(alloc, known, &mut parts.lifting, equation)?;
@@ -87,7 +87,7 @@ fn empty_parts(
     origin: &List<u32>,
     equations: usize,
 ) -> Result<Parts, Memory>
-    ensures { IfOk result (λ r. AllLifted known.now origin.now [] r.lifting.decls.items r.eqs.items r.lifting.delays.items r.origins.items) }
+    ensures { IfOk result (HaveLifted known.now origin.now []) }
 {
     let decls = known.copy()?.into_vec();
     let origins = origin.copy()?.into_vec();
@@ -112,7 +112,7 @@ fn lift_equations(
     requires lefts { All (λ q. q.0 < length known.now) equations }
     requires origins { length origin.now ≡ length known.now }
     requires room { length known.now + sum_by (λ q. cost 1 (λ _. 0) q.1) equations < 2 ^ 32 }
-    ensures { IfOk result (λ r. AllLifted known.now origin.now equations r.lifting.decls.items r.eqs.items r.lifting.delays.items r.origins.items) }
+    ensures { IfOk result (HaveLifted known.now origin.now equations) }
 {
     let mut parts = empty_parts(alloc, known, origin, equations.len())?;
     for equation in equations.into_vec() {

@@ -6,7 +6,7 @@ ghost use Rattle.lt_base.specs.Expression.{Expression, shape, variable};
 ghost use Rattle.lt_base.specs.Meaning.{outer as outer_pairs};
 ghost use Rattle.lt_base.specs.Value.{ty_of};
 ghost use Rattle.lt_norm.specs.Lift.{delays};
-ghost use Rattle.lt_norm.specs.Walk.{LiftedTo};
+ghost use Rattle.lt_norm.specs.Walk.{Lifts, LiftedTo};
 
 use crate::kinds::type_of_value;
 use lt_base::{Clock, Decl, Equation, Expr, Memory, Name, Value};
@@ -71,7 +71,7 @@ pub(crate) fn lift(
 ) -> Result<(), Memory>
     requires { length into.old.decls.items + delays (shape e.old) < 2 ^ 32 }
     ensures room { OnOk result (length into.new.decls.items ≡ length into.old.decls.items + delays (shape e.old)) }
-    ensures all { OnOk result (LiftedTo clock.now (shape e.old) into.old.decls.items into.old.delays.items into.new.decls.items into.new.delays.items (shape e.new)) }
+    ensures all { OnOk result (Lifts clock.now (shape e.old) into.old into.new (shape e.new)) }
 {
     match e {
         Expr::Lit(_) => Ok(()),
@@ -128,7 +128,7 @@ fn lift_outside(
 ) -> Result<(), Memory>
     requires { length into.old.decls.items + delays (shape e.old) < 2 ^ 32 }
     ensures room { OnOk result (length into.new.decls.items ≡ length into.old.decls.items + delays (shape e.old)) }
-    ensures all { OnOk result (LiftedTo (outer_pairs clock.now) (shape e.old) into.old.decls.items into.old.delays.items into.new.decls.items into.new.delays.items (shape e.new)) }
+    ensures all { OnOk result (Lifts (outer_pairs clock.now) (shape e.old) into.old into.new (shape e.new)) }
 {
     let before = clock.outer()?;
     let lifted = lift(alloc, into, &before, e);
@@ -148,7 +148,7 @@ fn lift_branch(
 ) -> Result<(), Memory>
     requires { length into.old.decls.items + delays (shape e.old) < 2 ^ 32 }
     ensures room { OnOk result (length into.new.decls.items ≡ length into.old.decls.items + delays (shape e.old)) }
-    ensures all { OnOk result (LiftedTo ((variable, polarity) ∷ clock.now) (shape e.old) into.old.decls.items into.old.delays.items into.new.decls.items into.new.delays.items (shape e.new)) }
+    ensures all { OnOk result (Lifts ((variable, polarity) ∷ clock.now) (shape e.old) into.old into.new (shape e.new)) }
 {
     let at = clock.inner(variable, polarity)?;
     let lifted = lift(alloc, into, &at, e);

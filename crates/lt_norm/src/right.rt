@@ -5,7 +5,7 @@ ghost use Rattle.lt_base.specs.Expression.{shape};
 ghost use Rattle.lt_base.specs.Meaning.{clock_of};
 ghost use Rattle.lt_norm.specs.Plain.{plain};
 ghost use Rattle.lt_norm.specs.Lift.{right_delays};
-ghost use Rattle.lt_norm.specs.Walk.{RightTo, is_delay};
+ghost use Rattle.lt_norm.specs.Walk.{LiftsRight, is_delay};
 
 use crate::lift::{Lifting, lift};
 use crate::plain::make_plain;
@@ -31,7 +31,7 @@ fn lift_operand(
 ) -> Result<(), Memory>
     requires delay { is_delay (shape e.old) ≡ true }
     requires room { length into.old.decls.items + right_delays (shape e.old) < 2 ^ 32 }
-    ensures { OnOk result (RightTo clock.now (shape e.old) into.old.decls.items into.old.delays.items into.new.decls.items into.new.delays.items (shape e.new)) }
+    ensures { OnOk result (LiftsRight clock.now (shape e.old) into.old into.new (shape e.new)) }
 {
     match e {
         Expr::Fby(_, operand) => lift(alloc, into, clock, operand),
@@ -42,7 +42,7 @@ fn lift_operand(
 // Lifts the delays out of a right side, of which one at the top stays.
 fn lift_right(alloc: Global, into: &mut Lifting, clock: &Clock, e: &mut Expr) -> Result<(), Memory>
     requires { length into.old.decls.items + right_delays (shape e.old) < 2 ^ 32 }
-    ensures { OnOk result (RightTo clock.now (shape e.old) into.old.decls.items into.old.delays.items into.new.decls.items into.new.delays.items (shape e.new)) }
+    ensures { OnOk result (LiftsRight clock.now (shape e.old) into.old into.new (shape e.new)) }
 {
     if is_delay(e) {
         lift_operand(alloc, into, clock, e)
@@ -61,7 +61,7 @@ pub(crate) fn lift_side(
 ) -> Result<(), Memory>
     requires left { variable < length known.now }
     requires room { length into.old.decls.items + right_delays (plain known.now (shape side.old)) < 2 ^ 32 }
-    ensures { OnOk result (RightTo (clock_of known.now variable) (plain known.now (shape side.old)) into.old.decls.items into.old.delays.items into.new.decls.items into.new.delays.items (shape side.new)) }
+    ensures { OnOk result (LiftsRight (clock_of known.now variable) (plain known.now (shape side.old)) into.old into.new (shape side.new)) }
 {
     make_plain(alloc, known, side)?;
     let decl = &known[variable as usize];

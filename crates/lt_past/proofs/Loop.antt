@@ -1,5 +1,5 @@
 -- The loop over the bytes.
-use Rattle.std.proofs.Common.{◌≡◌, ℕ, ◌+◌, ◌-◌, ◌≤◌, List, [], ◌∷◌, ◌++◌, length, drop, take, Option, Some, None, Result, Ok, Err, refl, sym, ap, ◌∙◌, subst, arith, length-drop, take_all}
+use Rattle.std.proofs.Common.{◌≡◌, ℕ, ◌+◌, ◌-◌, ◌≤◌, List, [], ◌∷◌, ◌++◌, length, drop, Option, Some, None, Result, Ok, Err, refl, sym, ap, ◌∙◌, subst, arith, length-drop}
 use Rattle.lt_base.specs.declared.memory.Or.{Or}
 use Rattle.lt_base.specs.declared.memory.Or.TheVariants as or
 use Rattle.lt_tokens.specs.Text.{skip}
@@ -33,9 +33,6 @@ found f g here rest s v e = ap observer_front (sym s) ∙ sym v ∙ ap (λ z. ob
 -- its place
 pub place : (bytes rest here : List ℕ) → here ≡ skip rest → length here ≤ length bytes → (length bytes - length here) + length (skip rest) ≡ length bytes
 place bytes rest here s h = omega (arith, ap length s)
-
-pub all_of : (n : ℕ) (here : List ℕ) → take (length here - n) (drop n here) ≡ drop n here
-all_of n here = let l : length (drop n here) ≤ length here - n = grind (arith, length-drop) in take_all (length here - n) (drop n here) l
 
 pub shorter : (n : ℕ) (here : List ℕ) → length (drop n here) ≤ length here
 shorter n here = grind (arith, length-drop)

@@ -1,21 +1,12 @@
 -- How a proof tells two formulas apart.
 use Rattle.std.specs.Prelude.{◌≡◌}
 use Rattle.std.proofs.Common.{ap}
-use base.Stored.{Gv, gnil, gnum, gcons, num}
+use base.Stored.{Gv, gnum, gcons, num}
 use Rattle.std.specs.Coded.{Coded, coded_bool}
+use Rattle.lt_base.specs.Codes.{first, rest}
 use Rattle.lt_past.specs.contracts.words.Prefix.{the_row as prefix_row}
 use Rattle.lt_past.specs.contracts.words.Infix.{the_row as infix_row}
 use Rattle.lt_past.specs.Formula.{Formula, constant, signal, unary, binary}
-
-abbrev first : Gv → Gv
-first gnil = gnil
-first (gnum n) = gnil
-first (gcons a b) = a
-
-abbrev rest : Gv → Gv
-rest gnil = gnil
-rest (gnum n) = gnil
-rest (gcons a b) = b
 
 abbrev pub formula_code : Formula → Gv
 formula_code (constant b) = gcons (gnum 0) (coded_bool.code b)

@@ -40,6 +40,10 @@ pub record MonitorStands (m : Watching) (f : Formula) (instants : List (List Boo
   pub last : AreLast m.values f instants
   pub began : m.began ≡ is_some instants
 
+-- where the old monitor stood for some instants, the new one stands for one more, at which the outputs have these values
+abbrev pub MonitorGoesOn : (old new : Watching) → (now : List Bool) → Type 0
+MonitorGoesOn old new now = (f : Formula) (instants : List (List Bool)) → MonitorStands old f instants → MonitorStands new f (instants ++ now ∷ [])
+
 -- whether the formula holds at the instant behind these, at which the outputs have these values
 abbrev pub TellsNext : Formula → (instants : List (List Bool)) → (now : List Bool) → Bool → Type 0
 TellsNext f instants now result = IsTrue result ↔ Sat (signals_of (instants ++ now ∷ [])) f (length instants)

@@ -5,7 +5,7 @@ ghost use Rattle.lt_past.specs.Views.{formula_of};
 ghost use Rattle.lt_past.specs.Satisfaction.{Sat, signals_of};
 ghost use Rattle.lt_past.specs.Parts.{Fit, parts_of};
 ghost use Rattle.lt_past.specs.Turn.{Turned, infix_value, past, prior};
-ghost use Rattle.lt_past.specs.Monitoring.{MonitorStands, TellsNext};
+ghost use Rattle.lt_past.specs.Monitoring.{MonitorStands, MonitorGoesOn, TellsNext};
 
 use crate::words::{Infix, Prefix};
 use crate::{Obs, Observer};
@@ -159,7 +159,7 @@ impl Monitor {
     /// memory.
     pub fn step(&mut self, now: &[bool]) -> bool
         requires { length now.now ≡ self.old.width }
-        ensures stands { (f : Formula) (instants : Items (Items Truth)) → MonitorStands self.old f instants → MonitorStands self.new f (instants ++ now.now ∷ []) }
+        ensures stands { MonitorGoesOn self.old self.new now.now }
         ensures value { (f : Formula) (instants : Items (Items Truth)) → MonitorStands self.old f instants → TellsNext f instants now.now result }
         ensures width { self.new.width ≡ self.old.width }
     {

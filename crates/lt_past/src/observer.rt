@@ -1,5 +1,6 @@
 // Observers.
 ghost use Rattle.std.specs.Prelude.{◌≡◌, ◌<◌, ◌^◌, length};
+ghost use Rattle.lt_base.specs.Limits.{greatest_height};
 ghost use Rattle.lt_past.specs.Observer.{Observing, IsObserver};
 ghost use Rattle.lt_past.specs.Faults.{IsObserverOf};
 ghost use Rattle.lt_past.specs.Reads.{AnswersObserver, FindsObserver};
@@ -48,9 +49,9 @@ pub fn read_observer(
     main: &Func,
 ) -> Result<Observer, Or<ObserverFault>>
     requires { length main.now.outs < 2 ^ 32 }
-    ensures exact { AnswersObserver 200 main.now bytes.now result }
+    ensures exact { AnswersObserver greatest_height main.now bytes.now result }
     // An observer is found, unless memory runs out.
-    ensures only { (o : Observing) → IsObserverOf 200 main.now bytes.now o → FindsObserver o result }
+    ensures only { (o : Observing) → IsObserverOf greatest_height main.now bytes.now o → FindsObserver o result }
 {
     let mut marks = no_marks(alloc, main.outs.len())?;
     let bad = mark_names(main, bytes, &mut marks);

@@ -1,5 +1,6 @@
 // The reader of observers: what each token does to the forms that are begun.
 ghost use Rattle.std.specs.Prelude.{◌≡◌, ◌≤◌, ◌<◌, ◌+◌, ◌^◌, ◌↔◌, [], ◌∷◌, IfOk, IfSome, OnOk, IsTrue, MatchOption, List, length};
+ghost use Rattle.lt_base.specs.Limits.{greatest_height};
 ghost use Rattle.lt_past.specs.Levels as levels;
 ghost use Rattle.lt_past.specs.Machine as machine;
 ghost use Rattle.lt_past.specs.Views.{formula_of};
@@ -8,11 +9,9 @@ ghost use Rattle.lt_base.specs.Memory.{NeedsNoMemory};
 
 use crate::words::{Infix, Prefix};
 use crate::{Obs, ObserverKind};
+use lt_base::limits::GREATEST_HEIGHT;
 use lt_base::{Memory, Or};
 use std::alloc::Global;
-
-/// The greatest height of an observer.
-pub const LIMIT: u32 = 200;
 
 /// A whole operand: its formula, and the height of its text.
 #[derive(Drop)]
@@ -69,7 +68,9 @@ fn push(frames: &mut Vec<Frame>, f: Frame) -> Result<(), Memory>
 
 fn pop(frames: &mut Vec<Frame>) -> Option<Frame>
     ensures len { IfSome result (λ _. length frames.new.items + 1 ≡ length frames.old.items) }
-    ensures stack { MatchOption result ((observer_stack_of frames.old.items ≡ []) × (observer_stack_of frames.new.items ≡ [])) (λ f. observer_stack_of frames.old.items ≡ observer_frame_of f ∷ observer_stack_of frames.new.items) }
+    ensures stack { MatchOption result
+        ((observer_stack_of frames.old.items ≡ []) × (observer_stack_of frames.new.items ≡ []))
+        (λ f. observer_stack_of frames.old.items ≡ observer_frame_of f ∷ observer_stack_of frames.new.items) }
 {
     frames.pop()
 }
@@ -98,12 +99,13 @@ fn least(f: &Frame) -> u64
 
 /// The newest form fits the limit.
 fn fits(frames: &[Frame]) -> bool
-    ensures { IsTrue result ↔ (machine.observer_need (observer_stack_of frames.now) ≤ LIMIT) }
+    ensures { IsTrue result ↔ (machine.observer_need (observer_stack_of frames.now) ≤ greatest_height) }
 {
     let Some(f) = frames.last() else {
         return true;
     };
-    frames.len() <= 200 && frames.len() as u64 - 1 + least(f) <= u64::from(LIMIT)
+    frames.len() <= GREATEST_HEIGHT as usize
+        && frames.len() as u64 - 1 + least(f) <= u64::from(GREATEST_HEIGHT)
 }
 
 fn apply_prefix(alloc: Global, word: Prefix, a: Operand) -> Result<Operand, Memory>
@@ -152,9 +154,10 @@ fn complete(alloc: Global, f: Frame, b: Operand) -> Result<Operand, Memory>
 /// Completes the forms from this level on.
 fn close(alloc: Global, l: u8, frames: &mut Vec<Frame>, first: Operand) -> Result<Operand, Memory>
     requires level { 1 ≤ l }
-    requires room { machine.ObserverHasRoom LIMIT (observer_stack_of frames.old.items) (observer_operand_of first) }
-    ensures closed { IfOk result (λ b. machine.observer_close l (observer_stack_of frames.old.items) (observer_operand_of first) ≡ record { below = observer_stack_of frames.new.items; operand = observer_operand_of b }) }
-    ensures room { IfOk result (λ b. machine.ObserverHasRoom LIMIT (observer_stack_of frames.new.items) (observer_operand_of b)) }
+    requires room { machine.ObserverHasRoom greatest_height (observer_stack_of frames.old.items) (observer_operand_of first) }
+    ensures closed { IfOk result (λ b. machine.observer_close l (observer_stack_of frames.old.items) (observer_operand_of first)
+        ≡ record { below = observer_stack_of frames.new.items; operand = observer_operand_of b }) }
+    ensures room { IfOk result (λ b. machine.ObserverHasRoom greatest_height (observer_stack_of frames.new.items) (observer_operand_of b)) }
 {
     let mut b = first;
     'forms: while newest_ends(frames) >= l {
@@ -168,7 +171,7 @@ fn close(alloc: Global, l: u8, frames: &mut Vec<Frame>, first: Operand) -> Resul
 
 /// A form is begun, and an operand must come.
 fn waiting(frames: Vec<Frame>) -> Result<Parser, Or<ObserverKind>>
-    ensures steps { ObserverSteps result (machine.fitting LIMIT (observer_stack_of frames.items)) }
+    ensures steps { ObserverSteps result (machine.fitting greatest_height (observer_stack_of frames.items)) }
     ensures memory { NeedsNoMemory result }
 {
     if fits(&frames) {
@@ -198,7 +201,7 @@ pub fn leaf(parser: Parser, formula: Obs) -> Result<Parser, Or<ObserverKind>>
 
 /// A form begins with what stands before its operand.
 pub fn begin(parser: Parser, f: Frame) -> Result<Parser, Or<ObserverKind>>
-    ensures { ObserverSteps result (machine.begin LIMIT (observer_frame_of f) (observer_state_of parser).frames (observer_state_of parser).whole) }
+    ensures { ObserverSteps result (machine.begin greatest_height (observer_frame_of f) (observer_state_of parser).frames (observer_state_of parser).whole) }
 {
     if parser.whole.is_some() {
         return Err(Or::Fault(ObserverKind::Unexpected));
@@ -210,8 +213,8 @@ pub fn begin(parser: Parser, f: Frame) -> Result<Parser, Or<ObserverKind>>
 
 /// A word or symbol behind an operand.
 pub fn join(alloc: Global, parser: Parser, word: Infix) -> Result<Parser, Or<ObserverKind>>
-    requires { machine.ObserverHeld LIMIT (observer_state_of parser).frames (observer_state_of parser).whole }
-    ensures { ObserverSteps result (machine.join LIMIT word (observer_state_of parser).frames (observer_state_of parser).whole) }
+    requires { machine.ObserverHeld greatest_height (observer_state_of parser).frames (observer_state_of parser).whole }
+    ensures { ObserverSteps result (machine.join greatest_height word (observer_state_of parser).frames (observer_state_of parser).whole) }
 {
     let Parser { frames, whole } = parser;
     let Some(first) = whole else {
@@ -244,7 +247,7 @@ fn shut_on(frames: Vec<Frame>, b: Operand) -> Result<Parser, Or<ObserverKind>>
 
 /// ) behind an operand.
 pub fn shut(alloc: Global, parser: Parser) -> Result<Parser, Or<ObserverKind>>
-    requires { machine.ObserverHeld LIMIT (observer_state_of parser).frames (observer_state_of parser).whole }
+    requires { machine.ObserverHeld greatest_height (observer_state_of parser).frames (observer_state_of parser).whole }
     ensures { ObserverSteps result (machine.shut (observer_state_of parser).frames (observer_state_of parser).whole) }
 {
     let Parser { frames, whole } = parser;
@@ -258,7 +261,7 @@ pub fn shut(alloc: Global, parser: Parser) -> Result<Parser, Or<ObserverKind>>
 
 /// The formula of the whole text, where it may end.
 pub fn end(alloc: Global, parser: Parser) -> Result<Option<Obs>, Memory>
-    requires { machine.ObserverHeld LIMIT (observer_state_of parser).frames (observer_state_of parser).whole }
+    requires { machine.ObserverHeld greatest_height (observer_state_of parser).frames (observer_state_of parser).whole }
     ensures { FindsFormula result (machine.end_of (observer_state_of parser).frames (observer_state_of parser).whole) }
 {
     let Parser { frames, whole } = parser;

@@ -1,5 +1,6 @@
 // One pass over the bytes of an observer.
 ghost use Rattle.std.specs.Prelude.{◌≡◌, ◌<◌, ◌^◌, List, ℕ, length};
+ghost use Rattle.lt_base.specs.Limits.{greatest_height};
 ghost use Rattle.lt_past.specs.Tokens as text;
 ghost use Rattle.lt_past.specs.Machine as machine;
 ghost use Rattle.lt_past.specs.Naming.{output_number};
@@ -7,7 +8,7 @@ ghost use Rattle.lt_past.specs.Parsed.{Parses, ObserverSteps, ObserverStepsAt, O
 ghost use Rattle.lt_base.specs.Memory.{NeedsNoMemory};
 
 use crate::names::number_of;
-use crate::parser::{Frame, LIMIT, Parser, begin, end, join, leaf, shut};
+use crate::parser::{Frame, Parser, begin, end, join, leaf, shut};
 use crate::tokens::{Front, read_front};
 use crate::words::Sign;
 use crate::{Obs, ObserverFault, ObserverKind};
@@ -22,15 +23,15 @@ fn step_name(
     name: &[u8],
 ) -> Result<Parser, Or<ObserverKind>>
     requires { length outs.now < 2 ^ 32 }
-    ensures steps { ObserverSteps result (machine.observer_step LIMIT (output_number main.now outs.now) (observer_state_of parser) (text.name name.now)) }
+    ensures steps { ObserverSteps result (machine.observer_step greatest_height (output_number main.now outs.now) (observer_state_of parser) (text.name name.now)) }
     ensures memory { NeedsNoMemory result }
 {
     leaf(parser, Obs::Out(number_of(main, outs, name)))
 }
 
 fn step_sign(alloc: Global, parser: Parser, sign: Sign) -> Result<Parser, Or<ObserverKind>>
-    requires { machine.ObserverHeld LIMIT (observer_state_of parser).frames (observer_state_of parser).whole }
-    ensures { (number : List ℕ → ℕ) → ObserverSteps result (machine.observer_step LIMIT number (observer_state_of parser) (text.sign sign)) }
+    requires { machine.ObserverHeld greatest_height (observer_state_of parser).frames (observer_state_of parser).whole }
+    ensures { (number : List ℕ → ℕ) → ObserverSteps result (machine.observer_step greatest_height number (observer_state_of parser) (text.sign sign)) }
 {
     match sign {
         Sign::Truth(b) => leaf(parser, Obs::Lit(b)),
@@ -57,7 +58,7 @@ fn place_fault(
 
 /// The formula, where the text may end.
 fn end_formula(alloc: Global, at: usize, parser: Parser) -> Result<Obs, Or<ObserverFault>>
-    requires { machine.ObserverHeld LIMIT (observer_state_of parser).frames (observer_state_of parser).whole }
+    requires { machine.ObserverHeld greatest_height (observer_state_of parser).frames (observer_state_of parser).whole }
     ensures { ObserverEndsAt at result (machine.end_of (observer_state_of parser).frames (observer_state_of parser).whole) }
 {
     let kind = ObserverKind::Unexpected;
@@ -77,7 +78,7 @@ pub fn read_formula(
     outs: &[u32],
 ) -> Result<Obs, Or<ObserverFault>>
     requires { length outs.now < 2 ^ 32 }
-    ensures { Parses LIMIT (output_number main.now outs.now) bytes.now result }
+    ensures { Parses greatest_height (output_number main.now outs.now) bytes.now result }
 {
     let mut parser = Parser {
         frames: Vec::new(alloc),

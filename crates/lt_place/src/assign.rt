@@ -1,6 +1,6 @@
 // The node of each variable, as a placement lists them.
 
-ghost use Rattle.std.specs.Prelude.{◌≡◌, ℕ, ◌<◌, ◌^◌, ◌↔◌, List, length, map, IfOk, IfErr, IsTrue, OnOk, MatchOption, replicate, slice_index};
+ghost use Rattle.std.specs.Prelude.{◌≡◌, ℕ, ◌<◌, ◌^◌, List, length, map, IfOk, IfErr, OnOk, MatchOption};
 ghost use Rattle.lt_base.specs.Or.{ForFault};
 ghost use Rattle.lt_place_reads.specs.Origins.{HasOrigins, variable_count};
 ghost use Rattle.lt_place.specs.declared.fault.PlaceFault.TheVariants.{UnknownName};
@@ -109,7 +109,8 @@ fn known_names(alloc: Global, f: &Flat) -> Result<IndexMap<&str, u32>, Memory>
 
 // The first of these names that is not known.
 fn first_out<'n>(known: &IndexMap<&str, u32>, names: &'n [Name]) -> Option<&'n Name>
-    ensures { MatchOption result ((n : ℕ) → EachIn known.now (listings_on n names.entry.now)) (λ name. (n : ℕ) → IsFirstOut known.now (listings_on n names.entry.now) name.now) }
+    ensures { MatchOption result ((n : ℕ) → EachIn known.now (listings_on n names.entry.now))
+        (λ name. (n : ℕ) → IsFirstOut known.now (listings_on n names.entry.now) name.now) }
 {
     for name in names {
         if !known.contains_key(name.as_str()) {
@@ -121,7 +122,8 @@ fn first_out<'n>(known: &IndexMap<&str, u32>, names: &'n [Name]) -> Option<&'n N
 
 // The first name on the lists of these nodes that is not known.
 fn first_unknown<'n>(known: &IndexMap<&str, u32>, nodes: &'n [NamedNode]) -> Option<&'n Name>
-    ensures { MatchOption result ((n : ℕ) → EachIn known.now (listings_from n nodes.entry.now)) (λ name. (n : ℕ) → IsFirstOut known.now (listings_from n nodes.entry.now) name.now) }
+    ensures { MatchOption result ((n : ℕ) → EachIn known.now (listings_from n nodes.entry.now))
+        (λ name. (n : ℕ) → IsFirstOut known.now (listings_from n nodes.entry.now) name.now) }
 {
     for node in nodes {
         if let Some(name) = first_out(known, &node.vars) {
@@ -157,8 +159,10 @@ fn seat_once(f: &Flat, each: &[Option<Seat>]) -> Result<(), PlaceFault>
     requires origins { HasOrigins f.now }
     requires variables { variable_count f.now < 2 ^ 32 }
     requires size { length each.now ≡ length f.now.origin }
-    ensures once { (named : Listed) → each.now ≡ seats_of f.now (listings (OnListed named)) f.now.origin → OnOk result (AllOnce f.now (OnListed named)) }
-    ensures fault { (named : Listed) → each.now ≡ seats_of f.now (listings (OnListed named)) f.now.origin → IfErr result (IsFirstPlaceFault f.now (OnListed named)) }
+    ensures once { (named : Listed) → each.now ≡ seats_of f.now (listings (OnListed named)) f.now.origin
+        → OnOk result (AllOnce f.now (OnListed named)) }
+    ensures fault { (named : Listed) → each.now ≡ seats_of f.now (listings (OnListed named)) f.now.origin
+        → IfErr result (IsFirstPlaceFault f.now (OnListed named)) }
 {
     let origin = origins(f);
     if let Some(var) = first_vacant(origin, each) {

@@ -1,11 +1,9 @@
 // The lowest variables that are read on other nodes.
 
-ghost use Rattle.std.specs.Prelude.{◌≡◌, ◌≤◌, ◌<◌, ◌^◌, ◌++◌, ◌∷◌, [], List, length, All, IfOk, OnOk, slice_index};
+ghost use Rattle.std.specs.Prelude.{◌≡◌, ◌<◌, ◌++◌, ◌∷◌, [], List, length, All, IfOk, slice_index};
 ghost use Rattle.lt_place_reads.specs.Origins.{HasOrigins, variable_count};
 ghost use Rattle.lt_place_reads.specs.Reads.{looked};
-ghost use Rattle.lt_arch.specs.declared.placement.Placement.{Placement};
-ghost use Rattle.lt_place.specs.Nodes.{nodes_of};
-ghost use Rattle.lt_place.specs.Reports.{Report, HasLeast, MarksReads, elsewhere, reports};
+ghost use Rattle.lt_place.specs.Reports.{Report, HasLeast, elsewhere, reports};
 
 use lt_base::Memory;
 use lt_norm::Flat;

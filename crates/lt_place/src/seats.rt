@@ -1,6 +1,6 @@
 // The names on the lists of the nodes of a setup.
 
-ghost use Rattle.std.specs.Prelude.{◌≡◌, ◌++◌, ◌<◌, ◌^◌, ◌∷◌, [], List, length, IfOk, OnOk};
+ghost use Rattle.std.specs.Prelude.{◌++◌, ◌<◌, ◌^◌, ◌∷◌, [], List, length, IfOk, OnOk};
 ghost use Rattle.lt_place.specs.Nodes.{Listing, listings_from, listings_on};
 ghost use Rattle.lt_place.specs.Seats.{HasSeats};
 

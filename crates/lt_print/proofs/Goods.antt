@@ -9,7 +9,8 @@ use Rattle.lt_tokens.specs.declared.token.Infix.{Infix}
 use Rattle.lt_tokens.specs.declared.token.Infix.TheVariants.{Operator, Fby, Arrow}
 use Rattle.lt_tokens.specs.declared.token.Token.{Token}
 use Rattle.lt_tokens.specs.declared.token.Token.TheVariants as token
-use Rattle.lt_tokens.specs.Text.{Front, Begins, greatest_number, skip, front, is_word, is_digit, Cuts}
+use Rattle.lt_base.specs.Digits.{is_digit, read_on}
+use Rattle.lt_tokens.specs.Text.{Front, Begins, greatest_number, skip, front, is_word, Cuts}
 use Rattle.lt_syntax.specs.Tree as tree
 use Rattle.lt_syntax.specs.Tree.{Tm, Tms}
 use Rattle.lt_syntax.specs.Levels.{infix_line, left_level, right_level}
@@ -20,7 +21,7 @@ use Rattle.lt_print.proofs.Lexed.{own}
 use Rattle.std.proofs.Common.{leb-true, ◌||◌, bytes_eq, take, cond, drop}
 use Rattle.std.specs.List.{prefix_len, take_while}
 use Rattle.lt_tokens.specs.Words.{declaring, forming, joining, keyword_or, word_of}
-use Rattle.lt_tokens.specs.Text.{is_letter, value_on, span, word, number as number_of, symbol, symbol_of, pair, single, BadNumber}
+use Rattle.lt_tokens.specs.Text.{is_letter, span, word, number as number_of, symbol, symbol_of, pair, single, BadNumber}
 use Rattle.lt_print.proofs.Written.{placed_at}
 use Rattle.lt_print.proofs.Texts.{GoodForm, GoodForms}
 
@@ -224,8 +225,8 @@ GoodFront _ = Unit {0}
 
 good_number : (s r : List ℕ) → GoodFront (number_of s r)
 good_number s r =
-    elim (nat_le (value_on 0 s) greatest_number) as (λ t. nat_le (value_on 0 s) greatest_number ≡ t → GoodFront (if t then Begins (token.Number (value_on 0 s)) r else BadNumber)) [
-      | true ↦ λ e. leb-true (value_on 0 s) greatest_number e
+    elim (nat_le (read_on 0 s) greatest_number) as (λ t. nat_le (read_on 0 s) greatest_number ≡ t → GoodFront (if t then Begins (token.Number (read_on 0 s)) r else BadNumber)) [
+      | true ↦ λ e. leb-true (read_on 0 s) greatest_number e
       | false ↦ λ e. tt
     ] refl
 

@@ -8,7 +8,8 @@ use Rattle.lt_base.specs.declared.operators.Bin.TheVariants.{Sub}
 use Rattle.lt_tokens.specs.declared.token.Infix.TheVariants.{Operator, Arrow}
 use Rattle.lt_tokens.specs.declared.token.Token.TheVariants as token
 use Rattle.lt_tokens.specs.Text as lexer
-use Rattle.lt_tokens.specs.Text.{Front, Begins, is_blank, is_digit, is_letter, is_word, skip, skip_comment, starts_with, value_on, greatest_number, span, word, number, symbol, symbol_of, front, Cuts}
+use Rattle.lt_base.specs.Digits.{is_digit, read_on}
+use Rattle.lt_tokens.specs.Text.{Front, Begins, is_blank, is_letter, is_word, skip, skip_comment, starts_with, greatest_number, span, word, number, symbol, symbol_of, front, Cuts}
 use Rattle.lt_print.proofs.Written.{AllPass, IsIdent}
 
 abbrev pub Stops : List ℕ → Type 0
@@ -67,19 +68,19 @@ ident_front (b ∷ w) r i s =
     ∙ span_stops is_word (b ∷ w) r word (t, i.1) (halts_word r s)
     ∙ ap (λ z. Begins z r) i.2
 
-pub own : IsNumeralModel (AllPass is_digit) (value_on 0)
-own = numerals_by_fold _ (search rules) value_on (search rules)
+pub own : IsNumeralModel (AllPass is_digit) (read_on 0)
+own = numerals_by_fold _ (search rules) read_on (search rules)
 
-digits_front : (n : ℕ) (u r : List ℕ) → AllPass is_digit u → 0 < length u → value_on 0 u ≡ n → n ≤ greatest_number → Stops r → front (skip (u ++ r)) ≡ Begins (token.Number n) r
+digits_front : (n : ℕ) (u r : List ℕ) → AllPass is_digit u → 0 < length u → read_on 0 u ≡ n → n ≤ greatest_number → Stops r → front (skip (u ++ r)) ≡ Begins (token.Number n) r
 digits_front n [] r a l v g s = absurd (omega (arith, l))
 digits_front n (b ∷ w) r a l v g s =
     let p = digit_plain b a.0 in
-    let h : value_on 0 (b ∷ w) ≤ greatest_number = omega (arith, v, g) in
+    let h : read_on 0 (b ∷ w) ≤ greatest_number = omega (arith, v, g) in
     ap front (skip_plain b (w ++ r) p.0 p.1)
     ∙ ap (λ t. if t then span is_word (b ∷ (w ++ r)) word else (if is_digit b then span is_digit (b ∷ (w ++ r)) number else symbol b (w ++ r))) p.3
     ∙ ap (λ t. if t then span is_digit (b ∷ (w ++ r)) number else symbol b (w ++ r)) a.0
     ∙ span_stops is_digit (b ∷ w) r number a (halts_digit r s)
-    ∙ ap (λ t. if t then Begins (token.Number (value_on 0 (b ∷ w))) r else lexer.BadNumber) (le-leb (value_on 0 (b ∷ w)) greatest_number h)
+    ∙ ap (λ t. if t then Begins (token.Number (read_on 0 (b ∷ w))) r else lexer.BadNumber) (le-leb (read_on 0 (b ∷ w)) greatest_number h)
     ∙ ap (λ m. Begins (token.Number m) r) v
 
 pub small : (n : ℕ) → n ≤ greatest_number → n < 2 ^ 64

@@ -1,14 +1,21 @@
 -- What the printer writes, piece by piece.
-use Rattle.std.proofs.Common.{◌≡◌, ℕ, zero, suc, ◌+◌, ◌<◌, Bool, List, [], ◌∷◌, ◌++◌, length, map, take, get_or, codes, nat_lt, if◌then◌else◌, Result, Ok, Err, OnOk, refl, sym, ap, ◌∙◌, subst, arith, append_assoc, append-nil, add-one, take-suc, lt-ltb}
+use Rattle.std.proofs.Common.{◌≡◌, ℤ, pos, negsuc, ℕ, zero, suc, ◌+◌, ◌<◌, Bool, List, [], ◌∷◌, ◌++◌, length, map, take, get_or, codes, nat_lt, if◌then◌else◌, Result, Ok, Err, OnOk, refl, sym, ap, ◌∙◌, subst, arith, append_assoc, append-nil, add-one, take-suc, lt-ltb}
+use Rattle.std.specs.Fmt.{signed_decimal}
 use Rattle.lt_base.specs.declared.memory.Memory.{Memory}
+use Rattle.lt_base.specs.declared.value.Value.TheVariants.{Int}
 use Rattle.lt_syntax.specs.declared.term.Term.{Term}
 use Rattle.lt_syntax.specs.declared.tree.DeclText.{DeclText}
 use Rattle.lt_syntax.specs.declared.tree.NodeText.{NodeText}
 use Rattle.lt_syntax.specs.Tree as tree
 use Rattle.lt_syntax.specs.Tree.{Tm, tms}
-use Rattle.lt_print.specs.Canonical.{led, arrow_left, bare, all_bare, placed, when_text, text, texts, clocks_text, decl_text, decls_text, local_lines, equation_lines, node_text, canonical}
+use Rattle.lt_print.specs.Canonical.{value_form, led, arrow_left, bare, all_bare, placed, when_text, text, texts, clocks_text, decl_text, decls_text, local_lines, equation_lines, node_text, canonical}
 use Rattle.lt_print.specs.Printed.{is_literal, head_text, body_text, local_line, equation_line}
 use Rattle.lt_syntax.specs.Views.{tm_of}
+
+-- a number as its form is written
+pub signed_form : (n : ℤ) → signed_decimal n ≡ text (value_form (Int n))
+signed_form (pos n) = refl
+signed_form (negsuc n) = refl
 
 -- the left side of an arrow
 pub arrow_cases : (t : Tm) → arrow_left t (placed 2 t) ≡ (if is_literal t then bare t else led (placed 2 t))

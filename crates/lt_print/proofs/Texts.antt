@@ -7,7 +7,8 @@ use Rattle.lt_tokens.specs.declared.token.Token.{Token}
 use Rattle.lt_tokens.specs.declared.token.Token.TheVariants as token
 use Rattle.std.proofs.lemmas.Fmt.{digits_decimal, decimal_nonempty}
 use Rattle.lt_tokens.specs.Text as lexer
-use Rattle.lt_tokens.specs.Text.{Front, Begins, greatest_number, skip, front, is_word, is_digit, Cuts}
+use Rattle.lt_base.specs.Digits.{is_digit}
+use Rattle.lt_tokens.specs.Text.{Front, Begins, greatest_number, skip, front, is_word, Cuts}
 use Rattle.lt_syntax.specs.Levels.{infix_line}
 use Rattle.lt_syntax.specs.Grammar.{Form, Forms, number, truth, name, paren, minus, negated, binary, choice, sampled, merged, call, nil, cons, IsAt, polarity, tokens, arguments}
 use Rattle.lt_print.specs.Canonical.{operator, truth_text, when_text, text, texts}

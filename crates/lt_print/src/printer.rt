@@ -1,25 +1,18 @@
 // The canonical text of a tree.
-ghost use Rattle.std.specs.Prelude.{◌≡◌, ◌++◌, OnOk, IfOk, codes, decimal, map};
+ghost use Rattle.std.specs.Prelude.{◌≡◌, ◌++◌, OnOk, IfOk, codes, map};
 ghost use Rattle.lt_tokens.specs.declared.token.Infix.TheVariants as meet;
 ghost use Rattle.lt_print.specs.Canonical.{value_form, led, arrow_left, level_of, bare, all_bare, placed, operator, truth_text, when_text, text, texts, clocks_text, decl_text, decls_text, local_lines, locals_text, equation_lines, node_text, canonical};
+ghost use Rattle.lt_base.specs.Limits.{greatest_height};
 ghost use Rattle.lt_base.specs.TypeText.{ty_text};
 ghost use Rattle.lt_print.specs.Printed.{is_number_term, is_literal, looks_led, head_text, body_text, comma_before, semicolon_before, local_line, equation_line};
 ghost use Rattle.lt_syntax.specs.Tree.{tms};
 ghost use Rattle.lt_syntax.specs.Program.{Spells};
 ghost use Rattle.lt_syntax.specs.Views.{tm_of};
 
-use itoa::Buffer;
-use lt_base::{Bin, List, Memory, Name, Ty, Un, Value};
+use lt_base::{Bin, List, Memory, Name, Ty, Un, Value, append_number};
 use lt_syntax::{DeclText, EqText, NodeText, Term, Tree, left, level, right};
 use lt_tokens::Infix;
 use std::alloc::Global;
-
-fn number(out: &mut List<u8>, n: u64) -> Result<(), Memory>
-    ensures { OnOk result (out.new ≡ out.old ++ decimal n) }
-{
-    let mut buffer = Buffer::new();
-    out.extend(buffer.format(n).as_bytes())
-}
 
 fn truth(out: &mut List<u8>, b: bool) -> Result<(), Memory>
     ensures { OnOk result (out.new ≡ out.old ++ truth_text b) }
@@ -32,16 +25,12 @@ fn truth(out: &mut List<u8>, b: bool) -> Result<(), Memory>
 }
 
 /// A literal, with `-` before a negative number.
+#[tactic(auto, using(crate::proofs::Printing::signed_form))]
 fn value(out: &mut List<u8>, v: Value) -> Result<(), Memory>
     ensures { OnOk result (out.new ≡ out.old ++ text (value_form v)) }
 {
     match v {
-        Value::Int(n) => {
-            if n < 0 {
-                out.extend(b"-")?;
-            }
-            number(out, n.unsigned_abs())
-        }
+        Value::Int(n) => append_number(out, n),
         Value::Bool(b) => truth(out, b),
     }
 }
@@ -374,7 +363,7 @@ fn all_nodes(alloc: Global, ns: &[NodeText]) -> Result<List<u8>, Memory>
 /// The canonical text, which spells the tree.
 pub fn print(alloc: Global, t: &Tree) -> Result<List<u8>, Memory>
     ensures text { IfOk result (λ bytes. bytes ≡ canonical t.now) }
-    ensures spells { IfOk result (λ bytes. Spells 200 bytes t.now) }
+    ensures spells { IfOk result (λ bytes. Spells greatest_height bytes t.now) }
 {
     t.invariant_holds();
     let out = all_nodes(alloc, &t.nodes)?;

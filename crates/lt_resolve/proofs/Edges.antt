@@ -11,7 +11,7 @@ use Rattle.lt_syntax.specs.Tree.{Tm, Lit, Var, Unary, Binary, Choice, Sampled, M
 use Rattle.std.specs.Borrow.{Bor}
 use Rattle.lt_resolve.specs.declared.fault.NameFault.{NameFault}
 use Rattle.lt_resolve.specs.declared.fault.NameKind.TheVariants.{Recursive}
-use Rattle.lt_resolve.specs.Names.{Name, number_of}
+use Rattle.lt_resolve.specs.Names.{Name, number_of_name}
 use Rattle.lt_resolve.specs.Scopes.{functions}
 use Rattle.lt_resolve.specs.Uses.{Site, term_count, sites_in, argument_sites, equation_sites, sites_from, edge, edges}
 use Rattle.lt_resolve.specs.Faults.{Recursion, IsFirstRecursion, sites}
@@ -39,10 +39,10 @@ module _ (n : ℕ) where
   both : (xs ys : List Site) → AreWithin n (edges xs) → AreWithin n (edges ys) → AreWithin n (edges (xs ++ ys))
   both xs ys a b = subst (AreWithin n) (sym (edges_append xs ys)) (All-append Within (edges xs) (edges ys) a b)
 
-  one : (i : ℕ) (f : Name) (funcs : List Name) (k : ℕ) → length funcs ≡ n → i < n → AreWithin n (edges (record { caller = i; name = f; callee = number_of funcs f; arguments = k } ∷ []))
-  one i f funcs k fit l = go (number_of funcs f) refl
+  one : (i : ℕ) (f : Name) (funcs : List Name) (k : ℕ) → length funcs ≡ n → i < n → AreWithin n (edges (record { caller = i; name = f; callee = number_of_name funcs f; arguments = k } ∷ []))
+  one i f funcs k fit l = go (number_of_name funcs f) refl
     where
-      go : (o : Option ℕ) → number_of funcs f ≡ o → AreWithin n (edge i o ++ [])
+      go : (o : Option ℕ) → number_of_name funcs f ≡ o → AreWithin n (edge i o ++ [])
       go None e = All-nil Within
       go (Some g) e = let below = number_below funcs f g e in All-cons Within (i, g) [] (l, omega (arith, below, fit)) (All-nil Within)
 
@@ -60,7 +60,7 @@ module _ (n : ℕ) where
         term_within (Delayed v a) = term_within a
         term_within (Followed a b) = both (sites_in funcs i a) (sites_in funcs i b) (term_within a) (term_within b)
         term_within (Arrow a b) = both (sites_in funcs i a) (sites_in funcs i b) (term_within a) (term_within b)
-        term_within (Call f args) = both (record { caller = i; name = f; callee = number_of funcs f; arguments = term_count args } ∷ []) (argument_sites funcs i args) (one i f funcs (term_count args) fit low) (arguments_within args)
+        term_within (Call f args) = both (record { caller = i; name = f; callee = number_of_name funcs f; arguments = term_count args } ∷ []) (argument_sites funcs i args) (one i f funcs (term_count args) fit low) (arguments_within args)
 
         arguments_within : (args : Tms) → AreWithin n (edges (argument_sites funcs i args))
         arguments_within Nil = All-nil Within

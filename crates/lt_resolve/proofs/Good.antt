@@ -16,7 +16,7 @@ use Rattle.lt_base.proofs.Lookups.{lefts_cons, inside_one, inside_none, inside_m
 use Rattle.lt_syntax.specs.declared.tree.DeclText.{DeclText}
 use Rattle.lt_syntax.specs.declared.tree.NodeText.{NodeText}
 use Rattle.lt_syntax.specs.Tree.{Tm}
-use Rattle.lt_resolve.specs.Names.{Name, number_of, among}
+use Rattle.lt_resolve.specs.Names.{Name, number_of_name, among}
 use Rattle.lt_resolve.specs.Scopes.{declarations, declared_names, variables, left_names}
 use Rattle.lt_resolve.specs.declared.function.Draft.{Draft}
 use Rattle.lt_resolve.specs.Known.{IsKnown}
@@ -59,7 +59,7 @@ numbers_count y first zero = sym (inside_none first y)
 numbers_count y first (suc n) = sum_by-cons (λ z. cond (nat_eq y z) 1 0) first (numbers_from (suc first) n) ∙ ap (λ k. cond (nat_eq y first) 1 0 + k) (numbers_count y (suc first) n) ∙ inside_one first n y
 
 -- an equation of variable x is one whose left side has its name
-same_test : (vars : List Name) (x : ℕ) (y : Name) (i : ℕ) → ((j k : ℕ) → j < length vars → k < length vars → get_or vars j [] ≡ get_or vars k [] → j ≡ k) → x < length vars → number_of vars y ≡ Some i → nat_eq x i ≡ bytes_eq (get_or vars x []) y
+same_test : (vars : List Name) (x : ℕ) (y : Name) (i : ℕ) → ((j k : ℕ) → j < length vars → k < length vars → get_or vars j [] ≡ get_or vars k [] → j ≡ k) → x < length vars → number_of_name vars y ≡ Some i → nat_eq x i ≡ bytes_eq (get_or vars x []) y
 same_test vars x y i apart l h = go (nat_eq x i) refl (bytes_eq (get_or vars x []) y) refl
   where
     is : get_or vars i [] ≡ y

@@ -10,7 +10,7 @@ use Rattle.lt_syntax.specs.Tree.{Tm, Lit, Var, Unary, Binary, Choice, Sampled, M
 use Rattle.lt_resolve.specs.declared.fault.NameFault.{NameFault}
 use Rattle.lt_resolve.specs.declared.fault.NameKind.{NameKind}
 use Rattle.lt_resolve.specs.declared.fault.NameKind.TheVariants.{Twice, Unknown, NoEquation, TwoEquations, EquationForInput, NoMain, WrongCount, NotOneOutput, Recursive, Limit}
-use Rattle.lt_resolve.specs.Names.{Name, number_of, if_missing, first_some}
+use Rattle.lt_resolve.specs.Names.{Name, number_of_name, if_missing, first_some}
 use Rattle.lt_resolve.specs.Scopes.{functions}
 use Rattle.lt_resolve.specs.Named.{main}
 use Rattle.lt_resolve.specs.Uses.{Site, term_count, sites_in, argument_sites, equation_sites, sites_from, edges}
@@ -45,7 +45,7 @@ module _ (n : ℕ) (funcs : List Name) where
       callers (Delayed v a) = callers a
       callers (Followed a b) = All-append Caller (sites_in funcs i a) (sites_in funcs i b) (callers a) (callers b)
       callers (Arrow a b) = All-append Caller (sites_in funcs i a) (sites_in funcs i b) (callers a) (callers b)
-      callers (Call f args) = All-cons Caller (record { caller = i; name = f; callee = number_of funcs f; arguments = term_count args }) (argument_sites funcs i args) l (argument_callers args)
+      callers (Call f args) = All-cons Caller (record { caller = i; name = f; callee = number_of_name funcs f; arguments = term_count args }) (argument_sites funcs i args) l (argument_callers args)
 
       argument_callers : (args : Tms) → All Caller (argument_sites funcs i args)
       argument_callers Nil = All-nil Caller

@@ -9,7 +9,7 @@ use Rattle.lt_base.specs.Program.{Function, WholeProgram}
 use Rattle.lt_syntax.specs.declared.tree.DeclText.{DeclText}
 use Rattle.lt_syntax.specs.declared.tree.NodeText.{NodeText}
 use Rattle.lt_syntax.specs.Tree.{Tm, Lit, Var, Unary, Binary, Choice, Sampled, Merged, Delayed, Followed, Arrow, Call, Tms, Nil, Cons}
-use Rattle.lt_resolve.specs.Names.{Name, number_of}
+use Rattle.lt_resolve.specs.Names.{Name, number_of_name}
 use Rattle.lt_resolve.specs.Scopes.{declarations, variables, functions}
 use Rattle.lt_resolve.specs.Named.{operator_of, IsNamed, AreNamed, IsPair, IsDeclared, IsNamedEquation, IsFunction, Along, Named, main}
 
@@ -27,16 +27,16 @@ module _ (vars funcs : List Name) where
   abbrev mutual
     translated : Tm → Expression
     translated (Lit v) = literal v
-    translated (Var x) = variable (number_or (number_of vars x))
+    translated (Var x) = variable (number_or (number_of_name vars x))
     translated (Unary o a) = unary o (translated a)
     translated (Binary o a b) = binary o (translated a) (translated b)
     translated (Choice c a b) = choose (translated c) (translated a) (translated b)
-    translated (Sampled a c t) = sampled (translated a) (number_or (number_of vars c)) t
-    translated (Merged c a b) = merged (number_or (number_of vars c)) (translated a) (translated b)
+    translated (Sampled a c t) = sampled (translated a) (number_or (number_of_name vars c)) t
+    translated (Merged c a b) = merged (number_or (number_of_name vars c)) (translated a) (translated b)
     translated (Delayed v a) = delayed v (translated a)
     translated (Followed a b) = follow (translated a) (translated b)
     translated (Arrow a b) = arrow (translated a) (translated b)
-    translated (Call f args) = call_of (number_of funcs f) (operator_of f) (translated_arguments args)
+    translated (Call f args) = call_of (number_of_name funcs f) (operator_of f) (translated_arguments args)
 
     translated_arguments : Tms → Arguments
     translated_arguments Nil = no_arguments
@@ -57,7 +57,7 @@ module _ (vars funcs : List Name) where
     is_translated (Call f args) (call g es) h = ap (λ k. call g k) (are_translated args es h.1) ∙ ap (λ o. call_of o (operator_of f) (translated_arguments args)) (sym h.0)
     is_translated (Call f args) (imported o d e) h =
         (λ i. call_of (sym h.0 i) (sym h.1 i) (argument d (argument e no_arguments)))
-        ∙ ap (call_of (number_of funcs f) (operator_of f)) (are_translated args (argument d (argument e no_arguments)) h.2)
+        ∙ ap (call_of (number_of_name funcs f) (operator_of f)) (are_translated args (argument d (argument e no_arguments)) h.2)
     is_translated _ _ h = absurd h
 
     are_translated : (args : Tms) (es : Arguments) → AreNamed vars funcs args es → es ≡ translated_arguments args
@@ -78,7 +78,7 @@ same_number : (o : Option ℕ) (i j : ℕ) → o ≡ Some i → o ≡ Some j →
 same_number o i j h k = cc
 
 one_pair : (vars : List Name) (p : Name × Bool) (q r : ℕ × Bool) → IsPair vars p q → IsPair vars p r → q ≡ r
-one_pair vars p q r h k = λ i. (same_number (number_of vars p.0) q.0 r.0 h.0 k.0 i, (h.1 ∙ sym k.1) i)
+one_pair vars p q r h k = λ i. (same_number (number_of_name vars p.0) q.0 r.0 h.0 k.0 i, (h.1 ∙ sym k.1) i)
 
 one_declaration : (vars : List Name) (d : DeclText) (e f : Decl) → IsDeclared vars d e → IsDeclared vars d f → e ≡ f
 one_declaration vars d e f h k =
@@ -86,7 +86,7 @@ one_declaration vars d e f h k =
     λ i. record { name = (h.name ∙ sym k.name) i; ty = (h.ty ∙ sym k.ty) i; clock = clock i }
 
 one_equation : (vars funcs : List Name) (q : Name × Tm) (d e : ℕ × Expression) → IsNamedEquation vars funcs q d → IsNamedEquation vars funcs q e → d ≡ e
-one_equation vars funcs q d e h k = λ i. (same_number (number_of vars q.0) d.0 e.0 h.0 k.0 i, (is_translated vars funcs q.1 d.1 h.1 ∙ sym (is_translated vars funcs q.1 e.1 k.1)) i)
+one_equation vars funcs q d e h k = λ i. (same_number (number_of_name vars q.0) d.0 e.0 h.0 k.0 i, (is_translated vars funcs q.1 d.1 h.1 ∙ sym (is_translated vars funcs q.1 e.1 k.1)) i)
 
 one_function : (funcs : List Name) (n : NodeText) (f g : Function) → IsFunction funcs n f → IsFunction funcs n g → f ≡ g
 one_function funcs n f g h k =
@@ -97,5 +97,5 @@ one_function funcs n f g h k =
 pub one_program : (t : List NodeText) (p q : WholeProgram) → Named t p → Named t q → p ≡ q
 one_program t p q h k =
     let funcs = along_one (IsFunction (functions t)) (one_function (functions t)) t p.funcs q.funcs h.funcs k.funcs in
-    let same = same_number (number_of (functions t) main) p.main q.main h.main k.main in
+    let same = same_number (number_of_name (functions t) main) p.main q.main h.main k.main in
     λ i. record { funcs = funcs i; main = same i }

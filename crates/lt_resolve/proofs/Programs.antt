@@ -12,7 +12,7 @@ use Rattle.lt_base.specs.Checked.{EachUse, EachArgumentUse, AnswersCall, NamesDi
 use Rattle.lt_syntax.specs.declared.tree.DeclText.{DeclText}
 use Rattle.lt_syntax.specs.declared.tree.NodeText.{NodeText}
 use Rattle.lt_syntax.specs.Tree.{Tm, Lit, Var, Unary, Binary, Choice, Sampled, Merged, Delayed, Followed, Arrow, Call, Tms, Nil, Cons}
-use Rattle.lt_resolve.specs.Names.{Name, number_of}
+use Rattle.lt_resolve.specs.Names.{Name, number_of_name}
 use Rattle.lt_resolve.specs.Scopes.{declarations, declared_names, variables, functions}
 use Rattle.lt_resolve.specs.Named.{IsNamed, AreNamed, IsDeclared, IsNamedEquation, IsFunction, Along, numbers_from, main}
 use Rattle.lt_resolve.specs.Uses as uses
@@ -35,7 +35,7 @@ good_functions funcs [] (f ∷ fs) h r = absurd h
 good_functions funcs (n ∷ t) [] h r = absurd h
 good_functions funcs (n ∷ t) (f ∷ fs) h r = All-cons GoodFunction f fs (good_function funcs n f h.0 (All-head (NodeIsRight funcs) n t r)) (good_functions funcs t fs h.1 (All-tail (NodeIsRight funcs) n t r))
 
-pub good_program : (t : List NodeText) (fs : List Function) (m : ℕ) → Along (IsFunction (functions t)) t fs → number_of (functions t) main ≡ Some m → IsRightTree t → GoodProgram (record { funcs = fs; main = m })
+pub good_program : (t : List NodeText) (fs : List Function) (m : ℕ) → Along (IsFunction (functions t)) t fs → number_of_name (functions t) main ≡ Some m → IsRightTree t → GoodProgram (record { funcs = fs; main = m })
 good_program t fs m h k r =
     let same : length fs ≡ length t = along_length (IsFunction (functions t)) t fs h in
     let many : length (functions t) ≡ length t = length-map t (λ (n : NodeText). n.name) in
@@ -97,11 +97,11 @@ module _ (P : ℕ → ℕ → Type 0) (vars funcs : List Name) (i : ℕ) where
     each_use (Followed a b) (follow d e) h s = (each_use a d h.0 (all_left (OfSite P) (sites_in funcs i a) (sites_in funcs i b) s), each_use b e h.1 (all_right (OfSite P) (sites_in funcs i a) (sites_in funcs i b) s))
     each_use (Arrow a b) (arrow d e) h s = (each_use a d h.0 (all_left (OfSite P) (sites_in funcs i a) (sites_in funcs i b) s), each_use b e h.1 (all_right (OfSite P) (sites_in funcs i a) (sites_in funcs i b) s))
     each_use (Call f args) (call g es) h s = (
-      subst (P g) (sym (count_named vars funcs args es h.1)) (All-head (OfSite P) (record { caller = i; name = f; callee = number_of funcs f; arguments = uses.term_count args }) (argument_sites funcs i args) s g h.0),
-      each_args args es h.1 (All-tail (OfSite P) (record { caller = i; name = f; callee = number_of funcs f; arguments = uses.term_count args }) (argument_sites funcs i args) s),
+      subst (P g) (sym (count_named vars funcs args es h.1)) (All-head (OfSite P) (record { caller = i; name = f; callee = number_of_name funcs f; arguments = uses.term_count args }) (argument_sites funcs i args) s g h.0),
+      each_args args es h.1 (All-tail (OfSite P) (record { caller = i; name = f; callee = number_of_name funcs f; arguments = uses.term_count args }) (argument_sites funcs i args) s),
     )
     each_use (Call f args) (imported o d e) h s =
-        let k = each_args args (argument d (argument e no_arguments)) h.2 (All-tail (OfSite P) (record { caller = i; name = f; callee = number_of funcs f; arguments = uses.term_count args }) (argument_sites funcs i args) s) in (k.0, k.1.0)
+        let k = each_args args (argument d (argument e no_arguments)) h.2 (All-tail (OfSite P) (record { caller = i; name = f; callee = number_of_name funcs f; arguments = uses.term_count args }) (argument_sites funcs i args) s) in (k.0, k.1.0)
     each_use _ _ h s = absurd h
 
     each_args : (args : Tms) (es : Arguments) → AreNamed vars funcs args es → All (OfSite P) (argument_sites funcs i args) → EachArgumentUse P es

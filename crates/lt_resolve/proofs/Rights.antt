@@ -10,7 +10,7 @@ use Rattle.lt_syntax.specs.declared.tree.NodeText.{NodeText}
 use Rattle.lt_syntax.specs.Tree.{Tm, Lit, Var, Unary, Binary, Choice, Sampled, Merged, Delayed, Followed, Arrow, Call, Tms, Nil, Cons}
 use Rattle.lt_syntax.specs.Program.{Group, Node, IsPlain, IsNode, Each, decls, declared, node_tree, IsSpelled}
 use Rattle.lt_resolve.specs.declared.fault.NameKind.TheVariants as kind
-use Rattle.lt_resolve.specs.Names.{Name, number_of, among, if_missing, if_among, repeated_name, first_some}
+use Rattle.lt_resolve.specs.Names.{Name, number_of_name, among, if_missing, if_among, repeated_name, first_some}
 use Rattle.lt_resolve.specs.Scopes.{declarations, variables, functions}
 use Rattle.lt_resolve.specs.Named.{operator_of, main}
 use Rattle.lt_resolve.specs.Uses.{Site, term_count, unknown, unknown_argument, if_uncallable, sites_in, argument_sites, equation_sites, sites_from}
@@ -61,8 +61,8 @@ abbrev pub Fits : List NodeText → Site → Type 0
 Fits t s = nat_eq s.arguments (wanted t s.callee) ≡ true
 
 module _ (t : List NodeText) (vars funcs : List Name) (i : ℕ) where
-  callable : (f : Name) (n : ℕ) → if_uncallable funcs f ≡ None → nat_eq n (wanted t (number_of funcs f)) ≡ true → IsCallable (number_of funcs f) (operator_of f) n
-  callable f n h k = go (number_of funcs f) (operator_of f) (has_number funcs f) (go2 (among funcs f || is_some (operator_of f)) h) k
+  callable : (f : Name) (n : ℕ) → if_uncallable funcs f ≡ None → nat_eq n (wanted t (number_of_name funcs f)) ≡ true → IsCallable (number_of_name funcs f) (operator_of f) n
+  callable f n h k = go (number_of_name funcs f) (operator_of f) (has_number funcs f) (go2 (among funcs f || is_some (operator_of f)) h) k
     where
       go2 : (b : Bool) → ◌≡◌ {A = Option Name} (if b then None else Some f) None → b ≡ true
       go2 true k = refl
@@ -97,8 +97,8 @@ module _ (t : List NodeText) (vars funcs : List Name) (i : ℕ) where
     known_term (Followed a b) h s = (known_term a (none_left (unknown vars funcs a) (unknown vars funcs b) h) (all_left (Fits t) (sites_in funcs i a) (sites_in funcs i b) s), known_term b (none_right (unknown vars funcs a) (unknown vars funcs b) h) (all_right (Fits t) (sites_in funcs i a) (sites_in funcs i b) s))
     known_term (Arrow a b) h s = (known_term a (none_left (unknown vars funcs a) (unknown vars funcs b) h) (all_left (Fits t) (sites_in funcs i a) (sites_in funcs i b) s), known_term b (none_right (unknown vars funcs a) (unknown vars funcs b) h) (all_right (Fits t) (sites_in funcs i a) (sites_in funcs i b) s))
     known_term (Call f args) h s = (
-      callable f (term_count args) (none_left (if_uncallable funcs f) (unknown_argument vars funcs args) h) (All-head (Fits t) (record { caller = i; name = f; callee = number_of funcs f; arguments = term_count args }) (argument_sites funcs i args) s),
-      known_args args (none_right (if_uncallable funcs f) (unknown_argument vars funcs args) h) (All-tail (Fits t) (record { caller = i; name = f; callee = number_of funcs f; arguments = term_count args }) (argument_sites funcs i args) s),
+      callable f (term_count args) (none_left (if_uncallable funcs f) (unknown_argument vars funcs args) h) (All-head (Fits t) (record { caller = i; name = f; callee = number_of_name funcs f; arguments = term_count args }) (argument_sites funcs i args) s),
+      known_args args (none_right (if_uncallable funcs f) (unknown_argument vars funcs args) h) (All-tail (Fits t) (record { caller = i; name = f; callee = number_of_name funcs f; arguments = term_count args }) (argument_sites funcs i args) s),
     )
 
     known_args : (args : Tms) → unknown_argument vars funcs args ≡ None → All (Fits t) (argument_sites funcs i args) → AreKnown vars funcs args

@@ -11,7 +11,7 @@ use Rattle.lt_syntax.specs.Tree.{Tm, Call, tms}
 use Rattle.lt_syntax.specs.Views.{tm_of}
 use Rattle.lt_resolve.specs.declared.fault.NameKind.{NameKind}
 use Rattle.lt_resolve.specs.declared.fault.NameFault.{NameFault}
-use Rattle.lt_resolve.specs.Names.{Name, number_of, first_some}
+use Rattle.lt_resolve.specs.Names.{Name, number_of_name, first_some}
 use Rattle.lt_resolve.specs.Uses.{Site, term_count, sites_in, argument_sites}
 use Rattle.lt_resolve.specs.Faults.{Occurrence, unless}
 use Rattle.lt_resolve.specs.Told.{BlamesName}
@@ -43,15 +43,15 @@ count_is (a ∷ args) = let more = count_is args in omega (arith, more)
 
 -- a call and the calls in its arguments
 module _ (funcs : List Name) (i : ℕ) (f name : Name) (args slice : List Term) (t : Tm) (callee : Option ℕ) (n : ℕ)
-    (is : t ≡ Call f (tms (map tm_of args))) (named : name ≡ f) (found : callee ≡ number_of funcs name) (many : n ≡ length args) (same : slice ≡ args) where
-  site_is : ◌≡◌ {A = Site} (record { caller = i; name = name; callee = callee; arguments = n }) (record { caller = i; name = f; callee = number_of funcs f; arguments = term_count (tms (map tm_of args)) })
-  site_is = λ j. record { caller = i; name = named j; callee = (found ∙ ap (number_of funcs) named) j; arguments = (many ∙ sym (count_is args)) j }
+    (is : t ≡ Call f (tms (map tm_of args))) (named : name ≡ f) (found : callee ≡ number_of_name funcs name) (many : n ≡ length args) (same : slice ≡ args) where
+  site_is : ◌≡◌ {A = Site} (record { caller = i; name = name; callee = callee; arguments = n }) (record { caller = i; name = f; callee = number_of_name funcs f; arguments = term_count (tms (map tm_of args)) })
+  site_is = λ j. record { caller = i; name = named j; callee = (found ∙ ap (number_of_name funcs) named) j; arguments = (many ∙ sym (count_is args)) j }
 
   pub collected : {E : Type 0} (r : Result (Unit {0}) E) (old mid new : List Site) → mid ≡ old ++ record { caller = i; name = name; callee = callee; arguments = n } ∷ [] → OnOk r (new ≡ mid ++ argument_sites funcs i (tms (map tm_of slice))) → OnOk r (new ≡ old ++ sites_in funcs i t)
   collected (Ok u) old mid new pushed h =
       h
       ∙ (λ j. (pushed ∙ ap (λ s. old ++ s ∷ []) site_is) j ++ argument_sites funcs i (tms (map tm_of (same j))))
-      ∙ append_assoc old (record { caller = i; name = f; callee = number_of funcs f; arguments = term_count (tms (map tm_of args)) } ∷ []) (argument_sites funcs i (tms (map tm_of args)))
+      ∙ append_assoc old (record { caller = i; name = f; callee = number_of_name funcs f; arguments = term_count (tms (map tm_of args)) } ∷ []) (argument_sites funcs i (tms (map tm_of args)))
       ∙ ap (λ u. old ++ sites_in funcs i u) (sym is)
   collected (Err e) old mid new pushed h = tt
 

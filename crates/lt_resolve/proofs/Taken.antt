@@ -18,7 +18,7 @@ use Rattle.lt_resolve.specs.declared.fault.NameKind.{NameKind}
 use Rattle.lt_resolve.specs.declared.fault.NameKind.TheVariants as kind
 use Rattle.lt_resolve.specs.declared.fault.NameFault.{NameFault}
 use Rattle.lt_resolve.specs.declared.function.Draft.{Draft}
-use Rattle.lt_resolve.specs.Names.{Name, number_of, among, if_among, repeated_name, first_some}
+use Rattle.lt_resolve.specs.Names.{Name, number_of_name, among, if_among, repeated_name, first_some}
 use Rattle.lt_resolve.specs.Scopes.{declarations, variables, functions}
 use Rattle.lt_resolve.specs.Named.{IsDeclared, IsFunction, Along, Named, numbers_from, main}
 use Rattle.lt_resolve.specs.Known.{HasNumber}
@@ -208,15 +208,15 @@ module _ (t : List NodeText) (spelled : IsSpelled t) (free : NoOtherFault t) (fs
       subst (λ fs. BlamesName kind.Unknown (λ o. o ≡ first_in (λ _. unknown_in fs) 0 t) e) same
       (subst (λ ns. BlamesName kind.Unknown (λ o. o ≡ first_in (λ _. unknown_in fs) 0 ns) e) are b)
 
-  module _ (gs : List Function) (known : None ≡ first_in (λ _. unknown_in fs) 0 ns) (along : Along (IsFunction fs) ns gs) (l : List Function) (is : l ≡ gs) (m : ℕ) (number : number_of fs main ≡ Some m) where
+  module _ (gs : List Function) (known : None ≡ first_in (λ _. unknown_in fs) 0 ns) (along : Along (IsFunction fs) ns gs) (l : List Function) (is : l ≡ gs) (m : ℕ) (number : number_of_name fs main ≡ Some m) where
     faultless : NoNameFault t
     faultless = no_fault t free (sym (subst (λ fs. None ≡ first_in (λ _. unknown_in fs) 0 t) same (subst (λ ns. None ≡ first_in (λ _. unknown_in fs) 0 ns) are known)))
 
     along_tree : Along (IsFunction (functions t)) t l
     along_tree = subst (Along (IsFunction (functions t)) t) (sym is) (subst (λ fs. Along (IsFunction fs) t gs) same (subst (λ ns. Along (IsFunction fs) ns gs) are along))
 
-    main_number : number_of (functions t) main ≡ Some m
-    main_number = subst (λ fs. number_of fs main ≡ Some m) same number
+    main_number : number_of_name (functions t) main ≡ Some m
+    main_number = subst (λ fs. number_of_name fs main ≡ Some m) same number
 
     pub program_good : GoodProgram (record { funcs = l; main = m })
     program_good = good_program t l m along_tree main_number (right_tree t spelled faultless)

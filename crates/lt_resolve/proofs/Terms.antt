@@ -18,7 +18,7 @@ use Rattle.lt_resolve.specs.declared.expression.Callee.{Callee}
 use Rattle.lt_resolve.specs.declared.expression.Callee.TheVariants.{Function, Operator}
 use Rattle.lt_resolve.specs.Named.{operator_of, IsNamed, AreNamed, Along}
 use Rattle.lt_resolve.specs.Known.{IsCallable, IsOperation, StandsFor, IsCalled, IsTranslated, AreTranslated}
-use Rattle.lt_resolve.specs.Names.{Name, number_of, first_some}
+use Rattle.lt_resolve.specs.Names.{Name, number_of_name, first_some}
 use Rattle.lt_resolve.specs.Uses.{unknown, unknown_argument, term_count, delays, argument_delays}
 
 -- what is unknown in arguments
@@ -48,7 +48,7 @@ translated_arguments vars funcs (a ∷ args) (e ∷ es) h = λ k. (h.0 k.0, tran
 
 -- a call with numbers
 module _ (vars funcs : List Name) (f : Name) (args : Tms) (n : ℕ) (es : Arguments) (many : n ≡ term_count args) (translated : AreTranslated vars funcs args es) where
-  of_operator : (o : Imp) (e : Expression) → number_of funcs f ≡ None → operator_of f ≡ Some o → IsOperation o es e → AreNamed vars funcs args es → IsNamed vars funcs (Call f args) e
+  of_operator : (o : Imp) (e : Expression) → number_of_name funcs f ≡ None → operator_of f ≡ Some o → IsOperation o es e → AreNamed vars funcs args es → IsNamed vars funcs (Call f args) e
   of_operator o (imported p d e) s t i a = (s, t ∙ ap Some (sym i.0), subst (AreNamed vars funcs args) i.1 a)
   of_operator o _ s t i a = absurd i
 
@@ -56,7 +56,7 @@ module _ (vars funcs : List Name) (f : Name) (args : Tms) (n : ℕ) (es : Argume
   translated_call (Function g) (call h ds) s k = λ w. (s ∙ ap Some (sym k.0), subst (AreNamed vars funcs args) (sym k.1) (translated w.1))
   translated_call (Function g) _ s k = absurd k
   translated_call (Operator o) e s k = λ w.
-      let two : IsCallable None (Some o) (term_count args) = subst (λ p. IsCallable p (Some o) (term_count args)) s.0 (subst (λ q. IsCallable (number_of funcs f) q (term_count args)) s.1 w.0) in
+      let two : IsCallable None (Some o) (term_count args) = subst (λ p. IsCallable p (Some o) (term_count args)) s.0 (subst (λ q. IsCallable (number_of_name funcs f) q (term_count args)) s.1 w.0) in
       of_operator o e s.0 s.1 (k (many ∙ two)) (translated w.1)
 
 -- a call of a function

@@ -6,14 +6,14 @@ use Rattle.lt_base.specs.Program.{Function}
 use Rattle.lt_syntax.specs.declared.tree.NodeText.{NodeText}
 use Rattle.lt_syntax.specs.Tree.{Tm}
 use Rattle.lt_resolve.specs.declared.function.Draft.{Draft}
-use Rattle.lt_resolve.specs.Names.{Name, number_of}
+use Rattle.lt_resolve.specs.Names.{Name, number_of_name}
 use Rattle.lt_resolve.specs.Scopes.{declarations, variables, functions}
 use Rattle.lt_resolve.specs.Named.{IsDeclared, Along, numbers_from}
 use Rattle.lt_resolve.specs.Known.{IsTranslated}
 
 -- an equation with the number of its variable, and a right side that may call an imported operator with a wrong number of arguments
 abbrev pub IsDraftEquation : List Name → List Name → Name × Tm → ℕ × Expression → Type 0
-IsDraftEquation vars funcs q e = (number_of vars q.0 ≡ Some e.0) × IsTranslated vars funcs q.1 e.1
+IsDraftEquation vars funcs q e = (number_of_name vars q.0 ≡ Some e.0) × IsTranslated vars funcs q.1 e.1
 
 -- the declarations and equations of the draft's node
 pub record IsDraft (funcs : List Name) (d : Draft) : Type 0 where

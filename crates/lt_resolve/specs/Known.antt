@@ -3,7 +3,7 @@ use Rattle.std.specs.Prelude.{◌≡◌, ℕ, true, is_some, Option, Some, None,
 use Rattle.lt_base.specs.declared.operators.Imp.{Imp}
 use Rattle.lt_base.specs.Expression.{Expression, imported, call, Arguments, no_arguments, argument}
 use Rattle.lt_syntax.specs.Tree.{Tm, Lit, Var, Unary, Binary, Choice, Sampled, Merged, Delayed, Followed, Arrow, Call, Tms, Nil, Cons}
-use Rattle.lt_resolve.specs.Names.{Name, number_of}
+use Rattle.lt_resolve.specs.Names.{Name, number_of_name}
 use Rattle.lt_resolve.specs.declared.expression.Callee.{Callee}
 use Rattle.lt_resolve.specs.declared.expression.Callee.TheVariants.{Function, Operator}
 use Rattle.lt_resolve.specs.Named.{operator_of, IsNamed, AreNamed}
@@ -11,7 +11,7 @@ use Rattle.lt_resolve.specs.Uses.{term_count}
 
 -- the name has a number
 abbrev pub HasNumber : List Name → Name → Type 0
-HasNumber names x = is_some (number_of names x) ≡ true
+HasNumber names x = is_some (number_of_name names x) ≡ true
 
 -- a function is called, or an imported operator with its two arguments
 abbrev pub IsCallable : Option ℕ → Option Imp → ℕ → Type 0
@@ -32,7 +32,7 @@ abbrev mutual
   IsKnown vars funcs (Delayed v a) = IsKnown vars funcs a
   IsKnown vars funcs (Followed a b) = IsKnown vars funcs a × IsKnown vars funcs b
   IsKnown vars funcs (Arrow a b) = IsKnown vars funcs a × IsKnown vars funcs b
-  IsKnown vars funcs (Call f args) = IsCallable (number_of funcs f) (operator_of f) (term_count args) × AreKnown vars funcs args
+  IsKnown vars funcs (Call f args) = IsCallable (number_of_name funcs f) (operator_of f) (term_count args) × AreKnown vars funcs args
 
   pub AreKnown : List Name → List Name → Tms → Type 0
   AreKnown vars funcs Nil = Unit {0}
@@ -45,8 +45,8 @@ IsOperation o es _ = ⊥
 
 -- the name is a function's, or that of the imported operator and no function's
 abbrev pub StandsFor : List Name → Name → Callee → Type 0
-StandsFor funcs f (Function g) = number_of funcs f ≡ Some g
-StandsFor funcs f (Operator o) = (number_of funcs f ≡ None) × (operator_of f ≡ Some o)
+StandsFor funcs f (Function g) = number_of_name funcs f ≡ Some g
+StandsFor funcs f (Operator o) = (number_of_name funcs f ≡ None) × (operator_of f ≡ Some o)
 
 -- the expression is the call of the function on these arguments, or the imported operator on them where they are two
 abbrev pub IsCalled : Callee → ℕ → Arguments → Expression → Type 0

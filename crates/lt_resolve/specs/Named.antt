@@ -9,7 +9,7 @@ use Rattle.lt_base.specs.Program.{Function, WholeProgram}
 use Rattle.lt_syntax.specs.declared.tree.DeclText.{DeclText}
 use Rattle.lt_syntax.specs.declared.tree.NodeText.{NodeText}
 use Rattle.lt_syntax.specs.Tree.{Tm, Lit, Var, Unary, Binary, Choice, Sampled, Merged, Delayed, Followed, Arrow, Call, Tms, Nil, Cons}
-use Rattle.lt_resolve.specs.Names.{Name, number_of}
+use Rattle.lt_resolve.specs.Names.{Name, number_of_name}
 use Rattle.lt_resolve.specs.Scopes.{declarations, variables, functions}
 
 -- the imported operator of this name, if there is one
@@ -22,17 +22,17 @@ operator_of f =
 abbrev mutual
   pub IsNamed : List Name → List Name → Tm → Expression → Type 0
   IsNamed vars funcs (Lit v) (literal w) = w ≡ v
-  IsNamed vars funcs (Var x) (variable i) = number_of vars x ≡ Some i
+  IsNamed vars funcs (Var x) (variable i) = number_of_name vars x ≡ Some i
   IsNamed vars funcs (Unary o a) (unary p e) = (p ≡ o) × IsNamed vars funcs a e
   IsNamed vars funcs (Binary o a b) (binary p d e) = (p ≡ o) × IsNamed vars funcs a d × IsNamed vars funcs b e
   IsNamed vars funcs (Choice c a b) (choose h d e) = IsNamed vars funcs c h × IsNamed vars funcs a d × IsNamed vars funcs b e
-  IsNamed vars funcs (Sampled a c t) (sampled e i u) = IsNamed vars funcs a e × (number_of vars c ≡ Some i) × (u ≡ t)
-  IsNamed vars funcs (Merged c a b) (merged i d e) = (number_of vars c ≡ Some i) × IsNamed vars funcs a d × IsNamed vars funcs b e
+  IsNamed vars funcs (Sampled a c t) (sampled e i u) = IsNamed vars funcs a e × (number_of_name vars c ≡ Some i) × (u ≡ t)
+  IsNamed vars funcs (Merged c a b) (merged i d e) = (number_of_name vars c ≡ Some i) × IsNamed vars funcs a d × IsNamed vars funcs b e
   IsNamed vars funcs (Delayed v a) (delayed w e) = (w ≡ v) × IsNamed vars funcs a e
   IsNamed vars funcs (Followed a b) (follow d e) = IsNamed vars funcs a d × IsNamed vars funcs b e
   IsNamed vars funcs (Arrow a b) (arrow d e) = IsNamed vars funcs a d × IsNamed vars funcs b e
-  IsNamed vars funcs (Call f args) (call g es) = (number_of funcs f ≡ Some g) × AreNamed vars funcs args es
-  IsNamed vars funcs (Call f args) (imported o d e) = (number_of funcs f ≡ None) × (operator_of f ≡ Some o) × AreNamed vars funcs args (argument d (argument e no_arguments))
+  IsNamed vars funcs (Call f args) (call g es) = (number_of_name funcs f ≡ Some g) × AreNamed vars funcs args es
+  IsNamed vars funcs (Call f args) (imported o d e) = (number_of_name funcs f ≡ None) × (operator_of f ≡ Some o) × AreNamed vars funcs args (argument d (argument e no_arguments))
   IsNamed vars funcs _ _ = ⊥
 
   pub AreNamed : List Name → List Name → Tms → Arguments → Type 0
@@ -48,7 +48,7 @@ Along R _ _ = ⊥
 
 -- a pair of a clock with the number of its variable
 abbrev pub IsPair : List Name → Name × Bool → ℕ × Bool → Type 0
-IsPair vars p q = (number_of vars p.0 ≡ Some q.0) × (q.1 ≡ p.1)
+IsPair vars p q = (number_of_name vars p.0 ≡ Some q.0) × (q.1 ≡ p.1)
 
 -- the declaration has the same name and type, and its clock the numbers of the same variables, innermost first
 pub record IsDeclared (vars : List Name) (d : DeclText) (e : Decl) : Type 0 where
@@ -58,7 +58,7 @@ pub record IsDeclared (vars : List Name) (d : DeclText) (e : Decl) : Type 0 wher
 
 -- an equation with the number of its variable
 abbrev pub IsNamedEquation : List Name → List Name → Name × Tm → ℕ × Expression → Type 0
-IsNamedEquation vars funcs q e = (number_of vars q.0 ≡ Some e.0) × IsNamed vars funcs q.1 e.1
+IsNamedEquation vars funcs q e = (number_of_name vars q.0 ≡ Some e.0) × IsNamed vars funcs q.1 e.1
 
 -- as many numbers, from the first on
 abbrev pub numbers_from : ℕ → ℕ → List ℕ
@@ -80,4 +80,4 @@ main = codes "main"
 -- the program is the tree, in which each name is replaced by the number of its declaration, functions in text order
 pub record Named (t : List NodeText) (p : WholeProgram) : Type 0 where
   pub funcs : Along (IsFunction (functions t)) t p.funcs
-  pub main : number_of (functions t) main ≡ Some p.main
+  pub main : number_of_name (functions t) main ≡ Some p.main

@@ -9,8 +9,8 @@ abbrev pub Name : Type 0
 Name = List ℕ
 
 -- the number of a name: its place among the declared ones, from 0 on
-abbrev pub number_of : List Name → Name → Option ℕ
-number_of names x = position (bytes_eq x) names
+abbrev pub number_of_name : List Name → Name → Option ℕ
+number_of_name names x = position (bytes_eq x) names
 
 -- whether the name is one of these
 abbrev pub among : List Name → Name → Bool

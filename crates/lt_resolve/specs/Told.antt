@@ -1,11 +1,13 @@
 -- What a check answers against what it looks for.
 use Rattle.std.specs.Prelude.{◌≡◌, ◌<◌, ◌≤◌, ℕ, Option, Some, None, List, Result, Ok, Err, MatchResult}
+use Rattle.std.specs.Option.{option_map}
 use Rattle.std.specs.Borrow.{Bor}
 use Rattle.lt_base.specs.declared.memory.Or.{Or}
 use Rattle.lt_base.specs.declared.memory.Or.TheVariants.{Fault, Memory}
 use Rattle.lt_base.specs.Or.{ForFault}
 use Rattle.lt_syntax.specs.declared.tree.NodeText.{NodeText}
 use Rattle.lt_resolve.specs.declared.fault.NameKind.{NameKind}
+use Rattle.lt_resolve.specs.declared.fault.NameKind.TheVariants.{Unknown}
 use Rattle.lt_resolve.specs.declared.fault.NameFault.{NameFault}
 use Rattle.lt_resolve.specs.Names.{Name}
 use Rattle.lt_resolve.specs.Faults.{Occurrence, First, kind_number}
@@ -43,3 +45,7 @@ pub record IsFirstBehind (t : List NodeText) (m : ℕ) (f : NameFault) : Type 0 
 -- no such kind occurs, or the fault is the first one behind the one number
 abbrev pub ChecksPass : {T : Type 0} → List NodeText → ℕ → ℕ → Result T (Or NameFault) → Type 0
 ChecksPass t m n result = MatchResult result (λ _. Cleared t m n) (λ e. ForFault e (IsFirstBehind t m))
+
+-- names that are not declared are at fault, and the first of them in the function at this place is this one, if there is one
+abbrev pub ShowsUnknown : {T : Type 0} → ℕ → Option Name → Result T (Or NameFault) → Type 0
+ShowsUnknown place found result = ShowsFault Unknown (λ o. o ≡ option_map (λ x. (place, x)) found) result

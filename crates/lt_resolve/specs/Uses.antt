@@ -4,7 +4,7 @@ use Rattle.std.specs.Option.{option_or}
 use Rattle.std.specs.List.{sum_by}
 use Rattle.lt_syntax.specs.declared.tree.NodeText.{NodeText}
 use Rattle.lt_syntax.specs.Tree.{Tm, Lit, Var, Unary, Binary, Choice, Sampled, Merged, Delayed, Followed, Arrow, Call, Tms, Nil, Cons}
-use Rattle.lt_resolve.specs.Names.{Name, number_of, among, if_missing}
+use Rattle.lt_resolve.specs.Names.{Name, number_of_name, among, if_missing}
 use Rattle.lt_resolve.specs.Named.{operator_of}
 
 -- the called name, where it is no function and no imported operator
@@ -54,7 +54,7 @@ abbrev mutual
   sites_in funcs i (Delayed v a) = sites_in funcs i a
   sites_in funcs i (Followed a b) = sites_in funcs i a ++ sites_in funcs i b
   sites_in funcs i (Arrow a b) = sites_in funcs i a ++ sites_in funcs i b
-  sites_in funcs i (Call f args) = record { caller = i; name = f; callee = number_of funcs f; arguments = term_count args } ∷ argument_sites funcs i args
+  sites_in funcs i (Call f args) = record { caller = i; name = f; callee = number_of_name funcs f; arguments = term_count args } ∷ argument_sites funcs i args
 
   pub argument_sites : List Name → ℕ → Tms → List Site
   argument_sites funcs i Nil = []

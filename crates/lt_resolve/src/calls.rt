@@ -1,22 +1,21 @@
 // The calls of a tree, and their faults.
 ghost use Rattle.std.specs.Prelude.{◌≡◌, ◌++◌, ◌<◌, ◌^◌, None, IsOk, IfOk, OnOk, length, map};
-ghost use Rattle.std.specs.List.{All};
 ghost use Rattle.lt_syntax.specs.Tree as tree;
 ghost use Rattle.lt_syntax.specs.Tree.{tms};
 ghost use Rattle.lt_syntax.specs.Views.{tm_of};
 ghost use Rattle.lt_graph.specs.Edges.{AreWithin};
 ghost use Rattle.lt_resolve.specs.Scopes.{functions};
-ghost use Rattle.lt_resolve.specs.Uses.{sites_in, argument_sites, equation_sites, edges};
+ghost use Rattle.lt_resolve.specs.Uses.{sites_in, argument_sites, edges};
 ghost use Rattle.lt_resolve.specs.Faults.{First, sites, wanted, answered};
 ghost use Rattle.lt_resolve.specs.Told.{ShowsFault, Cleared, ChecksPass};
-ghost use Rattle.lt_resolve.specs.Checks.{Locates, ShowsSite};
+ghost use Rattle.lt_resolve.specs.Checks.{ShowsSite};
 
 use crate::fault::{NameFault, NameKind};
 use crate::names::Names;
 use crate::tables::{Tables, locate_fault};
-use lt_base::{List, Memory, Name, Or};
+use lt_base::{Memory, Name, Or};
 use lt_graph::first_circular;
-use lt_syntax::{EqText, Term};
+use lt_syntax::Term;
 use std::alloc::Global;
 use std::marker::Model;
 
@@ -93,7 +92,8 @@ fn collect_choice<'a>(
     b: &'a Term,
     calls: &mut Vec<Call<'a>>,
 ) -> Result<(), Memory>
-    ensures { OnOk result (calls.new.items ≡ calls.old.items ++ (sites_in functions.now caller (tm_of c.now) ++ (sites_in functions.now caller (tm_of a.now) ++ sites_in functions.now caller (tm_of b.now)))) }
+    ensures { OnOk result (calls.new.items ≡ calls.old.items ++ (sites_in functions.now caller (tm_of c.now)
+        ++ (sites_in functions.now caller (tm_of a.now) ++ sites_in functions.now caller (tm_of b.now)))) }
 {
     collect(functions, caller, c, calls)?;
     collect_pair(functions, caller, a, b, calls)

@@ -151,7 +151,8 @@ fn operands<'t>(
     b: &'t Term,
 ) -> Result<(Box<Expr>, Box<Expr>), Or<&'t str>>
     ensures told { TellsName (option_or (unknown variables.now functions.now (tm_of a.now)) (unknown variables.now functions.now (tm_of b.now))) result }
-    ensures named { IfOk result (λ p. IsTranslated variables.now functions.now (tm_of a.now) (shape p.0.value) × IsTranslated variables.now functions.now (tm_of b.now) (shape p.1.value)) }
+    ensures named { IfOk result (λ p. IsTranslated variables.now functions.now (tm_of a.now) (shape p.0.value)
+        × IsTranslated variables.now functions.now (tm_of b.now) (shape p.1.value)) }
 {
     let a = box_expression(alloc, variables, functions, a)?;
     let b = box_expression(alloc, variables, functions, b)?;

@@ -1,5 +1,5 @@
 // Names to numbers in declarations, equations and functions.
-ghost use Rattle.std.specs.Prelude.{◌≡◌, ◌++◌, ◌∷◌, [], ◌+◌, ◌<◌, ◌^◌, IfOk, OnOk, List, length, reverse};
+ghost use Rattle.std.specs.Prelude.{◌≡◌, ◌++◌, ◌+◌, ◌<◌, ◌^◌, IfOk, OnOk, List, length, reverse};
 ghost use Rattle.lt_syntax.specs.declared.tree.DeclText.{DeclText as OneDecl};
 ghost use Rattle.lt_resolve.specs.Names.{first_some};
 ghost use Rattle.lt_resolve.specs.Faults.{unknown_clock, unknown_declared, unknown_equation, unknown_in};
@@ -24,7 +24,7 @@ fn clock<'t>(
     ensures named { IfOk result (λ clock. Along (IsPair variables.now) pairs.now (reverse clock)) }
 {
     let mut clock = Clock::base(alloc);
-    'pairs: for pair in pairs.as_slice() {
+    'pairs: for pair in pairs.iter() {
         clock = clock.deeper(variables.find(pair.0.as_str())?, pair.1)?;
     }
     Ok(clock)
@@ -53,9 +53,10 @@ fn declare<'t>(
     out: &mut Vec<Decl>,
 ) -> Result<(), Or<&'t str>>
     ensures told { TellsName (unknown_declared variables.now decls.now) result }
-    ensures named { OnOk result ((before : List OneDecl) → Along (IsDeclared variables.now) before out.old.items → Along (IsDeclared variables.now) (before ++ decls.now) out.new.items) }
+    ensures named { OnOk result ((before : List OneDecl) → Along (IsDeclared variables.now) before out.old.items
+        → Along (IsDeclared variables.now) (before ++ decls.now) out.new.items) }
 {
-    'decls: for decl in decls.as_slice() {
+    'decls: for decl in decls.iter() {
         out.push(declaration(alloc, variables, decl)?)?;
     }
     Ok(())
@@ -85,7 +86,7 @@ fn equations<'t>(
     ensures named { IfOk result (λ list. Along (IsDraftEquation variables.now functions.now) eqs.now list.items) }
 {
     let mut list = Vec::with_capacity(alloc, eqs.len())?;
-    'eqs: for eq in eqs.as_slice() {
+    'eqs: for eq in eqs.iter() {
         list.push(equation(alloc, variables, functions, eq)?)?;
     }
     Ok(list)

@@ -1,6 +1,6 @@
 // Tables of names.
 ghost use Rattle.std.specs.Prelude.{◌≡◌, ◌++◌, ◌∷◌, ◌<◌, ◌-◌, ◌^◌, ◌↔◌, [], not, Some, IfOk, IsTrue, OnOk, if◌then◌else◌, length};
-ghost use Rattle.lt_resolve.specs.Names.{number_of, among, if_missing};
+ghost use Rattle.lt_resolve.specs.Names.{number_of_name, among, if_missing};
 ghost use Rattle.lt_resolve.specs.Told.{TellsName};
 ghost use Rattle.lt_base.specs.Memory.{NeedsNoMemory};
 
@@ -58,7 +58,7 @@ impl<'a> Names<'a> {
     }
 
     pub fn number(&self, name: &str) -> Option<u32>
-        ensures { result ≡ number_of self.now name.now }
+        ensures { result ≡ number_of_name self.now name.now }
     {
         match self.set.get_index_of(name) {
             Some(number) => Some(number as u32),
@@ -76,7 +76,7 @@ impl<'a> Names<'a> {
     pub fn find<'t>(&self, name: &'t str) -> Result<u32, Or<&'t str>>
         ensures told { TellsName (if_missing self.now name.now) result }
         ensures memory { NeedsNoMemory result }
-        ensures number { IfOk result (λ i. number_of self.now name.now ≡ Some i) }
+        ensures number { IfOk result (λ i. number_of_name self.now name.now ≡ Some i) }
     {
         match self.number(name) {
             Some(i) => Ok(i),

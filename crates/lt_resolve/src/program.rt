@@ -2,7 +2,7 @@
 ghost use Rattle.std.specs.Prelude.{◌≡◌, ◌<◌, ◌^◌, Ok, Err, Some, length, MatchResult, IfOk};
 ghost use Rattle.lt_base.specs.Or.{ForFault};
 ghost use Rattle.lt_syntax.specs.Program.{IsSpelled};
-ghost use Rattle.lt_resolve.specs.Names.{number_of};
+ghost use Rattle.lt_resolve.specs.Names.{number_of_name};
 ghost use Rattle.lt_resolve.specs.Named.{main, Named};
 ghost use Rattle.lt_resolve.specs.Known.{HasNumber};
 ghost use Rattle.lt_resolve.specs.Drafts.{AreDrafts};
@@ -27,7 +27,7 @@ use std::alloc::Global;
 /// The number of `main`.
 pub fn main_of(functions: &Names) -> u32
     requires { HasNumber functions.now main }
-    ensures { number_of functions.now main ≡ Some result }
+    ensures { number_of_name functions.now main ≡ Some result }
 {
     functions.number("main").unwrap()
 }

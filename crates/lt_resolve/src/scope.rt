@@ -1,7 +1,7 @@
 // A function of the tree with the table of its variables.
-ghost use Rattle.std.specs.Prelude.{◌≡◌, ◌++◌, ◌∷◌, [], ◌^◌, ◌-◌, min, ℕ, List, IfOk, OnOk, length, map};
-ghost use Rattle.lt_resolve.specs.Names.{among, if_missing, if_among, repeated_name, first_some};
-ghost use Rattle.lt_resolve.specs.Scopes.{declared_names, variables, left_names};
+ghost use Rattle.std.specs.Prelude.{◌≡◌, ◌++◌, [], ◌^◌, ◌-◌, min, ℕ, List, IfOk, OnOk, map};
+ghost use Rattle.lt_resolve.specs.Names.{among, if_missing, repeated_name, first_some};
+ghost use Rattle.lt_resolve.specs.Scopes.{declared_names, variables};
 ghost use Rattle.lt_resolve.specs.Faults.{no_equation_in, two_equations_in, input_equation_in, size};
 ghost use Rattle.lt_resolve.specs.Uses.{all_delays};
 ghost use Rattle.lt_resolve.specs.Told.{TellsName};
@@ -40,7 +40,7 @@ fn declare<'a>(names: &mut Names<'a>, decls: &'a List<DeclText>) -> Result<(), O
     ensures told { TellsName (repeated_name names.old (declared_names decls.now)) result }
     ensures ok { OnOk result (names.new ≡ names.old ++ declared_names decls.now) }
 {
-    'decls: for decl in decls.as_slice() {
+    'decls: for decl in decls.iter() {
         let name = decl.name.as_str();
         if !names.insert(name)? {
             return Err(Or::Fault(name));
@@ -65,7 +65,7 @@ fn declare_all<'a>(names: &mut Names<'a>, node: &'a NodeText) -> Result<(), Or<&
 fn insert_lefts<'a>(names: &mut Names<'a>, eqs: &'a List<EqText>) -> Result<(), Or<&'a str>>
     ensures { TellsName (repeated_name names.old (map (λ q. q.0) eqs.now)) result }
 {
-    'eqs: for eq in eqs.as_slice() {
+    'eqs: for eq in eqs.iter() {
         let name = eq.left().as_str();
         if !names.insert(name)? {
             return Err(Or::Fault(name));
@@ -79,7 +79,7 @@ fn table_of_lefts<'a>(alloc: Global, eqs: &'a List<EqText>) -> Result<Names<'a>,
     ensures { IfOk result (λ names. (x : List ℕ) → among names x ≡ among (map (λ q. q.0) eqs.now) x) }
 {
     let mut names = Names::with_capacity(alloc, eqs.len())?;
-    'eqs: for eq in eqs.as_slice() {
+    'eqs: for eq in eqs.iter() {
         names.insert(eq.left().as_str())?;
     }
     Ok(names)
@@ -90,7 +90,7 @@ fn all_among<'t>(names: &Names, decls: &'t List<DeclText>) -> Result<(), Or<&'t 
     ensures told { TellsName (first_some (if_missing names.now) (declared_names decls.now)) result }
     ensures memory { NeedsNoMemory result }
 {
-    'decls: for decl in decls.as_slice() {
+    'decls: for decl in decls.iter() {
         names.check(decl.name.as_str())?;
     }
     Ok(())
@@ -168,7 +168,7 @@ impl<'a> Scope<'a> {
         ensures told { TellsName (input_equation_in self.now) result }
         ensures memory { NeedsNoMemory result }
     {
-        'eqs: for eq in self.node.eqs.as_slice() {
+        'eqs: for eq in self.node.eqs.iter() {
             let name = eq.left().as_str();
             if self.is_input(name) {
                 return Err(Or::Fault(name));

@@ -110,9 +110,8 @@ impl<'a> Tables<'a> {
         ensures shown { ShowsFault NameKind.Twice (First t.now NameKind.Twice) result }
         ensures tree { IfOk result (λ tables. tables ≡ t.now) }
     {
-        let nodes = t.nodes.as_slice();
-        let mut functions = Names::with_capacity(alloc, nodes.len())?;
-        match scopes_of(alloc, &mut functions, nodes) {
+        let mut functions = Names::with_capacity(alloc, t.nodes.len())?;
+        match scopes_of(alloc, &mut functions, &t.nodes) {
             Ok(scopes) => Ok(Tables { functions, scopes }),
             Err(error) => {
                 drop(functions);
@@ -130,6 +129,6 @@ impl<'a> Tables<'a> {
     pub fn scopes(&self) -> &[Scope<'a>]
         ensures { result.now ≡ self.now }
     {
-        self.scopes.as_slice()
+        &self.scopes
     }
 }

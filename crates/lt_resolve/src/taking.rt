@@ -2,7 +2,6 @@
 // program are never whole together.
 ghost use Rattle.std.specs.Prelude.{◌≡◌, ◌<◌, ◌^◌, [], None, Ok, Err, IfOk, OnOk, MatchResult, length};
 ghost use Rattle.std.specs.List.{All};
-ghost use Rattle.std.specs.Option.{option_map};
 ghost use Rattle.lt_base.specs.Or.{ForFault};
 ghost use Rattle.lt_syntax.specs.Program.{IsSpelled};
 ghost use Rattle.lt_resolve.specs.Names.{repeated_name, first_some};
@@ -11,8 +10,8 @@ ghost use Rattle.lt_resolve.specs.Scopes.{variables, functions};
 ghost use Rattle.lt_resolve.specs.Named.{Along, IsFunction};
 ghost use Rattle.lt_resolve.specs.Drafts.{IsDraft, IsDraftEquation};
 ghost use Rattle.lt_resolve.specs.Right.{NodeIsRight};
-ghost use Rattle.lt_resolve.specs.Faults.{First, NoOtherFault, first_in, unknown_equation, unknown_in};
-ghost use Rattle.lt_resolve.specs.Told.{ShowsFault};
+ghost use Rattle.lt_resolve.specs.Faults.{NoOtherFault, first_in, unknown_equation, unknown_in};
+ghost use Rattle.lt_resolve.specs.Told.{ShowsFault, ShowsUnknown};
 ghost use Rattle.lt_resolve.specs.Resolves.{Resolves};
 
 use crate::fault::{NameFault, NameKind};
@@ -40,9 +39,8 @@ fn push_names(nodes: &[NodeText], names: &mut Vec<Name>) -> Result<(), Memory>
 fn function_names(alloc: Global, t: &Tree) -> Result<List<Name>, Memory>
     ensures { IfOk result (λ names. names ≡ functions t.now) }
 {
-    let nodes = t.nodes.as_slice();
-    let mut names = Vec::with_capacity(alloc, nodes.len())?;
-    push_names(nodes, &mut names)?;
+    let mut names = Vec::with_capacity(alloc, t.nodes.len())?;
+    push_names(&t.nodes, &mut names)?;
     Ok(List::of(names))
 }
 
@@ -52,7 +50,7 @@ fn insert_all<'a>(table: &mut Names<'a>, names: &'a List<Name>) -> Result<(), Me
     requires apart { repeated_name [] names.now ≡ None }
     ensures { OnOk result (table.new ≡ names.now) }
 {
-    'names: for name in names.as_slice() {
+    'names: for name in names.iter() {
         table.insert(name.as_str())?;
     }
     Ok(())
@@ -82,7 +80,7 @@ fn located_equation(
     eq: &EqText,
 ) -> Result<Equation, Or<NameFault>>
     requires { place < 2 ^ 32 }
-    ensures shown { ShowsFault NameKind.Unknown (λ o. o ≡ option_map (λ x. (place, x)) (unknown_equation variables.now functions.now eq.now)) result }
+    ensures shown { ShowsUnknown place (unknown_equation variables.now functions.now eq.now) result }
     ensures named { IfOk result (λ e. IsDraftEquation variables.now functions.now eq.now e) }
 {
     match equation(alloc, variables, functions, eq) {
@@ -100,7 +98,7 @@ fn taken_equation(
     eq: EqText,
 ) -> Result<Equation, Or<NameFault>>
     requires { place < 2 ^ 32 }
-    ensures shown { ShowsFault NameKind.Unknown (λ o. o ≡ option_map (λ x. (place, x)) (unknown_equation variables.now functions.now eq)) result }
+    ensures shown { ShowsUnknown place (unknown_equation variables.now functions.now eq) result }
     ensures named { IfOk result (λ e. IsDraftEquation variables.now functions.now eq e) }
 {
     let named = located_equation(alloc, variables, functions, place, &eq);
@@ -117,7 +115,7 @@ fn taken_equations(
     eqs: Vec<EqText>,
 ) -> Result<Vec<Equation>, Or<NameFault>>
     requires { place < 2 ^ 32 }
-    ensures shown { ShowsFault NameKind.Unknown (λ o. o ≡ option_map (λ x. (place, x)) (first_some (unknown_equation variables.now functions.now) eqs.items)) result }
+    ensures shown { ShowsUnknown place (first_some (unknown_equation variables.now functions.now) eqs.items) result }
     ensures named { IfOk result (λ list. Along (IsDraftEquation variables.now functions.now) eqs.items list.items) }
 {
     let mut list = Vec::with_capacity(alloc, eqs.len())?;
@@ -147,7 +145,7 @@ fn located_draft<'a>(
     scope: &Scope<'a>,
 ) -> Result<Draft<'a>, Or<NameFault>>
     requires { place < 2 ^ 32 }
-    ensures shown { ShowsFault NameKind.Unknown (λ o. o ≡ option_map (λ x. (place, x)) (unknown_in functions.now scope.now)) result }
+    ensures shown { ShowsUnknown place (unknown_in functions.now scope.now) result }
     ensures node { IfOk result (λ d. d.node.now ≡ scope.now) }
     ensures draft { IfOk result (IsDraft functions.now) }
 {
@@ -172,7 +170,7 @@ fn drafted_function<'a>(
     requires node { draft.node.now ≡ scope.now }
     requires draft { IsDraft functions.now draft }
     requires right { let node = record scope.now { eqs = eqs.items } in unknown_in functions.now node ≡ None → NodeIsRight functions.now node }
-    ensures shown { ShowsFault NameKind.Unknown (λ o. o ≡ option_map (λ x. (place, x)) (unknown_in functions.now (record scope.now { eqs = eqs.items }))) result }
+    ensures shown { ShowsUnknown place (unknown_in functions.now (record scope.now { eqs = eqs.items })) result }
     ensures function { IfOk result (IsFunction functions.now (record scope.now { eqs = eqs.items })) }
 {
     let taken = taken_equations(alloc, scope.variables(), functions, place, eqs)?;
@@ -190,7 +188,7 @@ fn scoped_function(
     requires place { place < 2 ^ 32 }
     requires none { scope.now.eqs ≡ [] }
     requires right { let node = record scope.now { eqs = eqs.items } in unknown_in functions.now node ≡ None → NodeIsRight functions.now node }
-    ensures shown { ShowsFault NameKind.Unknown (λ o. o ≡ option_map (λ x. (place, x)) (unknown_in functions.now (record scope.now { eqs = eqs.items }))) result }
+    ensures shown { ShowsUnknown place (unknown_in functions.now (record scope.now { eqs = eqs.items })) result }
     ensures function { IfOk result (IsFunction functions.now (record scope.now { eqs = eqs.items })) }
 {
     let draft = located_draft(alloc, functions, place, scope)?;
@@ -209,7 +207,7 @@ fn function_with(
     requires none { head.now.eqs ≡ [] }
     requires apart { repeated_name [] (variables head.now) ≡ None }
     requires right { let node = record head.now { eqs = eqs.items } in unknown_in functions.now node ≡ None → NodeIsRight functions.now node }
-    ensures shown { ShowsFault NameKind.Unknown (λ o. o ≡ option_map (λ x. (place, x)) (unknown_in functions.now (record head.now { eqs = eqs.items }))) result }
+    ensures shown { ShowsUnknown place (unknown_in functions.now (record head.now { eqs = eqs.items })) result }
     ensures function { IfOk result (IsFunction functions.now (record head.now { eqs = eqs.items })) }
 {
     let scope = scope_of(alloc, head)?;
@@ -228,7 +226,7 @@ fn taken_function(
     requires place { place < 2 ^ 32 }
     requires apart { repeated_name [] (variables node) ≡ None }
     requires right { unknown_in functions.now node ≡ None → NodeIsRight functions.now node }
-    ensures shown { ShowsFault NameKind.Unknown (λ o. o ≡ option_map (λ x. (place, x)) (unknown_in functions.now node)) result }
+    ensures shown { ShowsUnknown place (unknown_in functions.now node) result }
     ensures function { IfOk result (IsFunction functions.now node) }
 {
     let head = NodeText {

@@ -30,7 +30,7 @@ fn function_uses<'a>(
     ensures delays { OnOk result (uses.new.delays.items ≡ uses.old.delays.items ++ all_delays eqs.now ∷ []) }
 {
     let mut sum = 0u64;
-    'eqs: for eq in eqs.as_slice() {
+    'eqs: for eq in eqs.iter() {
         collect(functions, caller, eq.right(), &mut uses.calls)?;
         sum = sum.saturating_add(delays(eq.right()));
     }

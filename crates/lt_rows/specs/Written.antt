@@ -6,7 +6,7 @@ use Rattle.lt_arch.specs.declared.shape.Shape.{Shape}
 use Rattle.lt_arch.specs.Readers.{node_count, chan_count, chan_of}
 use Rattle.lt_arch.specs.Schedule.{IsEventOf}
 use Rattle.lt_arch.specs.Step.{time_of}
-use Rattle.lt_rows.specs.Limits.{longest_line, greatest_time}
+use Rattle.lt_base.specs.Limits.{longest_line, greatest_time}
 use Rattle.lt_rows.specs.Events.{time_in, node_name, ends_text}
 use Rattle.lt_rows.specs.Texts.{event_place_text}
 

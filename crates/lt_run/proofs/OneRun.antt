@@ -69,7 +69,7 @@ module _ {K : Type 0} (kind : CommandFault → K) (fabric : FabricState) (file :
   pub along_decided : HasOneKind kind (run_along_verdict fabric file plan)
   along_decided = record { one_kind = along_kind; not_both = along_both }
 
-ordered_decided : {K : Type 0} (kind : CommandFault → K) → TellsLimits kind → MergesPlaces kind → MergesTimings kind → (named : List ℕ → Option (List ℕ)) (program inputs schedule : List ℕ) (config : Option (List ℕ)) (fabric : FabricState)
+pub ordered_decided : {K : Type 0} (kind : CommandFault → K) → TellsLimits kind → MergesPlaces kind → MergesTimings kind → (named : List ℕ → Option (List ℕ)) (program inputs schedule : List ℕ) (config : Option (List ℕ)) (fabric : FabricState)
     → HasOneKind kind (ordered_verdict named program inputs schedule config fabric)
 unfolding ordered_verdict
 ordered_decided kind along places timings named program inputs schedule config fabric =

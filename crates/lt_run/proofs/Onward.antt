@@ -15,12 +15,11 @@ use Rattle.lt_io.specs.FabricState.{FabricState, OpensOnce}
 use Rattle.lt_place.specs.declared.layout.Layout.{Layout}
 use Rattle.lt_arch.specs.declared.pace.Pace.{Pace}
 use Rattle.lt_lead.specs.Paced.{IsShapeBy}
-use Rattle.lt_answer.specs.World.{Blames, alone, Content}
+use Rattle.lt_answer.specs.World.{Blames, alone, Content, world}
 use Rattle.lt_answer.specs.Answered.{Answered, AndThen}
 use Rattle.lt_answer.proofs.Stages.{beside, goes_on, opens_none, renamed, runs_short, stops, widened}
 use Rattle.lt_front.specs.Examined.{ExaminedText}
 use Rattle.lt_schedule.specs.Errand.{schedule_errand}
-use Rattle.lt_net_start.specs.Outside.{world}
 use Rattle.lt_load_fit.specs.declared.fault.CommandFault.{CommandFault}
 use Rattle.lt_load.specs.Errands.{load_errands}
 use Rattle.lt_load.specs.Blamed.{command_blame}
@@ -33,7 +32,7 @@ use Rattle.lt_run.specs.declared.printed.Printed.{Printed}
 use Rattle.lt_run.specs.Errands.{run_errands}
 use Rattle.lt_run.specs.Fault.{run_blame}
 use Rattle.lt_run.specs.Kinds.{EventsBy}
-use Rattle.lt_run.specs.Near.{IsNearCommand}
+use Rattle.lt_load.specs.Near.{IsNearCommand}
 use Rattle.lt_run.specs.Printed.{HasPrinted, ReplayShows, ShowsAt, run_loaded_verdict}
 use Rattle.lt_run.specs.Run.{AsCommand, KeepsShape, HasOutputs, IsLaidOutBy, OutputsShow, along_loaded, run_along_verdict, run_command_fault, placed_run_verdict, ordered_verdict}
 use Rattle.lt_run.proofs.Replays.{answered_value, answered_fault}
@@ -91,12 +90,6 @@ module _ {M : Type 0} (mch : Machines M) (k : LoadedPlan) (name : List ℕ) (fil
       } in
       subst (λ (g : Or RunFault). Outs (Err g)) (sym is) told
 
--- no memory was found before the replay
-pub not_begun : (k : LoadedPlan) (name : List ℕ) (files : FilesState) (fabric : FabricState) (r : Result Outputs (Or RunFault)) → IsErrAnd r (λ f. f ≡ Memory) → HasOutputs k name files files fabric fabric r
-not_begun k name files fabric (Ok x) is = absurd is
-not_begun k name files fabric (Err f) is =
-    subst (λ (g : Or RunFault). HasOutputs k name files files fabric fabric (Err g)) (sym is) (record { answered = runs_short (world files fabric); near = λ told. tt; opens = record { calls = opens_none fabric; done = tt } })
-
 -- no memory was found before the run
 pub not_run : (k : LoadedPlan) (name : List ℕ) (files : FilesState) (fabric : FabricState) (r : Result Outputs (Or CommandFault)) → IsErrAnd r (λ f. f ≡ Memory)
     → (answered : Answered command_blame (schedule_errand name) (along_loaded fabric k (files.named name)) (world files fabric) (world files fabric) r) × (IsTrue files.told → IfErr r (IsNearCommand (files.named name) files.place)) × OpensOnce fabric fabric r
@@ -104,10 +97,6 @@ not_run k name files fabric (Ok x) is = absurd is
 not_run k name files fabric (Err f) is =
     subst (λ (g : Or CommandFault). (answered : Answered command_blame (schedule_errand name) (along_loaded fabric k (files.named name)) (world files fabric) (world files fabric) (Err g)) × (IsTrue files.told → IsNearCommand (files.named name) files.place g) × OpensOnce {T = Outputs} fabric fabric (Err g)) (sym is)
     (runs_short (world files fabric), (λ told. tt), record { calls = opens_none fabric; done = tt })
-
--- the same of an equal plan
-pub outputs_at : (k l : LoadedPlan) → k ≡ l → (name : List ℕ) (files files' : FilesState) (fabric fabric' : FabricState) (r : Result Outputs (Or RunFault)) → HasOutputs k name files files' fabric fabric' r → HasOutputs l name files files' fabric fabric' r
-outputs_at k l is name files files' fabric fabric' r has = subst (λ (m : LoadedPlan). HasOutputs m name files files' fabric fabric' r) is has
 
 -- what was replayed, as the command's
 

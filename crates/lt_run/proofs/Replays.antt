@@ -13,10 +13,10 @@ use Rattle.lt_io.proofs.Visiting.{visited_any}
 use Rattle.lt_io.specs.FilesState.{FilesState}
 use Rattle.lt_io.specs.FabricState.{FabricState}
 use Rattle.lt_arch.specs.declared.pace.Pace.{Pace}
-use Rattle.lt_answer.specs.World.{World}
+use Rattle.lt_answer.specs.World.{World, world}
 use Rattle.lt_answer.specs.Answered.{Answered, RefusesReading}
 use Rattle.lt_answer.proofs.Stages.{opens_none, runs_short}
-use Rattle.lt_net_start.specs.Outside.{world}
+use Rattle.lt_net_bench.specs.Starts.{AreReady}
 use Rattle.lt_net.specs.declared.replayed.Replayed.{Replayed}
 use Rattle.lt_net_start.specs.declared.plan.NetPlan.{NetPlan}
 use Rattle.lt_front.specs.Checked.{IsChecked}
@@ -151,6 +151,10 @@ not_set_up mch k name files fabric (Err f) is =
 pub prints_at : {M : Type 0} (mch : Machines M) (k l : LoadedPlan) → k ≡ l → (name : List ℕ) (files files' : FilesState) (fabric fabric' : FabricState) (r : Result (Printed M) (Or RunFault))
     → HasPrinted mch k name files files' fabric fabric' r → HasPrinted mch l name files files' fabric fabric' r
 prints_at mch k l is name files files' fabric fabric' r has = subst (λ (m : LoadedPlan). HasPrinted mch m name files files' fabric fabric' r) is has
+
+-- machines that are ready for an equal plan
+pub ready_at : {M : Type 0} (mch : Machines M) (k l : LoadedPlan) → k ≡ l → (machines : List M) → AreReady mch k.layout (length k.inputs.rows) machines → AreReady mch l.layout (length l.inputs.rows) machines
+ready_at mch k l is machines ready = subst (λ (m : LoadedPlan). AreReady mch m.layout (length m.inputs.rows) machines) is ready
 
 -- what a replay's cells show by the names of the outputs
 

@@ -16,6 +16,7 @@ use Rattle.lt_arch.specs.declared.pace.Pace.{Pace}
 use Rattle.lt_arch.specs.declared.pace.Pace.TheVariants.{Plain, Lossy, Leader}
 use Rattle.lt_arch.specs.Paced.{allowed_of}
 use Rattle.lt_answer.specs.Answered.{OfFile, Verdict}
+use Rattle.lt_answer.specs.World.{world}
 use Rattle.lt_answer.proofs.Stages.{widened}
 use Rattle.lt_answer.specs.Rules.{Raised}
 use Rattle.lt_schedule.specs.declared.halt.ScheduleRefusal.{ScheduleRefusal}
@@ -25,7 +26,6 @@ use Rattle.lt_schedule.specs.Verdict.{rules_of, or_fault, verdict}
 use Rattle.lt_net_start.specs.declared.fault.PlayFault.{PlayFault}
 use Rattle.lt_net_start.specs.declared.fault.PlayFault.TheVariants as play
 use Rattle.lt_net_start.specs.Blamed.{ReplayEndsWith, play_blame, IsNearPlay}
-use Rattle.lt_net_start.specs.Outside.{world}
 use Rattle.lt_net.specs.declared.replayed.Replayed.{Replayed}
 use Rattle.lt_net_replay.specs.Replays.{HasReplayed, IsReplay, replay_verdict}
 use Rattle.lt_load.proofs.Raising.{raised_value, raised_fault}

@@ -14,6 +14,7 @@ use Rattle.lt_place.specs.declared.layout.Layout.{Layout}
 use Rattle.lt_arch.specs.declared.pace.Pace.{Pace}
 use Rattle.lt_arch.specs.declared.pace.Pace.TheVariants.{Lossy as LosesMessages}
 use Rattle.lt_answer.specs.Answered.{OfFile, Verdict}
+use Rattle.lt_answer.specs.World.{world}
 use Rattle.lt_answer.proofs.Stages.{widened}
 use Rattle.lt_answer.specs.Rules.{Raised}
 use Rattle.lt_schedule.specs.declared.halt.ScheduleRefusal.{ScheduleRefusal}
@@ -21,7 +22,6 @@ use Rattle.lt_schedule.specs.declared.halt.ScheduleRefusal.TheVariants as refusa
 use Rattle.lt_schedule.specs.Rules.{file_judged_by}
 use Rattle.lt_lossy.specs.declared.event.LossyEvent.{LossyEvent}
 use Rattle.lt_lossy.specs.declared.event.LossyOffence.{LossyOffence}
-use Rattle.lt_net_start.specs.Outside.{world}
 use Rattle.lt_net.specs.declared.replayed.Replayed.{Replayed}
 use Rattle.lt_net_start.specs.declared.fault.PlayFault.{PlayFault}
 use Rattle.lt_net_start.specs.declared.fault.PlayFault.TheVariants as lossy

@@ -2,5 +2,4 @@ pub mod Fault
 pub mod Kinds
 pub mod Printed
 pub mod Run
-pub mod Near
 pub mod Errands

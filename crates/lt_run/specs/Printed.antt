@@ -1,8 +1,9 @@
 -- What a run along a schedule comes to, in the words of its program.
-use Rattle.std.specs.Prelude.{◌≡◌, ℕ, ◌<◌, ◌≤◌, min, IsTrue, List, [], length, take, Option, Result, IfOk, IfErr, slice_index_or}
+use Rattle.std.specs.Prelude.{◌≡◌, ℕ, ◌<◌, ◌≤◌, min, IsTrue, List, [], length, take, Option, Some, Result, IfOk, IfErr, slice_get, slice_index_or}
 use Rattle.lt_base.specs.declared.value.Value.{Value}
 use Rattle.lt_base.specs.declared.value.Cell.{Cell}
 use Rattle.lt_base.specs.declared.memory.Or.{Or}
+use Rattle.lt_base.specs.Inputs.{InputTable}
 use Rattle.lt_base.specs.Program.{Function, WholeProgram}
 use Rattle.lt_arch.specs.declared.shape.Shape.{Shape}
 use Rattle.lt_arch.specs.declared.timing.Timing.{Timing}
@@ -16,9 +17,11 @@ use Rattle.lt_lead.specs.Paced.{bound_by}
 use Rattle.lt_net_node.specs.Local.{local_stream}
 use Rattle.lt_net_node.specs.Payloads.{payloads_between, row_at}
 use Rattle.lt_answer.specs.Answered.{Answered, Verdict}
+use Rattle.lt_answer.specs.World.{world}
 use Rattle.lt_schedule.specs.Errand.{schedule_errand}
-use Rattle.lt_net_start.specs.Outside.{world}
+use Rattle.lt_net_start.specs.declared.plan.NetPlan.{NetPlan}
 use Rattle.lt_net.specs.declared.replayed.Replayed.{Replayed}
+use Rattle.lt_front.specs.Checked.{CheckedText}
 use Rattle.lt_load_fit.specs.Main.{main_in}
 use Rattle.lt_load.specs.Plan.{LoadedPlan}
 use Rattle.lt_evaluate.specs.Main.{output_names, output_streams}
@@ -27,6 +30,8 @@ use Rattle.lt_run.specs.declared.printed.Printed.{Printed}
 use Rattle.lt_run.specs.Fault.{run_blame, IsNearRun}
 use Rattle.lt_run.specs.Kinds.{EventsBy, executed_by, IsRunBy, got_by, HasStepsBy, run_file_verdict}
 use Rattle.lt_machine.specs.declared.machine.Machine.{Ghosts as Machines}
+use Rattle.lt_machine.specs.declared.step_machine.StepMachine.{StepMachine}
+use Rattle.lt_step.specs.Compile.{CodeOf}
 
 -- what outputs of these names and cells show, where each node has executed so many instants, each channel has delivered these payloads
 -- and the protocol promises at least so many instants
@@ -96,3 +101,22 @@ pub record HasPrinted {M : Type 0} (mch : Machines M) (k : LoadedPlan) (name : L
   pub opens : OpensOnce fabric fabric' result
   -- the layout of what was loaded is given back
   pub layout : IfOk result (λ printed. printed.layout ≡ k.layout)
+
+-- the machine of each node steps code of the node's part
+abbrev pub StepCodeOfParts : {X : Type 0} {call : _} → Layout → List (StepMachine X call) → Type 0
+StepCodeOfParts {X} {call} l machines = (n : ℕ) (m : StepMachine X call) → slice_get machines n ≡ Some m → CodeOf (part_of l n).flat.func m.code
+
+-- a program with its nodes, their channels and bounds of time, and rows of inputs
+abbrev pub set_up : CheckedText → Pace → NetPlan → InputTable → LoadedPlan
+set_up checked pace setup inputs = record { checked = checked; layout = setup.layout; shape = setup.shape; timing = setup.timing; inputs = inputs; pace = pace }
+
+-- what the objects hold is read off them by these two functions
+
+-- a network of these nodes took the file of this name to its end, or a fault stands against it
+abbrev pub TakesSchedule : {F W M : Type 0} (files : F → FilesState) (fabric : W → FabricState) (mch : Machines M) (pace : Pace) → NetPlan → InputTable → (schedule : List ℕ) (before after : F) (old new : W) → Result (Replayed M) (Or RunFault) → Type 0
+TakesSchedule files fabric mch pace setup inputs schedule before after old new result =
+    HasTaken mch pace setup.layout setup.shape setup.timing inputs.rows schedule (files before) (files after) (fabric old) (fabric new) result
+
+-- what was loaded is replayed along the file of this name
+abbrev pub ReplaysLoaded : {F W M : Type 0} (files : F → FilesState) (fabric : W → FabricState) (mch : Machines M) → LoadedPlan → (schedule : List ℕ) (before after : F) (old new : W) → Result (Printed M) (Or RunFault) → Type 0
+ReplaysLoaded files fabric mch k schedule before after old new result = HasPrinted mch k schedule (files before) (files after) (fabric old) (fabric new) result

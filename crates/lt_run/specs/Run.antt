@@ -1,5 +1,6 @@
 -- A run of a program along a schedule: what is right of it, given the files' bytes and what the fabric holds at its end.
 use Rattle.std.specs.Prelude.{◌≡◌, ℕ, IsTrue, List, length, Option, Result, Err, IfErr}
+use Rattle.std.specs.Borrow.{Bor}
 use Rattle.lt_base.specs.declared.value.Value.{Value}
 use Rattle.lt_base.specs.Program.{WholeProgram}
 use Rattle.lt_arch.specs.declared.shape.Shape.{Shape}
@@ -13,21 +14,23 @@ use Rattle.lt_lead.specs.Paced.{IsShapeBy}
 use Rattle.lt_front.specs.Flattened.{flat_of}
 use Rattle.lt_base.specs.declared.memory.Or.{Or}
 use Rattle.lt_base.specs.declared.memory.Or.TheVariants.{Fault, Memory}
-use Rattle.lt_answer.specs.World.{World}
+use Rattle.lt_answer.specs.World.{World, world}
+use Rattle.lt_answer.specs.Alone.{given_word}
 use Rattle.lt_answer.specs.Answered.{Answered, Verdict, AndThen}
 use Rattle.lt_answer.specs.Rules.{Raised}
 use Rattle.lt_schedule.specs.Errand.{schedule_errand}
-use Rattle.lt_net_start.specs.Outside.{world}
 use Rattle.lt_load_fit.specs.declared.fault.What.TheVariants.{ScheduleBytes}
 use Rattle.lt_load_fit.specs.declared.fault.CommandFault.{CommandFault}
 use Rattle.lt_load_fit.specs.declared.fault.CommandFault.TheVariants as fault
+use Rattle.lt_load.specs.Blamed.{command_blame}
 use Rattle.lt_load.specs.Plan.{Plan, LoadedPlan, load_verdict}
 use Rattle.lt_evaluate.specs.declared.outputs.Outputs.{Outputs}
 use Rattle.lt_run.specs.declared.fault.RunFault.{RunFault}
 use Rattle.lt_run.specs.declared.fault.RunFault.TheVariants as run
+use Rattle.lt_run.specs.Errands.{run_errands}
 use Rattle.lt_run.specs.Fault.{run_blame, IsNearRun}
 use Rattle.lt_run.specs.Kinds.{EventsBy, run_file_verdict}
-use Rattle.lt_run.specs.Near.{ReadNear}
+use Rattle.lt_load.specs.Near.{ReadNear}
 use Rattle.lt_run.specs.Printed.{ShowsAt, run_loaded_verdict}
 
 -- a run's fault as a command's, beside the shape whose nodes it names
@@ -98,3 +101,14 @@ run_verdict named program inputs schedule config new = ReadNear (named schedule)
 -- where the program, the setup or the inputs are refused, the fabric is as it was
 abbrev pub LeavesUnloaded : (files : FilesState) (program inputs : List ℕ) (config : Option (List ℕ)) → (old new : FabricState) → Type 0
 LeavesUnloaded files program inputs config old new = IsTrue files.told → (e : CommandFault) → load_verdict files.named program inputs config (Err e) → new ≡ old
+
+-- what was loaded is run along the schedule file of this name
+abbrev pub RunsLoaded : LoadedPlan → (schedule : List ℕ) (files files' : FilesState) (fabric fabric' : FabricState) → Result Outputs (Or CommandFault) → Type 0
+RunsLoaded k schedule files files' fabric fabric' result =
+    Answered command_blame (schedule_errand schedule) (along_loaded fabric' k (files.named schedule)) (world files fabric) (world files' fabric') result
+
+-- the files of these names are run over a fabric. What the objects hold is read off them by these two functions
+abbrev pub RunsFiles : {F W : Type 0} (files : F → FilesState) (fabric : W → FabricState) (program inputs schedule : List ℕ) (config : Option (Bor (List ℕ))) (before after : F) (old new : W) → Result Outputs (Or CommandFault) → Type 0
+RunsFiles files fabric program inputs schedule config before after old new result =
+    Answered command_blame (run_errands program inputs schedule (given_word config))
+    (run_verdict (files before).named program inputs schedule (given_word config) (world (files after) (fabric new))) (world (files before) (fabric old)) (world (files after) (fabric new)) result

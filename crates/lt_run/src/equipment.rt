@@ -28,7 +28,7 @@ pub(crate) fn equip(
     requires callable { IsAlwaysCallable operator }
     requires answers { (o : Operator) (a b r : ℤ) → FitsSigned w64 a → FitsSigned w64 b → post operator o a b r → r ≡ imported o a b }
     ensures shape { IfOk result (λ equipment. equipment.shape ≡ loaded.now.shape) }
-    ensures machines { IfOk result (λ equipment. AreReady ⟦<StepMachine as Machine>⟧ loaded.now.layout (length loaded.now.inputs.rows) equipment.machines.items) }
+    ensures machines { IfOk result (λ has. AreReady ⟦<StepMachine as Machine>⟧ loaded.now.layout (length loaded.now.inputs.rows) has.machines.items) }
 {
     let shape = loaded.shape.copy()?;
     let machines = code_machines(alloc, loaded, operator)?;

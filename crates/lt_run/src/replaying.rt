@@ -1,5 +1,5 @@
 // A loaded program along a schedule.
-ghost use Rattle.std.specs.Prelude.{◌≡◌, ◌<◌, ◌≤◌, ◌-◌, ◌^◌, [], length, None};
+ghost use Rattle.std.specs.Prelude.{◌≡◌, ◌<◌, ◌≤◌, ◌-◌, ◌^◌, [], IfOk, length, None};
 ghost use Rattle.lt_io.specs.Counts.{MayFail};
 ghost use Rattle.lt_base.specs.Behaviour.{RowsFit};
 ghost use Rattle.lt_norm.specs.Flat.{Originated};
@@ -13,8 +13,7 @@ ghost use Rattle.lt_arch.specs.Paced.{allowed_of};
 ghost use Rattle.lt_lead.specs.Paced.{KeepsPace};
 ghost use Rattle.lt_load_fit.specs.Fits.{HasWindowBy};
 ghost use Rattle.lt_load.specs.Plan.{IsLoaded};
-ghost use Rattle.lt_run.specs.Printed.{HasPrinted, HasTaken};
-ghost use Rattle.lt_run.specs.Run.{HasOutputs};
+ghost use Rattle.lt_run.specs.Printed.{ReplaysLoaded, StepCodeOfParts, TakesSchedule, set_up};
 
 use crate::equipment::code_machines;
 use crate::fault::{of_lossy, of_play};
@@ -23,11 +22,10 @@ use crate::{Printed, RunFault};
 use lt_base::tables::imp;
 use lt_base::{Inputs, Or};
 use lt_config::Pace;
-use lt_evaluate::Outputs;
 use lt_front::Checked;
 use lt_io::{Fabric, Files};
 use lt_load::{Loaded, main_of};
-use lt_machine::Machine;
+use lt_machine::{Machine, StepMachine};
 use lt_net::Replayed;
 use lt_net_lossy::replay_lossy;
 use lt_net_start::{NetPlan, copies};
@@ -35,11 +33,30 @@ use lt_norm::Flat;
 use std::alloc::Global;
 use std::mem::forget;
 
-/// Has the nodes of a loaded program take the events of a schedule file, row by row, over a fabric that has no channel yet. There is
-/// a machine for each node, of its part, which makes a step for each instant that the node executes.
+/// Has the nodes of a loaded program take the events of a schedule file, row by row, over a fabric that has no channel yet. Each node
+/// has a machine of its part's step code, with the table of the imported operators, which makes a step for each instant that the node
+/// executes.
 ///
 /// The file is refused at its first row or event that is refused. What is kept besides the cells does not grow with the schedule.
-pub fn replay<F: Files, W: Fabric, M: Machine>(
+pub fn replay<F: Files, W: Fabric>(
+    alloc: Global,
+    loaded: &Loaded,
+    files: &mut F,
+    schedule: &str,
+    fabric: &mut W,
+) -> Result<Printed<StepMachine>, Or<RunFault>>
+    requires count { MayFail (F.state files.old).faults }
+    requires link_count { MayFail (W.state fabric.old).faults }
+    requires empty { (W.state fabric.old).kinds ≡ [] }
+    ensures printed { ReplaysLoaded F.state W.state ⟦<StepMachine as Machine>⟧ loaded.now schedule.now files.old files.new fabric.old fabric.new result }
+    ensures code { IfOk result (λ printed. StepCodeOfParts loaded.now.layout printed.machines) }
+{
+    let machines = code_machines(alloc, loaded, imp)?;
+    replay_by(alloc, loaded, files, schedule, fabric, machines)
+}
+
+/// The same by any machines: there is one for each node, of its part.
+pub fn replay_by<F: Files, W: Fabric, M: Machine>(
     alloc: Global,
     loaded: &Loaded,
     files: &mut F,
@@ -51,7 +68,7 @@ pub fn replay<F: Files, W: Fabric, M: Machine>(
     requires link_count { MayFail (W.state fabric.old).faults }
     requires empty { (W.state fabric.old).kinds ≡ [] }
     requires machines { AreReady M.Machine loaded.now.layout (length loaded.now.inputs.rows) machines.items }
-    ensures { HasPrinted M.Machine loaded.now schedule.now (F.state files.old) (F.state files.new) (W.state fabric.old) (W.state fabric.new) result }
+    ensures { ReplaysLoaded F.state W.state M.Machine loaded.now schedule.now files.old files.new fabric.old fabric.new result }
 {
     let setup = copies(&loaded.layout, &loaded.shape, &loaded.timing)?;
     replay_setup(
@@ -79,13 +96,12 @@ fn replay_setup<F: Files, W: Fabric, M: Machine>(
     fabric: &mut W,
     machines: Vec<M>,
 ) -> Result<Printed<M>, Or<RunFault>>
-    requires loaded { IsLoaded (record { checked = checked.now; layout = setup.layout; shape = setup.shape; timing = setup.timing; inputs = inputs.now; pace = pace }) }
+    requires loaded { IsLoaded (set_up checked.now pace setup inputs.now) }
     requires count { MayFail (F.state files.old).faults }
     requires link_count { MayFail (W.state fabric.old).faults }
     requires empty { (W.state fabric.old).kinds ≡ [] }
     requires machines { AreReady M.Machine setup.layout (length inputs.now.rows) machines.items }
-    ensures { HasPrinted M.Machine (record { checked = checked.now; layout = setup.layout; shape = setup.shape; timing = setup.timing; inputs = inputs.now; pace = pace }) schedule.now
-        (F.state files.old) (F.state files.new) (W.state fabric.old) (W.state fabric.new) result }
+    ensures { ReplaysLoaded F.state W.state M.Machine (set_up checked.now pace setup inputs.now) schedule.now files.old files.new fabric.old fabric.new result }
 {
     checked.program.invariant_holds();
     let width = width_of(&checked.flat);
@@ -119,7 +135,7 @@ fn take<F: Files, W: Fabric, M: Machine>(
     requires width { inputs.now.width ≡ width }
     requires wide { HasRowValues width inputs.now.rows }
     requires machines { AreReady M.Machine setup.layout (length inputs.now.rows) machines.items }
-    ensures { HasTaken M.Machine pace setup.layout setup.shape setup.timing inputs.now.rows schedule.now (F.state files.old) (F.state files.new) (W.state fabric.old) (W.state fabric.new) result }
+    ensures { TakesSchedule F.state W.state M.Machine pace setup inputs.now schedule.now files.old files.new fabric.old fabric.new result }
 {
     match pace {
         Pace::Lossy(losses) => take_lossy(
@@ -155,7 +171,7 @@ fn take_plain<F: Files, W: Fabric, M: Machine>(
     requires width { inputs.now.width ≡ width }
     requires wide { HasRowValues width inputs.now.rows }
     requires machines { AreReady M.Machine setup.layout (length inputs.now.rows) machines.items }
-    ensures { HasTaken M.Machine pace setup.layout setup.shape setup.timing inputs.now.rows schedule.now (F.state files.old) (F.state files.new) (W.state fabric.old) (W.state fabric.new) result }
+    ensures { TakesSchedule F.state W.state M.Machine pace setup inputs.now schedule.now files.old files.new fabric.old fabric.new result }
 {
     match lt_net_replay::replay(
         alloc, files, schedule, fabric, setup, inputs, width, machines,
@@ -188,7 +204,7 @@ fn take_lossy<F: Files, W: Fabric, M: Machine>(
     requires width { inputs.now.width ≡ width }
     requires wide { HasRowValues width inputs.now.rows }
     requires machines { AreReady M.Machine setup.layout (length inputs.now.rows) machines.items }
-    ensures { HasTaken M.Machine (Lossy losses) setup.layout setup.shape setup.timing inputs.now.rows schedule.now (F.state files.old) (F.state files.new) (W.state fabric.old) (W.state fabric.new) result }
+    ensures { TakesSchedule F.state W.state M.Machine (Lossy losses) setup inputs.now schedule.now files.old files.new fabric.old fabric.new result }
 {
     match replay_lossy(
         alloc, files, schedule, fabric, setup, losses, inputs, width, machines,
@@ -205,26 +221,7 @@ fn width_of(flat: &Flat) -> u32
     flat.func.n_in
 }
 
-/// Replays a loaded program by a machine of step code on each node, with the table of the imported operators: what its outputs
-/// show.
-pub(crate) fn replay_code<F: Files, W: Fabric>(
-    alloc: Global,
-    loaded: &Loaded,
-    files: &mut F,
-    schedule: &str,
-    fabric: &mut W,
-) -> Result<Outputs, Or<RunFault>>
-    requires count { MayFail (F.state files.old).faults }
-    requires link_count { MayFail (W.state fabric.old).faults }
-    requires empty { (W.state fabric.old).kinds ≡ [] }
-    ensures { HasOutputs loaded.now schedule.now (F.state files.old) (F.state files.new) (W.state fabric.old) (W.state fabric.new) result }
-{
-    let machines = code_machines(alloc, loaded, imp)?;
-    let printed = replay(alloc, loaded, files, schedule, fabric, machines)?;
-    Ok(printed.outputs())
-}
-
-/// The same of a loaded program that is given away: nothing of it is copied.
+/// What `replay_by` does, of a loaded program that is given away: nothing of it is copied.
 pub(crate) fn replay_given<F: Files, W: Fabric, M: Machine>(
     alloc: Global,
     loaded: Loaded,
@@ -237,7 +234,7 @@ pub(crate) fn replay_given<F: Files, W: Fabric, M: Machine>(
     requires link_count { MayFail (W.state fabric.old).faults }
     requires empty { (W.state fabric.old).kinds ≡ [] }
     requires machines { AreReady M.Machine loaded.layout (length loaded.inputs.rows) machines.items }
-    ensures { HasPrinted M.Machine loaded schedule.now (F.state files.old) (F.state files.new) (W.state fabric.old) (W.state fabric.new) result }
+    ensures { ReplaysLoaded F.state W.state M.Machine loaded schedule.now files.old files.new fabric.old fabric.new result }
 {
     loaded.invariant_holds();
     let Loaded {

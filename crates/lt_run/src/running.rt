@@ -1,19 +1,15 @@
 // A run of a program along a schedule.
-ghost use Rattle.std.specs.Prelude.{◌≡◌, ◌<◌, ◌-◌, ◌^◌, [], length, IfErr, IsTrue, option_map};
+ghost use Rattle.std.specs.Prelude.{◌≡◌, ◌<◌, ◌-◌, ◌^◌, [], length};
 ghost use Rattle.lt_io.specs.Counts.{MayFail};
 ghost use Rattle.lt_io.specs.FabricState.{OpensOnce};
-ghost use Rattle.lt_answer.specs.Answered.{Answered};
+ghost use Rattle.lt_answer.specs.Alone.{given_word};
 ghost use Rattle.lt_net_bench.specs.Starts.{AreReady};
-ghost use Rattle.lt_net_start.specs.Outside.{world};
-ghost use Rattle.lt_load.specs.Blamed.{command_blame};
-ghost use Rattle.lt_schedule.specs.Errand.{schedule_errand};
-ghost use Rattle.lt_run.specs.Errands.{run_errands};
-ghost use Rattle.lt_run.specs.Near.{IsNearCommand};
-ghost use Rattle.lt_run.specs.Run.{AsCommand, LeavesUnloaded, along_loaded, run_verdict};
+ghost use Rattle.lt_load.specs.Near.{IsReadNear};
+ghost use Rattle.lt_run.specs.Run.{AsCommand, LeavesUnloaded, RunsFiles, RunsLoaded};
 
 use crate::RunFault;
 use crate::equipment::{Equipment, equip};
-use crate::replaying::{replay_code, replay_given};
+use crate::replaying::{replay, replay_given};
 use lt_arch::Shape;
 use lt_base::tables::imp;
 use lt_base::{Memory, Or};
@@ -39,10 +35,9 @@ pub fn run<F: Files, W: Fabric>(
     requires count { MayFail (F.state files.old).faults }
     requires link_count { MayFail (W.state fabric.old).faults }
     requires empty { (W.state fabric.old).kinds ≡ [] }
-    ensures answered { Answered command_blame (run_errands program.now inputs.now schedule.now (option_map (λ s. s.now) config.entry)) (run_verdict (F.state files.old).named program.now inputs.now schedule.now (option_map (λ s. s.now) config.entry) (world (F.state files.new) (W.state fabric.new)))
-        (world (F.state files.old) (W.state fabric.old)) (world (F.state files.new) (W.state fabric.new)) result }
+    ensures answered { RunsFiles F.state W.state program.now inputs.now schedule.now config.entry files.old files.new fabric.old fabric.new result }
     ensures opens { OpensOnce (W.state fabric.old) (W.state fabric.new) result }
-    ensures untouched { LeavesUnloaded (F.state files.old) program.now inputs.now (option_map (λ s. s.now) config.entry) (W.state fabric.old) (W.state fabric.new) }
+    ensures untouched { LeavesUnloaded (F.state files.old) program.now inputs.now (given_word config.entry) (W.state fabric.old) (W.state fabric.new) }
 {
     let loaded = load(alloc, files, program, inputs, config)?;
     run_whole(alloc, files, fabric, loaded, schedule)
@@ -59,9 +54,8 @@ fn run_whole<F: Files, W: Fabric>(
     requires count { MayFail (F.state files.old).faults }
     requires link_count { MayFail (W.state fabric.old).faults }
     requires empty { (W.state fabric.old).kinds ≡ [] }
-    ensures answered { Answered command_blame (schedule_errand schedule.now) (along_loaded (W.state fabric.new) loaded ((F.state files.old).named schedule.now))
-        (world (F.state files.old) (W.state fabric.old)) (world (F.state files.new) (W.state fabric.new)) result }
-    ensures near { IsTrue (F.state files.old).told → IfErr result (IsNearCommand ((F.state files.old).named schedule.now) (F.state files.new).place) }
+    ensures answered { RunsLoaded loaded schedule.now (F.state files.old) (F.state files.new) (W.state fabric.old) (W.state fabric.new) result }
+    ensures near { IsReadNear schedule.now (F.state files.old) (F.state files.new) result }
     ensures opens { OpensOnce (W.state fabric.old) (W.state fabric.new) result }
 {
     match equip(alloc, &loaded, imp) {
@@ -87,9 +81,8 @@ fn run_with<F: Files, W: Fabric, M: Machine>(
     requires count { MayFail (F.state files.old).faults }
     requires link_count { MayFail (W.state fabric.old).faults }
     requires empty { (W.state fabric.old).kinds ≡ [] }
-    ensures answered { Answered command_blame (schedule_errand schedule.now) (along_loaded (W.state fabric.new) loaded ((F.state files.old).named schedule.now))
-        (world (F.state files.old) (W.state fabric.old)) (world (F.state files.new) (W.state fabric.new)) result }
-    ensures near { IsTrue (F.state files.old).told → IfErr result (IsNearCommand ((F.state files.old).named schedule.now) (F.state files.new).place) }
+    ensures answered { RunsLoaded loaded schedule.now (F.state files.old) (F.state files.new) (W.state fabric.old) (W.state fabric.new) result }
+    ensures near { IsReadNear schedule.now (F.state files.old) (F.state files.new) result }
     ensures opens { OpensOnce (W.state fabric.old) (W.state fabric.new) result }
 {
     match replay_given(alloc, loaded, files, schedule, fabric, equipment.machines) {
@@ -109,13 +102,12 @@ pub fn run_loaded<F: Files, W: Fabric>(
     requires count { MayFail (F.state files.old).faults }
     requires link_count { MayFail (W.state fabric.old).faults }
     requires empty { (W.state fabric.old).kinds ≡ [] }
-    ensures answered { Answered command_blame (schedule_errand schedule.now) (along_loaded (W.state fabric.new) loaded.now ((F.state files.old).named schedule.now))
-        (world (F.state files.old) (W.state fabric.old)) (world (F.state files.new) (W.state fabric.new)) result }
-    ensures near { IsTrue (F.state files.old).told → IfErr result (IsNearCommand ((F.state files.old).named schedule.now) (F.state files.new).place) }
+    ensures answered { RunsLoaded loaded.now schedule.now (F.state files.old) (F.state files.new) (W.state fabric.old) (W.state fabric.new) result }
+    ensures near { IsReadNear schedule.now (F.state files.old) (F.state files.new) result }
     ensures opens { OpensOnce (W.state fabric.old) (W.state fabric.new) result }
 {
-    match replay_code(alloc, loaded, files, schedule, fabric) {
-        Ok(outputs) => Ok(outputs),
+    match replay(alloc, loaded, files, schedule, fabric) {
+        Ok(printed) => Ok(printed.outputs()),
         Err(fault) => Err(as_command(&loaded.shape, fault)),
     }
 }

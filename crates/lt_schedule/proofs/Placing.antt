@@ -1,17 +1,16 @@
 -- The event that a line reads as is one of the shape, in the range of times.
-use Rattle.std.proofs.Common.{◌≡◌, ◌<◌, ◌≤◌, ℕ, nat_le, nat_lt, Bool, true, false, ◌&&◌, List, [], ◌∷◌, length, codes, bytes_eq, map, Option, Some, None, Ok, Err, if◌then◌else◌, refl, sym, ap, subst, ◌∙◌, arith, inl, inr}
-use Rattle.std.specs.List.{All, list_all}
-use Rattle.std.specs.Str.Parse.{digits_value}
-use Rattle.std.proofs.lemmas.Bool.Decides.{leb_tells}
+use Rattle.std.proofs.Common.{◌≡◌, ◌<◌, ◌≤◌, ℕ, Bool, true, false, ◌&&◌, List, [], ◌∷◌, codes, bytes_eq, map, Option, Some, None, Ok, Err, if◌then◌else◌, refl, subst}
+use Rattle.std.specs.List.{All}
 use Rattle.std.proofs.lemmas.List.Elements.{All-cons, All-nil, All-head, All-tail}
 use Rattle.std.proofs.lemmas.List.Quantifiers.{position-Some}
+use Rattle.lt_base.specs.Digits.{number_of}
+use Rattle.lt_base.proofs.Digits.{up_to-some}
 use Rattle.lt_arch.specs.declared.chan.Chan.{Chan}
 use Rattle.lt_arch.specs.declared.chan.ChanKind.{ChanKind}
 use Rattle.lt_arch.specs.declared.chan.ChanKind.TheVariants.{Data, Ack}
 use Rattle.lt_arch.specs.declared.event.Event.{Event}
 use Rattle.lt_arch.specs.declared.event.Event.TheVariants.{Act, Del, End}
 use Rattle.lt_arch.specs.declared.shape.Shape.{Shape}
-use Rattle.lt_arch.specs.Names.{is_digit}
 use Rattle.lt_arch.specs.Readers.{node_count, chan_count, no_chan}
 use Rattle.lt_arch.specs.Schedule.{AreUpTo, IsEventOf}
 use Rattle.lt_rows.specs.declared.fault.RowFault.TheVariants.{Kind}
@@ -28,17 +27,9 @@ chan_within : (s : Shape) (kind : ChanKind) (text : List ℕ) (c : ℕ) → chan
 unfolding chan_named
 chan_within s kind text c is = (position-Some (λ (c : Chan). is_of_kind kind c.kind && bytes_eq text (ends_text s c)) s.channels c no_chan is).0
 
-time_by : (some digits : Bool) (value at : ℕ) → (if some && (digits && nat_le value 1000000000000000) then Some value else None) ≡ Some at → at ≤ 1000000000000000
-time_by false digits value at is = cc
-time_by true false value at is = cc
-time_by true true value at is = elim (leb_tells value 1000000000000000) [
-  | inl w ↦ let same : ◌≡◌ {A = Option ℕ} (Some value) (Some at) = sym (ap (λ (b : Bool). if b then Some value else None) w.0) ∙ is in let equal : value ≡ at = cc in omega (arith, w.1, equal)
-  | inr w ↦ let none : ◌≡◌ {A = Option ℕ} None (Some at) = sym (ap (λ (b : Bool). if b then Some value else None) w.0) ∙ is in cc
-]
-
 timely : (text : List ℕ) (at : ℕ) → time_in text ≡ Some at → at ≤ 1000000000000000
 unfolding time_in
-timely text at is = time_by (nat_lt 0 (length text)) (list_all is_digit text) (digits_value 10 text) at is
+timely text at is = (up_to-some 1000000000000000 (number_of text) at is).1
 
 module _ (s : Shape) (at : ℕ) (low : at ≤ 1000000000000000) (e : Event) where
   node_by : (o : Option ℕ) → ((n : ℕ) → o ≡ Some n → n < node_count s) → node_event o at ≡ Ok e → IsEventOf s e

@@ -6,5 +6,6 @@ pub mod Replayed
 pub mod Verdict
 pub mod Blamed
 pub mod Settled
+pub mod Laws
 pub mod Long
 pub mod Errand

@@ -7,7 +7,7 @@ ghost use Rattle.lt_rows.specs.Limits.{most_read};
 ghost use Rattle.lt_rows.specs.Lines.{fresh_lines, CanGoOn, rows_ahead, end_ahead};
 ghost use Rattle.lt_schedule.specs.Errand.{schedule_errand};
 ghost use Rattle.lt_schedule.specs.Halted.{UnlessFailed, ReadCounted, HaltCounted, IsMemoryHalt, IsLink, IsRead, halted_by, long_fault, finished};
-ghost use Rattle.lt_schedule.specs.Replayed.{TakesEvent, RefusesLine, ScheduleGoesOn, RefusesRow, TakesAll, RefusesSome, HasHeader, LacksHeader, TakesRows, RefusesRows, JudgesRows, JudgesFile};
+ghost use Rattle.lt_schedule.specs.Replayed.{TakesEvent, RefusesLine, HasHeader, LacksHeader, JudgesNext, JudgesAll, JudgesRows, JudgesOpen, JudgesFile};
 ghost use Rattle.lt_schedule.specs.declared.halt.Halt.TheVariants as halts;
 ghost use Rattle.lt_schedule.specs.declared.halt.ScheduleRefusal.TheVariants as refusals;
 
@@ -75,9 +75,7 @@ fn replay_open<F: Files, W, R: Replica<W>, L: Ledger>(
     ensures keeps_files { KeepsFiles (F.state files.old) (F.state files.new) }
     ensures taken { taken_of (F.state files.new).visits ≤ most_read }
     ensures keeps { R.keeps replica.old outside.old replica.new outside.new }
-    ensures judged { MatchResult result
-        (λ _. (steps : ℕ) × TakesRows (R.rules replica.old) (R.stands replica.new outside.new steps) (end_ahead lines.old (F.state files.old)) (F.state files.old).told (rows_ahead lines.old (F.state files.old)))
-        (UnlessFailed (λ refusal. IsTrue (F.state files.old).told → RefusesRows (R.rules replica.old) (end_ahead lines.old (F.state files.old)) (rows_ahead lines.old (F.state files.old)) (F.state files.new).place refusal)) }
+    ensures judged { JudgesOpen (R.rules replica.old) (R.stands replica.new outside.new) lines.old (F.state files.old) (F.state files.new) result }
 {
     let mut steps = Steps::<L>::new(blank);
     replay_lines(lines, files, replica, outside, &mut steps)
@@ -161,9 +159,7 @@ fn take_rows<F: Files, W, R: Replica<W>, L: Ledger>(
     ensures keeps_files { KeepsFiles (F.state files.old) (F.state files.new) }
     ensures taken { taken_of (F.state files.new).visits ≤ most_read }
     ensures keeps { R.keeps replica.old outside.old replica.new outside.new }
-    ensures judged { MatchResult result
-        (λ _. TakesAll (R.rules replica.old) (R.stands replica.new outside.new steps.new) (end_ahead lines.old (F.state files.old)) (F.state files.old).told (rows_ahead lines.old (F.state files.old)))
-        (UnlessFailed (λ refusal. IsTrue (F.state files.old).told → RefusesSome (R.rules replica.old) (end_ahead lines.old (F.state files.old)) (rows_ahead lines.old (F.state files.old)) (F.state files.new).place refusal)) }
+    ensures judged { JudgesAll (R.rules replica.old) (R.stands replica.new outside.new steps.new) lines.old (F.state files.old) (F.state files.new) result }
 {
     for number in 1..MOST_EVENTS + 2 {
         if !take_row(lines, files, replica, outside, number, steps)? {
@@ -175,7 +171,8 @@ fn take_rows<F: Files, W, R: Replica<W>, L: Ledger>(
 
 // Whether the list may stop, where the event of this number would follow.
 fn finish<W, R: Replica<W>>(replica: &R, next: u32) -> Result<(), Halt<R::Offence>>
-    ensures { (outside : W) (steps : ℕ) (before : List R.Event) → R.stands replica.now outside steps before → result ≡ finished next ((R.rules replica.now).missing before) }
+    ensures { (outside : W) (steps : ℕ) (before : List R.Event) → R.stands replica.now outside steps before
+        → result ≡ finished next ((R.rules replica.now).missing before) }
 {
     match replica.missing() {
         None => Ok(()),
@@ -209,9 +206,9 @@ fn take_row<F: Files, W, R: Replica<W>, L: Ledger>(
     ensures ready { OnOk result (CanGoOn lines.new (F.state files.new)) }
     ensures few { IfOk result (λ more. IsTrue more → number ≤ 5000000) }
     ensures end { IsTrue (F.state files.old).told → OnOk result (end_ahead lines.new (F.state files.new) ≡ end_ahead lines.old (F.state files.old)) }
-    ensures goes { (before : List R.Event) → R.stands replica.old outside.old steps.old before → MatchResult result
-        (ScheduleGoesOn (R.rules replica.old) (R.stands replica.new outside.new steps.new) before number (end_ahead lines.old (F.state files.old)) (F.state files.old).told (rows_ahead lines.old (F.state files.old)) (rows_ahead lines.new (F.state files.new)))
-        (UnlessFailed (λ refusal. IsTrue (F.state files.old).told → RefusesRow (R.rules replica.old) before number (end_ahead lines.old (F.state files.old)) (rows_ahead lines.old (F.state files.old)) (F.state files.new).place refusal)) }
+    ensures goes { (before : List R.Event) → R.stands replica.old outside.old steps.old before
+        → JudgesNext (R.rules replica.old) (R.stands replica.new outside.new steps.new) before number
+        lines.old lines.new (F.state files.old) (F.state files.new) result }
 {
     match lines.advance(files) {
         Ok(true) => {

@@ -1,5 +1,5 @@
 // What takes the events of a schedule.
-ghost use Rattle.std.specs.Prelude.{◌≡◌, ◌<◌, ◌-◌, ◌^◌, ℕ, List, length, Err, MatchResult};
+ghost use Rattle.std.specs.Prelude.{◌≡◌, ◌<◌, ◌-◌, ◌^◌, ℕ, List, length, Err};
 ghost use Rattle.lt_rows.specs.declared.fault.RowFault.TheVariants.{NotCsv};
 ghost use Rattle.lt_schedule.specs.Rules.{Rules};
 ghost use Rattle.lt_schedule.specs.Taken.{JudgesLine, StopCounted, IsMemoryStop};

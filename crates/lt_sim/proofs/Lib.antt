@@ -14,3 +14,4 @@ pub mod Following
 pub mod Pages
 pub mod FileRows
 pub mod Walking
+pub mod Shown

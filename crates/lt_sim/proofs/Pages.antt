@@ -7,7 +7,7 @@ use Rattle.lt_arch.specs.declared.event.Event.{Event}
 use Rattle.lt_arch.specs.declared.shape.Shape.{Shape}
 use Rattle.lt_rows.specs.Texts.{event_text}
 use Rattle.lt_sim.specs.File.{rows_text, header_text, file_text}
-use Rattle.lt_sim.specs.Recorded.{TakesText, TakesFront, FailsAfter, TakesPart, WritesText, WritesPart}
+use Rattle.lt_sim.specs.Recorded.{WritesWhole, WritesFrontOf, FailsAfter, TakesPart, WritesText, WritesPart}
 use Rattle.lt_arch.specs.declared.timing.Timing.{Timing}
 use Rattle.lt_base.specs.declared.memory.Or.{Or}
 use Rattle.lt_base.specs.declared.memory.Or.TheVariants.{Fault, Memory}
@@ -82,10 +82,10 @@ module _ (s : Shape) (front : List Event) (page : List ℕ) (old now : SinkState
     pub put_fails : (next : SinkState) → FailsAfter (page ++ (event_text s e ++ 10 ∷ [])) now next → FailsAfter (file_text s whole) old next
     put_fails next fails = record { counted = let a = fails.counted in let b = h.counted in omega (arith, a, b); taken = front_whole next fails.taken }
 
-    pub put_short : (next : SinkState) → TakesFront (page ++ (event_text s e ++ 10 ∷ [])) now next → TakesFront (file_text s whole) old next
+    pub put_short : (next : SinkState) → WritesFrontOf (page ++ (event_text s e ++ 10 ∷ [])) now next → WritesFrontOf (file_text s whole) old next
     put_short next short = record { counted = short.counted ∙ h.counted; taken = front_whole next short.taken }
 
-  pub put_whole : (e : Event) (whole : List Event) (next : SinkState) → whole ≡ front ++ e ∷ [] → TakesText (page ++ (event_text s e ++ 10 ∷ [])) now next → TakesText (file_text s whole) old next
+  pub put_whole : (e : Event) (whole : List Event) (next : SinkState) → whole ≡ front ++ e ∷ [] → WritesWhole (page ++ (event_text s e ++ 10 ∷ [])) now next → WritesWhole (file_text s whole) old next
   put_whole e whole next is takes = record {
     counted = takes.counted ∙ h.counted;
     taken = λ t. takes.taken (is_told t) ∙ (ap (λ (l : List ℕ). l ++ (page ++ (event_text s e ++ 10 ∷ []))) (h.taken t)
@@ -98,7 +98,7 @@ pub record HasPassed (k : Drawing) (s : Shape) (t : Timing) (rows seed horizon n
   pub put : HasPut s passes.front page old now
 
 -- The end.
-pub end_part : (text kept : List ℕ) (old mid new : SinkState) (held : List ℕ) → mid.told ≡ old.told → TakesPart text kept held old mid → TakesText held mid new → TakesText (kept ++ text) old new
+pub end_part : (text kept : List ℕ) (old mid new : SinkState) (held : List ℕ) → mid.told ≡ old.told → TakesPart text kept held old mid → WritesWhole held mid new → WritesWhole (kept ++ text) old new
 end_part text kept old mid new held told part takes = record {
   counted = takes.counted ∙ part.counted;
   taken = λ t. takes.taken (subst IsTrue (sym told) t) ∙ (ap (λ (l : List ℕ). l ++ held) (part.taken t) ∙ (append_assoc old.taken part.written held ∙ ap (λ (l : List ℕ). old.taken ++ l) part.behind));
@@ -113,7 +113,7 @@ front_part text kept old mid new held told part took t =
 pub end_fails : (text kept : List ℕ) (old mid new : SinkState) (held : List ℕ) → mid.told ≡ old.told → TakesPart text kept held old mid → FailsAfter held mid new → FailsAfter (kept ++ text) old new
 end_fails text kept old mid new held told part fails = record { counted = let a = fails.counted in let b = part.counted in omega (arith, a, b); taken = front_part text kept old mid new held told part fails.taken }
 
-pub end_short : (text kept : List ℕ) (old mid new : SinkState) (held : List ℕ) → mid.told ≡ old.told → TakesPart text kept held old mid → TakesFront held mid new → TakesFront (kept ++ text) old new
+pub end_short : (text kept : List ℕ) (old mid new : SinkState) (held : List ℕ) → mid.told ≡ old.told → TakesPart text kept held old mid → WritesFrontOf held mid new → WritesFrontOf (kept ++ text) old new
 end_short text kept old mid new held told part short = record { counted = short.counted ∙ part.counted; taken = front_part text kept old mid new held told part short.taken }
 
 -- the text was put on the page and the page was written, or not

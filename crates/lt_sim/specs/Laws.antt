@@ -33,3 +33,9 @@ abbrev pub ReadsBack : Type 0
 ReadsBack =
     (s : Shape) (t : Timing) (rows seed horizon : ℕ) → OnePlace s t rows → horizon ≤ GREATEST_TIME → length (drawn s t rows seed horizon) ≤ most_events →
     verdict s t rows (file_text s (drawn s t rows seed horizon)) ≡ Ok (drawn s t rows seed horizon)
+
+-- what a reader has of a schedule that was drawn and written, for so many rows of inputs and up to a horizon: these events keep to the bounds of the
+-- timing, and end at the horizon; and the text of their file, read as a schedule file, is these events, of which none is refused
+pub record IsSimShown (s : Shape) (t : Timing) (rows horizon : ℕ) (es : List Event) : Type 0 where
+  pub sound : ScheduleIsSound s t rows horizon es
+  pub reads : verdict s t rows (file_text s es) ≡ Ok es

@@ -12,12 +12,12 @@ use Rattle.lt_sim.specs.declared.fault.SimFault.TheVariants.{Write, TooMany}
 use Rattle.lt_sim.specs.File.{file_text, schedule_text}
 
 -- the sink did not fail, and where it tells its bytes, it took this text
-pub record TakesText (text : List ℕ) (old new : SinkState) : Type 0 where
+pub record WritesWhole (text : List ℕ) (old new : SinkState) : Type 0 where
   pub counted : new.faults ≡ old.faults
   pub taken : IsTrue old.told → new.taken ≡ old.taken ++ text
 
 -- the sink did not fail, and took a front of this text
-pub record TakesFront (text : List ℕ) (old new : SinkState) : Type 0 where
+pub record WritesFrontOf (text : List ℕ) (old new : SinkState) : Type 0 where
   pub counted : new.faults ≡ old.faults
   pub taken : IsTrue old.told → IsFront old.taken text new.taken
 
@@ -30,7 +30,7 @@ pub record FailsAfter (text : List ℕ) (old new : SinkState) : Type 0 where
 pub record IsRecorded (s : Shape) (es : List Event) (old new : SinkState) (count : ℕ) : Type 0 where
   pub count_is : count ≡ length es
   pub few : length es ≤ most_events
-  pub written : TakesText (file_text s es) old new
+  pub written : WritesWhole (file_text s es) old new
 
 -- the sink failed in the middle of the file
 pub record IsBroken (s : Shape) (es : List Event) (old new : SinkState) : Type 0 where
@@ -47,16 +47,16 @@ abbrev pub Records : Shape → List Event → (old new : SinkState) → Result �
 Records s es old new (Ok count) = IsRecorded s es old new count
 Records s es old new (Err (Fault Write)) = IsBroken s es old new
 Records s es old new (Err (Fault TooMany)) = AreTooManyEvents es old new
-Records s es old new (Err Memory) = TakesFront (schedule_text s es) old new
+Records s es old new (Err Memory) = WritesFrontOf (schedule_text s es) old new
 
 -- How a text reaches the sink, page by page.
 
 -- the text was written, or a front of it
 abbrev pub WritesText : (text : List ℕ) → (old new : SinkState) → Result (Unit {0}) (Or SimFault) → Type 0
-WritesText text old new (Ok _) = TakesText text old new
+WritesText text old new (Ok _) = WritesWhole text old new
 WritesText text old new (Err (Fault Write)) = FailsAfter text old new
 WritesText text old new (Err (Fault TooMany)) = ⊥
-WritesText text old new (Err Memory) = TakesFront text old new
+WritesText text old new (Err Memory) = WritesFrontOf text old new
 
 -- the sink did not fail, and it took some of what was kept with this text behind it; the rest is held now
 pub record TakesPart (text kept held : List ℕ) (old new : SinkState) : Type 0 where
@@ -70,7 +70,7 @@ abbrev pub WritesPart : (text kept held : List ℕ) → (old new : SinkState) �
 WritesPart text kept held old new (Ok _) = TakesPart text kept held old new
 WritesPart text kept held old new (Err (Fault Write)) = FailsAfter (kept ++ text) old new
 WritesPart text kept held old new (Err (Fault TooMany)) = ⊥
-WritesPart text kept held old new (Err Memory) = TakesFront (kept ++ text) old new
+WritesPart text kept held old new (Err Memory) = WritesFrontOf (kept ++ text) old new
 
 -- the number of events, where they are not too many
 abbrev pub IsCountOf : List Event → Option ℕ → Type 0

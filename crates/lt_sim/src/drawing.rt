@@ -80,7 +80,8 @@ impl Drawing {
     pub fn take(&mut self, shape: &Shape, timing: &Timing, rows: u32, at: u64, place: u32)
         requires due { IsDue self.old shape.now timing.now rows (at, place) }
         requires time { at ≤ GREATEST_TIME }
-        ensures { (seed : ℕ) (front : List OfEvent) (d : Draw) → DrawingStands self.old shape.now timing.now seed d → DrawKeeps shape.now timing.now rows front d → next_due shape.now d ≡ Some (at, place)
+        ensures { (seed : ℕ) (front : List OfEvent) (d : Draw) → DrawingStands self.old shape.now timing.now seed d
+            → DrawKeeps shape.now timing.now rows front d → next_due shape.now d ≡ Some (at, place)
             → DrawingStands self.new shape.now timing.now seed (drawn_on shape.now timing.now rows seed d (due_event shape.now (at, place))) }
     {
         let nodes = shape.nodes.len() as u32;
@@ -97,7 +98,8 @@ impl Drawing {
         requires node { node < node_count shape.now }
         requires due { IsDue self.old shape.now timing.now rows (at, node) }
         requires time { at ≤ GREATEST_TIME }
-        ensures { (seed : ℕ) (front : List OfEvent) (d : Draw) → DrawingStands self.old shape.now timing.now seed d → DrawKeeps shape.now timing.now rows front d
+        ensures { (seed : ℕ) (front : List OfEvent) (d : Draw) → DrawingStands self.old shape.now timing.now seed d
+            → DrawKeeps shape.now timing.now rows front d
             → DrawingStands self.new shape.now timing.now seed (activated shape.now timing.now rows seed d node at) }
     {
         let deed = wake(&self.progress, &mut self.controllers, rows, node);
@@ -152,7 +154,8 @@ fn is_back_pressure(protocol: Protocol) -> bool
 fn wake(progress: &Progress, controllers: &mut Controllers, rows: u32, node: u32) -> Deed
     requires node { HasNode progress.now node }
     requires controller { node < length controllers.old }
-    ensures deed { (s : OfShape) (t : OfTiming) (seed : ℕ) (d : Draw) → ProgressIsAt progress.now s (λ n. (d.state.node n).executed) (λ c. (d.state.chan c).delivered)
+    ensures deed { (s : OfShape) (t : OfTiming) (seed : ℕ) (d : Draw)
+        → ProgressIsAt progress.now s (λ n. (d.state.node n).executed) (λ c. (d.state.chan c).delivered)
         → AreControlled t (node_count s) (λ n. (d.state.node n).phase) controllers.old → node < node_count s → result ≡ deed_at s rows d.state node }
     ensures controllers { controllers.new ≡ slice_set controllers.old node (controlled_after (controller_of controllers.old node) result) }
 {
@@ -189,8 +192,10 @@ fn first_activations(
     requires numbered { 2 * (node_count shape.now + chan_count shape.now) < 2 ^ 32 }
     ensures size { IfOk result (λ pending. length pending ≡ node_count shape.now + chan_count shape.now) }
     ensures pending { (seed : ℕ) → stream_of splitmix_steps generator.old ≡ left_after seed 0
-        → IfOk result (λ pending. (place : ℕ) → place < node_count shape.now + chan_count shape.now → slice_index_or pending place None ≡ pending_at shape.now (beginning shape.now timing.now seed) place) }
-    ensures left { (seed : ℕ) → stream_of splitmix_steps generator.old ≡ left_after seed 0 → OnOk result (stream_of splitmix_steps generator.new ≡ left_after seed (node_count shape.now)) }
+        → IfOk result (λ pending. (place : ℕ) → place < node_count shape.now + chan_count shape.now
+        → slice_index_or pending place None ≡ pending_at shape.now (beginning shape.now timing.now seed) place) }
+    ensures left { (seed : ℕ) → stream_of splitmix_steps generator.old ≡ left_after seed 0
+        → OnOk result (stream_of splitmix_steps generator.new ≡ left_after seed (node_count shape.now)) }
 {
     let places = (shape.nodes.len() + shape.channels.len()) as u32;
     let mut pending = Deadlines::start(alloc, places)?;

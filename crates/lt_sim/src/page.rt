@@ -1,5 +1,5 @@
 // The part of a file that is not written yet.
-ghost use Rattle.std.specs.Prelude.{◌≡◌, ◌<◌, ◌-◌, ◌^◌, ◌++◌, ◌∷◌, [], IsTrue, IfOk, OnOk, length};
+ghost use Rattle.std.specs.Prelude.{◌≡◌, ◌<◌, ◌-◌, ◌++◌, ◌∷◌, [], IsTrue, IfOk, OnOk, length};
 ghost use Rattle.lt_io.specs.Counts.{MayFail};
 ghost use Rattle.lt_arch.specs.Schedule.{IsEventOf};
 ghost use Rattle.lt_rows.specs.Texts.{event_text};
@@ -41,7 +41,7 @@ pub fn write_out<O: Sink>(
     ensures keeps { KeepsSink (O.state sink.old) (O.state sink.new) }
     ensures sound { IsTrue (O.state sink.old).sound → (O.state sink.new).faults ≡ (O.state sink.old).faults }
 {
-    match write_all(sink, page.as_slice()) {
+    match write_all(sink, page) {
         Ok(()) => {
             clear(alloc, page);
             Ok(())
@@ -70,6 +70,7 @@ pub fn put_row<O: Sink>(
     sink: &mut O,
 ) -> Result<(), Or<SimFault>>
     requires event { IsEventOf shape.now e.now }
+    requires short { length page.old < 65280 }
     requires count { MayFail (O.state sink.old).faults }
     ensures written { WritesPart (event_text shape.now e.now ++ 10 ∷ []) page.old page.new (O.state sink.old) (O.state sink.new) result }
     ensures short { OnOk result (length page.new < 65280) }

@@ -1,5 +1,5 @@
 // How far the nodes and the channels are.
-ghost use Rattle.std.specs.Prelude.{◌≡◌, ◌<◌, ◌≤◌, ◌+◌, ◌-◌, ◌*◌, ◌^◌, ℕ, IfOk, replicate, slice_index_or};
+ghost use Rattle.std.specs.Prelude.{◌≡◌, ◌<◌, ◌+◌, ◌-◌, ◌*◌, ◌^◌, ℕ, IfOk, replicate, slice_index_or};
 ghost use Rattle.lt_arch.specs.declared.shape.Shape.{Shape as OfShape};
 ghost use Rattle.lt_arch.specs.Readers.{chan_count, node_count};
 ghost use Rattle.lt_arch.specs.Step.{updated};
@@ -42,7 +42,7 @@ impl Progress {
         ensures { (e d : ℕ → ℕ) → ProgressIsAt self.old shape.now e d → ProgressIsAt self.new shape.now e (updated d ch (d ch + 1)) }
     {
         let c = ch as usize;
-        let channel = shape.channels.as_slice()[c];
+        let channel = shape.channels[c];
         let executed = self.executed[channel.to as usize] as u64;
         let delivered = self.delivered[c] + 1;
         self.delivered[c] = delivered;
@@ -56,7 +56,8 @@ impl Progress {
     pub fn execute(&mut self, node: u32)
         requires node { HasNode self.old node }
         requires room { slice_index_or self.old.executed.items node 0 < 2 ^ 32 - 1 }
-        ensures { (s : OfShape) (e d : ℕ → ℕ) → ProgressIsAt self.old s e d → node < node_count s → IsNoneAhead s e d node → ProgressIsAt self.new s (updated e node (e node + 1)) d }
+        ensures { (s : OfShape) (e d : ℕ → ℕ) → ProgressIsAt self.old s e d → node < node_count s → IsNoneAhead s e d node
+            → ProgressIsAt self.new s (updated e node (e node + 1)) d }
     {
         self.executed[node as usize] += 1;
         self.messages.execute(node);

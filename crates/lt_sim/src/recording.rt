@@ -1,5 +1,5 @@
 // A drawn list of events, written as a schedule file.
-ghost use Rattle.std.specs.Prelude.{ℕ, ◌≡◌, ◌<◌, ◌≤◌, ◌+◌, ◌*◌, ◌-◌, ◌^◌, ◌++◌, ◌∷◌, [], IsTrue, IfOk, length};
+ghost use Rattle.std.specs.Prelude.{ℕ, ◌≡◌, ◌<◌, ◌≤◌, ◌+◌, ◌*◌, ◌-◌, ◌^◌, ◌++◌, ◌∷◌, [], IsTrue, IfOk, OnOk, length};
 ghost use Rattle.lt_io.specs.Counts.{MayFail};
 ghost use Rattle.lt_arch.specs.declared.limits.TheConstants.{GREATEST_TIME};
 ghost use Rattle.lt_arch.specs.Readers.{node_count, chan_count};
@@ -12,6 +12,7 @@ ghost use Rattle.lt_arch.specs.declared.event.Event.TheVariants.{End};
 ghost use Rattle.lt_sim.specs.File.{header_text, file_text};
 ghost use Rattle.lt_sim.specs.Standing.{DrawingStarts, DrawsFewEvents};
 ghost use Rattle.lt_sim.specs.Recorded.{Records, WritesText, IsCountOf};
+ghost use Rattle.lt_sim.specs.Laws.{IsSimShown};
 
 use crate::SimFault;
 use crate::drawing::{Drawing, event_at};
@@ -42,6 +43,7 @@ pub fn record<O: Sink>(
     requires horizon { horizon ≤ GREATEST_TIME }
     requires count { MayFail (O.state sink.old).faults }
     ensures records { Records shape.now (drawn shape.now timing.now rows seed horizon) (O.state sink.old) (O.state sink.new) result }
+    ensures sim_shown { OnOk result (IsSimShown shape.now timing.now rows horizon (drawn shape.now timing.now rows seed horizon)) }
     ensures keeps { KeepsSink (O.state sink.old) (O.state sink.new) }
     ensures sound { IsTrue (O.state sink.old).sound → (O.state sink.new).faults ≡ (O.state sink.old).faults }
 {
@@ -143,7 +145,8 @@ fn write<O: Sink>(
     requires page { page.old ≡ header_text }
     requires starts { DrawsFewEvents drawing.old shape.now timing.now rows horizon }
     requires count { MayFail (O.state sink.old).faults }
-    ensures written { (seed : ℕ) → DrawingStarts drawing.old shape.now timing.now seed → WritesText (file_text shape.now (drawn shape.now timing.now rows seed horizon)) (O.state sink.old) (O.state sink.new) result }
+    ensures written { (seed : ℕ) → DrawingStarts drawing.old shape.now timing.now seed
+        → WritesText (file_text shape.now (drawn shape.now timing.now rows seed horizon)) (O.state sink.old) (O.state sink.new) result }
     ensures keeps { KeepsSink (O.state sink.old) (O.state sink.new) }
     ensures sound { IsTrue (O.state sink.old).sound → (O.state sink.new).faults ≡ (O.state sink.old).faults }
 {
@@ -168,6 +171,7 @@ fn write_end<O: Sink>(
     sink: &mut O,
 ) -> Result<(), Or<SimFault>>
     requires horizon { horizon ≤ GREATEST_TIME }
+    requires short { length page.old < 65280 }
     requires count { MayFail (O.state sink.old).faults }
     ensures written { WritesText (page.old ++ (event_text shape.now (End horizon) ++ 10 ∷ [])) (O.state sink.old) (O.state sink.new) result }
     ensures keeps { KeepsSink (O.state sink.old) (O.state sink.new) }

@@ -55,8 +55,8 @@ fn span_of(channels: &[Chan], node: u32, data_kind: bool) -> Span
     ensures { IsSpanBelow channels.now data_kind node (length channels.now) result }
 {
     let mut span = Span { first: 0, end: 0 };
-    for c in 0..channels.len() {
-        let has = is_outgoing(channels[c], node, data_kind);
+    for (c, channel) in channels.iter().enumerate() {
+        let has = is_outgoing(*channel, node, data_kind);
         if has {
             span = widen(span, c as u32);
         }
@@ -93,7 +93,8 @@ pub fn draw_delays(
     requires span { IsSpanBelow shape.now.channels data_kind node (chan_count shape.now) span }
     requires time { at ≤ GREATEST_TIME }
     ensures left { (seed words : ℕ) → stream_of splitmix_steps generator.old ≡ left_after seed words
-        → stream_of splitmix_steps generator.new ≡ left_after seed (words + how_many (leads_kind_from shape.now.channels data_kind node) (chan_count shape.now)) }
+        → stream_of splitmix_steps generator.new
+        ≡ left_after seed (words + how_many (leads_kind_from shape.now.channels data_kind node) (chan_count shape.now)) }
     ensures drawn { (seed words : ℕ) → stream_of splitmix_steps generator.old ≡ left_after seed words
         → DrawsDelays shape.now timing.now seed words at (chan_count shape.now) (leads_kind_from shape.now.channels data_kind node) pending.old pending.new }
 {

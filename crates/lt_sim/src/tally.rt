@@ -1,8 +1,8 @@
 // Of the channels of one kind that lead to each node, how many are fresh.
-ghost use Rattle.std.specs.Prelude.{◌≡◌, ◌<◌, ◌≤◌, ◌+◌, ◌-◌, ◌*◌, ◌^◌, ◌==◌, ◌&&◌, nat_lt, ℕ, IfOk, length, replicate, slice_set, slice_index_or};
+ghost use Rattle.std.specs.Prelude.{◌≡◌, ◌<◌, ◌+◌, ◌-◌, ◌*◌, ◌^◌, ◌==◌, ◌&&◌, nat_lt, IfOk, length, replicate, slice_set, slice_index_or};
 ghost use Rattle.lt_arch.specs.Readers.{is_data, chan_count, node_count};
 ghost use Rattle.lt_base.specs.Truths.{how_many};
-ghost use Rattle.lt_sim.specs.Tallies.{leads_kind_to, raised};
+ghost use Rattle.lt_sim.specs.Tallies.{leads_kind_to, raised, CountsTo, HasCount};
 ghost use Rattle.lt_base.specs.Truths.{same_truth};
 
 use lt_arch::{Chan, ChanKind, Shape};
@@ -22,9 +22,9 @@ impl Tally {
     /// Before the first event: each channel is fresh, since no instant was executed.
     pub fn start(alloc: Global, shape: &Shape, data_kind: bool) -> Result<Tally, Memory>
         requires { 2 * (node_count shape.now + chan_count shape.now) < 2 ^ 32 }
-        ensures lengths { IfOk result (λ tally. (length tally.wanted.items ≡ node_count shape.now) × (length tally.fresh.items ≡ node_count shape.now) × (length tally.early.items ≡ node_count shape.now)) }
-        ensures wanted { IfOk result (λ tally. (n : ℕ) → n < node_count shape.now → slice_index_or tally.wanted.items n 0 ≡ how_many (leads_kind_to shape.now.channels data_kind n) (chan_count shape.now)) }
-        ensures fresh { IfOk result (λ tally. (n : ℕ) → n < node_count shape.now → slice_index_or tally.fresh.items n 0 ≡ how_many (leads_kind_to shape.now.channels data_kind n) (chan_count shape.now)) }
+        ensures lengths { IfOk result (HasCount (node_count shape.now)) }
+        ensures wanted { IfOk result (λ tally. CountsTo shape.now data_kind tally.wanted.items) }
+        ensures fresh { IfOk result (λ tally. CountsTo shape.now data_kind tally.fresh.items) }
         ensures early { IfOk result (λ tally. tally.early.items ≡ replicate (node_count shape.now) 0) }
     {
         let wanted = counts_to(alloc, shape, data_kind)?;
@@ -125,8 +125,8 @@ fn count_to(channels: &[Chan], node: u32, data_kind: bool) -> u32
     ensures { result ≡ how_many (leads_kind_to channels.now data_kind node) (length channels.now) }
 {
     let mut count = 0;
-    for c in 0..channels.len() {
-        let has = is_incoming(channels[c], node, data_kind);
+    for channel in channels {
+        let has = is_incoming(*channel, node, data_kind);
         if has {
             count += 1;
         }
@@ -137,7 +137,7 @@ fn count_to(channels: &[Chan], node: u32, data_kind: bool) -> u32
 fn counts_to(alloc: Global, shape: &Shape, data_kind: bool) -> Result<Vec<u32>, Memory>
     requires { 2 * (node_count shape.now + chan_count shape.now) < 2 ^ 32 }
     ensures length { IfOk result (λ counts. length counts.items ≡ node_count shape.now) }
-    ensures each { IfOk result (λ counts. (n : ℕ) → n < node_count shape.now → slice_index_or counts.items n 0 ≡ how_many (leads_kind_to shape.now.channels data_kind n) (chan_count shape.now)) }
+    ensures each { IfOk result (λ counts. CountsTo shape.now data_kind counts.items) }
 {
     let channels = shape.channels.as_slice();
     let mut counts = Vec::new(alloc);

@@ -1,6 +1,6 @@
 // Step code.
 
-ghost use Rattle.std.specs.Prelude.{◌≡◌, ◌<◌, ◌-◌, ◌^◌, min};
+ghost use Rattle.std.specs.Prelude.{◌≡◌, ◌<◌, ◌-◌, ◌^◌};
 ghost use Rattle.std.specs.List.{sum_by};
 ghost use Rattle.lt_base.specs.Sizes.{cut};
 ghost use Rattle.lt_step.specs.Size.{let_size};

@@ -1,5 +1,5 @@
 -- What one turn of the loop over the bytes gives.
-use Rattle.std.proofs.Common.{◌≡◌, ℕ, ◌+◌, ◌-◌, ◌≤◌, List, [], ◌∷◌, length, drop, take, Ok, Err, Some, None, sym, ap, ◌∙◌, subst, arith, length-drop, take_all}
+use Rattle.std.proofs.Common.{◌≡◌, ℕ, ◌+◌, ◌-◌, ◌≤◌, List, [], ◌∷◌, length, drop, Ok, Err, Some, None, sym, ap, ◌∙◌, subst, arith, length-drop}
 use Rattle.lt_base.specs.declared.memory.Or.{Or}
 use Rattle.lt_base.specs.declared.memory.Or.TheVariants as or
 use Rattle.lt_tokens.specs.Text.{front, skip}
@@ -50,9 +50,6 @@ module _ (limit : ℕ) (one : 1 ≤ limit) (bytes rest here : List ℕ) (s s' : 
   pub fails_here : (f : Or SyntaxFault) → TakesToken limit (length bytes - length here) here s s' (Err f) → AnswersSyntax limit bytes (Err f)
   fails_here or.Memory t = tt
   fails_here (or.Fault f) t = wrong limit one bytes rest s g f (front here) (ap front (sym e)) (place bytes rest here f.at e h t.0) t.1
-
-pub all_of : (n : ℕ) (here : List ℕ) → take (length here - n) (drop n here) ≡ drop n here
-all_of n here = let l : length (drop n here) ≤ length here - n = grind (arith, length-drop) in take_all (length here - n) (drop n here) l
 
 pub shorter : (n : ℕ) (here : List ℕ) → length (drop n here) ≤ length here
 shorter n here = grind (arith, length-drop)

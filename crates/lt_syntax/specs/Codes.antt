@@ -4,20 +4,11 @@ use Rattle.std.proofs.Common.{ap, refl}
 use Rattle.std.proofs.lemmas.Bool.{eqb-false}
 use base.Stored.{Gv, gnil, gnum, gcons, num}
 use Rattle.std.specs.Coded.{Coded, coded_bool, coded_list, coded_ℕ}
+use Rattle.lt_base.specs.Codes.{first, rest}
 use Rattle.lt_base.specs.contracts.value.Value.{the_row as value_row}
 use Rattle.lt_base.specs.contracts.operators.Un.{the_row as un_row}
 use Rattle.lt_base.specs.contracts.operators.Bin.{the_row as bin_row}
 use Rattle.lt_syntax.specs.Tree.{Tm, Lit, Var, Unary, Binary, Choice, Sampled, Merged, Delayed, Followed, Arrow, Call, Tms, Nil, Cons}
-
-abbrev first : Gv → Gv
-first gnil = gnil
-first (gnum n) = gnil
-first (gcons a b) = a
-
-abbrev rest : Gv → Gv
-rest gnil = gnil
-rest (gnum n) = gnil
-rest (gcons a b) = b
 
 -- the number of a term's form
 abbrev form : Gv → ℕ

@@ -2,6 +2,7 @@
 use Rattle.std.specs.Prelude.{ℕ, ◌≤◌, ◌≡◌, ◌++◌, Bool, true, false, List, [], ◌∷◌, map}
 use Rattle.lt_base.specs.declared.operators.Bin.TheVariants.{Eq}
 use Rattle.lt_base.specs.declared.value.Ty.{Ty}
+use Rattle.lt_base.specs.Limits.{greatest_height}
 use Rattle.lt_tokens.specs.declared.token.Infix.TheVariants.{Operator}
 use Rattle.lt_tokens.specs.declared.token.Token.{Token}
 use Rattle.lt_tokens.specs.declared.token.Token.TheVariants as token
@@ -120,6 +121,6 @@ pub record Spells (limit : ℕ) (bytes : List ℕ) (t : List NodeText) : Type 0 
   pub ended : front (skip rest) ≡ text.Over
   pub program : Program limit tokens t
 
--- some bytes spell the tree, within the height 200
+-- some bytes spell the tree, within the greatest height
 abbrev pub IsSpelled : List NodeText → Type 0
-IsSpelled t = (bytes : List ℕ) × Spells 200 bytes t
+IsSpelled t = (bytes : List ℕ) × Spells greatest_height bytes t

@@ -1,5 +1,6 @@
 // The parser of expressions: what each token does to the forms that are begun.
 ghost use Rattle.std.specs.Prelude.{◌≡◌, ◌<◌, ◌≤◌, ◌+◌, ◌^◌, ◌++◌, ◌∷◌, [], ℕ, List, map, IfOk, Ok};
+ghost use Rattle.lt_base.specs.Limits.{greatest_height};
 ghost use Rattle.lt_tokens.specs.declared.token.Token.TheVariants as token;
 ghost use Rattle.lt_tokens.specs.Fronts.{IsSmall};
 ghost use Rattle.lt_syntax.specs.declared.frame.Next.TheVariants as next;
@@ -10,7 +11,7 @@ ghost use Rattle.lt_syntax.specs.Views.{operand_of, frame_of, stack_of, mode_of,
 use crate::frame::{
     Frame, Mode, Next, Operand, call, complete, number, paren, sample_operand, truth, variable,
 };
-use crate::stack::{LIMIT, hole, left, level, newest_ends, pop, push};
+use crate::stack::{hole, left, level, newest_ends, pop, push};
 use crate::term::Term;
 use lt_base::{Bin, Memory, Name};
 use lt_tokens::{Infix, Token};
@@ -19,9 +20,10 @@ use std::alloc::Global;
 /// Completes the forms from this level on.
 fn close(alloc: Global, l: u8, frames: &mut Vec<Frame>, first: Operand) -> Result<Operand, Memory>
     requires level { 1 ≤ l }
-    requires room { HasRoom LIMIT (stack_of frames.old.items) (operand_of first) }
-    ensures closed { IfOk result (λ b. (k : List machine.Frame → machine.Operand → machine.Next) → machine.close l (stack_of frames.old.items) (operand_of first) k ≡ k (stack_of frames.new.items) (operand_of b)) }
-    ensures room { IfOk result (λ b. HasRoom LIMIT (stack_of frames.new.items) (operand_of b)) }
+    requires room { HasRoom greatest_height (stack_of frames.old.items) (operand_of first) }
+    ensures closed { IfOk result (λ b. (k : List machine.Frame → machine.Operand → machine.Next) →
+        machine.close l (stack_of frames.old.items) (operand_of first) k ≡ k (stack_of frames.new.items) (operand_of b)) }
+    ensures room { IfOk result (λ b. HasRoom greatest_height (stack_of frames.new.items) (operand_of b)) }
 {
     let mut b = first;
     'forms: while newest_ends(frames) >= l {
@@ -83,7 +85,7 @@ fn bad(newest: Option<Frame>) -> Result<Next, Memory>
 }
 
 fn after_close(alloc: Global, frames: &mut Vec<Frame>, b: Operand) -> Result<Next, Memory>
-    requires { HasRoom LIMIT (stack_of frames.old.items) (operand_of b) }
+    requires { HasRoom greatest_height (stack_of frames.old.items) (operand_of b) }
     ensures { IfOk result (λ n. next_of n (stack_of frames.new.items) ≡ machine.after_operand token.Close (stack_of frames.old.items) (operand_of b)) }
 {
     match pop(frames) {
@@ -175,7 +177,7 @@ fn second(alloc: Global, t: Token, frames: &mut Vec<Frame>, b: Operand) -> Resul
 /// What a token does behind an operand that it ends.
 fn after(alloc: Global, t: Token, frames: &mut Vec<Frame>, b: Operand) -> Result<Next, Memory>
     requires small { IsSmall t }
-    requires room { HasRoom LIMIT (stack_of frames.old.items) (operand_of b) }
+    requires room { HasRoom greatest_height (stack_of frames.old.items) (operand_of b) }
     ensures { IfOk result (λ n. next_of n (stack_of frames.new.items) ≡ machine.after_operand t (stack_of frames.old.items) (operand_of b)) }
 {
     match t {
@@ -210,7 +212,7 @@ fn stop(t: &Token) -> u8
 /// What a token does behind an operand.
 fn has(alloc: Global, t: Token, frames: &mut Vec<Frame>, b: Operand) -> Result<Next, Memory>
     requires small { IsSmall t }
-    requires room { HasRoom LIMIT (stack_of frames.old.items) (operand_of b) }
+    requires room { HasRoom greatest_height (stack_of frames.old.items) (operand_of b) }
     ensures { IfOk result (λ n. next_of n (stack_of frames.new.items) ≡ machine.has_operand (stack_of frames.old.items) (operand_of b) t) }
 {
     let b = close(alloc, stop(&t), frames, b)?;
@@ -298,7 +300,7 @@ fn clock_not(frames: &mut Vec<Frame>) -> Result<Next, Memory>
 }
 
 fn clock_name(alloc: Global, c: Name, frames: &mut Vec<Frame>) -> Result<Next, Memory>
-    requires { Held LIMIT machine.WantClock (stack_of frames.old.items) }
+    requires { Held greatest_height machine.WantClock (stack_of frames.old.items) }
     ensures { IfOk result (λ n. next_of n (stack_of frames.new.items) ≡ machine.clock (token.Ident c) (stack_of frames.old.items)) }
 {
     match pop(frames) {
@@ -313,7 +315,7 @@ fn clock_name(alloc: Global, c: Name, frames: &mut Vec<Frame>) -> Result<Next, M
 
 /// What a token does where a clock's variable must come.
 fn clock(alloc: Global, t: Token, frames: &mut Vec<Frame>) -> Result<Next, Memory>
-    requires { Held LIMIT machine.WantClock (stack_of frames.old.items) }
+    requires { Held greatest_height machine.WantClock (stack_of frames.old.items) }
     ensures { IfOk result (λ n. next_of n (stack_of frames.new.items) ≡ machine.clock t (stack_of frames.old.items)) }
 {
     match t {
@@ -336,7 +338,7 @@ fn opens(t: &Token, frames: &[Frame]) -> bool
 /// What a token does behind a name.
 fn behind_name(alloc: Global, x: Name, frames: &mut Vec<Frame>, t: Token) -> Result<Next, Memory>
     requires small { IsSmall t }
-    requires room { Held LIMIT (machine.Named x) (stack_of frames.old.items) }
+    requires room { Held greatest_height (machine.Named x) (stack_of frames.old.items) }
     ensures { IfOk result (λ n. next_of n (stack_of frames.new.items) ≡ machine.named x (stack_of frames.old.items) t) }
 {
     if opens(&t, frames) {
@@ -348,7 +350,7 @@ fn behind_name(alloc: Global, x: Name, frames: &mut Vec<Frame>, t: Token) -> Res
 /// What a token does to an expression that is begun.
 pub fn go(alloc: Global, m: Mode, frames: &mut Vec<Frame>, t: Token) -> Result<Next, Memory>
     requires small { IsSmall t }
-    requires room { Held LIMIT (mode_of m) (stack_of frames.old.items) }
+    requires room { Held greatest_height (mode_of m) (stack_of frames.old.items) }
     ensures { IfOk result (λ n. next_of n (stack_of frames.new.items) ≡ machine.go (mode_of m) (stack_of frames.old.items) t) }
 {
     match m {

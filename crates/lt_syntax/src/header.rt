@@ -9,6 +9,7 @@ ghost use Rattle.lt_syntax.specs.declared.tree.NodeText.{NodeText as OneNode};
 ghost use Rattle.lt_syntax.specs.Program.{declared};
 ghost use Rattle.lt_syntax.specs.Views.{mode_of, operand_of, stack_of, next_of, tm_of};
 ghost use Rattle.std.specs.Global.{Box};
+ghost use Rattle.lt_base.specs.Limits.{greatest_height};
 ghost use Rattle.lt_base.specs.declared.memory.Or.TheVariants as or;
 ghost use Rattle.lt_syntax.specs.declared.header.Kind.TheVariants as kinds;
 ghost use Rattle.lt_syntax.specs.Phases.{parser_phase_of, state_of, IsIn, MovesPhase, Proceeds, ParserSteps, Fits};
@@ -17,7 +18,7 @@ ghost use Rattle.lt_base.specs.Memory.{NeedsNoMemory};
 use crate::expression::go;
 use crate::frame::{Frame, Mode, Next, Operand};
 use crate::section::Section;
-use crate::stack::{LIMIT, fits};
+use crate::stack::fits;
 use crate::term::Term;
 use crate::tree::{DeclText, EqText, NodeText};
 use lt_base::{Bin, List, Memory, Name, Or, Ty};
@@ -150,7 +151,7 @@ fn add(
 }
 
 fn idle(t: Token) -> Result<Phase, Or<Kind>>
-    ensures moves { MovesPhase result (parser.move LIMIT parser.Idle t) }
+    ensures moves { MovesPhase result (parser.move greatest_height parser.Idle t) }
     ensures memory { NeedsNoMemory result }
 {
     match t {
@@ -160,7 +161,7 @@ fn idle(t: Token) -> Result<Phase, Or<Kind>>
 }
 
 fn behind_tel(t: Token) -> Result<Phase, Or<Kind>>
-    ensures moves { MovesPhase result (parser.move LIMIT parser.Told t) }
+    ensures moves { MovesPhase result (parser.move greatest_height parser.Told t) }
     ensures memory { NeedsNoMemory result }
 {
     match t {
@@ -171,7 +172,7 @@ fn behind_tel(t: Token) -> Result<Phase, Or<Kind>>
 }
 
 fn want_node(t: Token) -> Result<Phase, Or<Kind>>
-    ensures moves { MovesPhase result (parser.move LIMIT parser.WantNode t) }
+    ensures moves { MovesPhase result (parser.move greatest_height parser.WantNode t) }
     ensures memory { NeedsNoMemory result }
 {
     match t {
@@ -194,7 +195,7 @@ fn empty_node(alloc: Global, name: Name) -> Result<Box<NodeText>, Memory>
 }
 
 fn has_node(alloc: Global, name: Name, t: Token) -> Result<Phase, Or<Kind>>
-    ensures { MovesPhase result (parser.move LIMIT (parser.HasNode name) t) }
+    ensures { MovesPhase result (parser.move greatest_height (parser.HasNode name) t) }
 {
     match t {
         Token::Open => Ok(Phase::Opened(empty_node(alloc, name)?)),
@@ -203,7 +204,7 @@ fn has_node(alloc: Global, name: Name, t: Token) -> Result<Phase, Or<Kind>>
 }
 
 fn behind_open(alloc: Global, n: Box<NodeText>, t: Token) -> Result<Phase, Or<Kind>>
-    ensures { MovesPhase result (parser.move LIMIT (parser.Opened n.value) t) }
+    ensures { MovesPhase result (parser.move greatest_height (parser.Opened n.value) t) }
 {
     match t {
         Token::Ident(x) => Ok(Phase::HasName(n, Section::Ins, one(alloc, x)?)),
@@ -213,7 +214,7 @@ fn behind_open(alloc: Global, n: Box<NodeText>, t: Token) -> Result<Phase, Or<Ki
 }
 
 fn want_name(n: Box<NodeText>, s: Section, xs: List<Name>, t: Token) -> Result<Phase, Or<Kind>>
-    ensures { MovesPhase result (parser.move LIMIT (parser.WantName n.value s xs) t) }
+    ensures { MovesPhase result (parser.move greatest_height (parser.WantName n.value s xs) t) }
 {
     match t {
         Token::Ident(x) => {
@@ -226,7 +227,7 @@ fn want_name(n: Box<NodeText>, s: Section, xs: List<Name>, t: Token) -> Result<P
 }
 
 fn has_name(n: Box<NodeText>, s: Section, xs: List<Name>, t: Token) -> Result<Phase, Or<Kind>>
-    ensures moves { MovesPhase result (parser.move LIMIT (parser.HasName n.value s xs) t) }
+    ensures moves { MovesPhase result (parser.move greatest_height (parser.HasName n.value s xs) t) }
     ensures memory { NeedsNoMemory result }
 {
     match t {
@@ -243,7 +244,7 @@ fn want_type(
     xs: List<Name>,
     t: Token,
 ) -> Result<Phase, Or<Kind>>
-    ensures moves { MovesPhase result (parser.move LIMIT (parser.WantType n.value s xs) t) }
+    ensures moves { MovesPhase result (parser.move greatest_height (parser.WantType n.value s xs) t) }
     ensures memory { NeedsNoMemory result }
 {
     match t {
@@ -310,7 +311,7 @@ fn has_group(
     c: List<(Name, bool)>,
     t: Token,
 ) -> Result<Phase, Or<Kind>>
-    ensures { MovesPhase result (parser.move LIMIT (parser.HasGroup n.value s xs ty c) t) }
+    ensures { MovesPhase result (parser.move greatest_height (parser.HasGroup n.value s xs ty c) t) }
 {
     match t {
         Token::When => group_when(n, s, xs, ty, c),
@@ -345,7 +346,7 @@ fn want_polarity(
     c: List<(Name, bool)>,
     t: Token,
 ) -> Result<Phase, Or<Kind>>
-    ensures { MovesPhase result (parser.move LIMIT (parser.WantPolarity n.value s xs ty c) t) }
+    ensures { MovesPhase result (parser.move greatest_height (parser.WantPolarity n.value s xs ty c) t) }
 {
     match t {
         Token::Not => Ok(Phase::WantVariable(n, s, xs, ty, c)),
@@ -362,7 +363,7 @@ fn want_variable(
     c: List<(Name, bool)>,
     t: Token,
 ) -> Result<Phase, Or<Kind>>
-    ensures { MovesPhase result (parser.move LIMIT (parser.WantVariable n.value s xs ty c) t) }
+    ensures { MovesPhase result (parser.move greatest_height (parser.WantVariable n.value s xs ty c) t) }
 {
     match t {
         Token::Ident(x) => add_clock(n, s, xs, ty, c, x, false),
@@ -371,7 +372,7 @@ fn want_variable(
 }
 
 fn has_ins(n: Box<NodeText>, t: Token) -> Result<Phase, Or<Kind>>
-    ensures moves { MovesPhase result (parser.move LIMIT (parser.HasIns n.value) t) }
+    ensures moves { MovesPhase result (parser.move greatest_height (parser.HasIns n.value) t) }
     ensures memory { NeedsNoMemory result }
 {
     match t {
@@ -381,7 +382,7 @@ fn has_ins(n: Box<NodeText>, t: Token) -> Result<Phase, Or<Kind>>
 }
 
 fn returning(alloc: Global, n: Box<NodeText>, t: Token) -> Result<Phase, Or<Kind>>
-    ensures moves { MovesPhase result (parser.move LIMIT (parser.Returning n.value) t) }
+    ensures moves { MovesPhase result (parser.move greatest_height (parser.Returning n.value) t) }
     ensures memory { NeedsNoMemory result }
 {
     match t {
@@ -391,7 +392,7 @@ fn returning(alloc: Global, n: Box<NodeText>, t: Token) -> Result<Phase, Or<Kind
 }
 
 fn has_outs(alloc: Global, n: Box<NodeText>, t: Token) -> Result<Phase, Or<Kind>>
-    ensures moves { MovesPhase result (parser.move LIMIT (parser.HasOuts n.value) t) }
+    ensures moves { MovesPhase result (parser.move greatest_height (parser.HasOuts n.value) t) }
     ensures memory { NeedsNoMemory result }
 {
     match t {
@@ -403,7 +404,7 @@ fn has_outs(alloc: Global, n: Box<NodeText>, t: Token) -> Result<Phase, Or<Kind>
 }
 
 fn has_head(alloc: Global, n: Box<NodeText>, t: Token) -> Result<Phase, Or<Kind>>
-    ensures moves { MovesPhase result (parser.move LIMIT (parser.HasHead n.value) t) }
+    ensures moves { MovesPhase result (parser.move greatest_height (parser.HasHead n.value) t) }
     ensures memory { NeedsNoMemory result }
 {
     match t {
@@ -414,7 +415,7 @@ fn has_head(alloc: Global, n: Box<NodeText>, t: Token) -> Result<Phase, Or<Kind>
 }
 
 fn has_locals(alloc: Global, n: Box<NodeText>, t: Token) -> Result<Phase, Or<Kind>>
-    ensures { MovesPhase result (parser.move LIMIT (parser.HasLocals n.value) t) }
+    ensures { MovesPhase result (parser.move greatest_height (parser.HasLocals n.value) t) }
 {
     match t {
         Token::Ident(x) => Ok(Phase::HasName(n, Section::Locals, one(alloc, x)?)),
@@ -424,7 +425,7 @@ fn has_locals(alloc: Global, n: Box<NodeText>, t: Token) -> Result<Phase, Or<Kin
 }
 
 fn has_left(n: Box<NodeText>, x: Name, t: Token) -> Result<Phase, Or<Kind>>
-    ensures moves { MovesPhase result (parser.move LIMIT (parser.HasLeft n.value x) t) }
+    ensures moves { MovesPhase result (parser.move greatest_height (parser.HasLeft n.value x) t) }
     ensures memory { NeedsNoMemory result }
 {
     match t {
@@ -435,7 +436,7 @@ fn has_left(n: Box<NodeText>, x: Name, t: Token) -> Result<Phase, Or<Kind>>
 
 /// A name begins an equation.
 fn body(n: Box<NodeText>, t: Token) -> Result<Phase, Or<Kind>>
-    ensures moves { MovesPhase result (parser.move LIMIT (parser.Body n.value) t) }
+    ensures moves { MovesPhase result (parser.move greatest_height (parser.Body n.value) t) }
     ensures memory { NeedsNoMemory result }
 {
     match t {
@@ -447,7 +448,7 @@ fn body(n: Box<NodeText>, t: Token) -> Result<Phase, Or<Kind>>
 /// What a token does, but for an equation's right side and `tel` behind equations.
 fn move_on(alloc: Global, phase: Phase, t: Token) -> Result<Phase, Or<Kind>>
     requires { (n : Box NodeText) (x : List ℕ) → phase ≡ phases.In n x → ⊥ }
-    ensures { MovesPhase result (parser.move LIMIT (parser_phase_of phase [] machine.Want) t) }
+    ensures { MovesPhase result (parser.move greatest_height (parser_phase_of phase [] machine.Want) t) }
 {
     match phase {
         Phase::Idle => idle(t),
@@ -501,7 +502,7 @@ fn end_node(p: &mut Parser, n: Box<NodeText>) -> Result<(), Or<Kind>>
 
 /// `tel`, or an equation.
 fn end_body(p: &mut Parser, n: Box<NodeText>, t: Token) -> Result<(), Or<Kind>>
-    ensures { Proceeds result (state_of p.new) (parser.step_on LIMIT p.old.nodes (parser.Body n.value) t) }
+    ensures { Proceeds result (state_of p.new) (parser.step_on greatest_height p.old.nodes (parser.Body n.value) t) }
 {
     match t {
         Token::Tel => end_node(p, n),
@@ -511,7 +512,8 @@ fn end_body(p: &mut Parser, n: Box<NodeText>, t: Token) -> Result<(), Or<Kind>>
 
 /// A form is begun that can't fit the greatest height.
 fn is_too_deep(frames: &[Frame], mode: &Mode) -> bool
-    ensures { (n : OneNode) (x : List ℕ) → parser.checked LIMIT n x (machine.Go (stack_of frames.now) (mode_of mode.now)) ≡ (if result then Err parser.TooDeep else Ok (parser.In n x (stack_of frames.now) (mode_of mode.now))) }
+    ensures { (n : OneNode) (x : List ℕ) → parser.checked greatest_height n x (machine.Go (stack_of frames.now) (mode_of mode.now))
+        ≡ (if result then Err parser.TooDeep else Ok (parser.In n x (stack_of frames.now) (mode_of mode.now))) }
 {
     match mode {
         Mode::Want | Mode::WantClock => {
@@ -526,7 +528,8 @@ fn is_too_deep(frames: &[Frame], mode: &Mode) -> bool
 
 /// The right side of an equation goes on.
 fn goes_on(p: &mut Parser, mode: Mode) -> Result<(), Or<Kind>>
-    ensures proceeds { (n : Box OneNode) (x : List ℕ) → p.old.phase ≡ phases.In n x → Proceeds result (state_of p.new) (parser.finish p.old.nodes (parser.checked LIMIT n.value x (machine.Go (stack_of p.old.frames.items) (mode_of mode)))) }
+    ensures proceeds { (n : Box OneNode) (x : List ℕ) → p.old.phase ≡ phases.In n x → Proceeds result (state_of p.new)
+        (parser.finish p.old.nodes (parser.checked greatest_height n.value x (machine.Go (stack_of p.old.frames.items) (mode_of mode)))) }
     ensures memory { NeedsNoMemory result }
 {
     if is_too_deep(&p.frames, &mode) {
@@ -548,7 +551,8 @@ fn with_equation(n: Box<NodeText>, x: Name, right: Box<Term>) -> Result<Phase, O
 /// The right side of an equation ends.
 fn ends(p: &mut Parser, a: Operand) -> Result<(), Or<Kind>>
     requires { IsIn p.old.phase }
-    ensures { (n : Box OneNode) (x : List ℕ) → p.old.phase ≡ phases.In n x → Proceeds result (state_of p.new) (parser.finish p.old.nodes (Ok (parser.Body (parser.add_equation n.value x (operand_of a).tree)))) }
+    ensures { (n : Box OneNode) (x : List ℕ) → p.old.phase ≡ phases.In n x → Proceeds result (state_of p.new)
+        (parser.finish p.old.nodes (Ok (parser.Body (parser.add_equation n.value x (operand_of a).tree)))) }
 {
     match replace(&mut p.phase, Phase::Told) {
         Phase::In(n, x) => move_to(p, with_equation(n, x, a.term)),
@@ -560,8 +564,8 @@ fn ends(p: &mut Parser, a: Operand) -> Result<(), Or<Kind>>
 fn in_equation(alloc: Global, p: &mut Parser, t: Token) -> Result<(), Or<Kind>>
     requires small { IsSmall t }
     requires inside { IsIn p.old.phase }
-    requires room { Fits LIMIT (state_of p.old).phase }
-    ensures { ParserSteps result (state_of p.new) (parser.parser_step LIMIT (state_of p.old) t) }
+    requires room { Fits greatest_height (state_of p.old).phase }
+    ensures { ParserSteps result (state_of p.new) (parser.parser_step greatest_height (state_of p.old) t) }
 {
     let mode = replace(&mut p.mode, Mode::Want);
     match go(alloc, mode, &mut p.frames, t)? {
@@ -574,8 +578,8 @@ fn in_equation(alloc: Global, p: &mut Parser, t: Token) -> Result<(), Or<Kind>>
 /// A name in the right side of an equation. Where an operand must begin, it changes the mode alone.
 fn name_in_equation(alloc: Global, p: &mut Parser, x: Name) -> Result<(), Or<Kind>>
     requires inside { IsIn p.old.phase }
-    requires room { Fits LIMIT (state_of p.old).phase }
-    ensures { ParserSteps result (state_of p.new) (parser.parser_step LIMIT (state_of p.old) (token.Ident x)) }
+    requires room { Fits greatest_height (state_of p.old).phase }
+    ensures { ParserSteps result (state_of p.new) (parser.parser_step greatest_height (state_of p.old) (token.Ident x)) }
 {
     if let Mode::Want = &p.mode {
         p.mode = Mode::Named(x);
@@ -587,7 +591,7 @@ fn name_in_equation(alloc: Global, p: &mut Parser, x: Name) -> Result<(), Or<Kin
 /// A token outside the right sides of equations.
 fn step_outside(alloc: Global, p: &mut Parser, t: Token) -> Result<(), Or<Kind>>
     requires { IsIn p.old.phase → ⊥ }
-    ensures { Proceeds result (state_of p.new) (parser.parser_step LIMIT (state_of p.old) t) }
+    ensures { Proceeds result (state_of p.new) (parser.parser_step greatest_height (state_of p.old) t) }
 {
     match replace(&mut p.phase, Phase::Told) {
         Phase::Body(n) => end_body(p, n, t),
@@ -598,8 +602,8 @@ fn step_outside(alloc: Global, p: &mut Parser, t: Token) -> Result<(), Or<Kind>>
 /// Takes one token. Behind an error the parser is of no use.
 pub fn step(alloc: Global, p: &mut Parser, t: Token) -> Result<(), Or<Kind>>
     requires small { IsSmall t }
-    requires room { Fits LIMIT (state_of p.old).phase }
-    ensures { ParserSteps result (state_of p.new) (parser.parser_step LIMIT (state_of p.old) t) }
+    requires room { Fits greatest_height (state_of p.old).phase }
+    ensures { ParserSteps result (state_of p.new) (parser.parser_step greatest_height (state_of p.old) t) }
 {
     if let Phase::In(_, _) = &p.phase {
         return match t {

@@ -1,5 +1,6 @@
 // The tree of a program, and the reading of one.
 ghost use Rattle.std.specs.Prelude.{◌≡◌, IfOk, List};
+ghost use Rattle.lt_base.specs.Limits.{greatest_height};
 ghost use Rattle.lt_syntax.specs.declared.tree.NodeText.{NodeText as OneNode};
 ghost use Rattle.lt_syntax.specs.Program.{Spells, IsSpelled};
 ghost use Rattle.lt_syntax.specs.Reads.{AnswersSyntax, FindsTree};
@@ -56,9 +57,9 @@ impl Tree {
 /// The tree that the bytes spell, or the first offending place.
 pub fn parse(alloc: Global, bytes: &[u8]) -> Result<Tree, Or<SyntaxFault>>
     // A tree is spelled by the bytes, and a fault is the first one.
-    ensures exact { AnswersSyntax 200 bytes.now result }
+    ensures exact { AnswersSyntax greatest_height bytes.now result }
     // What is spelled is found, unless memory runs out.
-    ensures only { (t : List OneNode) → Spells 200 bytes.now t → FindsTree t result }
+    ensures only { (t : List OneNode) → Spells greatest_height bytes.now t → FindsTree t result }
 {
     match read(alloc, bytes) {
         Ok(nodes) => Ok(Tree { nodes }),

@@ -1,5 +1,6 @@
 // One pass over the bytes.
 ghost use Rattle.std.specs.Prelude.{◌≡◌, ◌↔◌, ℕ, List, IsTrue};
+ghost use Rattle.lt_base.specs.Limits.{greatest_height};
 ghost use Rattle.lt_tokens.specs.Text as text;
 ghost use Rattle.lt_base.specs.Or.{MapsFault};
 ghost use Rattle.lt_tokens.specs.Fronts.{IsSmall};
@@ -9,7 +10,6 @@ ghost use Rattle.lt_syntax.specs.Reads.{AnswersSyntax, ParserStepsAt, TextEnds, 
 
 use crate::fault::{SyntaxFault, SyntaxKind};
 use crate::header::{Kind, Parser, may_end, start, step};
-use crate::stack::LIMIT;
 use crate::tree::NodeText;
 use lt_base::{List, Or};
 use lt_tokens::{Front, Token, read_front, skip};
@@ -40,8 +40,8 @@ fn place_fault(at: usize, error: Or<Kind>) -> Or<SyntaxFault>
 
 fn step_at(alloc: Global, p: &mut Parser, t: Token, at: usize) -> Result<(), Or<SyntaxFault>>
     requires small { IsSmall t }
-    requires room { Fits LIMIT (state_of p.old).phase }
-    ensures { ParserStepsAt at result (state_of p.new) (parser.parser_step LIMIT (state_of p.old) t) }
+    requires room { Fits greatest_height (state_of p.old).phase }
+    ensures { ParserStepsAt at result (state_of p.new) (parser.parser_step greatest_height (state_of p.old) t) }
 {
     step(alloc, p, t).map_err(|error| place_fault(at, error))
 }
@@ -55,7 +55,7 @@ fn is_whole(p: &Parser) -> bool
 
 /// The end of the text.
 fn end_at(p: &Parser, at: usize) -> Result<Option<usize>, Or<SyntaxFault>>
-    ensures { (here : List ℕ) → text.front here ≡ text.Over → TakesToken LIMIT at here (state_of p.now) (state_of p.now) result }
+    ensures { (here : List ℕ) → text.front here ≡ text.Over → TakesToken greatest_height at here (state_of p.now) (state_of p.now) result }
 {
     if is_whole(p) {
         return Ok(None);
@@ -71,8 +71,8 @@ fn take_token(
     here: &[u8],
     at: usize,
 ) -> Result<Option<usize>, Or<SyntaxFault>>
-    requires { Fits LIMIT (state_of p.old).phase }
-    ensures { TakesToken LIMIT at here.now (state_of p.old) (state_of p.new) result }
+    requires { Fits greatest_height (state_of p.old).phase }
+    ensures { TakesToken greatest_height at here.now (state_of p.old) (state_of p.new) result }
 {
     match read_front(alloc, here)? {
         Front::Begins(t, n) => {
@@ -98,7 +98,7 @@ fn take_tokens(
     bytes: &[u8],
 ) -> Result<List<NodeText>, Or<SyntaxFault>>
     requires { state_of p.old ≡ parser.parser_start }
-    ensures { AnswersSyntax LIMIT bytes.now result }
+    ensures { AnswersSyntax greatest_height bytes.now result }
 {
     let mut rest = bytes;
     'text: loop {
@@ -112,7 +112,7 @@ fn take_tokens(
 
 /// The nodes that the bytes spell, or the first offending place.
 pub fn read(alloc: Global, bytes: &[u8]) -> Result<List<NodeText>, Or<SyntaxFault>>
-    ensures { AnswersSyntax LIMIT bytes.now result }
+    ensures { AnswersSyntax greatest_height bytes.now result }
 {
     let mut p = start(alloc);
     let answer = take_tokens(alloc, &mut p, bytes);

@@ -1,15 +1,14 @@
 // The stack of begun forms, and the levels of the grammar.
 ghost use Rattle.std.specs.Prelude.{◌≡◌, ◌≤◌, ◌↔◌, [], ◌∷◌, OnOk, OnErr, MatchOption, IfSome, IsTrue, vec_len, ◌+◌, ◌^◌};
+ghost use Rattle.lt_base.specs.Limits.{greatest_height};
 ghost use Rattle.lt_syntax.specs.Levels.{infix_line, level, left_level, right_level};
 ghost use Rattle.lt_syntax.specs.Machine as machine;
 ghost use Rattle.lt_syntax.specs.Views.{frame_of, stack_of, top_ends, TakesTop};
 
 use crate::frame::{Frame, left_height};
+use lt_base::limits::GREATEST_HEIGHT;
 use lt_base::{Bin, Memory};
 use lt_tokens::Infix;
-
-/// The greatest height of an expression.
-pub const LIMIT: u32 = 200;
 
 /// The level of the line on which two expressions meet.
 pub fn level(o: Infix) -> u8
@@ -115,10 +114,11 @@ fn least(f: &Frame) -> u64
 
 /// The newest form fits the limit.
 pub fn fits(frames: &[Frame]) -> bool
-    ensures { IsTrue result ↔ (machine.need (stack_of frames.now) ≤ LIMIT) }
+    ensures { IsTrue result ↔ (machine.need (stack_of frames.now) ≤ greatest_height) }
 {
     let Some(f) = frames.last() else {
         return true;
     };
-    frames.len() <= 200 && frames.len() as u64 - 1 + least(f) <= u64::from(LIMIT)
+    frames.len() <= GREATEST_HEIGHT as usize
+        && frames.len() as u64 - 1 + least(f) <= u64::from(GREATEST_HEIGHT)
 }

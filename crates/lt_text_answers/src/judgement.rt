@@ -5,9 +5,9 @@ ghost use Rattle.lt_text_answers.specs.Texts.{audited_text, executes_text, miss_
 
 use lt_arch::Shape;
 use lt_audit::Miss;
-use lt_base::{List, Memory};
+use lt_base::{List, Memory, append_number};
 use lt_inspect::Audited;
-use lt_text_lines::{append_channel, append_count, append_node_name, append_size};
+use lt_text_lines::{append_channel, append_node_name};
 use lt_watch::Watched;
 use std::alloc::Global;
 
@@ -34,7 +34,7 @@ fn append_numbered(line: &mut List<u8>, text: &[u8], number: usize) -> Result<()
     ensures { OnOk result (line.new ≡ line.old ++ text.now ++ decimal number ++ 10 ∷ []) }
 {
     line.extend(text)?;
-    append_size(line, number)?;
+    append_number(line, number)?;
     line.extend(b"\n")
 }
 
@@ -61,7 +61,7 @@ fn append_event(text: &mut List<u8>, shape: &Shape, miss: Miss) -> Result<(), Me
     ensures { OnOk result (text.new ≡ text.old ++ miss_text shape.now miss) }
 {
     text.extend(b"event ")?;
-    append_count(text, miss.event)?;
+    append_number(text, miss.event)?;
     text.extend(b": ")?;
     append_node_name(text, shape, miss.node)?;
     append_miss(text, shape, miss)
@@ -72,9 +72,9 @@ fn append_miss(text: &mut List<u8>, shape: &Shape, miss: Miss) -> Result<(), Mem
     ensures { OnOk result (text.new ≡ text.old ++ executes_text shape.now miss) }
 {
     text.extend(b" executes ")?;
-    append_count(text, miss.instant)?;
+    append_number(text, miss.instant)?;
     text.extend(b" with ")?;
-    append_count(text, miss.delivered)?;
+    append_number(text, miss.delivered)?;
     text.extend(b" of")?;
     append_channel(text, shape, miss.channel)?;
     text.extend(b"\n")

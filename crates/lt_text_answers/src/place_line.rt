@@ -89,7 +89,7 @@ fn append_variable(line: &mut List<u8>, text: &[u8], main: &Func, var: u32) -> R
 fn append_name(line: &mut List<u8>, main: &Func, var: u32) -> Result<(), Memory>
     ensures { OnOk result (line.new ≡ line.old ++ written_name main.now var) }
 {
-    match main.decls.as_slice().get(var as usize) {
+    match main.decls.get(var as usize) {
         Some(decl) => line.extend(decl.name.as_str().as_bytes()),
         None => Ok(()),
     }

@@ -135,8 +135,8 @@ fn append_fault(alloc: Global, line: &mut List<u8>, fault: &CommandFault) -> Res
             fault,
             names,
             mixed,
-        } => append_timing(line, *fault, names.as_slice(), *mixed),
-        CommandFault::Window { fault, names } => append_window(line, *fault, names.as_slice()),
+        } => append_timing(line, *fault, names, *mixed),
+        CommandFault::Window { fault, names } => append_window(line, *fault, names),
         CommandFault::Inputs(fault) => append_inputs(line, *fault),
         CommandFault::TooManyCells => line.extend(b"limit: meaning cells 16000000"),
         CommandFault::Row { row, fault } => append_row(line, *row, *fault),
@@ -161,7 +161,7 @@ fn append_program(alloc: Global, line: &mut List<u8>, fault: &ProgramFault) -> R
     ensures { OnOk result (line.new ≡ line.old ++ program_line fault.now) }
 {
     let text = program_line(alloc, fault)?;
-    line.extend(text.as_slice())
+    line.extend(&text)
 }
 
 fn append_limit(line: &mut List<u8>, what: What) -> Result<(), Memory>

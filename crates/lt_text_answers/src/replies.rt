@@ -96,10 +96,7 @@ pub fn big_text(
     ensures { IsTextOf (summarized_text instants) found result }
 {
     match found {
-        Ok(outputs) => {
-            let names = outputs.names.as_slice();
-            Ok(summary_text(alloc, instants, names, outputs.cells.as_slice())?)
-        }
+        Ok(outputs) => Ok(summary_text(alloc, instants, &outputs.names, &outputs.cells)?),
         Err(e) => Err(e.map(Refusal::Command)),
     }
 }

@@ -13,7 +13,7 @@ mod words;
 
 pub use config::append_config;
 pub use inputs::append_inputs;
-pub use lt_text_values::{append_count, append_size, outputs_text, summary_text};
+pub use lt_text_values::{outputs_text, summary_text};
 pub use observer::append_observer;
 pub use plan::plan_text;
 pub use program::program_line;

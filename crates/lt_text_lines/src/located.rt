@@ -2,8 +2,7 @@
 ghost use Rattle.std.specs.Prelude.{◌≡◌, ◌++◌, OnOk};
 ghost use Rattle.std.specs.Fmt.{decimal};
 
-use lt_base::{List, Memory};
-use lt_text_values::append_size;
+use lt_base::{List, Memory, append_number};
 
 /// Appends a fault's kind and its place, each with some text before it.
 pub(crate) fn append_located(
@@ -18,5 +17,5 @@ pub(crate) fn append_located(
     line.extend(head)?;
     line.extend(kind.as_bytes())?;
     line.extend(between)?;
-    append_size(line, place)
+    append_number(line, place)
 }

@@ -1,14 +1,11 @@
 // The line of a refused program.
-ghost use Rattle.std.specs.Prelude.{◌≡◌, ◌++◌, ◌∷◌, bytes_eq, codes, if◌then◌else◌, IfOk, OnOk};
-ghost use Rattle.std.specs.List.{flat_map};
-ghost use Rattle.lt_text_lines.specs.Lines.{syntax_line, name_line, found_name_line, program_limit_line, type_line, clock_line, cycle_line, size_line, program_line};
-ghost use Rattle.lt_text_values.specs.Names.{function_name, variable_name};
-ghost use Rattle.lt_text_values.specs.Clocks.{clock_path_text, clock_place_text};
-ghost use Rattle.lt_text_lines.specs.Words.{name_kind_text, found_text};
-ghost use Rattle.lt_base.specs.TypeText.{ty_text};
+ghost use Rattle.std.specs.Prelude.{◌≡◌, ◌++◌, bytes_eq, codes, if◌then◌else◌, IfOk, OnOk};
+ghost use Rattle.lt_text_lines.specs.Lines.{syntax_line, name_line, named_text, found_name_line, program_limit_line, types_text, mistyped_text, type_line, wanted_text, misclocked_text, clock_line, spaced_variables, circle_text, cycle_line, size_line, program_line};
+ghost use Rattle.lt_text_values.specs.Names.{function_name};
 
 use crate::located::append_located;
 use crate::words::{found_type, name_kind, syntax_kind, ty};
+use lt_base::limits::GREATEST_WEIGHT;
 use lt_base::{List, Memory, Name, Sizes, Ty};
 use lt_cause::Cycle;
 use lt_check::{ClockFault, TypeFault};
@@ -61,7 +58,7 @@ fn found_name_line(alloc: Global, fault: &NameFault, tree: &Tree) -> Result<List
 
 // Appends the kind of a fault of names, its function and its name.
 fn append_named(line: &mut List<u8>, fault: &NameFault, tree: &Tree) -> Result<(), Memory>
-    ensures { OnOk result (line.new ≡ line.old ++ name_kind_text fault.now.kind ++ codes " in node " ++ function_name tree.now fault.now.func ++ codes ": " ++ fault.now.name) }
+    ensures { OnOk result (line.new ≡ line.old ++ named_text fault.now tree.now) }
 {
     line.extend(name_kind(fault.kind).as_bytes())?;
     line.extend(b" in node ")?;
@@ -99,7 +96,7 @@ fn type_line(alloc: Global, fault: &TypeFault, tree: &Tree) -> Result<List<u8>, 
 
 // Appends a function, its variable that is at fault, and the types.
 fn append_mistyped(line: &mut List<u8>, fault: &TypeFault, tree: &Tree) -> Result<(), Memory>
-    ensures { OnOk result (line.new ≡ line.old ++ function_name tree.now fault.now.func ++ codes ": " ++ variable_name tree.now fault.now.func fault.now.var ++ codes " is " ++ ty_text fault.now.want ++ codes ", found " ++ found_text fault.now.got) }
+    ensures { OnOk result (line.new ≡ line.old ++ mistyped_text fault.now tree.now) }
 {
     append_owner(line, tree, fault.func)?;
     append_variable(line, tree, fault.func, fault.var)?;
@@ -108,7 +105,7 @@ fn append_mistyped(line: &mut List<u8>, fault: &TypeFault, tree: &Tree) -> Resul
 
 // Appends the type that a variable has, and the one that was found.
 fn append_types(line: &mut List<u8>, want: Ty, got: Option<Ty>) -> Result<(), Memory>
-    ensures { OnOk result (line.new ≡ line.old ++ codes " is " ++ ty_text want ++ codes ", found " ++ found_text got) }
+    ensures { OnOk result (line.new ≡ line.old ++ types_text want got) }
 {
     line.extend(b" is ")?;
     line.extend(ty(want).as_bytes())?;
@@ -120,27 +117,22 @@ fn clock_line(alloc: Global, fault: &ClockFault, tree: &Tree) -> Result<List<u8>
     ensures { IfOk result (λ line. line ≡ clock_line fault.now tree.now) }
 {
     let mut line = List::from_slice(alloc, b"clock in node ")?;
-    append_misclocked(alloc, &mut line, fault, tree)?;
+    append_misclocked(&mut line, fault, tree)?;
     Ok(line)
 }
 
 // Appends a function, the place of its fault, and the clock.
-fn append_misclocked(
-    alloc: Global,
-    line: &mut List<u8>,
-    fault: &ClockFault,
-    tree: &Tree,
-) -> Result<(), Memory>
-    ensures { OnOk result (line.new ≡ line.old ++ function_name tree.now fault.now.func ++ codes ": " ++ clock_place_text fault.now.at ++ codes " of " ++ variable_name tree.now fault.now.func fault.now.var ++ codes " on " ++ clock_path_text tree.now fault.now.func fault.now.want) }
+fn append_misclocked(line: &mut List<u8>, fault: &ClockFault, tree: &Tree) -> Result<(), Memory>
+    ensures { OnOk result (line.new ≡ line.old ++ misclocked_text fault.now tree.now) }
 {
     append_owner(line, tree, fault.func)?;
-    append_place(alloc, line, fault.at)?;
+    append_place(line, fault.at)?;
     append_wanted(line, fault, tree)
 }
 
 // Appends the variable that is at fault and the clock that is wanted.
 fn append_wanted(line: &mut List<u8>, fault: &ClockFault, tree: &Tree) -> Result<(), Memory>
-    ensures { OnOk result (line.new ≡ line.old ++ codes " of " ++ variable_name tree.now fault.now.func fault.now.var ++ codes " on " ++ clock_path_text tree.now fault.now.func fault.now.want) }
+    ensures { OnOk result (line.new ≡ line.old ++ wanted_text fault.now tree.now) }
 {
     line.extend(b" of ")?;
     append_variable(line, tree, fault.func, fault.var)?;
@@ -166,16 +158,16 @@ fn cycle_line(alloc: Global, func: u32, cycle: &Cycle, tree: &Tree) -> Result<Li
 
 // Appends a function and the variables of its cycle.
 fn append_cycle(line: &mut List<u8>, func: u32, cycle: &Cycle, tree: &Tree) -> Result<(), Memory>
-    ensures { OnOk result (line.new ≡ line.old ++ function_name tree.now func ++ codes ":" ++ flat_map (λ x. 32 ∷ variable_name tree.now func x) cycle.now.vars) }
+    ensures { OnOk result (line.new ≡ line.old ++ circle_text func cycle.now.vars tree.now) }
 {
     append_function(line, tree, func)?;
     line.extend(b":")?;
-    append_each(line, tree, func, cycle.vars.as_slice())
+    append_each(line, tree, func, &cycle.vars)
 }
 
 // Appends a space and a name for each of these variables of a function.
 fn append_each(line: &mut List<u8>, tree: &Tree, func: u32, variables: &[u32]) -> Result<(), Memory>
-    ensures { OnOk result (line.new ≡ line.old ++ flat_map (λ x. 32 ∷ variable_name tree.now func x) variables.now) }
+    ensures { OnOk result (line.new ≡ line.old ++ spaced_variables tree.now func variables.now) }
 {
     for variable in variables {
         line.extend(b" ")?;
@@ -187,7 +179,7 @@ fn append_each(line: &mut List<u8>, tree: &Tree, func: u32, variables: &[u32]) -
 fn size_line(alloc: Global, sizes: Sizes) -> Result<List<u8>, Memory>
     ensures { IfOk result (λ line. line ≡ size_line sizes) }
 {
-    if sizes.weight > 4_096 {
+    if sizes.weight > GREATEST_WEIGHT {
         List::from_slice(alloc, b"limit: weight 4096")
     } else {
         List::from_slice(alloc, b"limit: parts 262144")

@@ -6,10 +6,9 @@ ghost use Rattle.lt_text_lines.specs.ScheduleLines.{row_kind_text, row_line, off
 
 use crate::located::append_located;
 use lt_arch::{Chan, ChanKind, Offence, Shape};
-use lt_base::{List, Memory};
+use lt_base::{List, Memory, append_number};
 use lt_lossy::LossyOffence;
 use lt_rows::RowFault;
-use lt_text_values::append_count;
 
 /// Appends the line of a row that is no event, or of too many, without a line feed.
 pub fn append_row(line: &mut List<u8>, row: u32, fault: RowFault) -> Result<(), Memory>
@@ -83,7 +82,7 @@ fn append_event(line: &mut List<u8>, event: u32) -> Result<(), Memory>
     ensures { OnOk result (line.new ≡ line.old ++ codes "schedule offence at event " ++ decimal event ++ codes ": ") }
 {
     line.extend(b"schedule offence at event ")?;
-    append_count(line, event)?;
+    append_number(line, event)?;
     line.extend(b": ")
 }
 
@@ -138,7 +137,7 @@ fn append_node(line: &mut List<u8>, shape: &Shape, node: u32) -> Result<(), Memo
 pub fn append_node_name(line: &mut List<u8>, shape: &Shape, node: u32) -> Result<(), Memory>
     ensures { OnOk result (line.new ≡ line.old ++ name_of_node shape.now node) }
 {
-    match shape.nodes.as_slice().get(node as usize) {
+    match shape.nodes.get(node as usize) {
         Some(name) => line.extend(name.as_str().as_bytes()),
         None => Ok(()),
     }
@@ -148,7 +147,7 @@ pub fn append_node_name(line: &mut List<u8>, shape: &Shape, node: u32) -> Result
 pub fn append_channel(line: &mut List<u8>, shape: &Shape, channel: u32) -> Result<(), Memory>
     ensures { OnOk result (line.new ≡ line.old ++ channel_text shape.now channel) }
 {
-    match shape.channels.as_slice().get(channel as usize) {
+    match shape.channels.get(channel as usize) {
         Some(channel) => append_ends(line, shape, *channel),
         None => Ok(()),
     }

@@ -3,9 +3,8 @@ ghost use Rattle.std.specs.Prelude.{◌≡◌, ◌++◌, true, codes, OnOk};
 ghost use Rattle.std.specs.Fmt.{decimal};
 ghost use Rattle.lt_text_lines.specs.FileLines.{at_node, timing_line, which_text, window_line};
 
-use lt_base::{List, Memory, Name};
+use lt_base::{List, Memory, Name, append_number};
 use lt_lossy::WindowFault;
-use lt_text_values::append_ticks;
 use lt_timing::{TimingFault, Which};
 
 /// Appends the line of a timing that is not accepted, without a line feed. The node is named where nodes or pairs differ.
@@ -69,7 +68,7 @@ fn append_gap(line: &mut List<u8>, left: u128, right: u128) -> Result<(), Memory
     ensures { OnOk result (line.new ≡ line.old ++ codes ": " ++ decimal left ++ codes " is not above " ++ decimal right) }
 {
     line.extend(b": ")?;
-    append_ticks(line, left)?;
+    append_number(line, left)?;
     line.extend(b" is not above ")?;
-    append_ticks(line, right)
+    append_number(line, right)
 }

@@ -2,10 +2,9 @@
 ghost use Rattle.std.specs.Prelude.{◌≡◌, ◌++◌, codes, if◌then◌else◌, OnOk};
 ghost use Rattle.lt_text_values.specs.Clocks.{clock_path_text, step_text, clock_place_text};
 
-use crate::names::{append_number, append_variable};
-use lt_base::{Clock, List, Memory};
+use crate::names::append_variable;
+use lt_base::{Clock, List, Memory, append_number};
 use lt_syntax::Tree;
-use std::alloc::Global;
 
 /// Appends a clock: `base`, and then each pair from there inwards.
 pub fn append_clock(
@@ -17,7 +16,7 @@ pub fn append_clock(
     ensures { OnOk result (line.new ≡ line.old ++ clock_path_text tree.now func clock.now) }
 {
     line.extend(b"base")?;
-    for (variable, polarity) in clock.steps.as_slice() {
+    for (variable, polarity) in clock.steps.iter() {
         append_step(line, tree, func, *variable, *polarity)?;
     }
     Ok(())
@@ -44,14 +43,14 @@ fn polarity_text(polarity: bool) -> &'static str
 }
 
 /// Appends where a clock is at fault: a declaration, or an equation by its number from 1 on.
-pub fn append_place(alloc: Global, line: &mut List<u8>, at: Option<u32>) -> Result<(), Memory>
+pub fn append_place(line: &mut List<u8>, at: Option<u32>) -> Result<(), Memory>
     ensures { OnOk result (line.new ≡ line.old ++ clock_place_text at) }
 {
     match at {
         None => line.extend(b"declaration"),
         Some(equation) => {
             line.extend(b"equation ")?;
-            append_number(alloc, line, u64::from(equation) + 1)
+            append_number(line, u64::from(equation) + 1)
         }
     }
 }

@@ -2,8 +2,7 @@
 ghost use Rattle.std.specs.Prelude.{◌≡◌, ◌++◌, ◌∷◌, [], OnOk, IfOk, length};
 ghost use Rattle.lt_text_values.specs.OutputLines.{cell_text, cells_text, output_line, outputs_text};
 
-use itoa::Buffer;
-use lt_base::{Cell, List, Memory, Name, Value};
+use lt_base::{Cell, List, Memory, Name, Value, append_number};
 use std::alloc::Global;
 use std::mem::replace;
 
@@ -18,7 +17,7 @@ pub fn outputs_text(
     ensures { IfOk result (λ text. text ≡ outputs_text names cells) }
 {
     let mut text = List::new(alloc);
-    append_outputs(alloc, &mut text, names.as_slice(), cells.into_vec())?;
+    append_outputs(alloc, &mut text, &names, cells.into_vec())?;
     Ok(text)
 }
 
@@ -55,7 +54,7 @@ fn append_line(text: &mut List<u8>, name: &Name, cells: &List<Cell>) -> Result<(
 {
     text.extend(name.as_str().as_bytes())?;
     text.extend(b":")?;
-    append_cells(text, cells.as_slice())?;
+    append_cells(text, cells)?;
     text.extend(b"\n")
 }
 
@@ -75,7 +74,7 @@ pub fn append_cell(text: &mut List<u8>, cell: Cell) -> Result<(), Memory>
 {
     match cell {
         Cell::Absent => text.extend(b"."),
-        Cell::Here(Value::Int(number)) => text.extend(Buffer::new().format(number).as_bytes()),
+        Cell::Here(Value::Int(number)) => append_number(text, number),
         Cell::Here(Value::Bool(true)) => text.extend(b"true"),
         Cell::Here(Value::Bool(false)) => text.extend(b"false"),
     }

@@ -2,9 +2,8 @@
 ghost use Rattle.std.specs.Prelude.{◌≡◌, ◌++◌, OnOk, IfOk, length, slice_get, ◌-◌};
 ghost use Rattle.lt_text_values.specs.OutputLines.{last_text, summary_line, summary_lines, summary_text};
 
-use crate::numbers::{append_count, append_size};
 use crate::outputs::append_cell;
-use lt_base::{Cell, List, Memory, Name};
+use lt_base::{Cell, List, Memory, Name, append_number};
 use std::alloc::Global;
 
 /// The number of instants, and for each output its name, the number of its cells and the last of them.
@@ -32,7 +31,7 @@ fn append_summary(
     ensures { OnOk result (text.new ≡ text.old ++ summary_text instants names.now cells.now) }
 {
     text.extend(b"instants ")?;
-    append_count(text, instants)?;
+    append_number(text, instants)?;
     text.extend(b"\n")?;
     append_lines(text, names, cells)
 }
@@ -52,8 +51,8 @@ fn append_line(text: &mut List<u8>, name: &Name, cells: &List<Cell>) -> Result<(
 {
     text.extend(name.as_str().as_bytes())?;
     text.extend(b" ")?;
-    append_size(text, cells.len())?;
-    append_last(text, cells.as_slice())?;
+    append_number(text, cells.len())?;
+    append_last(text, cells)?;
     text.extend(b"\n")
 }
 

@@ -1,5 +1,6 @@
 -- How the bytes of a text are cut into tokens, the longest first.
-use Rattle.std.specs.Prelude.{ℕ, ◌+◌, ◌*◌, ◌-◌, ◌≡◌, Bool, false, ◌&&◌, ◌||◌, List, [], ◌∷◌, length, drop, take_while, nat_le, ◌==◌, Option, Some, None, if◌then◌else◌}
+use Rattle.std.specs.Prelude.{ℕ, ◌≡◌, Bool, false, ◌&&◌, ◌||◌, List, [], ◌∷◌, length, drop, take_while, nat_le, ◌==◌, Option, Some, None, if◌then◌else◌}
+use Rattle.lt_base.specs.Digits.{is_digit, read_on}
 use Rattle.lt_base.specs.declared.operators.Bin.TheVariants.{Add, Sub, Mul, Eq, Ne, Lt, Le, Gt, Ge, Implies}
 use Rattle.lt_tokens.specs.declared.token.Infix.{Infix}
 use Rattle.lt_tokens.specs.declared.token.Infix.TheVariants.{Operator, Arrow}
@@ -10,9 +11,6 @@ use Rattle.lt_tokens.specs.Words.{word_of}
 -- space, tab, carriage return, line feed
 abbrev pub is_blank : ℕ → Bool
 is_blank b = b == 32 || b == 9 || b == 13 || b == 10
-
-abbrev pub is_digit : ℕ → Bool
-is_digit b = nat_le 48 b && nat_le b 57
 
 -- an ASCII letter or _
 abbrev pub is_letter : ℕ → Bool
@@ -42,11 +40,6 @@ pub data Front : Type 0 where
   Begins : Token → List ℕ → Front
   BadByte : Front
   BadNumber : Front
-
--- the number that the digits write after those of n
-abbrev pub value_on : ℕ → List ℕ → ℕ
-value_on n [] = n
-value_on n (d ∷ ds) = value_on (n * 10 + (d - 48)) ds
 
 -- the greatest number of a text
 abbrev pub greatest_number : ℕ
@@ -90,7 +83,7 @@ abbrev pub word : List ℕ → List ℕ → Front
 word s rest = Begins (word_of s) rest
 
 abbrev pub number : List ℕ → List ℕ → Front
-number s rest = if nat_le (value_on 0 s) greatest_number then Begins (token.Number (value_on 0 s)) rest else BadNumber
+number s rest = if nat_le (read_on 0 s) greatest_number then Begins (token.Number (read_on 0 s)) rest else BadNumber
 
 -- the longest front whose bytes all pass, and the rest
 abbrev pub span : (ℕ → Bool) → List ℕ → (List ℕ → List ℕ → Front) → Front

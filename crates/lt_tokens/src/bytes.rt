@@ -1,5 +1,6 @@
 // Bytes: their kinds, and what stands between tokens.
 ghost use Rattle.std.specs.Prelude.{◌≡◌, ◌≤◌, length, take_while};
+ghost use Rattle.lt_base.specs.Digits.{is_digit};
 ghost use Rattle.lt_tokens.specs.Text as text;
 
 pub fn is_blank(b: u8) -> bool
@@ -29,7 +30,7 @@ pub fn word_length(bytes: &[u8]) -> usize
 
 /// The number of digits at the front.
 pub fn digits_length(bytes: &[u8]) -> usize
-    ensures { result ≡ length (take_while text.is_digit bytes.now) }
+    ensures { result ≡ length (take_while is_digit bytes.now) }
 {
     bytes.iter().take_while(|b| b.is_ascii_digit()).count()
 }

@@ -1,12 +1,13 @@
 // The token at the front of a text.
-ghost use Rattle.std.specs.Prelude.{◌≡◌, ◌≤◌, ◌<◌, ◌+◌, ◌++◌, ◌∷◌, List, ℕ, length, MatchOption, IfOk, IfSome, ⊤};
+ghost use Rattle.std.specs.Prelude.{◌≡◌, ◌≤◌, ◌<◌, ◌+◌, ◌++◌, ◌∷◌, true, List, ℕ, length, MatchOption, IfOk, IfSome, ⊤};
+ghost use Rattle.lt_base.specs.Digits.{all_digits, read_on};
 ghost use Rattle.lt_tokens.specs.Text as text;
 ghost use Rattle.lt_tokens.specs.Fronts.{front_of, IsSmall, IsWithin};
 
 use crate::bytes::{digits_length, is_letter, word_length};
 use crate::token::{Infix, Token};
 use crate::word::word_of;
-use lt_base::{Bin, Memory};
+use lt_base::{Bin, Memory, number_up_to};
 use std::alloc::Global;
 
 /// What stands at the front of a text: a token and the number of its bytes, or the end, or no token.
@@ -19,21 +20,16 @@ pub enum Front {
 }
 
 /// The greatest number of the language.
-const GREATEST: u128 = 9223372036854775807;
+const GREATEST: u64 = 9_223_372_036_854_775_807;
 
 /// The value of some digits, if it is a number of the language.
+#[tactic(auto, using(crate::proofs::Digits::number_tells))]
 fn value(digits: &[u8]) -> Option<u64>
-    ensures { MatchOption result (text.greatest_number < text.value_on 0 digits.now) (λ n. (n ≡ text.value_on 0 digits.now) × (n ≤ text.greatest_number)) }
+    requires some { 1 ≤ length digits.now }
+    requires digits { all_digits digits.now ≡ true }
+    ensures { MatchOption result (text.greatest_number < read_on 0 digits.now) (λ n. (n ≡ read_on 0 digits.now) × (n ≤ text.greatest_number)) }
 {
-    let mut n: u64 = 0;
-    for d in digits {
-        let next = u128::from(n) * 10 + u128::from(d.saturating_sub(48));
-        if next > GREATEST {
-            return None;
-        }
-        n = next as u64;
-    }
-    Some(n)
+    number_up_to(digits, GREATEST)
 }
 
 /// The symbol of two bytes that begins with this one.
@@ -94,7 +90,8 @@ fn symbol(b: u8, after: &[u8]) -> Front
 }
 
 fn number(digits: &[u8]) -> Front
-    requires { 1 ≤ length digits.now }
+    requires some { 1 ≤ length digits.now }
+    requires digits { all_digits digits.now ≡ true }
     ensures within { IsWithin result (length digits.now) }
     ensures value { (rest : List ℕ) → front_of result (digits.now ++ rest) ≡ text.number digits.now rest }
 {

@@ -14,7 +14,7 @@ use Rattle.lt_load.specs.Plan.{Plan, load_verdict}
 use Rattle.lt_load.proofs.OneLoad.{TellsLimits, whole_decided}
 use Rattle.lt_load.proofs.OneCheck.{MergesPlaces, MergesTimings}
 use Rattle.lt_load.proofs.OnePlan.{load_decided}
-use Rattle.lt_run.specs.Near.{ReadNear}
+use Rattle.lt_load.specs.Near.{ReadNear}
 use Rattle.lt_run.specs.Run.{run_along_verdict}
 use Rattle.lt_run.proofs.OneRun.{along_decided}
 use Rattle.lt_watch.specs.declared.fault.WatchFault.{WatchFault}

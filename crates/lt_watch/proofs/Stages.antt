@@ -17,11 +17,10 @@ use Rattle.lt_io.specs.FabricState.{FabricState}
 use Rattle.lt_place.specs.declared.layout.Layout.{Layout}
 use Rattle.lt_arch.specs.declared.pace.Pace.{Pace}
 use Rattle.lt_lead.specs.Paced.{IsShapeBy}
-use Rattle.lt_answer.specs.World.{World, Blame, alone}
+use Rattle.lt_answer.specs.World.{World, Blame, alone, world}
 use Rattle.lt_answer.specs.Answered.{Answered, Verdict, AndThen}
 use Rattle.lt_answer.proofs.Stages.{beside, goes_on, renamed, stops, widened}
 use Rattle.lt_front.specs.Examined.{ExaminedText}
-use Rattle.lt_net_start.specs.Outside.{world}
 use Rattle.lt_past.specs.Formula.{SignalsBelow}
 use Rattle.lt_past.specs.Satisfaction.{Sat}
 use Rattle.lt_past.specs.Observer.{Observing}
@@ -33,7 +32,7 @@ use Rattle.lt_load.specs.Errands.{load_errands}
 use Rattle.lt_load.specs.Plan.{Plan, LoadedPlan, IsLoadedFrom, Loads, load_verdict}
 use Rattle.lt_evaluate.specs.declared.outputs.Outputs.{Outputs}
 use Rattle.lt_evaluate.specs.Main.{output_streams}
-use Rattle.lt_run.specs.Near.{ReadNear}
+use Rattle.lt_load.specs.Near.{ReadNear}
 use Rattle.lt_run.specs.Printed.{AreShown}
 use Rattle.lt_run.specs.Run.{OutputsShow, IsLaidOutBy, along_loaded, run_along_verdict, placed_run_verdict}
 use Rattle.lt_run.proofs.Reading.{has_read}

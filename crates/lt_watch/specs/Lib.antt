@@ -3,3 +3,4 @@ pub mod Whole
 pub mod Blamed
 pub mod Watch
 pub mod Errands
+pub mod OnFiles

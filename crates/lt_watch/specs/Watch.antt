@@ -16,7 +16,7 @@ use Rattle.lt_load_fit.specs.Main.{main_in}
 use Rattle.lt_load.specs.Loaded.{whole_verdict}
 use Rattle.lt_load.specs.Plan.{Plan, LoadedPlan, load_verdict}
 use Rattle.lt_evaluate.specs.declared.outputs.Outputs.{Outputs}
-use Rattle.lt_run.specs.Near.{ReadNear}
+use Rattle.lt_load.specs.Near.{ReadNear}
 use Rattle.lt_run.specs.Run.{along_loaded, run_along_verdict}
 use Rattle.lt_watch.specs.declared.fault.WatchFault.{WatchFault}
 use Rattle.lt_watch.specs.declared.fault.WatchFault.TheVariants.{Command, Observer}

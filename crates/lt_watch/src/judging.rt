@@ -32,7 +32,7 @@ fn value_at(cells: &[List<Cell>], place: usize, instant: usize) -> bool
     ensures { result ≡ is_true (slice_index_or (column cells.now place) instant Cell.Absent) }
 {
     match cells.get(place) {
-        Some(list) => match list.as_slice().get(instant) {
+        Some(list) => match list.get(instant) {
             Some(cell) => is_true(*cell),
             None => false,
         },
@@ -92,7 +92,7 @@ pub(crate) fn judge(
 ) -> Result<Watched, Memory>
     ensures { IfOk result (WatchTells observer.now cells.now) }
 {
-    let outs = observer.outs.as_slice();
+    let outs: &[u32] = &observer.outs;
     let mut monitor = Monitor::start(alloc, observer)?;
     let mut row = vec![in alloc; false; outs.len()]?;
     let count = count_instants(outs, cells);

@@ -1,13 +1,8 @@
 // The observer of a watched run.
-ghost use Rattle.std.specs.Prelude.{◌≡◌, ◌<◌, ◌-◌, ◌^◌, length, option_map};
+ghost use Rattle.std.specs.Prelude.{◌<◌, ◌^◌, length};
 ghost use Rattle.lt_io.specs.Counts.{MayFail};
-ghost use Rattle.lt_answer.specs.World.{alone};
-ghost use Rattle.lt_answer.specs.Answered.{Answered};
-ghost use Rattle.lt_load.specs.Plan.{Loads, load_verdict};
-ghost use Rattle.lt_load.specs.Errands.{load_errands};
-ghost use Rattle.lt_watch.specs.Blamed.{watch_blame};
-ghost use Rattle.lt_watch.specs.Errands.{observer_errand};
-ghost use Rattle.lt_watch.specs.Watch.{InCommand, observer_bytes_verdict, observer_verdict};
+ghost use Rattle.lt_answer.specs.Alone.{given_word};
+ghost use Rattle.lt_watch.specs.OnFiles.{FetchesObserver, LoadsObserver, LoadsWatched};
 
 use crate::WatchFault;
 use lt_base::{Func, List, Or};
@@ -25,8 +20,7 @@ pub(crate) fn load_run<F: Files>(
     config: Option<&str>,
 ) -> Result<Loaded, Or<WatchFault>>
     requires { MayFail (F.state files.old).faults }
-    ensures { Answered watch_blame (load_errands program.now inputs.now (option_map (λ s. s.now) config.entry)) (InCommand (Loads (load_verdict (F.state files.old).named program.now inputs.now (option_map (λ s. s.now) config.entry))))
-        (alone (F.state files.old)) (alone (F.state files.new)) result }
+    ensures { LoadsWatched program.now inputs.now (given_word config.entry) (F.state files.old) (F.state files.new) result }
 {
     match load(alloc, files, program, inputs, config) {
         Ok(loaded) => Ok(loaded),
@@ -41,7 +35,7 @@ fn fetch_observer<F: Files>(
     name: &str,
 ) -> Result<List<u8>, Or<WatchFault>>
     requires { MayFail (F.state files.old).faults }
-    ensures { Answered watch_blame (observer_errand name.now) (observer_bytes_verdict ((F.state files.old).named name.now)) (alone (F.state files.old)) (alone (F.state files.new)) result }
+    ensures { FetchesObserver name.now (F.state files.old) (F.state files.new) result }
 {
     match fetch_within(alloc, files, name, What::ObserverBytes) {
         Ok(bytes) => Ok(bytes),
@@ -58,10 +52,10 @@ pub(crate) fn load_observer<F: Files>(
 ) -> Result<Observer, Or<WatchFault>>
     requires count { MayFail (F.state files.old).faults }
     requires few { length main.now.outs < 2 ^ 32 }
-    ensures { Answered watch_blame (observer_errand name.now) (observer_verdict main.now ((F.state files.old).named name.now)) (alone (F.state files.old)) (alone (F.state files.new)) result }
+    ensures { LoadsObserver name.now main.now (F.state files.old) (F.state files.new) result }
 {
     let bytes = fetch_observer(alloc, files, name)?;
-    let read = read_observer(alloc, bytes.as_slice(), main);
+    let read = read_observer(alloc, &bytes, main);
     drop(bytes);
     match read {
         Ok(observer) => Ok(observer),

@@ -1,14 +1,10 @@
 // A run that an observer watches.
-ghost use Rattle.std.specs.Prelude.{◌≡◌, ◌++◌, ◌<◌, ◌-◌, ◌^◌, [], option_map};
+ghost use Rattle.std.specs.Prelude.{◌≡◌, []};
 ghost use Rattle.lt_io.specs.Counts.{MayFail};
 ghost use Rattle.lt_io.specs.FabricState.{OpensOnce};
-ghost use Rattle.lt_answer.specs.Answered.{Answered};
-ghost use Rattle.lt_net_start.specs.Outside.{world};
-ghost use Rattle.lt_schedule.specs.Errand.{schedule_errand};
 ghost use Rattle.lt_load_fit.specs.Main.{main_in};
-ghost use Rattle.lt_watch.specs.Blamed.{watch_blame};
-ghost use Rattle.lt_watch.specs.Errands.{observer_errand, watch_errands};
-ghost use Rattle.lt_watch.specs.Watch.{InCommand, LeavesUnobserved, LeavesUnwatched, followed_along, loaded_watch_verdict, run_along, watch_verdict};
+ghost use Rattle.lt_watch.specs.OnFiles.{FollowsLoaded, LeavesUnlessWatched, RunsWatched, Watches, WatchesLoaded};
+ghost use Rattle.lt_watch.specs.Watch.{LeavesUnobserved};
 
 use crate::judging::judge;
 use crate::observing::{load_observer, load_run};
@@ -36,10 +32,9 @@ pub fn watch<F: Files, W: Fabric>(
     requires count { MayFail (F.state files.old).faults }
     requires link_count { MayFail (W.state fabric.old).faults }
     requires empty { (W.state fabric.old).kinds ≡ [] }
-    ensures answered { Answered watch_blame (watch_errands program.now inputs.now schedule.now observer.now (option_map (λ s. s.now) config.entry)) (watch_verdict (F.state files.old).named program.now inputs.now schedule.now observer.now (option_map (λ s. s.now) config.entry) (world (F.state files.new) (W.state fabric.new)))
-        (world (F.state files.old) (W.state fabric.old)) (world (F.state files.new) (W.state fabric.new)) result }
+    ensures answered { Watches F.state W.state program.now inputs.now schedule.now observer.now config.entry files.old files.new fabric.old fabric.new result }
     ensures opens { OpensOnce (W.state fabric.old) (W.state fabric.new) result }
-    ensures untouched { LeavesUnwatched (F.state files.old) program.now inputs.now observer.now (option_map (λ s. s.now) config.entry) (W.state fabric.old) (W.state fabric.new) }
+    ensures untouched { LeavesUnlessWatched F.state W.state program.now inputs.now observer.now config.entry files.old fabric.old fabric.new }
 {
     let loaded = load_run(alloc, files, program, inputs, config)?;
     let watched = watch_loaded(alloc, files, fabric, &loaded, schedule, observer);
@@ -59,8 +54,7 @@ fn watch_loaded<F: Files, W: Fabric>(
     requires count { MayFail (F.state files.old).faults }
     requires link_count { MayFail (W.state fabric.old).faults }
     requires empty { (W.state fabric.old).kinds ≡ [] }
-    ensures answered { Answered watch_blame (observer_errand observer.now ++ schedule_errand schedule.now) (loaded_watch_verdict (F.state files.old).named schedule.now observer.now (world (F.state files.new) (W.state fabric.new)) loaded.now)
-        (world (F.state files.old) (W.state fabric.old)) (world (F.state files.new) (W.state fabric.new)) result }
+    ensures answered { WatchesLoaded F.state W.state loaded.now schedule.now observer.now files.old files.new fabric.old fabric.new result }
     ensures opens { OpensOnce (W.state fabric.old) (W.state fabric.new) result }
     ensures untouched { LeavesUnobserved (F.state files.old) (main_in loaded.now.checked.program) observer.now (W.state fabric.old) (W.state fabric.new) }
 {
@@ -83,13 +77,12 @@ fn follow<F: Files, W: Fabric>(
     requires count { MayFail (F.state files.old).faults }
     requires link_count { MayFail (W.state fabric.old).faults }
     requires empty { (W.state fabric.old).kinds ≡ [] }
-    ensures answered { Answered watch_blame (schedule_errand schedule.now) (followed_along ((F.state files.old).named schedule.now) (world (F.state files.new) (W.state fabric.new)) loaded.now observer.now)
-        (world (F.state files.old) (W.state fabric.old)) (world (F.state files.new) (W.state fabric.new)) result }
+    ensures answered { FollowsLoaded F.state W.state loaded.now schedule.now observer.now files.old files.new fabric.old fabric.new result }
     ensures opens { OpensOnce (W.state fabric.old) (W.state fabric.new) result }
 {
     observer.invariant_holds();
     let outputs = run_outputs(alloc, files, fabric, loaded, schedule)?;
-    let judged = judge(alloc, observer, outputs.cells.as_slice());
+    let judged = judge(alloc, observer, &outputs.cells);
     drop(outputs);
     Ok(judged?)
 }
@@ -105,8 +98,7 @@ fn run_outputs<F: Files, W: Fabric>(
     requires count { MayFail (F.state files.old).faults }
     requires link_count { MayFail (W.state fabric.old).faults }
     requires empty { (W.state fabric.old).kinds ≡ [] }
-    ensures answered { Answered watch_blame (schedule_errand schedule.now) (InCommand (run_along ((F.state files.old).named schedule.now) (world (F.state files.new) (W.state fabric.new)) loaded.now))
-        (world (F.state files.old) (W.state fabric.old)) (world (F.state files.new) (W.state fabric.new)) result }
+    ensures answered { RunsWatched F.state W.state loaded.now schedule.now files.old files.new fabric.old fabric.new result }
     ensures opens { OpensOnce (W.state fabric.old) (W.state fabric.new) result }
 {
     match run_loaded(alloc, files, fabric, loaded, schedule) {

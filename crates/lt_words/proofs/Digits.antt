@@ -1,64 +1,10 @@
--- A number, read from the left.
-use Rattle.std.proofs.Common.{◌≡◌, ℕ, ◌+◌, ◌-◌, ◌*◌, ◌≤◌, ◌<◌, Bool, true, false, if◌then◌else◌, ◌&&◌, List, [], ◌∷◌, length, Option, Some, None, refl, arith, nat_le}
-use Rattle.std.specs.Prelude.{◌==◌, unwrap_or}
-use Rattle.lt_words.specs.Numbers.{is_digit, all_digits, read_on, number_of_digits, up_to, number_text}
-
--- the number, read on from n over the rest of the digits
-abbrev pub read_rest : ℕ → List ℕ → Option ℕ
-read_rest n cs = if all_digits cs then Some (read_on n cs) else None
-
-pub at_start : (bs : List ℕ) → 0 < length bs → number_of_digits bs ≡ read_rest 0 bs
-at_start [] h = absurd (omega arith)
-at_start (c ∷ cs) h = refl
-
-le-false : (m n : ℕ) → m < n → nat_le n m ≡ false
-le-false m n h = grind arith
-
-le-true : (m n : ℕ) → n ≤ m → nat_le n m ≡ true
-le-true m n h = grind arith
-
-pub is_digit-true : (c : ℕ) → 48 ≤ c → c ≤ 57 → is_digit c ≡ true
-is_digit-true c h g = rw (le-true c 48 h, le-true 57 c g) refl
-
-pub is_digit-low : (c : ℕ) → c < 48 → is_digit c ≡ false
-is_digit-low c h = rw (le-false c 48 h) refl
-
-pub is_digit-high : (c : ℕ) → 57 < c → is_digit c ≡ false
-is_digit-high c h = by (nat_le 48 c) (le-false 57 c h)
-  where
-    by : (b : Bool) → nat_le c 57 ≡ false → (b && nat_le c 57) ≡ false
-    by true e = e
-    by false e = refl
-
-pub one_more : (n c : ℕ) (cs : List ℕ) → is_digit c ≡ true → read_rest n (c ∷ cs) ≡ read_rest (n * 10 + (c - 48)) cs
-one_more n c cs h = rw h refl
-
-pub no_digit : (most n c : ℕ) (cs : List ℕ) → is_digit c ≡ false → up_to most (read_rest n (c ∷ cs)) ≡ None
-no_digit most n c cs h = rw h refl
-
-read_on-grows : (n : ℕ) (cs : List ℕ) → n ≤ read_on n cs
-read_on-grows n [] = omega arith
-read_on-grows n (c ∷ cs) = omega (arith, read_on-grows (n * 10 + (c - 48)) cs)
-
-pub too_large : (most n : ℕ) (cs : List ℕ) → most < n → up_to most (read_rest n cs) ≡ None
-too_large most n cs h = by (all_digits cs)
-  where
-    by : (b : Bool) → up_to most (if b then Some (read_on n cs) else None) ≡ None
-    by true = rw (le-false most (read_on n cs) (omega (arith, read_on-grows n cs))) refl
-    by false = refl
-
-pub at_end : (most n : ℕ) → n ≤ most → up_to most (read_rest n []) ≡ Some n
-at_end most n h = rw (le-true most n h) refl
-
--- a number that is read up to a bound is within it
-up_to-bounded : (most : ℕ) (o : Option ℕ) → unwrap_or (up_to most o) 0 ≤ most
-up_to-bounded most None = omega arith
-up_to-bounded most (Some n) = by (nat_le n most) refl
-  where
-    by : (b : Bool) → nat_le n most ≡ b → unwrap_or (if b then Some n else None) 0 ≤ most
-    by true e = grind arith
-    by false e = omega arith
+-- The number of a text is within its bound.
+use Rattle.std.proofs.Common.{ℕ, ◌≤◌, List, [], ◌∷◌, if◌then◌else◌, arith}
+use Rattle.std.specs.Prelude.{◌==◌}
+use Rattle.lt_base.specs.Digits.{number_of}
+use Rattle.lt_base.proofs.Digits.{up_to-bounded}
+use Rattle.lt_words.specs.Numbers.{number_text}
 
 pub number_text-bounded : (most : ℕ) (text : List ℕ) → number_text most text ≤ most
 number_text-bounded most [] = omega arith
-number_text-bounded most (c ∷ cs) = up_to-bounded most (number_of_digits (if c == 43 then cs else c ∷ cs))
+number_text-bounded most (c ∷ cs) = up_to-bounded most (number_of (if c == 43 then cs else c ∷ cs))

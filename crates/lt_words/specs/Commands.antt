@@ -1,19 +1,12 @@
 -- The commands of the program, as `clap` sees them.
 use Rattle.std.specs.Prelude.{ℕ, ◌-◌, ◌^◌, true, [], Some, codes}
 use Rattle.clap.specs.Words.{App, Rule, Text, new_app, new_rule, with_rule, with_subcommand}
+use Rattle.lt_base.specs.Limits.{greatest_time, most_rows}
 use Rattle.clap.specs.declared.builder.value_parser.ValueParser.TheVariants as parser
-
--- the greatest time, in ticks, and so the greatest horizon
-abbrev pub greatest_time : ℕ
-greatest_time = 1000000000000000
 
 -- the greatest seed of a drawn schedule
 abbrev pub greatest_seed : ℕ
 greatest_seed = 2 ^ 64 - 1
-
--- the most instants of the large input
-abbrev pub most_instants : ℕ
-most_instants = 100000
 
 -- a text that is needed
 abbrev pub text_rule : (id : Text) → Rule
@@ -67,7 +60,7 @@ abbrev pub sim_app : App
 sim_app = with_rule (with_rule (placed_app (codes "sim")) (needed_number_rule (codes "seed") greatest_seed)) (needed_number_rule (codes "horizon") greatest_time)
 
 abbrev pub big_app : App
-big_app = with_rule (new_app (codes "big")) (counted_rule (codes "instants") most_instants)
+big_app = with_rule (new_app (codes "big")) (counted_rule (codes "instants") most_rows)
 
 -- a command of this name on a program, its inputs, a schedule and one file more
 abbrev pub replayed_app : (name file : Text) → App

@@ -5,7 +5,8 @@ use Rattle.clap.specs.Words.{Row, Text, first_of, subcommand_of, fault_of}
 use Rattle.lt_words.specs.declared.command.Command.{Command}
 use Rattle.lt_words.specs.declared.command.Command.TheVariants.{Check, Meaning, Run, Plan, Sim, Big, Watch, Audit, Trace}
 use Rattle.lt_words.specs.Numbers.{number_text}
-use Rattle.lt_words.specs.Commands.{program_app, greatest_time, greatest_seed, most_instants}
+use Rattle.lt_base.specs.Limits.{greatest_time, most_rows}
+use Rattle.lt_words.specs.Commands.{program_app, greatest_seed}
 
 -- a command and its values
 pub data Said : Type 0 where
@@ -42,7 +43,7 @@ number_at id most rows = option_map (number_text most) (first_of id rows)
 abbrev pub said_besides : (name : Text) → List Row → Said
 said_besides name rows =
     if bytes_eq name (codes "sim") then sim (text_at (codes "program") rows) (text_at (codes "inputs") rows) (text_at (codes "config") rows) (unwrap_or (number_at (codes "seed") greatest_seed rows) 0) (unwrap_or (number_at (codes "horizon") greatest_time rows) 0)
-    else if bytes_eq name (codes "big") then big (unwrap_or (number_at (codes "instants") most_instants rows) 0)
+    else if bytes_eq name (codes "big") then big (unwrap_or (number_at (codes "instants") most_rows rows) 0)
     else if bytes_eq name (codes "watch") then watch (text_at (codes "program") rows) (text_at (codes "inputs") rows) (text_at (codes "schedule") rows) (text_at (codes "observer") rows) (first_of (codes "config") rows)
     else if bytes_eq name (codes "audit") then audit (text_at (codes "program") rows) (text_at (codes "inputs") rows) (text_at (codes "schedule") rows) (text_at (codes "config") rows)
     else trace (text_at (codes "program") rows) (text_at (codes "inputs") rows) (text_at (codes "schedule") rows) (text_at (codes "config") rows) (first_of (codes "node") rows)

@@ -10,13 +10,8 @@ use crate::arguments::{
 };
 use clap::Command;
 use lt_base::Memory;
+use lt_base::limits::{GREATEST_TIME, MOST_ROWS};
 use std::alloc::Global;
-
-/// The greatest time, in ticks, and so the greatest horizon.
-pub const GREATEST_TIME: u64 = 1_000_000_000_000_000;
-
-/// The most instants of the large input.
-pub const MOST_INSTANTS: u64 = 100_000;
 
 // A command of this name that takes nothing yet.
 fn plain<'a>(alloc: Global, name: &'a str) -> Result<Command<'a>, Memory>
@@ -91,7 +86,7 @@ fn big<'a>(alloc: Global) -> Result<Command<'a>, Memory>
 {
     with_argument(
         plain(alloc, "big"),
-        count_argument(alloc, "instants", MOST_INSTANTS),
+        count_argument(alloc, "instants", MOST_ROWS as u64),
     )
 }
 

@@ -10,11 +10,12 @@ ghost use Rattle.lt_words.specs.Ranges.{HasRanges};
 ghost use Rattle.lt_words.specs.Told.{ToldCommand};
 
 use crate::Command;
-use crate::commands::{GREATEST_TIME, MOST_INSTANTS, program};
+use crate::commands::program;
 use crate::numbers::number_text;
 use clap::error::{Error, ErrorKind};
 use clap::{ArgMatches, Command as ClapCommand};
 use lt_base::Memory;
+use lt_base::limits::{GREATEST_TIME, MOST_ROWS};
 use std::alloc::Global;
 
 fn text_at<'a>(matches: &ArgMatches<'a>, id: &str) -> Option<&'a str>
@@ -144,7 +145,7 @@ fn big<'a>(matches: &ArgMatches<'a>) -> Command<'a>
     ensures ranges { HasRanges result }
 {
     Command::Big {
-        instants: number_at(matches, "instants", MOST_INSTANTS).unwrap_or(0) as u32,
+        instants: number_at(matches, "instants", MOST_ROWS as u64).unwrap_or(0) as u32,
     }
 }
 

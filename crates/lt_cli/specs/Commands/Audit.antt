@@ -12,4 +12,4 @@ use Rattle.lt_cli.specs.Answers.{AnswersText}
 -- the program, the setup, the inputs and the schedule are read: the first execution with a message too few or too many, or that there is none, or
 -- the first refusal
 abbrev pub AnswersAudit : (program inputs schedule config : List ℕ) (old new : FilesState) → Result (List ℕ) (Or Refusal) → Type 0
-AnswersAudit program inputs schedule config old new result = AnswersText audited_text (inspect_errands program inputs schedule config) (audit_verdict old.named program inputs schedule config) (alone old) (alone new) result
+AnswersAudit program inputs schedule config old new result = AnswersText audited_text (inspect_errands program inputs schedule config) (audit_verdict old.named program inputs schedule config new) (alone old) (alone new) result

@@ -3,7 +3,7 @@ use Rattle.std.specs.Prelude.{ℕ, List, [], Result}
 use Rattle.lt_base.specs.declared.memory.Or.{Or}
 use Rattle.lt_io.specs.FabricState.{FabricState}
 use Rattle.lt_io.specs.FilesState.{FilesState}
-use Rattle.lt_net_start.specs.Outside.{world}
+use Rattle.lt_answer.specs.World.{world}
 pub use Rattle.lt_big.specs.Big.{big_verdict}
 use Rattle.lt_text_answers.specs.declared.refusal.Refusal.{Refusal}
 use Rattle.lt_text_answers.specs.Replies.{summarized_text}

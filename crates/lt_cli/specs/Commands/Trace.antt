@@ -10,4 +10,4 @@ use Rattle.lt_cli.specs.Answers.{AnswersText}
 
 -- the program, the setup, the inputs and the schedule are read: a schedule of the events that are selected, or the first refusal
 abbrev pub AnswersTrace : (program inputs schedule config : List ℕ) (node : Option (List ℕ)) (from to : ℕ) (old new : FilesState) → Result (List ℕ) (Or Refusal) → Type 0
-AnswersTrace program inputs schedule config node from to old new result = AnswersText (λ text. text) (inspect_errands program inputs schedule config) (trace_verdict old.named program inputs schedule config node from to) (alone old) (alone new) result
+AnswersTrace program inputs schedule config node from to old new result = AnswersText (λ text. text) (inspect_errands program inputs schedule config) (trace_verdict old.named program inputs schedule config node from to new) (alone old) (alone new) result

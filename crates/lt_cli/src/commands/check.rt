@@ -1,7 +1,7 @@
 // `check`: a program that passes all checks, in its canonical form.
 ghost use Rattle.std.specs.Prelude.{None, Some};
 ghost use Rattle.lt_io.specs.Counts.{MayFail};
-ghost use Rattle.lt_cli.specs.Answers.{word_of};
+ghost use Rattle.lt_answer.specs.Alone.{given_word};
 ghost use Rattle.lt_cli.specs.Commands.Check.{AnswersCheck};
 
 use lt_base::{List, Or};
@@ -18,7 +18,7 @@ pub(crate) fn check<F: Files>(
     config: Option<&str>,
 ) -> Result<List<u8>, Or<Refusal>>
     requires { MayFail (F.state files.old).faults }
-    ensures { AnswersCheck program.now (word_of config.entry) (F.state files.old) (F.state files.new) result }
+    ensures { AnswersCheck program.now (given_word config.entry) (F.state files.old) (F.state files.new) result }
 {
     match config {
         Some(config) => check_with_setup(alloc, files, program, config),

@@ -3,7 +3,7 @@ ghost use Rattle.std.specs.Prelude.{◌≡◌, []};
 ghost use Rattle.lt_io.specs.Counts.{MayFail};
 ghost use Rattle.lt_io.specs.FabricState.{OpensOnce};
 ghost use Rattle.lt_run.specs.Run.{LeavesUnloaded};
-ghost use Rattle.lt_cli.specs.Answers.{word_of};
+ghost use Rattle.lt_answer.specs.Alone.{given_word};
 ghost use Rattle.lt_cli.specs.Commands.Run.{AnswersRun};
 
 use lt_base::{List, Or};
@@ -27,7 +27,7 @@ pub(crate) fn run<F: Files, W: Fabric>(
     requires empty { (W.state fabric.old).kinds ≡ [] }
     ensures answers { AnswersRun F.state W.state program.now inputs.now schedule.now config.entry files.old files.new fabric.old fabric.new result }
     ensures opens { OpensOnce (W.state fabric.old) (W.state fabric.new) result }
-    ensures untouched { LeavesUnloaded (F.state files.old) program.now inputs.now (word_of config.entry) (W.state fabric.old) (W.state fabric.new) }
+    ensures untouched { LeavesUnloaded (F.state files.old) program.now inputs.now (given_word config.entry) (W.state fabric.old) (W.state fabric.new) }
 {
     let found = lt_run::run(alloc, files, fabric, program, inputs, schedule, config);
     outputs_text(alloc, found)

@@ -1,6 +1,6 @@
 // `trace`: a schedule of the events that are selected.
 ghost use Rattle.lt_io.specs.Counts.{MayFail};
-ghost use Rattle.lt_cli.specs.Answers.{word_of};
+ghost use Rattle.lt_answer.specs.Alone.{given_word};
 ghost use Rattle.lt_cli.specs.Commands.Trace.{AnswersTrace};
 
 use lt_base::{List, Or};
@@ -21,7 +21,7 @@ pub(crate) fn trace<F: Files>(
     to: u64,
 ) -> Result<List<u8>, Or<Refusal>>
     requires { MayFail (F.state files.old).faults }
-    ensures { AnswersTrace program.now inputs.now schedule.now config.now (word_of node.entry) from to (F.state files.old) (F.state files.new) result }
+    ensures { AnswersTrace program.now inputs.now schedule.now config.now (given_word node.entry) from to (F.state files.old) (F.state files.new) result }
 {
     let text = lt_inspect::trace(
         alloc, files, program, inputs, schedule, config, node, from, to,

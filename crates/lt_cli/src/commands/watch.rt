@@ -2,8 +2,7 @@
 ghost use Rattle.std.specs.Prelude.{◌≡◌, []};
 ghost use Rattle.lt_io.specs.Counts.{MayFail};
 ghost use Rattle.lt_io.specs.FabricState.{OpensOnce};
-ghost use Rattle.lt_watch.specs.Watch.{LeavesUnwatched};
-ghost use Rattle.lt_cli.specs.Answers.{word_of};
+ghost use Rattle.lt_watch.specs.OnFiles.{LeavesUnlessWatched};
 ghost use Rattle.lt_cli.specs.Commands.Watch.{AnswersWatch};
 
 use lt_base::{List, Or};
@@ -25,9 +24,10 @@ pub(crate) fn watch<F: Files, W: Fabric>(
     requires files { MayFail (F.state files.old).faults }
     requires fabric { MayFail (W.state fabric.old).faults }
     requires empty { (W.state fabric.old).kinds ≡ [] }
-    ensures answers { AnswersWatch F.state W.state program.now inputs.now schedule.now observer.now config.entry files.old files.new fabric.old fabric.new result }
+    ensures answers { AnswersWatch F.state W.state program.now inputs.now schedule.now observer.now config.entry
+        files.old files.new fabric.old fabric.new result }
     ensures opens { OpensOnce (W.state fabric.old) (W.state fabric.new) result }
-    ensures untouched { LeavesUnwatched (F.state files.old) program.now inputs.now observer.now (word_of config.entry) (W.state fabric.old) (W.state fabric.new) }
+    ensures untouched { LeavesUnlessWatched F.state W.state program.now inputs.now observer.now config.entry files.old fabric.old fabric.new }
 {
     let watched = lt_watch::watch(
         alloc, files, fabric, program, inputs, schedule, observer, config,

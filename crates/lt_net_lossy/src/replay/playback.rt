@@ -1,6 +1,6 @@
 // A net over links that lose messages, as it takes the events of a schedule.
-ghost use Rattle.std.specs.Prelude.{◌≡◌, ◌≢◌, ◌<◌, ◌-◌, ◌^◌, IsTrue, [], List as Items, length, IfOk, MatchResult};
-ghost use Rattle.lt_schedule.specs.Taken.{IsMemoryStop, StopCounted, StopsAt, ScheduleTakesLine};
+ghost use Rattle.std.specs.Prelude.{◌≡◌, ◌≢◌, ◌<◌, ◌-◌, IsTrue, [], List as Items, length, IfOk};
+ghost use Rattle.lt_schedule.specs.Taken.{IsMemoryStop, StopCounted};
 ghost use Rattle.lt_lossy.specs.declared.event.LossyEvent.{LossyEvent as OfEvent};
 ghost use Rattle.lt_base.specs.Behaviour.{RowsFit};
 ghost use Rattle.lt_io.specs.Counts.{MayFail, LinkCounted};
@@ -14,7 +14,8 @@ ghost use Rattle.lt_net.specs.declared.fault.First.{First};
 ghost use Rattle.lt_net_lossy.specs.declared.fault.LossyFault.TheVariants.{Stopped};
 ghost use Rattle.lt_net_lossy.specs.Rules.{lossy_rules_of, IsLossyStopOf};
 ghost use Rattle.lt_net_lossy.specs.LossySound.{IsLossySound};
-ghost use Rattle.lt_net_lossy.specs.LossyPlays.{IsPlayingLossy, KeepsLossyPlay, LeavesNet};
+ghost use Rattle.lt_net_start.specs.Ends.{LeavesNet};
+ghost use Rattle.lt_net_lossy.specs.LossyPlaying.{lossy_rules_for, StandsForLossy, TakesLineLossy, KeepsLossyPlayback};
 ghost use Rattle.lt_net_lossy.specs.LossyKeeping.{long_lossy_line, lossy_keeps_itself, lossy_keeps_on};
 
 use crate::replay::feeding::read_next;
@@ -66,7 +67,7 @@ impl<'a, M: Machine> LossyPlayback<'a, M> {
         requires empty { (W.state fabric.old).kinds ≡ [] }
         ensures inputs { IfOk result (λ playback. playback.inputs.now ≡ inputs.now) }
         ensures made { IfOk result (λ playback. IsMadeOfLossy layout shape timing losses (length inputs.now.rows) machines.items playback.net.bench) }
-        ensures ready { IfOk result (λ playback. IsPlayingLossy ⟦<BackPressure as Controller>⟧ M.Machine playback.inputs.now playback.width playback.row.items [] playback.net (W.state fabric.new)) }
+        ensures ready { IfOk result (λ playback. StandsForLossy ⟦<BackPressure as Controller>⟧ M.Machine playback (W.state fabric.new) []) }
         ensures opens { OpensOnce (W.state fabric.old) (W.state fabric.new) result }
         ensures cause { LinkCounted (W.state fabric.old).faults (W.state fabric.new).faults result }
         ensures keeps { KeepsPromises (W.state fabric.old) (W.state fabric.new) }
@@ -109,11 +110,11 @@ impl<M: Machine, W: Fabric> Replica<W> for LossyPlayback<'_, M> {
 
     type Offence = LossyOffence;
 
-    ghost rules = { λ a. lossy_rules_of a.net.bench.shape a.net.bench.timing a.net.bench.watch.limit a.net.bench.rows };
+    ghost rules = { λ a. lossy_rules_for a };
 
-    ghost stands = { λ a w steps before. IsPlayingLossy ⟦<BackPressure as Controller>⟧ M.Machine a.inputs.now a.width a.row.items before a.net (W.state w) };
+    ghost stands = { λ a w steps before. StandsForLossy ⟦<BackPressure as Controller>⟧ M.Machine a (W.state w) before };
 
-    ghost keeps = { λ a v b w. KeepsLossyPlay a.net b.net a.inputs.now.rows b.inputs.now.rows (W.state v) (W.state w) };
+    ghost keeps = { λ a v b w. KeepsLossyPlayback a b (W.state v) (W.state w) };
 
     ghost faults = { λ w. (W.state w).faults };
 
@@ -127,16 +128,14 @@ impl<M: Machine, W: Fabric> Replica<W> for LossyPlayback<'_, M> {
         steps: &mut Steps<L>,
     ) -> Result<(), Stop<LossyOffence>>
         requires count { MayFail (W.state outside.old).faults }
-        requires stands { (before : Items OfEvent) × IsPlayingLossy ⟦<BackPressure as Controller>⟧ M.Machine self.old.inputs.now self.old.width self.old.row.items before self.old.net (W.state outside.old) }
+        requires stands { (before : Items OfEvent) × StandsForLossy ⟦<BackPressure as Controller>⟧ M.Machine self.old (W.state outside.old) before }
         ensures cause { StopCounted (W.state outside.old).faults (W.state outside.new).faults result }
         ensures prompt { ⊥ → ¬ IsMemoryStop result }
-        ensures keeps { KeepsLossyPlay self.old.net self.new.net self.old.inputs.now.rows self.new.inputs.now.rows (W.state outside.old) (W.state outside.new) }
-        ensures takes { (before : Items OfEvent) → IsPlayingLossy ⟦<BackPressure as Controller>⟧ M.Machine self.old.inputs.now self.old.width self.old.row.items before self.old.net (W.state outside.old) → MatchResult result
-            (λ _. ScheduleTakesLine (lossy_rules_of self.old.net.bench.shape self.old.net.bench.timing self.old.net.bench.watch.limit self.old.net.bench.rows) line.now (λ after. IsPlayingLossy ⟦<BackPressure as Controller>⟧ M.Machine self.new.inputs.now self.new.width self.new.row.items after self.new.net (W.state outside.new)) before)
-            (StopsAt (lossy_rules_of self.old.net.bench.shape self.old.net.bench.timing self.old.net.bench.watch.limit self.old.net.bench.rows) line.now before) }
+        ensures keeps { KeepsLossyPlayback self.old self.new (W.state outside.old) (W.state outside.new) }
+        ensures takes { TakesLineLossy ⟦<BackPressure as Controller>⟧ M.Machine self.old self.new line.now (W.state outside.old) (W.state outside.new) result }
 
         // A line that is refused leaves the net as it was; a failed call or want of memory has stopped it.
-        ensures leaves { LeavesNet self.old.net self.new.net result }
+        ensures leaves { LeavesNet self.old.net self.new.net self.new.net.stopped result }
     {
         match read_row(&self.places, line, self.net.shape()) {
             Err(fault) => Err(Stop::Row(fault)),
@@ -163,7 +162,8 @@ impl<M: Machine, W: Fabric> Replica<W> for LossyPlayback<'_, M> {
 
     ghost keeps_same = { λ r w. lossy_keeps_itself r.net r.inputs.now.rows (W.state w) };
 
-    ghost keeps_on = { λ a u b v c w x y. lossy_keeps_on a.net b.net c.net a.inputs.now.rows b.inputs.now.rows c.inputs.now.rows (W.state u) (W.state v) (W.state w) x y };
+    ghost keeps_on = { λ a u b v c w x y.
+        lossy_keeps_on a.net b.net c.net a.inputs.now.rows b.inputs.now.rows c.inputs.now.rows (W.state u) (W.state v) (W.state w) x y };
 
     ghost keeps_rules = { λ a v b w x. λ i. lossy_rules_of (x.fixed.shape i) (x.fixed.timing i) (x.fixed.limit i) (x.fixed.rows i) };
 

@@ -1,9 +1,10 @@
 // A whole schedule file.
-ghost use Rattle.std.specs.Prelude.{◌≡◌, ◌<◌, ◌-◌, ◌^◌, ℕ, [], Some, OnOk};
+ghost use Rattle.std.specs.Prelude.{◌≡◌, ◌<◌, ◌-◌, ℕ, [], Some, OnOk};
 ghost use Rattle.lt_io.specs.Counts.{MayFail};
 ghost use Rattle.lt_rows.specs.Lines.{fresh_lines};
-ghost use Rattle.lt_net_lossy.specs.LossyPlays.{IsPlayingLossy, FinishesBy};
-ghost use Rattle.lt_net_lossy.specs.LossyReplays.{HasLossyPlayed};
+ghost use Rattle.lt_net_start.specs.Ends.{FinishesBy, played_by};
+ghost use Rattle.lt_net_lossy.specs.LossyPlays.{IsTakenFrom};
+ghost use Rattle.lt_net_lossy.specs.LossyPlaying.{StandsForLossy, HasTakenLossy};
 
 use crate::LossyNet;
 use crate::replay::playback::LossyPlayback;
@@ -34,8 +35,8 @@ pub(crate) fn play<F: Files, W: Fabric, M: Machine>(
     requires count { MayFail (F.state files.old).faults }
     requires link_count { MayFail (W.state fabric.old).faults }
     requires fresh { lines.old ≡ fresh_lines }
-    requires ready { IsPlayingLossy ⟦<BackPressure as Controller>⟧ M.Machine playback.inputs.now playback.width playback.row.items [] playback.net (W.state fabric.old) }
-    ensures { HasLossyPlayed M.Machine playback.entry.net.bench.layout playback.entry.net.bench.shape playback.entry.net.bench.timing playback.entry.net.bench.watch.limit playback.entry.inputs.now.rows name.now
+    requires ready { StandsForLossy ⟦<BackPressure as Controller>⟧ M.Machine playback (W.state fabric.old) [] }
+    ensures { HasTakenLossy M.Machine playback.entry name.now
         (F.state files.old) (F.state files.new) (W.state fabric.old) (W.state fabric.new) result }
 {
     let mut playback = playback;
@@ -51,7 +52,7 @@ fn finish<M: Machine>(
     answer: Result<(), Halt<LossyOffence>>,
 ) -> Result<Replayed<M>, Or<PlayFault<LossyOffence>>>
     requires { OnOk answer ((h : ℕ) × (net.bench.watch.horizon ≡ Some h)) }
-    ensures { FinishesBy net.bench answer result }
+    ensures { FinishesBy (IsTakenFrom net.bench) (played_by answer) result }
 {
     match answer {
         Ok(()) => take(alloc, net),

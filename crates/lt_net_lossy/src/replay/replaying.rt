@@ -1,5 +1,5 @@
 // A network over links that lose messages, from its layout to what its outputs show.
-ghost use Rattle.std.specs.Prelude.{◌≡◌, ◌<◌, ◌≤◌, ◌-◌, ◌^◌, [], length};
+ghost use Rattle.std.specs.Prelude.{◌≡◌, ◌<◌, ◌≤◌, ◌-◌, [], length};
 ghost use Rattle.lt_io.specs.Counts.{MayFail};
 ghost use Rattle.lt_base.specs.Behaviour.{RowsFit};
 ghost use Rattle.lt_arch.specs.declared.timing.Protocol.TheVariants.{BackPressure};
@@ -11,7 +11,7 @@ ghost use Rattle.lt_place.specs.Layout.{IsPlaced};
 ghost use Rattle.lt_net_node.specs.Channels.{IsShapeOf};
 ghost use Rattle.lt_net_bench.specs.Starts.{AreReady};
 ghost use Rattle.lt_net_lossy.specs.LossySound.{IsLossySound};
-ghost use Rattle.lt_net_lossy.specs.LossyReplays.{HasLossyReplayed};
+ghost use Rattle.lt_net_lossy.specs.LossyReplays.{ReplaysLossy};
 
 use crate::replay::playback::LossyPlayback;
 use crate::replay::playing::play;
@@ -47,7 +47,7 @@ fn perform<F: Files, W: Fabric, M: Machine>(
     requires machines { AreReady M.Machine setup.layout (length inputs.now.rows) machines.items }
     requires width { inputs.now.width ≡ width }
     requires wide { HasRowValues width inputs.now.rows }
-    ensures { HasLossyReplayed M.Machine setup.layout setup.shape setup.timing losses inputs.now.rows schedule.now
+    ensures { ReplaysLossy M.Machine setup losses inputs.now schedule.now
         (F.state files.old) (F.state files.new) (W.state fabric.old) (W.state fabric.new) result }
 {
     let started = LossyPlayback::start(
@@ -95,7 +95,7 @@ pub fn replay_lossy<F: Files, W: Fabric, M: Machine>(
     requires width { inputs.now.width ≡ width }
     requires wide { HasRowValues width inputs.now.rows }
     requires machines { AreReady M.Machine setup.layout (length inputs.now.rows) machines.items }
-    ensures { HasLossyReplayed M.Machine setup.layout setup.shape setup.timing losses inputs.now.rows schedule.now
+    ensures { ReplaysLossy M.Machine setup losses inputs.now schedule.now
         (F.state files.old) (F.state files.new) (W.state fabric.old) (W.state fabric.new) result }
 {
     shapes_fit();

@@ -1,6 +1,7 @@
 // What is taken from a net at the end of a schedule.
 ghost use Rattle.std.specs.Prelude.{◌≡◌, ℕ, Some, Ok};
-ghost use Rattle.lt_net_lossy.specs.LossyPlays.{FinishesBy};
+ghost use Rattle.lt_net_start.specs.Ends.{FinishesBy};
+ghost use Rattle.lt_net_lossy.specs.LossyPlays.{IsTakenFrom};
 
 use crate::LossyNet;
 use lt_base::Or;
@@ -16,7 +17,7 @@ pub(crate) fn take<M: Machine>(
     net: LossyNet<M>,
 ) -> Result<Replayed<M>, Or<PlayFault<LossyOffence>>>
     requires { (h : ℕ) × (net.bench.watch.horizon ≡ Some h) }
-    ensures { FinishesBy net.bench (Ok tt) result }
+    ensures { FinishesBy (IsTakenFrom net.bench) (Ok tt) result }
 {
     match net.reached() {
         Some(horizon) => {

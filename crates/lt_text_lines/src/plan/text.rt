@@ -3,12 +3,11 @@ ghost use Rattle.std.specs.Prelude.{◌≡◌, ◌≤◌, ◌<◌, ◌++◌, ◌
 ghost use Rattle.lt_arch.specs.Placement.{node_names};
 ghost use Rattle.lt_text_lines.specs.PlanText.{plan_line, countdown_lines, cycle_lines, node_lines, bound_lines, titles_of, title_at, titled, plan_of};
 
-use crate::plan::numbers::{back_pressure_bound, back_pressure_cycle, least_bound, least_cycle};
-use itoa::Buffer;
+use crate::plan::numbers::{least_bound, least_cycle};
 use lt_arch::Timing;
-use lt_base::{List, Memory, Name};
+use lt_base::{List, Memory, Name, append_number};
 use lt_config::Config;
-use lt_timing::least;
+use lt_timing::{back_pressure_bound, back_pressure_cycle, least};
 use std::alloc::Global;
 
 /// The text of a setup's plan: the least countdowns and the cycles of both protocols and, with a horizon in ticks, their
@@ -19,9 +18,9 @@ pub fn plan_text(alloc: Global, config: &Config, horizon: Option<u64>) -> Result
 {
     let titles = titles_of(alloc, config)?;
     let mut text = List::new(alloc);
-    append_numbers(&config.timing, titles.as_slice(), &mut text)?;
+    append_numbers(&config.timing, &titles, &mut text)?;
     if let Some(horizon) = horizon {
-        append_bounds(&config.timing, titles.as_slice(), horizon, &mut text)?;
+        append_bounds(&config.timing, &titles, horizon, &mut text)?;
     }
     Ok(text)
 }
@@ -33,7 +32,7 @@ fn titles_of(alloc: Global, config: &Config) -> Result<List<Name>, Memory>
 {
     if config.mixed {
         let names = config.placement.names(alloc)?;
-        spaced_names(alloc, names.as_slice())
+        spaced_names(alloc, &names)
     } else {
         no_title(alloc)
     }
@@ -148,6 +147,6 @@ fn append_line(text: &mut List<u8>, title: &Name, label: &str, number: u128) -> 
 {
     text.extend(title.as_str().as_bytes())?;
     text.extend(label.as_bytes())?;
-    text.extend(Buffer::new().format(number).as_bytes())?;
+    append_number(text, number)?;
     text.extend(b"\n")
 }

@@ -1,7 +1,8 @@
 use Rattle.std.proofs.Common.{◌<◌, length, arith, slice_index_or}
 use Rattle.lt_link.specs.Ports.{is_from}
-use Rattle.lt_audit.proofs.Lines.{same_lines, room_made, one_more}
-use Rattle.lt_audit.proofs.NodeLoops.{roomy_first, roomy_here, roomy_onward}
+use Rattle.lt_audit.specs.Acts.{HasFullLine}
+use Rattle.lt_audit.proofs.Lines.{same_lines, room_made, one_more, full_before, on_any}
+use Rattle.lt_audit.proofs.NodeLoops.{leads_here, roomy_first, roomy_here, roomy_onward}
 use Rattle.lt_audit.proofs.sending.make_room_on.Goals as goal
 
 pub loop-number-init : goal.loop-number-init
@@ -32,3 +33,19 @@ loop-number-preserved c =
       room_made old _ so_far.0 x _ _ below c.index_mut.ensures.value c.make_room.ensures.same c.make_room.ensures.grows,
       one_more old _ so_far.0 x _ _ below c.index_mut.ensures.value c.make_room.ensures.same c.make_room.ensures.grows (is_from cs c.args.node c.args.kind) so_far.1 c.in_ok-make_room.ensures.room,
     )
+
+pub returns-in_err-make_room-clause-full : goal.returns-in_err-make_room-clause-full
+returns-in_err-make_room-clause-full c =
+    let xs = c.outgoing-numbers.result.now in
+    let old = c.args.lines.now.items in
+    let i = c.loop-number.number-index in
+    let x = slice_index_or xs i 0 in
+    let within = c.outgoing-numbers.ensures.within i c.loop-number-test.true in
+    let below : x < length old = omega (arith, within, c.requires.lines) in
+    let found : HasFullLine c.args.wiring.now.channels old c.args.node = record {
+      chan = x;
+      within = within;
+      leads = leads_here c.args.wiring.now.channels c.args.node c.args.kind xs c.outgoing-numbers.ensures.are i c.loop-number-test.true;
+      full = full_before old _ c.loop-number.invariant.0 x _ below c.index_mut.ensures.value c.in_err-make_room.ensures.full;
+    } in
+    on_any c.from_residual.result found

@@ -3,5 +3,5 @@ use Rattle.std.proofs.Common.{length, slice_index_or}
 use Rattle.lt_audit.specs.Acts.{SentBelow, is_sent_on, audited_chan}
 use Rattle.lt_audit.proofs.sending.send_all.Given as goal
 
-abbrev pub invariant-loop-i : goal.invariant-loop-i
-invariant-loop-i g l = SentBelow (λ c. is_sent_on l.protocol l.node l.deed (audited_chan l.channels c)) l.at (slice_index_or l.numbers l.i (length l.channels)) l.fn.lines.items l.lines.items l.fn.watch l.watch
+abbrev pub invariant-loop-number : goal.invariant-loop-number
+invariant-loop-number g l = SentBelow (λ c. is_sent_on l.protocol l.node l.deed (audited_chan l.channels c)) l.at (slice_index_or l.numbers l.number-index (length l.channels)) l.fn.lines.items l.lines.items l.fn.watch l.watch

@@ -3,7 +3,7 @@ use Rattle.std.specs.Prelude.{codes}
 use Rattle.lt_io.specs.MemFiles.{mem_files_state}
 use Rattle.lt_io.specs.declared.mem_files.MemFile.{MemFile}
 use Rattle.lt_answer.proofs.Stages.{runs_short_by}
-use Rattle.lt_net_start.specs.Outside.{world}
+use Rattle.lt_answer.specs.World.{world}
 use Rattle.lt_big.proofs.Held.{plays_held}
 use Rattle.lt_big.proofs.playing.play.Goals as goal
 

@@ -1,6 +1,6 @@
 use Rattle.std.proofs.Common.{map}
 use Rattle.std.specs.Prelude.{string_bytes}
-use Rattle.lt_net_start.specs.Outside.{world}
+use Rattle.lt_answer.specs.World.{world}
 use Rattle.lt_cli.proofs.Asking.{some_asked, none_asked, not_read}
 use Rattle.lt_cli.proofs.top.perform.Goals as goal
 

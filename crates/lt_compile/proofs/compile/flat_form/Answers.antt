@@ -6,7 +6,7 @@ use Rattle.lt_front.proofs.Flattens.{flat_if, keeps_if}
 use Rattle.lt_compile.proofs.compile.flat_form.Goals as goal
 
 pub into_normal-requires-clause-room : goal.into_normal-requires-clause-room
-into_normal-requires-clause-room c = let same = c.in_ok-whole.ensures.keeps.weight in let few = c.checked.invariant.within.weight in omega (arith, same, few)
+into_normal-requires-clause-room c = let same = c.in_ok-whole.ensures.keeps.weight in let few = c.checked.invariant.within.0 in omega (arith, same, few)
 
 pub returns-clause-form : goal.returns-clause-form
 returns-clause-form c =
@@ -19,4 +19,4 @@ returns-clause-keeps c =
     (keeps_if c.checked.inside.program c.in_ok-whole.whole c.in_ok-whole.ensures.form c.in_ok-whole.ensures.keeps c.invariant_holds-2.ensures c.checked.invariant.checked c.checked.invariant.within c.into_normal.result c.into_normal.ensures.form c.into_normal.ensures.keeps)
 
 pub expand_within-requires-clause-within : goal.expand_within-requires-clause-within
-expand_within-requires-clause-within c = (c.checked.invariant.within.weight, c.checked.invariant.within.parts)
+expand_within-requires-clause-within c = c.checked.invariant.within

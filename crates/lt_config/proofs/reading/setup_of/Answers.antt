@@ -31,4 +31,4 @@ invariant_of-result c =
 pub pace_of-pace-requires-clause-few : goal.pace_of-pace-requires-clause-few
 pace_of-pace-requires-clause-few c =
     let t = table_view c.args.table.now in
-    rw (c.as_slice.ensures, c.in_ok-named.ensures) (good_nodes t (no_fault t c.requires)).few
+    rw (c.deref.ensures, c.in_ok-named.ensures) (good_nodes t (no_fault t c.requires)).few

@@ -1,7 +1,8 @@
 use Rattle.std.proofs.Common.{◌≡◌, ◌≤◌, Ok, ap, subst}
 use Rattle.lt_base.specs.Program.{WholeProgram}
 use Rattle.lt_front.specs.Examined.{ExaminedText}
-use Rattle.lt_meaning.specs.Streams.{cell_count, most_cells}
+use Rattle.lt_base.specs.Limits.{most_cells}
+use Rattle.lt_base.specs.Main.{cell_count}
 use Rattle.lt_evaluate.specs.Main.{output_streams}
 use Rattle.lt_evaluate.specs.Meaning.{PrintsOutputs}
 use Rattle.lt_evaluate.proofs.Showing.{cells_stop, cells_shown, streams_at}

@@ -1,4 +1,4 @@
-use Rattle.std.proofs.Common.{◌≡◌, ◌≤◌, ◌+◌, length, take}
+use Rattle.std.proofs.Common.{◌≡◌, ◌≤◌, ◌+◌, ◌*◌, length, take}
 use Rattle.lt_evaluate.specs.Columns.{HasColumns}
 use Rattle.lt_evaluate.proofs.streaming.take_rows.Given as goal
 
@@ -9,4 +9,7 @@ invariant-loop-k g l = record {
   values : length l.values.items ≡ l.function.n_in;
   outs : length l.outs.items ≡ length l.function.outs;
   columns : HasColumns l.function (take l.k l.inputs.rows) l.columns.items;
+  made : g.M.Machine.made l.machine ≡ l.k;
+  size : g.M.Machine.size l.machine ≡ g.M.Machine.size l.fn.machine;
+  ticks : l.steps ≤ l.fn.steps + g.M.Machine.size l.fn.machine * l.k;
 }

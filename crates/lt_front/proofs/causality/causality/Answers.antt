@@ -8,8 +8,8 @@ use Rattle.lt_front.proofs.causality.causality.Goals as goal
 
 pub returns-in-Err : goal.returns-in-Err
 returns-in-Err c =
-    let items = c.as_slice-f-items.result.now in
-    let same : items ≡ c.args.p.now.funcs = c.as_slice-f-items.ensures ∙ ap (λ (p : WholeProgram). p.funcs) c.p.view_is in
+    let items = c.deref-f-items.result.now in
+    let same : items ≡ c.args.p.now.funcs = c.deref-f-items.ensures ∙ ap (λ (p : WholeProgram). p.funcs) c.p.view_is in
     first_circle c.args.p.now c.loop-number.number _ _ c.of_function.ensures
     (λ cycle is.
     record {
@@ -22,5 +22,5 @@ returns-in-Err c =
 
 pub returns : goal.returns
 returns c =
-    let same = c.as_slice-f-items.ensures ∙ ap (λ (p : WholeProgram). p.funcs) c.p.view_is in
-    subst (All Causal) (take_all c.loop-number.number c.as_slice-f-items.result.now c.loop-number-test.false ∙ same) c.loop-number.invariant
+    let same = c.deref-f-items.ensures ∙ ap (λ (p : WholeProgram). p.funcs) c.p.view_is in
+    subst (All Causal) (take_all c.loop-number.number c.deref-f-items.result.now c.loop-number-test.false ∙ same) c.loop-number.invariant

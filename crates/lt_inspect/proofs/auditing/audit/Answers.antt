@@ -1,19 +1,28 @@
-use Rattle.std.proofs.Common.{None}
+use Rattle.std.proofs.Common.{◌∙◌, None}
+use Rattle.lt_load.proofs.Elsewhere.{answered_near, near_error, near_names}
 use Rattle.lt_load.proofs.Steps.{counts_on}
 use Rattle.lt_inspect.specs.Scenes.{scene_verdict}
-use Rattle.lt_inspect.specs.Inspected.{IsAudited, audit_verdict}
+use Rattle.lt_inspect.specs.Inspected.{IsAudited, ordered_audit_verdict}
+use Rattle.lt_inspect.proofs.Elsewhere.{not_scened_near}
 use Rattle.lt_inspect.proofs.Told.{no_scene, over_scene}
 use Rattle.lt_inspect.proofs.auditing.audit.Goals as goal
 
 pub returns-in_err-scene : goal.returns-in_err-scene
-unfolding audit_verdict
+unfolding ordered_audit_verdict
 returns-in_err-scene g c =
-    no_scene IsAudited None (scene_verdict (g.F.Files.state c.args.files.now).named c.args.program.now c.args.inputs.now c.args.config.now None) c.args.schedule.now _ _ _ _ c.from_residual.ensures.1 c.in_err-scene.ensures
+    let named = (g.F.Files.state c.args.files.now).named in
+    answered_near _ _ (ordered_audit_verdict named c.args.program.now c.args.inputs.now c.args.schedule.now c.args.config.now) _ _ _
+    (no_scene IsAudited None (scene_verdict named c.args.program.now c.args.inputs.now c.args.config.now None) c.args.schedule.now _ _ _ _ c.from_residual.ensures.1 c.in_err-scene.ensures)
+    (λ told. near_error _ _ _ _ c.from_residual.ensures.1 (not_scened_near c.args.program.now c.args.inputs.now c.args.config.now None _ _ _ _ told _ c.in_err-scene.ensures))
 
 pub audit_scene-requires : goal.audit_scene-requires
 audit_scene-requires g c = counts_on _ _ c.in_ok-scene.ensures.cause.files c.requires
 
 pub returns : goal.returns
-unfolding audit_verdict
+unfolding ordered_audit_verdict
 returns g c =
-    over_scene IsAudited None (scene_verdict (g.F.Files.state c.args.files.now).named c.args.program.now c.args.inputs.now c.args.config.now None) c.args.schedule.now _ _ c.in_ok-scene.scene _ _ c.in_ok-scene.ensures c.audit_scene.ensures
+    let named = (g.F.Files.state c.args.files.now).named in
+    let first = c.in_ok-scene.ensures in
+    answered_near _ _ (ordered_audit_verdict named c.args.program.now c.args.inputs.now c.args.schedule.now c.args.config.now) _ _ _
+    (over_scene IsAudited None (scene_verdict named c.args.program.now c.args.inputs.now c.args.config.now None) c.args.schedule.now _ _ c.in_ok-scene.scene _ _ first c.audit_scene.ensures.answered)
+    (λ told. near_names _ _ c.args.schedule.now _ _ first.keeps.files.named (c.audit_scene.ensures.near (first.keeps.files.told ∙ told)))

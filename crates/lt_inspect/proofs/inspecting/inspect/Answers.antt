@@ -2,6 +2,8 @@ use Rattle.std.proofs.Common.{◌∙◌, subst}
 use Rattle.lt_arch.specs.declared.shape.Shape.{Shape}
 use Rattle.lt_answer.proofs.Stages.{runs_short_by}
 use Rattle.lt_inspect.specs.Inspecting.{AsFault, IsInspected}
+use Rattle.lt_load.proofs.Elsewhere.{near_error}
+use Rattle.lt_inspect.proofs.Elsewhere.{near_halted}
 use Rattle.lt_inspect.proofs.Outcome.{took, halted}
 use Rattle.lt_inspect.proofs.inspecting.inspect.Goals as goal
 
@@ -23,3 +25,9 @@ returns-in-Err-clause-answered g c =
 
 pub returns-in_err-lines-clause-answered : goal.returns-in_err-lines-clause-answered
 returns-in_err-lines-clause-answered g c = runs_short_by _ _ c.from_residual.ensures.1
+
+pub returns-in-Err-clause-near : goal.returns-in-Err-clause-near
+returns-in-Err-clause-near g c = near_halted _ _ _ _ _ c.in-Err.halt c.as_fault.result c.as_fault.ensures c.in-Err.ensures.judged
+
+pub returns-in_err-lines-clause-near : goal.returns-in_err-lines-clause-near
+returns-in_err-lines-clause-near g c = λ told. near_error _ _ _ _ c.from_residual.ensures.1 tt

@@ -4,8 +4,8 @@ use Rattle.lt_lead.proofs.shaping.lead_shape.Goals as goal
 
 made : (c : goal.In_ok-channels) → Makes c.in_ok-nodes.nodes c.in_ok-channels.channels
 made c =
-    makes c.requires.placed.0 c.args.layout.now c.requires.placed.1 c.args.leader c.in_ok-nodes.nodes c.as_slice.result.now c.len-count.result c.in_ok-channels.channels
-    c.names_differ.ensures c.in_ok-nodes.ensures c.as_slice.ensures c.len-count.ensures c.in_ok-channels.ensures
+    makes c.requires.placed.0 c.args.layout.now c.requires.placed.1 c.args.leader c.in_ok-nodes.nodes c.deref.result.now c.len-count.result c.in_ok-channels.channels
+    c.names_differ.ensures c.in_ok-nodes.ensures c.deref.ensures c.len-count.ensures c.in_ok-channels.ensures
 
 pub invariant_of-result-clause-inhabited : goal.invariant_of-result-clause-inhabited
 invariant_of-result-clause-inhabited c = (made c).names_are.inhabited

@@ -39,7 +39,7 @@ returns-in_err-bytes g c =
 pub returns : goal.returns
 unfolding config_verdict
 returns g c =
-    let bytes = c.as_slice.result.now in
+    let bytes = c.deref.result.now in
     last_step command_blame (whole_verdict ConfigBytes ((g.F.Files.state c.args.files.now).named c.args.name.now)) (λ names bytes. read_verdict bytes) _ _ c.in_ok-bytes.bytes c.raise_fault.result
     c.in_ok-bytes.ensures.answered (read_content c.in_ok-bytes.bytes)
-    (read_at bytes _ c.as_slice.ensures c.raise_fault.result (raised_answer (λ e. fault.Config e) (setup_verdict bytes) c.read_config.result c.raise_fault.result (found bytes c.read_config.result c.read_config.ensures) c.raise_fault.ensures))
+    (read_at bytes _ c.deref.ensures c.raise_fault.result (raised_answer (λ e. fault.Config e) (setup_verdict bytes) c.read_config.result c.raise_fault.result (found bytes c.read_config.result c.read_config.ensures) c.raise_fault.ensures))

@@ -45,4 +45,4 @@ returns g c =
     of_steps ((g.F.Files.state c.args.files.now).named c.args.name.now) _ _ c.raise_fault.result
     (last_step command_blame (whole_verdict ProgramBytes ((g.F.Files.state c.args.files.now).named c.args.name.now)) (λ names bytes. read_verdict bytes) _ _ c.in_ok-bytes.bytes c.raise_fault.result
     c.in_ok-bytes.ensures.answered (read_content c.in_ok-bytes.bytes)
-    (read_at _ _ c.as_slice.ensures c.raise_fault.result (raised_answer (λ e. fault.Program e) (front_verdict c.as_slice.result.now) c.compile_program.result c.raise_fault.result c.compile_program.ensures c.raise_fault.ensures)))
+    (read_at _ _ c.deref.ensures c.raise_fault.result (raised_answer (λ e. fault.Program e) (front_verdict c.deref.result.now) c.front.result c.raise_fault.result c.front.ensures c.raise_fault.ensures)))

@@ -14,7 +14,7 @@ use Rattle.lt_load_fit.specs.declared.fault.What.TheVariants.{InputsBytes}
 use Rattle.lt_load_fit.specs.declared.fault.CommandFault.{CommandFault}
 use Rattle.lt_load_fit.specs.declared.fault.CommandFault.TheVariants as fault
 use Rattle.lt_load_fit.specs.Main.{main_in}
-use Rattle.lt_meaning.specs.Streams.{InputsFitMain}
+use Rattle.lt_base.specs.Main.{InputsFitMain}
 use Rattle.lt_load.specs.Blamed.{command_blame}
 use Rattle.lt_load.specs.Loaded.{whole_verdict, inputs_verdict}
 use Rattle.lt_load.proofs.Mains.{inputs_fit}
@@ -52,11 +52,11 @@ returns-in_err-bytes-clause-answered g c =
 pub returns-clause-answered : goal.returns-clause-answered
 unfolding inputs_verdict
 returns-clause-answered g c =
-    let bytes = c.as_slice.result.now in
+    let bytes = c.deref.result.now in
     let main = c.main_of.result.now in
     last_step command_blame (whole_verdict InputsBytes ((g.F.Files.state c.args.files.now).named c.args.name.now)) (λ names bytes. read_verdict (main_in c.args.program.now) bytes) _ _ c.in_ok-bytes.bytes c.raise_fault.result
     c.in_ok-bytes.ensures.answered (read_content c.args.program.now c.in_ok-bytes.bytes)
-    (read_at main _ c.main_of.ensures bytes _ c.as_slice.ensures c.raise_fault.result
+    (read_at main _ c.main_of.ensures bytes _ c.deref.ensures c.raise_fault.result
     (raised_answer (λ e. fault.Inputs e) (Exactly (inputs_of main bytes)) c.read_inputs.result c.raise_fault.result (found main bytes c.read_inputs.result c.read_inputs.ensures.told) c.raise_fault.ensures))
 
 pub returns-clause-fit : goal.returns-clause-fit

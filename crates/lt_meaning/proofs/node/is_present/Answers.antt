@@ -8,16 +8,16 @@ use Rattle.lt_meaning.proofs.node.is_present.Goals as goal
 pub returns-then-not-is_that : goal.returns-then-not-is_that
 returns-then-not-is_that c =
     let env = entry c.args.cells.now in
-    let items = c.as_slice-c-items.result.now in
+    let items = c.deref-c-items.result.now in
     let pair = get_or items c.loop-c.c-index (0, false) in
-    let is : reverse items ≡ c.args.clock.now = ap reverse c.as_slice-c-items.ensures ∙ c.clock.view_is in
+    let is : reverse items ≡ c.args.clock.now = ap reverse c.deref-c-items.ensures ∙ c.clock.view_is in
     let fails : is_truth (env pair.0) pair.1 ≡ false = ap (λ v. is_truth v pair.1) (sym c.at.ensures) ∙ sym c.is_that.ensures ∙ c.if-not-is_that.true in
     sym (ap (present env) (sym is) ∙ present_fails env items c.loop-c.c-index (0, false) c.loop-c-test.true fails)
 
 pub loop-c-preserved : goal.loop-c-preserved
 loop-c-preserved c =
     let env = entry c.args.cells.now in
-    let items = c.as_slice-c-items.result.now in
+    let items = c.deref-c-items.result.now in
     let pair = get_or items c.loop-c.c-index (0, false) in
     let holds : is_truth (env pair.0) pair.1 ≡ true = ap (λ v. is_truth v pair.1) (sym c.at.ensures) ∙ sym c.is_that.ensures ∙ c.if-not-is_that.false in
     ap (λ n. present env (reverse (take n items))) (add-one c.loop-c.c-index)
@@ -27,7 +27,7 @@ loop-c-preserved c =
 pub returns : goal.returns
 returns c =
     let env = entry c.args.cells.now in
-    let items = c.as_slice-c-items.result.now in
-    let is : reverse items ≡ c.args.clock.now = ap reverse c.as_slice-c-items.ensures ∙ c.clock.view_is in
+    let items = c.deref-c-items.result.now in
+    let is : reverse items ≡ c.args.clock.now = ap reverse c.deref-c-items.ensures ∙ c.clock.view_is in
     let all : take c.loop-c.c-index items ≡ items = take_all c.loop-c.c-index items c.loop-c-test.false in
     sym c.loop-c.invariant ∙ ap (λ (l : ClockPairs). present env (reverse l)) all ∙ ap (present env) is

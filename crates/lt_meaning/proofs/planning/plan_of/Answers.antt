@@ -25,50 +25,50 @@ order_of-requires-clause-variables c = c.requires.numbers.variables
 pub order_of-requires-clause-equations : goal.order_of-requires-clause-equations
 order_of-requires-clause-equations c = c.requires.numbers.equations
 
-pub bounds-as_slice-k : goal.bounds-as_slice-k
-bounds-as_slice-k c =
+pub bounds-deref-k : goal.bounds-deref-k
+bounds-deref-k c =
     let f = c.args.f.now in
-    let items = c.as_slice-k-items.result.now in
-    let is : IsOrder f items = subst (IsOrder f) (sym c.as_slice-k-items.ensures) c.in_ok-order.ensures.order in
-    let ordered : Ordered f (order_place f items) = subst (λ (o : List ℕ). Ordered f (order_place f o)) (sym c.as_slice-k-items.ensures) c.in_ok-order.ensures.places in
+    let items = c.deref-k-items.result.now in
+    let is : IsOrder f items = subst (IsOrder f) (sym c.deref-k-items.ensures) c.in_ok-order.ensures.order in
+    let ordered : Ordered f (order_place f items) = subst (λ (o : List ℕ). Ordered f (order_place f o)) (sym c.deref-k-items.ensures) c.in_ok-order.ensures.places in
     let at = slice_get-get_or items c.loop-k.k-index 0 c.loop-k-test.true in
     let l = number_inside f c.invariant_holds.ensures items is ordered c.loop-k.k-index (get_or items c.loop-k.k-index 0) at in
-    let size = ap length c.as_slice.ensures ∙ ap (λ (f : Function). length f.eqs) c.f.view_is in
+    let size = ap length c.deref.ensures ∙ ap (λ (f : Function). length f.eqs) c.f.view_is in
     omega (arith, l, size)
 
 pub set-requires : goal.set-requires
 set-requires c =
     let f = c.args.f.now in
-    let items = c.as_slice-k-items.result.now in
-    let is : IsOrder f items = subst (IsOrder f) (sym c.as_slice-k-items.ensures) c.in_ok-order.ensures.order in
-    let ordered : Ordered f (order_place f items) = subst (λ (o : List ℕ). Ordered f (order_place f o)) (sym c.as_slice-k-items.ensures) c.in_ok-order.ensures.places in
+    let items = c.deref-k-items.result.now in
+    let is : IsOrder f items = subst (IsOrder f) (sym c.deref-k-items.ensures) c.in_ok-order.ensures.order in
+    let ordered : Ordered f (order_place f items) = subst (λ (o : List ℕ). Ordered f (order_place f o)) (sym c.deref-k-items.ensures) c.in_ok-order.ensures.places in
     let at = slice_get-get_or items c.loop-k.k-index 0 c.loop-k-test.true in
     let k = get_or items c.loop-k.k-index 0 in
     let l = number_inside f c.invariant_holds.ensures items is ordered c.loop-k.k-index k at in
-    let same = c.as_slice.ensures ∙ ap (λ (f : Function). f.eqs) c.f.view_is in
+    let same = c.deref.ensures ∙ ap (λ (f : Function). f.eqs) c.f.view_is in
     let size = ap length same in
-    let q = c.index-as_slice-k.result in
-    let at_k : slice_get f.eqs k ≡ Some q = ap (λ l. slice_get l k) (sym same) ∙ at_index c.as_slice.result.now k q (omega (arith, l, size)) c.index-as_slice-k.is in
+    let q = c.index-deref-k.result in
+    let at_k : slice_get f.eqs k ≡ Some q = ap (λ l. slice_get l k) (sym same) ∙ at_index c.deref.result.now k q (omega (arith, l, size)) c.index-deref-k.is in
     let inside = left_declared f c.invariant_holds.ensures items is ordered k q at_k in
     let decls = ap (λ (f : Function). length f.decls) c.f.view_is in
     omega (arith, inside, decls)
 
 pub loop-k-init : goal.loop-k-init
-loop-k-init c = λ fs height top passes. ([], begun_none fs height top c.args.f.now c.invariant_holds.ensures c.as_slice-k-items.result.now (taken c.in_ok-to.to) (c.in_ok-to.ensures ∙ ap (λ (ds : List Decl). record { cells = length ds; steps = []; waits = [] }) refl))
+loop-k-init c = λ fs height top passes. ([], begun_none fs height top c.args.f.now c.invariant_holds.ensures c.deref-k-items.result.now (taken c.in_ok-to.to) (c.in_ok-to.ensures ∙ ap (λ (ds : List Decl). record { cells = length ds; steps = []; waits = [] }) refl))
 
 pub loop-k-preserved : goal.loop-k-preserved
 loop-k-preserved c = λ fs height top passes.
     let f = c.args.f.now in
-    let items = c.as_slice-k-items.result.now in
-    let is : IsOrder f items = subst (IsOrder f) (sym c.as_slice-k-items.ensures) c.in_ok-order.ensures.order in
-    let ordered : Ordered f (order_place f items) = subst (λ (o : List ℕ). Ordered f (order_place f o)) (sym c.as_slice-k-items.ensures) c.in_ok-order.ensures.places in
+    let items = c.deref-k-items.result.now in
+    let is : IsOrder f items = subst (IsOrder f) (sym c.deref-k-items.ensures) c.in_ok-order.ensures.order in
+    let ordered : Ordered f (order_place f items) = subst (λ (o : List ℕ). Ordered f (order_place f o)) (sym c.deref-k-items.ensures) c.in_ok-order.ensures.places in
     let at = slice_get-get_or items c.loop-k.k-index 0 c.loop-k-test.true in
     let k = get_or items c.loop-k.k-index 0 in
     let l = number_inside f c.invariant_holds.ensures items is ordered c.loop-k.k-index k at in
-    let same = c.as_slice.ensures ∙ ap (λ (f : Function). f.eqs) c.f.view_is in
+    let same = c.deref.ensures ∙ ap (λ (f : Function). f.eqs) c.f.view_is in
     let size = ap length same in
-    let q = c.index-as_slice-k.result in
-    let at_k : slice_get f.eqs k ≡ Some q = ap (λ l. slice_get l k) (sym same) ∙ at_index c.as_slice.result.now k q (omega (arith, l, size)) c.index-as_slice-k.is in
+    let q = c.index-deref-k.result in
+    let at_k : slice_get f.eqs k ≡ Some q = ap (λ l. slice_get l k) (sym same) ∙ at_index c.deref.result.now k q (omega (arith, l, size)) c.index-deref-k.is in
     let x = taken c.loop-k.to in
     let decls : c.f.inside.decls ≡ f.decls = ap (λ (f : Function). f.decls) c.f.view_is in
     let made : taken c.set.new.to ≡ with_step (taken_after x q.1 (clock_of f.decls q.0)) (step_of (record { cell = q.0; clock = clock_of f.decls q.0; delays_before = length x.waits; cells_before = x.cells; source = whole q.1 })) =
@@ -79,9 +79,9 @@ loop-k-preserved c = λ fs height top passes.
 pub loop-to-init : goal.loop-to-init
 loop-to-init c = λ fs height top good passes.
     let f = c.args.f.now in
-    let items = c.as_slice-k-items.result.now in
-    let is : IsOrder f items = subst (IsOrder f) (sym c.as_slice-k-items.ensures) c.in_ok-order.ensures.order in
-    let ordered : Ordered f (order_place f items) = subst (λ (o : List ℕ). Ordered f (order_place f o)) (sym c.as_slice-k-items.ensures) c.in_ok-order.ensures.places in
+    let items = c.deref-k-items.result.now in
+    let is : IsOrder f items = subst (IsOrder f) (sym c.deref-k-items.ensures) c.in_ok-order.ensures.order in
+    let ordered : Ordered f (order_place f items) = subst (λ (o : List ℕ). Ordered f (order_place f o)) (sym c.deref-k-items.ensures) c.in_ok-order.ensures.places in
     let b = c.loop-k.invariant fs height top passes in
     (items, is, ordered, b.0, subst (λ (ds : List DelayForm). Settling fs height top f good passes items is ordered b.0 (taken c.loop-k.to) ds) (sym (ap (map delay_form) c.new-delays.ensures.items)) (settling_none fs height top f good passes items is ordered c.loop-k.k-index b.0 (taken c.loop-k.to) c.loop-k-test.false c.loop-k.auto.k-index-end b.1))
 

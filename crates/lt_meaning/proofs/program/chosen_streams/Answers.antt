@@ -15,7 +15,7 @@ pub plans_of-requires-clause-room : goal.plans_of-requires-clause-room
 plans_of-requires-clause-room c = c.requires.room
 
 pub columns_of-requires-clause-plans : goal.columns_of-requires-clause-plans
-columns_of-requires-clause-plans c = subst (λ (l : List Plan). ArePlans c.args.p.now l) (sym c.as_slice.ensures.value) c.in_ok-plans.ensures
+columns_of-requires-clause-plans c = subst (λ (l : List Plan). ArePlans c.args.p.now l) (sym c.deref.ensures.value) c.in_ok-plans.ensures
 
 pub columns_of-requires-clause-fit : goal.columns_of-requires-clause-fit
 columns_of-requires-clause-fit c = c.requires.fit

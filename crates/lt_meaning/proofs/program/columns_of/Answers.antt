@@ -124,7 +124,7 @@ loop-k-preserved c = λ a f is.
     let stands : StateStands plans a.planned (length plans) c.run.new.state p.main (newest_first (take (k + 1) rows)) (env ∷ es) =
     subst (λ g. StateStands plans a.planned (length plans) c.run.new.state g (newest_first (take (k + 1) rows)) (env ∷ es)) main
     (subst (λ (r : List Row). StateStands plans a.planned (length plans) c.run.new.state c.p.inside.main r (env ∷ es)) rows_are ran) in
-    let cells : entry c.as_slice.result.now ≡ env = ap entry c.as_slice.ensures.value in (
+    let cells : entry c.deref.result.now ≡ env = ap entry c.deref.ensures.value in (
       env ∷ es,
       record {
         stands = stands;

@@ -7,5 +7,5 @@ pub returns : goal.returns
 returns c =
     let p = c.args.p.now in
     let main = ap (λ (q : WholeProgram). q.main) c.p.view_is in
-    let same : c.as_slice.result.now ≡ p.funcs = c.as_slice.ensures ∙ ap (λ (q : WholeProgram). q.funcs) c.p.view_is in
-    function_at p.funcs p.main c.index-as_slice-number.result c.invariant_holds.ensures.main (c.index-as_slice-number.is ∙ (λ i. get_or (same i) (main i) c.index-as_slice-number.result))
+    let same : c.deref.result.now ≡ p.funcs = c.deref.ensures ∙ ap (λ (q : WholeProgram). q.funcs) c.p.view_is in
+    function_at p.funcs p.main c.index-deref-number.result c.invariant_holds.ensures.main (c.index-deref-number.is ∙ (λ i. get_or (same i) (main i) c.index-deref-number.result))

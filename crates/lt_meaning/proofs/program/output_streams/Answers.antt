@@ -20,15 +20,15 @@ chosen_streams-requires-clause-room c = c.requires.room
 pub chosen_streams-requires-clause-variables : goal.chosen_streams-requires-clause-variables
 chosen_streams-requires-clause-variables c =
     let f = c.main_function-main.result.now in
-    let outs : c.as_slice.result.now ≡ f.outs = c.as_slice.ensures ∙ ap (λ (f : Function). f.outs) c.main.view_is in
-    of_main c.args.p.now c.as_slice.result.now f c.main_function-main.ensures (subst (All (λ x. x < length f.decls)) (sym outs) c.invariant_holds.ensures.outs)
+    let outs : c.deref.result.now ≡ f.outs = c.deref.ensures ∙ ap (λ (f : Function). f.outs) c.main.view_is in
+    of_main c.args.p.now c.deref.result.now f c.main_function-main.ensures (subst (All (λ x. x < length f.decls)) (sym outs) c.invariant_holds.ensures.outs)
 
 pub returns-clause-value : goal.returns-clause-value
 returns-clause-value c =
     let p = c.args.p.now in
     let rows = c.args.inputs.now.rows in
-    let xs = c.as_slice.result.now in
+    let xs = c.deref.result.now in
     let f = c.main_function-main.result.now in
-    let outs : xs ≡ f.outs = c.as_slice.ensures ∙ ap (λ (f : Function). f.outs) c.main.view_is in
+    let outs : xs ≡ f.outs = c.deref.ensures ∙ ap (λ (f : Function). f.outs) c.main.view_is in
     IfOk-weaker c.chosen_streams.result (λ (s : List (List Cell)). HasStreamsOf p rows xs s) (λ (s : List (List Cell)). HasOutputStreams p rows s)
     (λ s has. output_streams_of p rows xs s f c.main_function-main.ensures outs has) c.chosen_streams.ensures.value

@@ -9,7 +9,7 @@ use Rattle.lt_meaning.proofs.program.plans_of.Goals as goal
 pub plan_of-requires-clause-causal : goal.plan_of-requires-clause-causal
 plan_of-requires-clause-causal c =
     let p = c.args.p.now in
-    let same : c.as_slice-f-items.result.now ≡ p.funcs = c.as_slice-f-items.ensures ∙ ap (λ (q : WholeProgram). q.funcs) c.p.view_is in
+    let same : c.deref-f-items.result.now ≡ p.funcs = c.deref-f-items.ensures ∙ ap (λ (q : WholeProgram). q.funcs) c.p.view_is in
     let size = ap length same in
     let l = c.loop-f-test.true in
     let is = function_at p.funcs c.loop-f.f-index c.f-item.result (omega (arith, size, l)) (c.f-item.is ∙ ap (λ l. get_or l c.loop-f.f-index c.f-item.result) same) in
@@ -18,7 +18,7 @@ plan_of-requires-clause-causal c =
 pub plan_of-requires-clause-numbers : goal.plan_of-requires-clause-numbers
 plan_of-requires-clause-numbers c =
     let p = c.args.p.now in
-    let same : c.as_slice-f-items.result.now ≡ p.funcs = c.as_slice-f-items.ensures ∙ ap (λ (q : WholeProgram). q.funcs) c.p.view_is in
+    let same : c.deref-f-items.result.now ≡ p.funcs = c.deref-f-items.ensures ∙ ap (λ (q : WholeProgram). q.funcs) c.p.view_is in
     let size = ap length same in
     let l = c.loop-f-test.true in
     let is = function_at p.funcs c.loop-f.f-index c.f-item.result (omega (arith, size, l)) (c.f-item.is ∙ ap (λ l. get_or l c.loop-f.f-index c.f-item.result) same) in
@@ -30,7 +30,7 @@ loop-f-init c = λ good checked. far_none c.args.p.now good checked c.in_ok-plan
 pub loop-f-preserved : goal.loop-f-preserved
 loop-f-preserved c = λ good checked.
     let p = c.args.p.now in
-    let same : c.as_slice-f-items.result.now ≡ p.funcs = c.as_slice-f-items.ensures ∙ ap (λ (q : WholeProgram). q.funcs) c.p.view_is in
+    let same : c.deref-f-items.result.now ≡ p.funcs = c.deref-f-items.ensures ∙ ap (λ (q : WholeProgram). q.funcs) c.p.view_is in
     let size = ap length same in
     let l = c.loop-f-test.true in
     let is = function_at p.funcs c.loop-f.f-index c.f-item.result (omega (arith, size, l)) (c.f-item.is ∙ ap (λ l. get_or l c.loop-f.f-index c.f-item.result) same) in
@@ -39,7 +39,7 @@ loop-f-preserved c = λ good checked.
 pub returns : goal.returns
 returns c =
     let p = c.args.p.now in
-    let same : c.as_slice-f-items.result.now ≡ p.funcs = c.as_slice-f-items.ensures ∙ ap (λ (q : WholeProgram). q.funcs) c.p.view_is in
+    let same : c.deref-f-items.result.now ≡ p.funcs = c.deref-f-items.ensures ∙ ap (λ (q : WholeProgram). q.funcs) c.p.view_is in
     let size = ap length same in
     let l = c.loop-f-test.false in
     let m = c.loop-f.auto.f-index-end in

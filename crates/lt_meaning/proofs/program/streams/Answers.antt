@@ -28,14 +28,14 @@ chosen_streams-requires-clause-variables c =
     let number = c.in_ok-variables.ensures.number in
     let below : All (λ x. x < length f.decls) xs =
     All-from_get_or (λ x. x < length f.decls) xs 0 (λ i l. let e = c.in_ok-variables.ensures.each i (omega (arith, l, number)) in omega (arith, e, l, number)) in
-    of_main c.args.p.now c.as_slice.result.now f c.main_function.ensures (subst (All (λ x. x < length f.decls)) (sym c.as_slice.ensures.value) below)
+    of_main c.args.p.now c.deref.result.now f c.main_function.ensures (subst (All (λ x. x < length f.decls)) (sym c.deref.ensures.value) below)
 
 pub returns-in-Ok-clause-value : goal.returns-in-Ok-clause-value
 returns-in-Ok-clause-value c =
     let p = c.args.p.now in
     let rows = c.args.inputs.now.rows in
     let xs = c.in_ok-variables.variables.items in
-    let has : HasStreamsOf p rows xs c.in-Ok.columns = subst (λ (l : List ℕ). HasStreamsOf p rows l c.in-Ok.columns) c.as_slice.ensures.value c.in-Ok.ensures.value in
+    let has : HasStreamsOf p rows xs c.in-Ok.columns = subst (λ (l : List ℕ). HasStreamsOf p rows l c.in-Ok.columns) c.deref.ensures.value c.in-Ok.ensures.value in
     subst (λ (t : List (List Cell)). HasMainStreams p rows t) (sym c.of.ensures)
     (main_streams_of p rows xs c.in-Ok.columns c.main_function.result.now c.main_function.ensures c.in_ok-variables.ensures.number c.in_ok-variables.ensures.each has)
 
@@ -44,7 +44,7 @@ returns-in-Ok-clause-types c =
     let p = c.args.p.now in
     let rows = c.args.inputs.now.rows in
     let xs = c.in_ok-variables.variables.items in
-    let has : HasStreamsOf p rows xs c.in-Ok.columns = subst (λ (l : List ℕ). HasStreamsOf p rows l c.in-Ok.columns) c.as_slice.ensures.value c.in-Ok.ensures.value in
+    let has : HasStreamsOf p rows xs c.in-Ok.columns = subst (λ (l : List ℕ). HasStreamsOf p rows l c.in-Ok.columns) c.deref.ensures.value c.in-Ok.ensures.value in
     let streams : HasMainStreams p rows c.of.result =
     subst (λ (t : List (List Cell)). HasMainStreams p rows t) (sym c.of.ensures)
     (main_streams_of p rows xs c.in-Ok.columns c.main_function.result.now c.main_function.ensures c.in_ok-variables.ensures.number c.in_ok-variables.ensures.each has) in

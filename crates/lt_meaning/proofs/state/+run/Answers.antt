@@ -10,9 +10,8 @@ use Rattle.lt_meaning.specs.declared.state.State.{State, out-State}
 use Rattle.lt_meaning.specs.declared.state.State.TheOpen.{State-F}
 use Rattle.lt_meaning.specs.declared.state.State.TheViews.{out-roll-State, roll-State, the_lemmas}
 use Rattle.lt_meaning.specs.Form.{node_form, value_in}
-use Rattle.lt_meaning.specs.Plan.{action_form, step_form, inputs_at}
+use Rattle.lt_meaning.specs.Plan.{action_form, step_form, next_kept, inputs_at}
 use Rattle.lt_meaning.specs.Stands.{StepActs, StateStands, cells_of, row_in}
-use Rattle.lt_meaning.proofs.Keeping.{next_of}
 use Rattle.lt_meaning.proofs.Instant.{Along, Took, along_none, along_next, children_are, delays_are, step_can, at_index, Unvisited, unvisited_next}
 use Rattle.lt_meaning.proofs.Answering.{KeepsOn, instant, refilled, can_run_there, can_fill, row_number, output_room, answered_by}
 use Rattle.lt_meaning.proofs.state.+run.Goals as goal
@@ -46,13 +45,13 @@ pub run-advance-requires-clause-kept : goal.run-advance-requires-clause-kept
 run-advance-requires-clause-kept t c =
     let v = out-State c.loop-i.state in
     let n = delays_are c.args.plans.now c.args.g c.args.state.now c.index-plans-g.result c.index-plans-g.is c.requires v c.loop-i.i c.loop-i.invariant.along in
-    ap length c.as_slice-4.ensures.value ∙ n.0 ∙ sym (ap length c.as_slice-2.ensures.value)
+    ap length c.deref-4.ensures.value ∙ n.0 ∙ sym (ap length c.deref-2.ensures.value)
 
 pub run-advance-requires-clause-next : goal.run-advance-requires-clause-next
 run-advance-requires-clause-next t c =
     let v = out-State c.loop-i.state in
     let n = delays_are c.args.plans.now c.args.g c.args.state.now c.index-plans-g.result c.index-plans-g.is c.requires v c.loop-i.i c.loop-i.invariant.along in
-    n.1 ∙ sym (ap length c.as_slice-2.ensures.value)
+    n.1 ∙ sym (ap length c.deref-2.ensures.value)
 
 pub run-loop-i-preserved : goal.run-loop-i-preserved
 run-loop-i-preserved t c =
@@ -73,7 +72,7 @@ run-loop-i-preserved t c =
       size = c.take.ensures.size;
       others = c.take.ensures.others;
       absent = c.take.ensures.absent;
-      acts = λ p. subst (λ (l : List (Option Value)). StepActs plans (action_form c.index.result.now.action) (entry v.cells.items) (entry l) o o' (entry cells'.items c.index.result.now.cell)) c.as_slice.ensures.value (c.take.ensures.acts p);
+      acts = λ p. subst (λ (l : List (Option Value)). StepActs plans (action_form c.index.result.now.action) (entry v.cells.items) (entry l) o o' (entry cells'.items c.index.result.now.cell)) c.deref.ensures.value (c.take.ensures.acts p);
     } in
     record {
       unvisited = subst (λ (u : State-F State). Unvisited (out-State c.args.state.now) u (c.loop-i.i + 1)) (sym (out-roll-State r))
@@ -99,13 +98,13 @@ run-returns t c =
     let is : out-State (roll-State (rolled (out-State (roll-State middle)))) ≡ w = out-roll-State (rolled (out-State (roll-State middle))) ∙ ap rolled (out-roll-State middle) in
     let kept : c.swap.new.x ≡ c.advance.new.next = c.swap.ensures.x_after ∙ ap (λ (u : State-F State). u.next) (out-roll-State middle) in
     let next : c.swap.new.y ≡ v.kept = c.swap.ensures.y_after ∙ ap (λ (u : State-F State). u.kept) (out-roll-State middle) in
-    let delays = c.as_slice-2.ensures.value in
-    let cells = c.as_slice-3.ensures.value in
-    let old = c.as_slice-4.ensures.value in
+    let delays = c.deref-2.ensures.value in
+    let cells = c.deref-3.ensures.value in
+    let old = c.deref-4.ensures.value in
     let keeps : KeepsOn plan v c.swap.new.x.items = λ j d h.
     ap (λ (o : Vec (Option Value)). entry o.items j) kept
     ∙ c.advance.ensures.next j d (ap (λ l. slice_get l j) delays ∙ h)
-    ∙ (λ i. next_of (entry (cells i)) (entry (old i)) d j) in
+    ∙ (λ i. next_kept (entry (cells i)) (entry (old i)) d j) in
     instant plans c.args.g s plan c.index-plans-g.is v c.loop-i.i all w refl refl
     (ap (λ (o : Vec (Option Value)). length o.items) kept ∙ c.advance.ensures.size ∙ n.1)
     (ap (λ (o : Vec (Option Value)). length o.items) next ∙ n.0)

@@ -1,4 +1,4 @@
-use Rattle.std.proofs.Common.{◌∙◌, Err, ap, subst, sym}
+use Rattle.std.proofs.Common.{Err, ap, subst, sym}
 use Rattle.lt_base.specs.declared.memory.Or.{Or}
 use Rattle.lt_base.specs.Inputs.{InputTable}
 use Rattle.lt_arch.specs.declared.event.Offence.{Offence}

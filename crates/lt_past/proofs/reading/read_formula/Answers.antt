@@ -1,9 +1,10 @@
 use Rattle.std.proofs.Common.{◌≤◌, ◌-◌, length, drop, take, ap, sym, subst, arith}
+use Rattle.std.proofs.lemmas.List.{take_rest}
 use Rattle.lt_past.specs.declared.tokens.Front.TheVariants as front
 use Rattle.lt_past.specs.Tokens.{name, sign}
 use Rattle.lt_past.specs.Naming.{output_number}
 use Rattle.lt_past.specs.Parsed.{observer_state_of}
-use Rattle.lt_past.proofs.Loop.{SoFar, fits_here, refused, made, over, bad_byte, found, place, all_of, shorter}
+use Rattle.lt_past.proofs.Loop.{SoFar, fits_here, refused, made, over, bad_byte, found, place, shorter}
 use Rattle.lt_past.proofs.reading.read_formula.Goals as goal
 
 pub returns-in-Err : goal.returns-in-Err
@@ -21,7 +22,7 @@ text-preserved-in-Name c =
     let n = c.in-Name.n in
     let number = output_number c.args.main.now c.args.outs.now in
     let e = found c.read_front.result (front.Name n) here c.text.rest.now c.skip-here.ensures.value c.read_front.ensures.value c.in-Name.is in
-    let a = all_of n here in
+    let a = take_rest here n in
     let g = made 200 (omega arith) number c.args.bytes.now c.text.rest.now (observer_state_of c.text.parser) c.text.invariant.so_far (length c.args.bytes.now - length here) (name (take n here)) (drop n here) c.step_name.result c.in-Ok.next e c.step_name.ensures.steps c.in-Ok.ensures in
     record {
       within = omega (arith, ap length a, shorter n here, c.skip-here.ensures.length, c.text.invariant.within);
@@ -47,7 +48,7 @@ text-preserved c =
     let n = c.in-Other.n in
     let number = output_number c.args.main.now c.args.outs.now in
     let e = found c.read_front.result (front.Other c.in-Other.sign n) here c.text.rest.now c.skip-here.ensures.value c.read_front.ensures.value c.in-Other.is in
-    let a = all_of n here in
+    let a = take_rest here n in
     let g = made 200 (omega arith) number c.args.bytes.now c.text.rest.now (observer_state_of c.text.parser) c.text.invariant.so_far (length c.args.bytes.now - length here) (sign c.in-Other.sign) (drop n here) c.step_sign.result c.in-Ok-place_fault.next e (c.step_sign.ensures number) c.in-Ok-place_fault.ensures in
     record {
       within = omega (arith, ap length a, shorter n here, c.skip-here.ensures.length, c.text.invariant.within);

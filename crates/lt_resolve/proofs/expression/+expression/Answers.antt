@@ -2,7 +2,7 @@ use Rattle.std.proofs.Common.{ℕ, List, IfOk, Some, None, refl, ap, ◌≡◌, 
 use Rattle.lt_base.specs.Expression.{shape, arguments_of}
 use Rattle.lt_syntax.specs.Tree.{Var, Call, tms}
 use Rattle.lt_syntax.specs.Views.{tm_of}
-use Rattle.lt_resolve.specs.Names.{number_of, if_missing}
+use Rattle.lt_resolve.specs.Names.{number_of_name, if_missing}
 use Rattle.lt_resolve.specs.Uses.{unknown, if_uncallable, term_count}
 use Rattle.lt_resolve.specs.Told.{TellsName}
 use Rattle.lt_resolve.specs.Known.{StandsFor, IsCalled, IsTranslated}
@@ -164,7 +164,7 @@ merge_of-returns-in-Ok-clause-told t c =
 
 pub merge_of-returns-in-Ok-clause-named : goal.merge_of-returns-in-Ok-clause-named
 merge_of-returns-in-Ok-clause-named t c =
-    let number : number_of c.args.variables.now c.args.c.now ≡ Some c.in_ok-c.c = subst (λ x. number_of c.args.variables.now x ≡ Some c.in_ok-c.c) c.as_str.ensures c.in_ok-c.ensures.number in
+    let number : number_of_name c.args.variables.now c.args.c.now ≡ Some c.in_ok-c.c = subst (λ x. number_of_name c.args.variables.now x ≡ Some c.in_ok-c.c) c.as_str.ensures c.in_ok-c.ensures.number in
     λ k. (number, c.in-Ok.ensures.named.0 k.1, c.in-Ok.ensures.named.1 k.2)
 
 pub sample_of-returns-in_err-a-clause-told : goal.sample_of-returns-in_err-a-clause-told
@@ -178,5 +178,5 @@ sample_of-returns-clause-told t c =
 
 pub sample_of-returns-clause-named : goal.sample_of-returns-clause-named
 sample_of-returns-clause-named t c =
-    let number : number_of c.args.variables.now c.args.c.now ≡ Some c.in_ok-c.c = subst (λ x. number_of c.args.variables.now x ≡ Some c.in_ok-c.c) c.as_str.ensures c.in_ok-c.ensures.number in
+    let number : number_of_name c.args.variables.now c.args.c.now ≡ Some c.in_ok-c.c = subst (λ x. number_of_name c.args.variables.now x ≡ Some c.in_ok-c.c) c.as_str.ensures c.in_ok-c.ensures.number in
     λ k. (c.in_ok-a.ensures.named k.0, number, refl)

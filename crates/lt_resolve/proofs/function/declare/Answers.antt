@@ -7,7 +7,7 @@ use Rattle.lt_resolve.proofs.function.declare.Goals as goal
 pub decls-preserved : goal.decls-preserved
 decls-preserved c =
     let vars = c.args.variables.now in
-    let items = c.as_slice-decl-items.result.now in
+    let items = c.deref-decl-items.result.now in
     record {
       rest = some_next (λ d. unknown_clock vars d.clock) items c.decls.decl-index c.decl-item.result c.decls-test.true c.decl-item.is c.in_ok-declaration.ensures.told c.decls.invariant.rest;
       along = λ before h.

@@ -3,7 +3,7 @@ use Rattle.std.specs.Vec.Iter.{into_iter_len}
 use Rattle.std.proofs.lemmas.Iterator.Adapters.{YieldsList-from_vec}
 use Rattle.std.proofs.lemmas.Iterator.Consumers.{YieldsList-turn, YieldsList-end}
 use Rattle.lt_base.specs.Program.{Function}
-use Rattle.lt_resolve.specs.Names.{number_of}
+use Rattle.lt_resolve.specs.Names.{number_of_name}
 use Rattle.lt_resolve.specs.Scopes.{functions}
 use Rattle.lt_resolve.specs.Named.{IsFunction, main}
 use Rattle.lt_resolve.proofs.Good.{is_completed, good_draft, room_of_draft}
@@ -48,4 +48,4 @@ new-requires c =
     let many : into_iter_len c.into_iter-draft-iterator.result ≡ length ds = (let ok = c.args.drafts.ok in let g = c.into_iter-draft-iterator.ensures.into_iter_gives.1 in omega (arith, ok, g)) in
     let end = YieldsList-end (YieldsList-from_vec {s = c.into_iter-draft-iterator.result} ds c.into_iter-draft-iterator.ensures.into_iter_gives.0 many) c.drafts.yielded c.drafts.draft-iterator c.drafts.yielded_by c.next.result c.next.new.self c.in-None.is c.next.ensures.steps in
     good_program t c.of.result c.main_of.result (along_whole t ds c.drafts.yielded c.drafts.funcs.items c.of.result end.0 c.requires.drafts c.of.ensures c.drafts.invariant)
-    (subst (λ ns. number_of ns main ≡ Some c.main_of.result) c.functions.ensures c.main_of.ensures) c.requires.right
+    (subst (λ ns. number_of_name ns main ≡ Some c.main_of.result) c.functions.ensures c.main_of.ensures) c.requires.right

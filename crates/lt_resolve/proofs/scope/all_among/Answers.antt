@@ -8,10 +8,10 @@ use Rattle.lt_resolve.proofs.scope.all_among.Goals as goal
 
 pub returns-in_err-check-clause-told : goal.returns-in_err-check-clause-told
 returns-in_err-check-clause-told c =
-    let ds = c.as_slice-decl-items.result.now in
+    let ds = c.deref-decl-items.result.now in
     let missing = λ (x : Name). if_missing c.args.names.now x in
     let same : first_some (if_missing c.args.names.now) (declared_names c.args.decls.now) ≡ first_some (λ d. if_missing c.args.names.now d.name) ds =
-    ap (λ l. first_some (if_missing c.args.names.now) (declared_names l)) (sym c.as_slice-decl-items.ensures) ∙ some_map missing (λ (d : DeclText). d.name) ds in
+    ap (λ l. first_some (if_missing c.args.names.now) (declared_names l)) (sym c.deref-decl-items.ensures) ∙ some_map missing (λ (d : DeclText). d.name) ds in
     tells_as _ _ _ same
     (tells_at (λ d. if_missing c.args.names.now d.name) ds c.decls.decl-index c.decl-item.result c.in_err-check.field-0.0 _ c.decls-test.true c.decl-item.is c.decls.invariant c.from_residual.ensures.1
     (rw (← c.as_str.ensures) c.in_err-check.ensures.told))
@@ -21,8 +21,8 @@ returns-in_err-check-clause-memory c = needs_none_on c.in_err-check.field-0.0 _ 
 
 pub returns-clause-told : goal.returns-clause-told
 returns-clause-told c =
-    let ds = c.as_slice-decl-items.result.now in
+    let ds = c.deref-decl-items.result.now in
     let missing = λ (x : Name). if_missing c.args.names.now x in
-    ap (λ l. first_some (if_missing c.args.names.now) (declared_names l)) (sym c.as_slice-decl-items.ensures)
+    ap (λ l. first_some (if_missing c.args.names.now) (declared_names l)) (sym c.deref-decl-items.ensures)
     ∙ some_map missing (λ (d : DeclText). d.name) ds
     ∙ some_none (λ d. if_missing c.args.names.now d.name) ds c.decls.decl-index c.decls-test.false c.decls.invariant

@@ -6,7 +6,7 @@ use Rattle.lt_resolve.proofs.taking.insert_all.Goals as goal
 
 pub names-preserved : goal.names-preserved
 names-preserved c =
-    let xs = c.as_slice-name-items.result.now in
+    let xs = c.deref-name-items.result.now in
     let i = c.names.name-index in
     let x = c.name-item.result in
     let l = c.names-test.true in

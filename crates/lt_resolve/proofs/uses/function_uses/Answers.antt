@@ -6,7 +6,7 @@ use Rattle.lt_resolve.proofs.uses.function_uses.Goals as goal
 pub eqs-preserved : goal.eqs-preserved
 eqs-preserved c =
     let funcs = c.args.functions.now in
-    let items = c.as_slice-eq-items.result.now in
+    let items = c.deref-eq-items.result.now in
     record {
       sites = more_sites funcs c.args.caller items c.eqs.eq-index c.eq-item.result c.args.uses.now.calls.items c.eqs.uses.calls.items c.collect.new.calls.items c.eqs-test.true c.eq-item.is c.eqs.invariant.sites
           (c.in_ok-collect.ensures ∙ ap (λ z. c.eqs.uses.calls.items ++ sites_in funcs c.args.caller z) c.right.ensures);

@@ -1,12 +1,10 @@
-use Rattle.std.proofs.Common.{length, sym, subst}
-use Rattle.lt_net_bench.specs.Starts.{AreReady}
+use Rattle.std.proofs.Common.{sym}
 use Rattle.lt_load.specs.Plan.{LoadedPlan}
-use Rattle.lt_run.proofs.Replays.{prints_at}
+use Rattle.lt_run.proofs.Replays.{prints_at, ready_at}
 use Rattle.lt_run.proofs.replaying.replay_given.Goals as goal
 
 pub replay_setup-printed-requires-clause-machines : goal.replay_setup-printed-requires-clause-machines
-replay_setup-printed-requires-clause-machines g c =
-    subst (λ (q : LoadedPlan). AreReady g.M.Machine q.layout (length q.inputs.rows) c.args.machines.items) (sym c.loaded.view_is) c.requires.machines
+replay_setup-printed-requires-clause-machines g c = ready_at _ _ _ (sym c.loaded.view_is) c.args.machines.items c.requires.machines
 
 pub returns : goal.returns
 returns g c =

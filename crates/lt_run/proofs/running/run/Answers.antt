@@ -2,7 +2,7 @@ use Rattle.std.proofs.Common.{◌∙◌}
 use Rattle.std.specs.Prelude.{option_map}
 use Rattle.lt_load.proofs.Steps.{counts_on}
 use Rattle.lt_run.specs.Run.{ordered_verdict}
-use Rattle.lt_run.proofs.Elsewhere.{answered_near, near_error, near_names, not_loaded_near}
+use Rattle.lt_load.proofs.Elsewhere.{answered_near, near_error, near_names, not_loaded_near}
 use Rattle.lt_run.proofs.Onward.{not_loaded, loaded_run}
 use Rattle.lt_run.proofs.Unloaded.{not_refused}
 use Rattle.lt_run.proofs.running.run.Goals as goal

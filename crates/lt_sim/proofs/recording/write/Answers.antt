@@ -1,4 +1,4 @@
-use Rattle.std.proofs.Common.{◌≡◌, ◌∙◌, ◌+◌, ◌≤◌, ℕ, ap, sym, subst, arith, refl, Some, None, Err, [], ◌∷◌, ◌++◌, length}
+use Rattle.std.proofs.Common.{◌≡◌, ◌∙◌, ◌+◌, ◌<◌, ◌≤◌, ℕ, List, ap, sym, subst, arith, refl, lit<, Some, None, Err, [], ◌∷◌, ◌++◌, length}
 use Rattle.std.proofs.lemmas.List.{length_push}
 use Rattle.lt_io.proofs.Keeps.{sink_trans}
 use Rattle.lt_arch.specs.declared.event.Event.{Event}
@@ -17,6 +17,7 @@ pub loop-number-init : goal.loop-number-init
 loop-number-init g c = record {
   counted = refl;
   keeps = record { sound = refl; told = refl };
+  short = subst (λ (l : List ℕ). length l < 65280) (sym c.requires.page) (lit< tt);
   passed = λ seed starts. record {
     passes = record {
       front = [];
@@ -70,6 +71,7 @@ loop-number-preserved g c =
     record {
       counted = c.in_ok-put_row-in-Some.ensures.written.counted ∙ before.counted;
       keeps = sink_trans old now next before.keeps c.put_row.ensures.keeps;
+      short = c.in_ok-put_row-in-Some.ensures.short;
       passed = λ seed starts.
           let s = c.args.shape.now in
           let t = c.args.timing.now in

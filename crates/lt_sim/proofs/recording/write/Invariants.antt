@@ -1,4 +1,4 @@
-use Rattle.std.proofs.Common.{ℕ, ◌≡◌}
+use Rattle.std.proofs.Common.{ℕ, ◌≡◌, ◌<◌, length}
 use Rattle.lt_io.specs.SinkState.{KeepsSink}
 use Rattle.lt_sim.specs.Standing.{DrawingStarts}
 use Rattle.lt_sim.proofs.Pages.{HasPassed}
@@ -11,5 +11,6 @@ invariant-loop-number g l =
     record {
       counted : now.faults ≡ old.faults;
       keeps : KeepsSink old now;
+      short : length l.page < 65280;
       passed : (seed : ℕ) → DrawingStarts l.fn.drawing l.shape l.timing seed → HasPassed l.drawing l.shape l.timing l.rows seed l.horizon l._number l.page old now;
     }

@@ -1,10 +1,11 @@
 use Rattle.std.proofs.Common.{◌≤◌, ◌-◌, length, Ok, ap, sym, subst, arith}
+use Rattle.std.proofs.lemmas.List.{take_rest}
 use Rattle.std.proofs.lemmas.Result.{err_from_is_err_and}
 use Rattle.lt_syntax.specs.Phases.{state_of}
 use Rattle.lt_syntax.specs.Program.{Spells}
 use Rattle.lt_syntax.specs.Reads.{TakesToken}
 use Rattle.lt_syntax.proofs.Reading.{SoFar}
-use Rattle.lt_syntax.proofs.Loop.{fits_here, goes_on, ends_here, fails_here, all_of, shorter}
+use Rattle.lt_syntax.proofs.Loop.{fits_here, goes_on, ends_here, fails_here, shorter}
 use Rattle.lt_syntax.proofs.read.take_tokens.Goals as goal
 
 pub take_token-requires : goal.take_token-requires
@@ -18,7 +19,7 @@ text-preserved c =
     let s = state_of c.text.p in
     let s' = state_of c.take_token.new.p in
     let h : length here ≤ length bytes = omega (arith, c.skip-here.ensures.length, c.text.invariant.within) in
-    let a = all_of n here in
+    let a = take_rest here n in
     let t = subst (λ z. TakesToken 200 (length bytes - length here) here s s' (Ok z)) c.in-Some.is c.in_ok-n.ensures in
     let g = goes_on 200 (omega arith) bytes c.text.rest.now here s s' c.text.invariant.so_far c.skip-here.ensures.value h n t in
     record {

@@ -3,4 +3,4 @@ use Rattle.lt_text_values.proofs.Missing.{no_function}
 use Rattle.lt_text_values.proofs.names.append_function.Goals as goal
 
 pub returns-in-None : goal.returns-in-None
-returns-in-None c = no_function _ _ _ _ (c.as_slice.ensures ∙ c.tree.view_is) c.in-None.ensures.lookup.3
+returns-in-None c = no_function _ _ _ _ (c.deref.ensures ∙ c.tree.view_is) c.in-None.ensures.lookup.3

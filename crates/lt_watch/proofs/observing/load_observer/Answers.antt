@@ -37,12 +37,12 @@ pub returns-in-Ok : goal.returns-in-Ok
 unfolding observer_verdict
 returns-in-Ok g c =
     last_step watch_blame (observer_bytes_verdict ((g.F.Files.state c.args.files.now).named c.args.name.now)) (λ names bytes. read_verdict c.args.main.now bytes) _ _ c.in_ok-bytes.bytes (Ok c.in-Ok.observer)
-    c.in_ok-bytes.ensures (read_content c.args.main.now c.in_ok-bytes.bytes) (read_at c.args.main.now _ _ c.as_slice.ensures (Ok c.in-Ok.observer) c.in-Ok.ensures.exact)
+    c.in_ok-bytes.ensures (read_content c.args.main.now c.in_ok-bytes.bytes) (read_at c.args.main.now _ _ c.deref.ensures (Ok c.in-Ok.observer) c.in-Ok.ensures.exact)
 
 pub returns-in-Err : goal.returns-in-Err
 unfolding observer_verdict
 returns-in-Err g c =
-    let bytes = c.as_slice.result.now in
+    let bytes = c.deref.result.now in
     last_step watch_blame (observer_bytes_verdict ((g.F.Files.state c.args.files.now).named c.args.name.now)) (λ names bytes. read_verdict c.args.main.now bytes) _ _ c.in_ok-bytes.bytes (Err c.map.result)
     c.in_ok-bytes.ensures (read_content c.args.main.now c.in_ok-bytes.bytes)
-    (read_at c.args.main.now bytes _ c.as_slice.ensures (Err c.map.result) (raised_refusal (λ e. Observer e) (observed_verdict c.args.main.now bytes) c.in-Err.e c.map.result c.map.ensures (found c.args.main.now bytes c.in-Err.e c.in-Err.ensures.exact)))
+    (read_at c.args.main.now bytes _ c.deref.ensures (Err c.map.result) (raised_refusal (λ e. Observer e) (observed_verdict c.args.main.now bytes) c.in-Err.e c.map.result c.map.ensures (found c.args.main.now bytes c.in-Err.e c.in-Err.ensures.exact)))

@@ -1,5 +1,5 @@
 use Rattle.std.proofs.Common.{subst, []}
-use Rattle.lt_net_start.specs.Outside.{world}
+use Rattle.lt_answer.specs.World.{world}
 use Rattle.lt_watch.specs.Blamed.{watch_blame}
 use Rattle.lt_watch.specs.Judged.{WatchTells}
 use Rattle.lt_watch.specs.Watch.{InCommand, run_along, told_verdict}
@@ -26,6 +26,6 @@ returns-clause-answered g c =
     let old = world (g.F.Files.state c.args.files.now) (g.W.Fabric.state c.args.fabric.now) in
     let new = world (g.F.Files.state c.run_outputs.new.files) (g.W.Fabric.state c.run_outputs.new.fabric) in
     let file = (g.F.Files.state c.args.files.now).named c.args.schedule.now in
-    let tells = subst (λ cells. WatchTells c.args.observer.now cells c.in_ok-judged.field-0) c.as_slice.ensures c.in_ok-judged.ensures in
+    let tells = subst (λ cells. WatchTells c.args.observer.now cells c.in_ok-judged.field-0) c.deref.ensures c.in_ok-judged.ensures in
     settled watch_blame (InCommand (run_along file new k)) (λ outputs. told_verdict k.checked.program k.inputs.rows new.fabric c.args.observer.now outputs) old new c.in_ok-outputs.outputs c.in_ok-judged.field-0 c.in_ok-outputs.ensures.answered
     (told_right c.args.observer.now c.invariant_holds.ensures.placed file new k c.in_ok-outputs.outputs c.in_ok-judged.field-0 tells)

@@ -1,9 +1,9 @@
 use Rattle.std.proofs.Common.{Ok, Err, refl}
-use Rattle.lt_net_start.specs.Outside.{world}
+use Rattle.lt_answer.specs.World.{world}
 use Rattle.lt_load.specs.Blamed.{command_blame}
 use Rattle.lt_load.proofs.Raising.{raised_value, raised_fault}
 use Rattle.lt_run.specs.Run.{along_loaded}
-use Rattle.lt_run.proofs.Elsewhere.{answered_near}
+use Rattle.lt_load.proofs.Elsewhere.{answered_near}
 use Rattle.lt_watch.specs.declared.fault.WatchFault.TheVariants.{Command}
 use Rattle.lt_watch.specs.Blamed.{watch_blame}
 use Rattle.lt_watch.specs.Watch.{run_along}

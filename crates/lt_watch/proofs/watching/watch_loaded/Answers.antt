@@ -2,7 +2,7 @@ use Rattle.std.proofs.Common.{◌≡◌, ◌∙◌, ◌≤◌, ℕ, zero, suc, L
 use Rattle.std.specs.List.{All}
 use Rattle.std.proofs.lemmas.List.Elements.{All-head, All-tail}
 use Rattle.lt_base.specs.Program.{Function}
-use Rattle.lt_answer.specs.World.{alone}
+use Rattle.lt_answer.specs.World.{alone, world}
 use Rattle.lt_answer.specs.Answered.{Answered}
 use Rattle.lt_resolve.specs.Resolves.{IsSmallFunction}
 use Rattle.lt_front.specs.Checked.{CheckedText}
@@ -12,7 +12,6 @@ use Rattle.lt_load.proofs.Steps.{counts_on}
 use Rattle.lt_watch.specs.Blamed.{watch_blame}
 use Rattle.lt_watch.specs.Errands.{observer_errand}
 use Rattle.lt_watch.specs.Watch.{observer_verdict}
-use Rattle.lt_net_start.specs.Outside.{world}
 use Rattle.lt_watch.proofs.Stages.{no_observer, with_observer}
 use Rattle.lt_watch.proofs.Unwatched.{not_observed}
 use Rattle.lt_watch.proofs.watching.watch_loaded.Goals as goal

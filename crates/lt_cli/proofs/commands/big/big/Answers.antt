@@ -1,4 +1,4 @@
-use Rattle.lt_net_start.specs.Outside.{world}
+use Rattle.lt_answer.specs.World.{world}
 use Rattle.lt_text_answers.specs.declared.refusal.Refusal.TheVariants.{Command}
 use Rattle.lt_text_answers.specs.Replies.{summarized_text}
 use Rattle.lt_cli.proofs.Texts.{is_text_of, opens_shown}

@@ -24,3 +24,8 @@ pub returns-clause-records : goal.returns-clause-records
 returns-clause-records g c =
     let k : LoadedPlan = record { checked = c.loaded.inside.checked; layout = c.loaded.inside.layout; shape = c.loaded.inside.shape; timing = c.loaded.inside.timing; inputs = c.loaded.inside.inputs; pace = c.loaded.inside.pace } in
     records_of k c.args.loaded.now c.loaded.view_is c.rows.result c.rows.ensures c.args.seed c.args.horizon _ _ c.record.result c.record.ensures.records
+
+pub returns-clause-keeps : goal.returns-clause-keeps
+returns-clause-keeps g c =
+    let keeps = c.record.ensures.keeps in
+    record { sound = keeps.sound; told = keeps.told; steady = c.record.ensures.sound }

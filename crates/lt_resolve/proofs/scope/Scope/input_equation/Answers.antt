@@ -19,8 +19,8 @@ if_there names x y b e t h = (λ i. if_among names (sym e i)) ∙ ap (λ c. if c
 pub returns-then-is_input-clause-told : goal.returns-then-is_input-clause-told
 returns-then-is_input-clause-told c =
     let n = c.args.self.now in
-    let eqs = c.as_slice-eq-items.result.now in
-    of_lefts n c.self.inside.node.now eqs c.self.view_is c.as_slice-eq-items.ensures
+    let eqs = c.deref-eq-items.result.now in
+    of_lefts n c.self.inside.node.now eqs c.self.view_is c.deref-eq-items.ensures
     ∙ some_here (λ q. if_among (declared_names n.ins) q.0) eqs c.eqs.eq-index c.eq-item.result c.as_str-name.result.now c.eqs-test.true c.eq-item.is
     (if_there (declared_names n.ins) c.eq-item.result.0 c.as_str-name.result.now c.is_input.result (c.as_str-name.ensures ∙ c.left.ensures) c.if-is_input.true c.is_input.ensures)
     c.eqs.invariant
@@ -28,6 +28,6 @@ returns-then-is_input-clause-told c =
 pub returns-clause-told : goal.returns-clause-told
 returns-clause-told c =
     let n = c.args.self.now in
-    let eqs = c.as_slice-eq-items.result.now in
-    of_lefts n c.self.inside.node.now eqs c.self.view_is c.as_slice-eq-items.ensures
+    let eqs = c.deref-eq-items.result.now in
+    of_lefts n c.self.inside.node.now eqs c.self.view_is c.deref-eq-items.ensures
     ∙ some_none (λ q. if_among (declared_names n.ins) q.0) eqs c.eqs.eq-index c.eqs-test.false c.eqs.invariant

@@ -1,0 +1,5 @@
+-- The steps are counted in a ledger of one part.
+use Rattle.lt_evaluate.proofs.evaluating.evaluate_flat.Given as goal
+
+abbrev pub ghosts-streams_by : goal.ghosts-streams_by
+ghosts-streams_by a b = record { name = b.blank.name; parts = b.blank.parts }

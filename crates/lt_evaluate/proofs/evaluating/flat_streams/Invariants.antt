@@ -1,5 +1,0 @@
--- The steps are counted in a ledger of one part.
-use Rattle.lt_evaluate.proofs.evaluating.flat_streams.Given as goal
-
-abbrev pub ghosts-streams_by : goal.ghosts-streams_by
-ghosts-streams_by a = record { name = a.blank.name; parts = a.blank.parts }
