@@ -6,7 +6,7 @@ ghost use Rattle.lt_base.specs.Main.{HasOutputStreams, InputsFitMain, cell_count
 ghost use Rattle.lt_answer.specs.Answered.{Refuses};
 ghost use Rattle.lt_place.specs.Sizes.{IsCompilable};
 ghost use Rattle.lt_step.specs.Run.{HasRowValues};
-ghost use Rattle.lt_evaluate.specs.Columns.{HasColumns, HasStepped};
+ghost use Rattle.lt_evaluate.specs.Columns.{HasColumns};
 ghost use Rattle.lt_evaluate.specs.Main.{cells_verdict};
 
 use crate::streaming::streams_by;
@@ -16,7 +16,7 @@ use lt_base::{Cell, Inputs, List, Memory, Or, Program, sizes};
 use lt_compile::compile_part;
 use lt_front::Checked;
 use lt_load::CommandFault;
-use lt_machine::{Import, Machine, StepMachine};
+use lt_machine::Import;
 use lt_norm::Flat;
 use std::alloc::Global;
 use std::marker::Brand;
@@ -49,29 +49,15 @@ pub(crate) fn limit_cells(
     Ok(())
 }
 
-// The streams of the outputs of a flat function, and the machine of its step code, which made a step for each row.
-#[derive(Drop)]
-struct Evaluated {
-    columns: List<List<Cell>>,
-    machine: StepMachine,
-}
-
-// Evaluates a flat function on all rows.
-fn evaluate_flat(alloc: Global, flat: &Flat, inputs: &Inputs) -> Result<Evaluated, Memory>
+// Evaluates a flat function on all rows: the streams of its outputs.
+fn evaluate_flat(alloc: Global, flat: &Flat, inputs: &Inputs) -> Result<List<List<Cell>>, Memory>
     requires compilable { IsCompilable flat.now.func }
     requires width { inputs.now.width ≡ flat.now.func.n_in }
     requires rows { HasRowValues flat.now.func.n_in inputs.now.rows }
-    ensures columns { IfOk result (λ e. HasColumns flat.now.func inputs.now.rows e.columns) }
-    ensures stepped { IfOk result (λ e. HasStepped ⟦<StepMachine as Machine>⟧ flat.now.func inputs.now.rows e.machine) }
+    ensures { IfOk result (HasColumns flat.now.func inputs.now.rows) }
 {
     let mut machine = compile_part(alloc, flat, Import::new(imp), inputs.rows())?;
-    match streams_by::<_, Brand>(alloc, &mut machine, &flat.func, inputs, Blank::new(1)) {
-        Ok(columns) => Ok(Evaluated { columns, machine }),
-        Err(Memory) => {
-            drop(machine);
-            Err(Memory)
-        }
-    }
+    streams_by::<_, Brand>(alloc, &mut machine, &flat.func, inputs, Blank::new(1))
 }
 
 /// The streams of the outputs of `main`, in their order: those of the flat form, by a step of its machine for each row.
@@ -85,6 +71,6 @@ pub(crate) fn evaluate(
 {
     checked.invariant_holds();
     checked.program.invariant_holds();
-    let evaluated = evaluate_flat(alloc, &checked.flat, inputs)?;
-    Ok(evaluated.columns)
+    let columns = evaluate_flat(alloc, &checked.flat, inputs)?;
+    Ok(columns)
 }

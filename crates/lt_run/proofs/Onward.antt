@@ -90,6 +90,12 @@ module _ {M : Type 0} (mch : Machines M) (k : LoadedPlan) (name : List ℕ) (fil
       } in
       subst (λ (g : Or RunFault). Outs (Err g)) (sym is) told
 
+-- no memory was found before a replay
+pub not_begun : (k : LoadedPlan) (name : List ℕ) (files : FilesState) (fabric : FabricState) (r : Result Outputs (Or RunFault)) → IsErrAnd r (λ f. f ≡ Memory) → HasOutputs k name files files fabric fabric r
+not_begun k name files fabric (Ok x) is = absurd is
+not_begun k name files fabric (Err f) is =
+    subst (λ (g : Or RunFault). HasOutputs k name files files fabric fabric (Err g)) (sym is) (record { answered = runs_short (world files fabric); near = λ told. tt; opens = record { calls = opens_none fabric; done = tt } })
+
 -- no memory was found before the run
 pub not_run : (k : LoadedPlan) (name : List ℕ) (files : FilesState) (fabric : FabricState) (r : Result Outputs (Or CommandFault)) → IsErrAnd r (λ f. f ≡ Memory)
     → (answered : Answered command_blame (schedule_errand name) (along_loaded fabric k (files.named name)) (world files fabric) (world files fabric) r) × (IsTrue files.told → IfErr r (IsNearCommand (files.named name) files.place)) × OpensOnce fabric fabric r

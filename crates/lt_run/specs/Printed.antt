@@ -1,5 +1,5 @@
 -- What a run along a schedule comes to, in the words of its program.
-use Rattle.std.specs.Prelude.{◌≡◌, ℕ, ◌<◌, ◌≤◌, min, IsTrue, List, [], length, take, Option, Some, Result, IfOk, IfErr, slice_get, slice_index_or}
+use Rattle.std.specs.Prelude.{◌≡◌, ℕ, ◌<◌, ◌≤◌, min, IsTrue, List, [], length, take, Option, Some, Result, IfOk, IfErr, slice_index_or}
 use Rattle.lt_base.specs.declared.value.Value.{Value}
 use Rattle.lt_base.specs.declared.value.Cell.{Cell}
 use Rattle.lt_base.specs.declared.memory.Or.{Or}
@@ -30,8 +30,6 @@ use Rattle.lt_run.specs.declared.printed.Printed.{Printed}
 use Rattle.lt_run.specs.Fault.{run_blame, IsNearRun}
 use Rattle.lt_run.specs.Kinds.{EventsBy, executed_by, IsRunBy, got_by, HasStepsBy, run_file_verdict}
 use Rattle.lt_machine.specs.declared.machine.Machine.{Ghosts as Machines}
-use Rattle.lt_machine.specs.declared.step_machine.StepMachine.{StepMachine}
-use Rattle.lt_step.specs.Compile.{CodeOf}
 
 -- what outputs of these names and cells show, where each node has executed so many instants, each channel has delivered these payloads
 -- and the protocol promises at least so many instants
@@ -101,10 +99,6 @@ pub record HasPrinted {M : Type 0} (mch : Machines M) (k : LoadedPlan) (name : L
   pub opens : OpensOnce fabric fabric' result
   -- the layout of what was loaded is given back
   pub layout : IfOk result (λ printed. printed.layout ≡ k.layout)
-
--- the machine of each node steps code of the node's part
-abbrev pub StepCodeOfParts : {X : Type 0} {call : _} → Layout → List (StepMachine X call) → Type 0
-StepCodeOfParts {X} {call} l machines = (n : ℕ) (m : StepMachine X call) → slice_get machines n ≡ Some m → CodeOf (part_of l n).flat.func m.code
 
 -- a program with its nodes, their channels and bounds of time, and rows of inputs
 abbrev pub set_up : CheckedText → Pace → NetPlan → InputTable → LoadedPlan

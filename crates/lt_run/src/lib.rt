@@ -9,5 +9,5 @@ mod running;
 
 pub use fault::RunFault;
 pub use printed::Printed;
-pub use replaying::{replay, replay_by};
+pub use replaying::replay;
 pub use running::{run, run_loaded};

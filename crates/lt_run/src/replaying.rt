@@ -1,5 +1,5 @@
 // A loaded program along a schedule.
-ghost use Rattle.std.specs.Prelude.{◌≡◌, ◌<◌, ◌≤◌, ◌-◌, ◌^◌, [], IfOk, length, None};
+ghost use Rattle.std.specs.Prelude.{◌≡◌, ◌<◌, ◌≤◌, ◌-◌, ◌^◌, [], length, None};
 ghost use Rattle.lt_io.specs.Counts.{MayFail};
 ghost use Rattle.lt_base.specs.Behaviour.{RowsFit};
 ghost use Rattle.lt_norm.specs.Flat.{Originated};
@@ -13,7 +13,8 @@ ghost use Rattle.lt_arch.specs.Paced.{allowed_of};
 ghost use Rattle.lt_lead.specs.Paced.{KeepsPace};
 ghost use Rattle.lt_load_fit.specs.Fits.{HasWindowBy};
 ghost use Rattle.lt_load.specs.Plan.{IsLoaded};
-ghost use Rattle.lt_run.specs.Printed.{ReplaysLoaded, StepCodeOfParts, TakesSchedule, set_up};
+ghost use Rattle.lt_run.specs.Printed.{ReplaysLoaded, TakesSchedule, set_up};
+ghost use Rattle.lt_run.specs.Run.{HasOutputs};
 
 use crate::equipment::code_machines;
 use crate::fault::{of_lossy, of_play};
@@ -22,10 +23,11 @@ use crate::{Printed, RunFault};
 use lt_base::tables::imp;
 use lt_base::{Inputs, Or};
 use lt_config::Pace;
+use lt_evaluate::Outputs;
 use lt_front::Checked;
 use lt_io::{Fabric, Files};
 use lt_load::{Loaded, main_of};
-use lt_machine::{Machine, StepMachine};
+use lt_machine::Machine;
 use lt_net::Replayed;
 use lt_net_lossy::replay_lossy;
 use lt_net_start::{NetPlan, copies};
@@ -33,30 +35,11 @@ use lt_norm::Flat;
 use std::alloc::Global;
 use std::mem::forget;
 
-/// Has the nodes of a loaded program take the events of a schedule file, row by row, over a fabric that has no channel yet. Each node
-/// has a machine of its part's step code, with the table of the imported operators, which makes a step for each instant that the node
-/// executes.
+/// Has the nodes of a loaded program take the events of a schedule file, row by row, over a fabric that has no channel yet. There is a
+/// machine for each node, of its part, which makes a step for each instant that the node executes.
 ///
 /// The file is refused at its first row or event that is refused. What is kept besides the cells does not grow with the schedule.
-pub fn replay<F: Files, W: Fabric>(
-    alloc: Global,
-    loaded: &Loaded,
-    files: &mut F,
-    schedule: &str,
-    fabric: &mut W,
-) -> Result<Printed<StepMachine>, Or<RunFault>>
-    requires count { MayFail (F.state files.old).faults }
-    requires link_count { MayFail (W.state fabric.old).faults }
-    requires empty { (W.state fabric.old).kinds ≡ [] }
-    ensures printed { ReplaysLoaded F.state W.state ⟦<StepMachine as Machine>⟧ loaded.now schedule.now files.old files.new fabric.old fabric.new result }
-    ensures code { IfOk result (λ printed. StepCodeOfParts loaded.now.layout printed.machines) }
-{
-    let machines = code_machines(alloc, loaded, imp)?;
-    replay_by(alloc, loaded, files, schedule, fabric, machines)
-}
-
-/// The same by any machines: there is one for each node, of its part.
-pub fn replay_by<F: Files, W: Fabric, M: Machine>(
+pub fn replay<F: Files, W: Fabric, M: Machine>(
     alloc: Global,
     loaded: &Loaded,
     files: &mut F,
@@ -82,6 +65,24 @@ pub fn replay_by<F: Files, W: Fabric, M: Machine>(
         fabric,
         machines,
     )
+}
+
+/// What the outputs show in a replay by machines of step code, with the table of the imported operators.
+pub(crate) fn replay_code<F: Files, W: Fabric>(
+    alloc: Global,
+    loaded: &Loaded,
+    files: &mut F,
+    schedule: &str,
+    fabric: &mut W,
+) -> Result<Outputs, Or<RunFault>>
+    requires count { MayFail (F.state files.old).faults }
+    requires link_count { MayFail (W.state fabric.old).faults }
+    requires empty { (W.state fabric.old).kinds ≡ [] }
+    ensures { HasOutputs loaded.now schedule.now (F.state files.old) (F.state files.new) (W.state fabric.old) (W.state fabric.new) result }
+{
+    let machines = code_machines(alloc, loaded, imp)?;
+    let printed = replay(alloc, loaded, files, schedule, fabric, machines)?;
+    Ok(printed.outputs())
 }
 
 // A program along a schedule, with its setup, which is given away: what its outputs show.
@@ -221,7 +222,7 @@ fn width_of(flat: &Flat) -> u32
     flat.func.n_in
 }
 
-/// What `replay_by` does, of a loaded program that is given away: nothing of it is copied.
+/// What `replay` does, of a loaded program that is given away: nothing of it is copied.
 pub(crate) fn replay_given<F: Files, W: Fabric, M: Machine>(
     alloc: Global,
     loaded: Loaded,

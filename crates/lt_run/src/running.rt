@@ -9,7 +9,7 @@ ghost use Rattle.lt_run.specs.Run.{AsCommand, LeavesUnloaded, RunsFiles, RunsLoa
 
 use crate::RunFault;
 use crate::equipment::{Equipment, equip};
-use crate::replaying::{replay, replay_given};
+use crate::replaying::{replay_code, replay_given};
 use lt_arch::Shape;
 use lt_base::tables::imp;
 use lt_base::{Memory, Or};
@@ -106,8 +106,8 @@ pub fn run_loaded<F: Files, W: Fabric>(
     ensures near { IsReadNear schedule.now (F.state files.old) (F.state files.new) result }
     ensures opens { OpensOnce (W.state fabric.old) (W.state fabric.new) result }
 {
-    match replay(alloc, loaded, files, schedule, fabric) {
-        Ok(printed) => Ok(printed.outputs()),
+    match replay_code(alloc, loaded, files, schedule, fabric) {
+        Ok(outputs) => Ok(outputs),
         Err(fault) => Err(as_command(&loaded.shape, fault)),
     }
 }

@@ -8,7 +8,7 @@ use lt_base::{Cell, List, Memory, Or};
 use lt_io::{Fabric, Files, MemFabric};
 use lt_load::{Loaded, load};
 use lt_machine::TableMachine;
-use lt_run::{Printed, RunFault, replay_by};
+use lt_run::{Printed, RunFault, replay};
 use std::alloc::Global;
 use std::process::Abort;
 
@@ -62,7 +62,7 @@ fn replay_tables<F: Files, W: Fabric>(
 {
     loaded.invariant_holds();
     let machines = table_machines(alloc, &loaded.layout, loaded.inputs.rows())?;
-    replay_by(alloc, loaded, files, "s", fabric, machines)
+    replay(alloc, loaded, files, "s", fabric, machines)
 }
 
 // What a loaded program shows at the end of the schedule.
