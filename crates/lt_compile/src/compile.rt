@@ -33,7 +33,7 @@ use lt_front::{
 };
 use lt_lead::shape_by;
 use lt_load_fit::{CommandFault, accept_setup, as_place, main_of};
-use lt_machine::{Import, Machine, StepMachine};
+use lt_machine::{Machine, Operators, StepMachine};
 use lt_norm::{Flat, into_normal};
 use lt_place::{Layout, place};
 use lt_step::compile;
@@ -134,34 +134,33 @@ fn site_of(alloc: Global, layout: Layout, setup: Config) -> Result<Site, Memory>
     })
 }
 
-/// From the parts to a machine of step code for each node, with a step for each row and none made. There is an import for each node.
-pub fn compile_nodes(
+/// From the parts to a machine of step code for each node, with these imported operators, a step for each row and none made.
+pub fn compile_nodes<G: Operators + Copy>(
     alloc: Global,
     layout: &Layout,
-    imports: Vec<Import>,
+    operators: G,
     rows: u32,
-) -> Result<Vec<StepMachine>, Memory>
+) -> Result<Vec<StepMachine<G>>, Memory>
     requires placed { (f : Originated) × IsPlaced f layout.now × HasCodeRoom f.func }
-    requires imports { length imports.items ≡ length layout.now.nodes }
-    ensures { IfOk result (λ machines. AreReady ⟦<StepMachine as Machine>⟧ layout.now rows machines.items) }
+    ensures { IfOk result (λ machines. AreReady ⟦<StepMachine<G> as Machine>⟧ layout.now rows machines.items) }
 {
-    let machines = each_machine(alloc, layout, imports, rows)?;
+    let machines = each_machine(alloc, layout, operators, rows)?;
     Ok(machines)
 }
 
-/// From a flat function to a machine of step code, with a step for each row and none made.
-pub fn compile_part(
+/// From a flat function to a machine of step code, with these imported operators, a step for each row and none made.
+pub fn compile_part<G: Operators>(
     alloc: Global,
     flat: &Flat,
-    import: Import,
+    operators: G,
     rows: u32,
-) -> Result<StepMachine, Memory>
+) -> Result<StepMachine<G>, Memory>
     requires { IsCompilable flat.now.func }
-    ensures stands { IfOk result (λ m. ⟦<StepMachine as Machine>⟧.stands m flat.now.func []) }
-    ensures made { IfOk result (λ m. ⟦<StepMachine as Machine>⟧.made m ≡ 0) }
-    ensures left { IfOk result (λ m. ⟦<StepMachine as Machine>⟧.left m ≡ rows) }
+    ensures stands { IfOk result (λ m. ⟦<StepMachine<G> as Machine>⟧.stands m flat.now.func []) }
+    ensures made { IfOk result (λ m. ⟦<StepMachine<G> as Machine>⟧.made m ≡ 0) }
+    ensures left { IfOk result (λ m. ⟦<StepMachine<G> as Machine>⟧.left m ≡ rows) }
 {
     let order = order_of(alloc, &flat.func)?;
     let code = compile(alloc, flat, &order)?;
-    StepMachine::start(alloc, code, import, rows)
+    StepMachine::start(alloc, code, operators, rows)
 }

@@ -7,9 +7,11 @@ pub mod laws;
 mod machines;
 mod printing;
 mod site;
+mod tables;
 
 pub use compile::{
     check_program, compile_nodes, compile_part, flatten, front, layout_of, place_program,
 };
 pub use printing::print_program;
 pub use site::Site;
+pub use tables::table_nodes;

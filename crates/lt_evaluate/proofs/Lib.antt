@@ -3,3 +3,4 @@ pub mod Longer
 pub mod Contents
 pub mod Showing
 pub mod OneMeaning
+pub mod Stepped

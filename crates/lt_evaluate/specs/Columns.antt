@@ -5,7 +5,9 @@ use Rattle.lt_base.specs.declared.value.Cell.{Cell}
 use Rattle.lt_base.specs.declared.value.Cell.TheVariants.{Absent}
 use Rattle.lt_base.specs.Program.{Function}
 use Rattle.lt_base.specs.Meaning.{stream_of}
+use Rattle.lt_step.specs.Compile.{CodeOf}
 use Rattle.lt_machine.specs.declared.machine.Machine.{Ghosts as Machines}
+use Rattle.lt_machine.specs.declared.step_machine.StepMachine.{StepMachine}
 
 -- these are the streams of the outputs of a function without calls on these rows, in the order of the outputs
 abbrev pub HasColumns : Function → List (List Value) → List (List Cell) → Type 0
@@ -23,3 +25,8 @@ ColumnsGain cells old new = (i : ℕ) → i < length cells → slice_index_or ne
 pub record HasStepped {M : Type 0} (mch : Machines M) (f : Function) (rows : List (List Value)) (machine : M) : Type 0 where
   pub stands : mch.stands machine f rows
   pub made : mch.made machine ≡ length rows
+
+-- a machine steps the code of this function, and has made so many steps
+pub record StepsFunction {G : Type 0} (f : Function) (steps : ℕ) (machine : StepMachine G) : Type 0 where
+  pub code : CodeOf f machine.code
+  pub made : machine.made ≡ steps

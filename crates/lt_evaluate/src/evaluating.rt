@@ -1,22 +1,21 @@
 // The streams of a program's outputs on its inputs.
-ghost use Rattle.std.specs.Prelude.{◌≡◌, ◌<◌, ◌≤◌, true, false, IfOk, IfErr, OnOk};
+ghost use Rattle.std.specs.Prelude.{◌≡◌, ◌<◌, ◌≤◌, true, false, length, IfOk, IfErr, OnOk};
 ghost use Rattle.lt_base.specs.Checked.{CheckedProgram};
 ghost use Rattle.lt_base.specs.Limits.{most_cells};
 ghost use Rattle.lt_base.specs.Main.{HasOutputStreams, InputsFitMain, cell_count};
 ghost use Rattle.lt_answer.specs.Answered.{Refuses};
 ghost use Rattle.lt_place.specs.Sizes.{IsCompilable};
 ghost use Rattle.lt_step.specs.Run.{HasRowValues};
-ghost use Rattle.lt_evaluate.specs.Columns.{HasColumns};
+ghost use Rattle.lt_evaluate.specs.Columns.{HasColumns, StepsFunction};
 ghost use Rattle.lt_evaluate.specs.Main.{cells_verdict};
 
 use crate::streaming::streams_by;
 use lt_base::limits::GREATEST_CELLS;
-use lt_base::tables::imp;
 use lt_base::{Cell, Inputs, List, Memory, Or, Program, sizes};
 use lt_compile::compile_part;
 use lt_front::Checked;
 use lt_load::CommandFault;
-use lt_machine::Import;
+use lt_machine::{ImportedOperators, StepMachine};
 use lt_norm::Flat;
 use std::alloc::Global;
 use std::marker::Brand;
@@ -49,15 +48,24 @@ pub(crate) fn limit_cells(
     Ok(())
 }
 
-// Evaluates a flat function on all rows: the streams of its outputs.
-fn evaluate_flat(alloc: Global, flat: &Flat, inputs: &Inputs) -> Result<List<List<Cell>>, Memory>
+// The streams of a function's outputs, and the machine whose steps showed them.
+#[derive(Drop)]
+struct Evaluated {
+    columns: List<List<Cell>>,
+    machine: StepMachine<ImportedOperators>,
+}
+
+// Evaluates a flat function on all rows, by a step of its code for each.
+fn evaluate_flat(alloc: Global, flat: &Flat, inputs: &Inputs) -> Result<Evaluated, Memory>
     requires compilable { IsCompilable flat.now.func }
     requires width { inputs.now.width ≡ flat.now.func.n_in }
     requires rows { HasRowValues flat.now.func.n_in inputs.now.rows }
-    ensures { IfOk result (HasColumns flat.now.func inputs.now.rows) }
+    ensures columns { IfOk result (λ evaluated. HasColumns flat.now.func inputs.now.rows evaluated.columns) }
+    ensures steps_code { IfOk result (λ evaluated. StepsFunction flat.now.func (length inputs.now.rows) evaluated.machine) }
 {
-    let mut machine = compile_part(alloc, flat, Import::new(imp), inputs.rows())?;
-    streams_by::<_, Brand>(alloc, &mut machine, &flat.func, inputs, Blank::new(1))
+    let mut machine = compile_part(alloc, flat, ImportedOperators, inputs.rows())?;
+    let columns = streams_by::<_, Brand>(alloc, &mut machine, &flat.func, inputs, Blank::new(1))?;
+    Ok(Evaluated { columns, machine })
 }
 
 /// The streams of the outputs of `main`, in their order: those of the flat form, by a step of its machine for each row.
@@ -71,6 +79,6 @@ pub(crate) fn evaluate(
 {
     checked.invariant_holds();
     checked.program.invariant_holds();
-    let columns = evaluate_flat(alloc, &checked.flat, inputs)?;
-    Ok(columns)
+    let evaluated = evaluate_flat(alloc, &checked.flat, inputs)?;
+    Ok(evaluated.columns)
 }

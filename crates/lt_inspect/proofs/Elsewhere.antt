@@ -83,14 +83,14 @@ near_of s file place (refusal.Row row f) bytes is near = subst (λ (x : Option (
 near_of s file place (refusal.Offence event offence) bytes is near = subst (λ (x : Option (List ℕ)). IsNearFile x place (Fault (schedule.Offence event offence))) (sym is) near
 near_of s file place refusal.Bytes bytes is near = subst (λ (x : Option (List ℕ)). IsNearFile x place (Fault schedule.Bytes)) (sym is) near
 
-pub near_halted : (s : Shape) (rules : Rules Event arch.Offence) (told : Bool) (file : Option (List ℕ)) (place : ℕ) (h : Halt arch.Offence) (e : Or CommandFault) → AsFault s h e → UnlessFailed (λ r. IsTrue told → RefusesFile rules file place r) h
+pub near_halted : (s : Shape) (rules : Rules Event arch.Offence) (told : Bool) (file : Option (List ℕ)) (place : ℕ) (h : Or (Halt arch.Offence)) (e : Or CommandFault) → AsFault s h e → UnlessFailed (λ r. IsTrue told → RefusesFile rules file place r) h
     → IsTrue told → IsNearCommand file place e
-near_halted s rules told file place (halt.Refused r) (Fault e) is refuses tells =
+near_halted s rules told file place (Fault (halt.Refused r)) (Fault e) is refuses tells =
     let there = refuses tells in subst (IsNearCommandFault file place) (sym is) (near_of s file place r there.bytes there.file_is there.near)
-near_halted s rules told file place (halt.Refused r) Memory is refuses tells = tt
-near_halted s rules told file place halt.Read (Fault e) is refuses tells = subst (IsNearCommandFault file place) (sym is) tt
-near_halted s rules told file place halt.Read Memory is refuses tells = tt
-near_halted s rules told file place halt.Link (Fault e) is refuses tells = subst (IsNearCommandFault file place) (sym is) tt
-near_halted s rules told file place halt.Link Memory is refuses tells = tt
-near_halted s rules told file place halt.Memory (Fault e) is refuses tells = absurd is
-near_halted s rules told file place halt.Memory Memory is refuses tells = tt
+near_halted s rules told file place (Fault (halt.Refused r)) Memory is refuses tells = tt
+near_halted s rules told file place (Fault halt.Read) (Fault e) is refuses tells = subst (IsNearCommandFault file place) (sym is) tt
+near_halted s rules told file place (Fault halt.Read) Memory is refuses tells = tt
+near_halted s rules told file place (Fault halt.Link) (Fault e) is refuses tells = subst (IsNearCommandFault file place) (sym is) tt
+near_halted s rules told file place (Fault halt.Link) Memory is refuses tells = tt
+near_halted s rules told file place Memory (Fault e) is refuses tells = absurd is
+near_halted s rules told file place Memory Memory is refuses tells = tt

@@ -76,28 +76,28 @@ module _ (s : Shape) (t : Timing) (rows : ℕ) (end : List Event → Unit {0} �
   refused r place e is refuses = (schedule_fault_of r, wrong s t rows end (old.named name) refuses.bytes (schedule_fault_of r) refuses.file_is (ap or_fault refuses.reads), is)
 
   -- they were not
-  pub halted : (h : Halt arch.Offence) (e : Or CommandFault) → AsFault s h e → Visited (schedule_errand name) old.visits new.visits false → ReadCounted {T = Unit {0}} old.faults new.faults (Err h) → HaltCounted {T = Unit {0}} 0 0 (Err h) → (IsTrue old.sound → IsSome (old.named name) → new.faults ≡ old.faults)
+  pub halted : (h : Or (Halt arch.Offence)) (e : Or CommandFault) → AsFault s h e → Visited (schedule_errand name) old.visits new.visits false → ReadCounted {T = Unit {0}} old.faults new.faults (Err h) → HaltCounted {T = Unit {0}} 0 0 (Err h) → (IsTrue old.sound → IsSome (old.named name) → new.faults ≡ old.faults)
       → UnlessFailed (λ r. IsTrue old.told → RefusesFile (rules_of s t rows) (old.named name) new.place r) h → Answered {T = Unit {0}} command_blame (schedule_errand name) Right (alone old) (alone new) (Err e)
-  halted (halt.Refused r) (Fault e) is visits calm linked found refuses = record {
+  halted (Fault (halt.Refused r)) (Fault e) is visits calm linked found refuses = record {
     keeps = keeps_alone old new keeps;
     visits = visits;
     cause = subst (Blames (alone old) (alone new)) (sym (ap command_blame is ∙ content s r)) (record { files = calm; fabric = refl });
     exact = λ told _. refused r new.place e is (refuses told);
     sound = λ told sound rose. absurd (omega (arith, rose, calm));
   }
-  halted (halt.Refused r) Memory is visits calm linked found refuses =
+  halted (Fault (halt.Refused r)) Memory is visits calm linked found refuses =
       record { keeps = keeps_alone old new keeps; visits = visits; cause = record { files = calm; fabric = refl }; exact = λ told _. tt; sound = λ told sound rose. absurd (omega (arith, rose, calm)) }
-  halted halt.Read (Fault e) is visits counted linked found refuses = record {
+  halted (Fault halt.Read) (Fault e) is visits counted linked found refuses = record {
     keeps = keeps_alone old new keeps;
     visits = visits;
     cause = subst (Blames (alone old) (alone new)) (sym (ap command_blame is)) (counted, refl);
     exact = λ told calm. absurd (let same = calm.files in omega (arith, counted, same));
     sound = λ told sound rose. missing s t rows end old.faults new.faults (old.named name) (found sound) rose;
   }
-  halted halt.Read Memory is visits counted linked found refuses = absurd is
-  halted halt.Link e is visits counted linked found refuses = absurd (omega (arith, linked))
-  halted halt.Memory (Fault e) is visits counted linked found refuses = absurd is
-  halted halt.Memory Memory is visits calm linked found refuses =
+  halted (Fault halt.Read) Memory is visits counted linked found refuses = absurd is
+  halted (Fault halt.Link) e is visits counted linked found refuses = absurd (omega (arith, linked))
+  halted Memory (Fault e) is visits counted linked found refuses = absurd is
+  halted Memory Memory is visits calm linked found refuses =
       record { keeps = keeps_alone old new keeps; visits = visits; cause = record { files = calm; fabric = refl }; exact = λ told _. tt; sound = λ told sound rose. absurd (omega (arith, rose, calm)) }
 
 -- the same over an equal shape and timing, and as many rows

@@ -46,12 +46,12 @@ IsOffence (refusal.Offence event offence) = Unit {0}
 IsOffence refusal.Bytes = ⊥
 
 -- why rows are not all taken, as a command's fault; memory may be wanting for the names that an offence needs
-abbrev pub AsFault : Shape → Halt arch.Offence → Or CommandFault → Type 0
-AsFault s (halt.Refused refused) (Fault e) = e ≡ schedule_command_fault s (schedule_fault_of refused)
-AsFault s (halt.Refused refused) Memory = IsOffence refused
-AsFault s halt.Read (Fault e) = e ≡ fault.Read
-AsFault s halt.Read Memory = ⊥
-AsFault s halt.Link (Fault e) = e ≡ fault.Link
-AsFault s halt.Link Memory = ⊥
-AsFault s halt.Memory (Fault e) = ⊥
-AsFault s halt.Memory Memory = Unit {0}
+abbrev pub AsFault : Shape → Or (Halt arch.Offence) → Or CommandFault → Type 0
+AsFault s (Fault (halt.Refused refused)) (Fault e) = e ≡ schedule_command_fault s (schedule_fault_of refused)
+AsFault s (Fault (halt.Refused refused)) Memory = IsOffence refused
+AsFault s (Fault halt.Read) (Fault e) = e ≡ fault.Read
+AsFault s (Fault halt.Read) Memory = ⊥
+AsFault s (Fault halt.Link) (Fault e) = e ≡ fault.Link
+AsFault s (Fault halt.Link) Memory = ⊥
+AsFault s Memory (Fault e) = ⊥
+AsFault s Memory Memory = Unit {0}

@@ -1,5 +1,5 @@
 // The first message too few or too many.
-ghost use Rattle.std.specs.Prelude.{ℕ, [], List};
+ghost use Rattle.std.specs.Prelude.{ℕ, ◌<◌, [], List};
 ghost use Rattle.lt_io.specs.Counts.{MayFail};
 ghost use Rattle.lt_arch.specs.declared.event.Event.{Event};
 ghost use Rattle.lt_arch.specs.declared.shape.Shape.{Shape};
@@ -68,7 +68,8 @@ fn audit_scene<F: Files>(
     audited
 }
 
-// Has an inspection take the events of a schedule file, and tells of its auditor.
+// Has an inspection take the events of a schedule file, and tells of its auditor. The tap selects no time, so that no row of an event is
+// kept.
 fn audit_by<F: Files>(
     alloc: Global,
     files: &mut F,
@@ -77,6 +78,7 @@ fn audit_by<F: Files>(
 ) -> Result<Audited, Or<CommandFault>>
     requires count { MayFail (F.state files.old).faults }
     requires fresh { HasInspected inspection.old [] }
+    requires textless { inspection.old.tap.selection.to < inspection.old.tap.selection.from }
     ensures answered { (k : OfScene) → IsInspectionOver inspection.old k → JudgesSchedule (IsAudited k) k schedule.now (F.state files.old) (F.state files.new) result }
     ensures near { (k : OfScene) → IsInspectionOver inspection.old k → IsReadNear schedule.now (F.state files.old) (F.state files.new) result }
 {

@@ -6,6 +6,7 @@ ghost use Rattle.lt_load.specs.Near.{IsReadNear};
 ghost use Rattle.lt_inspect.specs.Inspecting.{AsFault};
 ghost use Rattle.lt_inspect.specs.OnFiles.{InspectsSchedule};
 ghost use Rattle.lt_inspect.specs.Taking.{HasInspected};
+ghost use Rattle.lt_base.specs.declared.memory.Or.TheVariants as either;
 ghost use Rattle.lt_schedule.specs.declared.halt.Halt.TheVariants as halts;
 
 use crate::inspection::Inspection;
@@ -47,19 +48,19 @@ pub fn inspect<F: Files>(
 }
 
 // Why rows are not all taken, as a command's fault, with a copy of the shape whose nodes it names.
-fn as_fault(shape: &Shape, halt: Halt<Offence>) -> Or<CommandFault>
+fn as_fault(shape: &Shape, halt: Or<Halt<Offence>>) -> Or<CommandFault>
     ensures { AsFault shape.now halt result }
 {
     match halt {
-        Halt::Refused(refusal) => refused(shape, refusal),
-        Halt::Read => Or::Fault(CommandFault::Read),
-        Halt::Link => Or::Fault(CommandFault::Link),
-        Halt::Memory => Or::Memory,
+        Or::Fault(Halt::Refused(refusal)) => refused(shape, refusal),
+        Or::Fault(Halt::Read) => Or::Fault(CommandFault::Read),
+        Or::Fault(Halt::Link) => Or::Fault(CommandFault::Link),
+        Or::Memory => Or::Memory,
     }
 }
 
 fn refused(shape: &Shape, refusal: ScheduleRefusal<Offence>) -> Or<CommandFault>
-    ensures { AsFault shape.now (halts.Refused refusal) result }
+    ensures { AsFault shape.now (either.Fault (halts.Refused refusal)) result }
 {
     match refusal {
         ScheduleRefusal::Row { row, fault } => Or::Fault(CommandFault::Row { row, fault }),

@@ -3,7 +3,7 @@
 
 mod checking;
 mod evaluation;
-mod import;
+mod imported;
 mod instruction;
 mod kind;
 mod machine;
@@ -16,7 +16,7 @@ mod stepping;
 mod table_machine;
 mod tables;
 
-pub use import::Import;
+pub use imported::{ImportedOperators, Operators};
 pub use machine::Machine;
 pub use step_machine::StepMachine;
 pub use table_machine::TableMachine;

@@ -120,7 +120,7 @@ module _ {C M : Type 0} (ctl : Controls C) (mch : Machines M)
     inputs = fed;
     outputs = given;
     tracks = tracks_count;
-    cells = λ y lt. (blank_at y lt).room;
+    cells = λ y lt. let room = (blank_at y lt).room in omega (arith, room);
     routes = are_routes f l placed s routes routes_are;
     exits = are_exits f l placed exits exits_are;
     ports = λ n lt. record { there = omega (arith, lt, ap length ports_are, length-firsts (node_ports_of s.channels) (node_count s)); are = ap (λ ps. slice_index_or ps n no_ports) ports_are ∙ get-firsts (node_ports_of s.channels) (node_count s) n no_ports lt };

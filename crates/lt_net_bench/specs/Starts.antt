@@ -82,10 +82,10 @@ most_fed nodes = greatest (λ n. length (slice_index_or nodes n no_part).feeds) 
 abbrev pub most_given : List Part → ℕ
 most_given nodes = greatest (λ n. length (slice_index_or nodes n no_part).outs) (length nodes)
 
--- no cells, with room for one a row
+-- no cells, with room for one a row and no more
 pub record IsBlank (rows : ℕ) (t : TrackState) : Type 0 where
   pub empty : t.cells ≡ []
-  pub room : rows ≤ t.room
+  pub room : t.room ≡ rows
 
 -- Machines and controllers.
 

@@ -1,5 +1,5 @@
 // The cells of an output, whose room is taken at the start.
-ghost use Rattle.std.specs.Prelude.{◌≡◌, ◌<◌, ◌≤◌, ◌++◌, ◌∷◌, [], length, map, IfOk};
+ghost use Rattle.std.specs.Prelude.{◌≡◌, ◌<◌, ◌++◌, ◌∷◌, [], length, map, IfOk};
 
 use lt_base::{Cell, List, Memory};
 use std::alloc::Global;
@@ -21,10 +21,10 @@ impl Model for Track {
 }
 
 impl Track {
-    /// No cells, with room for this many.
+    /// No cells, with room for exactly this many.
     pub fn with_room(alloc: Global, room: u32) -> Result<Track, Memory>
         ensures cells { IfOk result (λ track. track.cells ≡ []) }
-        ensures room { IfOk result (λ track. room ≤ track.room) }
+        ensures room { IfOk result (λ track. track.room ≡ room) }
     {
         Ok(Track {
             cells: Vec::with_capacity(alloc, room as usize)?,

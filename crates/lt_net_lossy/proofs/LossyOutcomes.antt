@@ -16,7 +16,6 @@ use Rattle.lt_answer.specs.World.{KeepsWorld, world}
 use Rattle.lt_answer.specs.Answered.{OfFile, Verdict, RefusesReading}
 use Rattle.lt_schedule.specs.declared.halt.ScheduleRefusal.{ScheduleRefusal}
 use Rattle.lt_schedule.specs.declared.halt.Halt.{Halt}
-use Rattle.lt_schedule.specs.declared.halt.Halt.TheVariants as halt
 use Rattle.lt_schedule.specs.Errand.{schedule_errand}
 use Rattle.lt_schedule.specs.Halted.{UnlessFailed, ReadCounted, ReadCountedBy, HaltCounted, HaltCountedBy}
 use Rattle.lt_schedule.specs.Rules.{Rules, file_judged_by}
@@ -26,13 +25,12 @@ use Rattle.lt_net_lossy.specs.Taken.{IsKeptLossy}
 use Rattle.lt_net_start.proofs.Onward.{stands_too}
 use Rattle.lt_net.specs.declared.replayed.Replayed.{Replayed}
 use Rattle.lt_net_start.proofs.Onward.{at_error}
-use Rattle.lt_net_start.specs.declared.fault.PlayFault.{PlayFault}
-use Rattle.lt_net_start.specs.declared.fault.PlayFault.TheVariants.{Refused, Read}
+use Rattle.lt_schedule.specs.declared.halt.Halt.TheVariants.{Refused, Read, Link}
 use Rattle.lt_net_lossy.specs.Rules.{lossy_rules_of}
-use Rattle.lt_net_start.specs.Blamed.{ReplayEndsWith, play_blame, play_fault, IsNearPlay}
+use Rattle.lt_net_start.specs.Blamed.{ReplayEndsWith, play_blame, IsNearPlay}
 use Rattle.lt_net_lossy.specs.LossyReplays.{IsLossyReplay, lossy_replay_verdict, HasLossyPlayed}
 use Rattle.lt_net_lossy.specs.LossyPlays.{PlaysLossy, KeepsLossyPlay, IsTakenFrom}
-use Rattle.lt_net_start.specs.Ends.{FinishesBy, played_by}
+use Rattle.lt_net_start.specs.Ends.{FinishesBy}
 use Rattle.lt_net_lossy.proofs.LossyAtTheEnd.{is_replay, stopped_at}
 use Rattle.lt_machine.specs.declared.machine.Machine.{Ghosts as Machines}
 use Rattle.lt_arch.specs.declared.controller.Controller.{Ghosts as Controls}
@@ -45,13 +43,13 @@ module _ {C M : Type 0} (mch : Machines M) (old new : LossyNetState C M) (inputs
   abbrev ends_at : List LossyEvent → Replayed M → Type 0
   ends_at = IsLossyReplay mch old.bench.layout old.bench.shape old.bench.timing old.bench.watch.limit inputs fabric'
 
-  abbrev right_of : Option (List ℕ) → Verdict (Replayed M) (PlayFault LossyOffence)
+  abbrev right_of : Option (List ℕ) → Verdict (Replayed M) (Halt LossyOffence)
   right_of file = lossy_replay_verdict ends_at old.bench.shape old.bench.timing old.bench.watch.limit (length inputs) file
 
   abbrev RefusedBy : ScheduleRefusal LossyOffence → Type 0
   RefusedBy refused = RefusesFile (rules old.bench.rows) (files.named name) files'.place refused
 
-  abbrev Replays : Result (Replayed M) (Or (PlayFault LossyOffence)) → Type 0
+  abbrev Replays : Result (Replayed M) (Or (Halt LossyOffence)) → Type 0
   Replays result = HasLossyPlayed mch old.bench.layout old.bench.shape old.bench.timing old.bench.watch.limit inputs name files files' fabric fabric' result
 
   keeps_world : KeepsWorld (world files fabric) (world files' fabric')
@@ -75,9 +73,9 @@ module _ {C M : Type 0} (mch : Machines M) (old new : LossyNetState C M) (inputs
   near refused refuses = subst (λ (file : Option (List ℕ)). IsNearPlay file files'.place (Fault (Refused refused))) (sym refuses.file_is) refuses.near
 
   -- not all were
-  pub halted : (h : Halt LossyOffence) → Visited (schedule_errand name) files.visits files'.visits false → ReadCountedBy files.faults files'.faults h → HaltCountedBy fabric.faults fabric'.faults h
-      → (IsTrue files.sound → IsSome (files.named name) → files'.faults ≡ files.faults) → UnlessFailed (λ refused. IsTrue files.told → RefusedBy refused) h → Replays (Err (play_fault h))
-  halted (halt.Refused refused) visits calm link_calm found refuses = record {
+  pub halted : (h : Or (Halt LossyOffence)) → Visited (schedule_errand name) files.visits files'.visits false → ReadCountedBy files.faults files'.faults h → HaltCountedBy fabric.faults fabric'.faults h
+      → (IsTrue files.sound → IsSome (files.named name) → files'.faults ≡ files.faults) → UnlessFailed (λ refused. IsTrue files.told → RefusedBy refused) h → Replays (Err h)
+  halted (Fault (Refused refused)) visits calm link_calm found refuses = record {
     answered = record {
       keeps = keeps_world;
       visits = visits;
@@ -90,7 +88,7 @@ module _ {C M : Type 0} (mch : Machines M) (old new : LossyNetState C M) (inputs
     opens = keeps.fabric_kept.opens;
     layout = tt;
   }
-  halted halt.Read visits rose link_calm found none = record {
+  halted (Fault Read) visits rose link_calm found none = record {
     answered = record {
       keeps = keeps_world;
       visits = visits;
@@ -103,7 +101,7 @@ module _ {C M : Type 0} (mch : Machines M) (old new : LossyNetState C M) (inputs
     opens = keeps.fabric_kept.opens;
     layout = tt;
   }
-  halted halt.Link visits calm rose found none = record {
+  halted (Fault Link) visits calm rose found none = record {
     answered = record {
       keeps = keeps_world;
       visits = visits;
@@ -116,7 +114,7 @@ module _ {C M : Type 0} (mch : Machines M) (old new : LossyNetState C M) (inputs
     opens = keeps.fabric_kept.opens;
     layout = tt;
   }
-  halted halt.Memory visits calm link_calm found none = record {
+  halted Memory visits calm link_calm found none = record {
     answered = record {
       keeps = keeps_world;
       visits = visits;
@@ -156,7 +154,7 @@ module _ {C M : Type 0} (mch : Machines M) (old new : LossyNetState C M) (inputs
           )
 
       -- there is no memory for what is taken
-      pub untaken : (r : Result (Replayed M) (Or (PlayFault LossyOffence))) → IsErrAnd r (λ f. f ≡ Memory) → Replays r
+      pub untaken : (r : Result (Replayed M) (Or (Halt LossyOffence))) → IsErrAnd r (λ f. f ≡ Memory) → Replays r
       untaken r is = at_error Replays r Memory is (record {
         answered = record {
           keeps = keeps_world;
@@ -201,19 +199,19 @@ module _ {C M : Type 0} (mch : Machines M) (old new : LossyNetState C M) (inputs
 
     -- What the answer to the whole file comes to, where a net along the schedule takes its events.
     module _ (playing : List LossyEvent → Type 0) (plays : (events : List LossyEvent) → playing events → PlaysLossy ctl mch later events new fabric') where
-      abbrev Judged : Result (Unit {0}) (Halt LossyOffence) → Type 0
+      abbrev Judged : Result (Unit {0}) (Or (Halt LossyOffence)) → Type 0
       Judged r = MatchResult r (λ _. (steps : ℕ) × TakesFile (rules old.bench.rows) playing files.told (files.named name)) (UnlessFailed (λ refused. IsTrue files.told → RefusedBy refused))
 
       taken_by : (x : Unit {0}) → Judged (Ok x) → Taken
       taken_by x judged = stands_too (rules old.bench.rows) playing (λ before. PlaysLossy ctl mch later before new fabric') plays files.told (files.named name) judged.1
 
-      pub ended_by : (r : Result (Unit {0}) (Halt LossyOffence)) → Visited (schedule_errand name) files.visits files'.visits (is_ok r) → ReadCounted files.faults files'.faults r → HaltCounted fabric.faults fabric'.faults r → Judged r →
+      pub ended_by : (r : Result (Unit {0}) (Or (Halt LossyOffence))) → Visited (schedule_errand name) files.visits files'.visits (is_ok r) → ReadCounted files.faults files'.faults r → HaltCounted fabric.faults fabric'.faults r → Judged r →
           OnOk r ((h : ℕ) × (new.bench.watch.horizon ≡ Some h))
       ended_by (Ok x) visits calm link_calm judged = took_end (taken_by x judged) visits calm link_calm
       ended_by (Err h) visits calm link_calm judged = tt
 
-      pub finished : (r : Result (Unit {0}) (Halt LossyOffence)) → Visited (schedule_errand name) files.visits files'.visits (is_ok r) → ReadCounted files.faults files'.faults r → HaltCounted fabric.faults fabric'.faults r → Judged r →
-          (IsTrue files.sound → IsSome (files.named name) → files'.faults ≡ files.faults) → IsKeptLossy new.bench → length new.bench.tracks ≡ length new.bench.layout.outs → (result : Result (Replayed M) (Or (PlayFault LossyOffence))) → FinishesBy (IsTakenFrom new.bench) (played_by r) result → Replays result
+      pub finished : (r : Result (Unit {0}) (Or (Halt LossyOffence))) → Visited (schedule_errand name) files.visits files'.visits (is_ok r) → ReadCounted files.faults files'.faults r → HaltCounted fabric.faults fabric'.faults r → Judged r →
+          (IsTrue files.sound → IsSome (files.named name) → files'.faults ≡ files.faults) → IsKeptLossy new.bench → length new.bench.tracks ≡ length new.bench.layout.outs → (result : Result (Replayed M) (Or (Halt LossyOffence))) → FinishesBy (IsTakenFrom new.bench) r result → Replays result
       finished (Ok x) visits calm link_calm judged found kept tracks (Ok taken) is = taken_so (taken_by x judged) visits calm link_calm kept tracks taken is
       finished (Ok x) visits calm link_calm judged found kept tracks (Err fault) is = untaken (taken_by x judged) visits calm link_calm (Err fault) is
       finished (Err h) visits calm link_calm judged found kept tracks result is = subst Replays (sym is) (halted h visits calm link_calm found judged)

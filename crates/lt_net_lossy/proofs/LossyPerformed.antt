@@ -21,7 +21,7 @@ use Rattle.lt_net_lossy.specs.Net.{LossyBenchState}
 use Rattle.lt_net_lossy.specs.Starts.{IsMadeOfLossy}
 use Rattle.lt_net.specs.declared.replayed.Replayed.{Replayed}
 use Rattle.lt_net_start.proofs.Onward.{at_error, Allowed, after_leave}
-use Rattle.lt_net_start.specs.declared.fault.PlayFault.{PlayFault}
+use Rattle.lt_schedule.specs.declared.halt.Halt.{Halt}
 use Rattle.lt_net_start.specs.Blamed.{play_blame, link_fault}
 use Rattle.lt_net_lossy.specs.LossyReplays.{IsLossyReplay, lossy_replay_verdict, HasLossyPlayed, HasLossyReplayed}
 use Rattle.lt_machine.specs.declared.machine.Machine.{Ghosts as Machines}
@@ -29,7 +29,7 @@ use Rattle.lt_lossy.specs.declared.event.LossyOffence.{LossyOffence}
 
 module _ {M : Type 0} (mch : Machines M) (l : Layout) (s : Shape) (t : Timing) (losses : ℕ) (inputs : List (List Value)) (name : List ℕ) (files : FilesState) (fabric : FabricState) where
   -- there is no memory to begin with
-  pub no_memory : (r : Result (Replayed M) (Or (PlayFault LossyOffence))) → IsErrAnd r (λ f. f ≡ Memory) → HasLossyReplayed mch l s t losses inputs name files files fabric fabric r
+  pub no_memory : (r : Result (Replayed M) (Or (Halt LossyOffence))) → IsErrAnd r (λ f. f ≡ Memory) → HasLossyReplayed mch l s t losses inputs name files files fabric fabric r
   no_memory r is = at_error (λ answer. HasLossyReplayed mch l s t losses inputs name files files fabric fabric answer) r Memory is (record { answered = runs_short (world files fabric); ended = tt; near = λ told. tt; opens = record { calls = opens_none fabric; done = tt }; layout = tt })
 
   module _ (mid : FabricState) (keeps : KeepsPromises fabric mid) (steady : IsTrue fabric.sound → mid.faults ≡ fabric.faults) (once : OpensAtMostOnce fabric mid) where
@@ -67,10 +67,10 @@ module _ {M : Type 0} (mch : Machines M) (l : Layout) (s : Shape) (t : Timing) (
 
     -- it was opened, and then the schedule was played
     module _ (calm : mid.faults ≡ fabric.faults) (opened : mid.opens ≡ suc fabric.opens) (files' : FilesState) (fabric' : FabricState) where
-      abbrev right_of : Verdict (Replayed M) (PlayFault LossyOffence)
+      abbrev right_of : Verdict (Replayed M) (Halt LossyOffence)
       right_of = lossy_replay_verdict (IsLossyReplay mch l s t losses inputs fabric') s t losses (length inputs) (files.named name)
 
-      leave : Answered play_blame [] (Allowed {E = PlayFault LossyOffence}) (world files fabric) (world files mid) (Ok tt)
+      leave : Answered play_blame [] (Allowed {E = Halt LossyOffence}) (world files fabric) (world files mid) (Ok tt)
       leave = record {
         keeps = unplayed_keeps;
         visits = visited_none files.visits _;
@@ -79,13 +79,13 @@ module _ {M : Type 0} (mch : Machines M) (l : Layout) (s : Shape) (t : Timing) (
         sound = λ told sound more. absurd (omega (arith, more));
       }
 
-      opens_by : (r : Result (Replayed M) (Or (PlayFault LossyOffence))) → fabric'.opens ≡ suc fabric.opens → OpensOnce fabric fabric' r
+      opens_by : (r : Result (Replayed M) (Or (Halt LossyOffence))) → fabric'.opens ≡ suc fabric.opens → OpensOnce fabric fabric' r
       opens_by (Ok x) is = record { calls = record { least = omega (arith, is); most = omega (arith, is) }; done = is }
       opens_by (Err e) is = record { calls = record { least = omega (arith, is); most = omega (arith, is) }; done = tt }
 
-      pub from_start : (r : Result (Replayed M) (Or (PlayFault LossyOffence))) → HasLossyPlayed mch l s t losses inputs name files files' mid fabric' r → HasLossyReplayed mch l s t losses inputs name files files' fabric fabric' r
+      pub from_start : (r : Result (Replayed M) (Or (Halt LossyOffence))) → HasLossyPlayed mch l s t losses inputs name files files' mid fabric' r → HasLossyReplayed mch l s t losses inputs name files files' fabric fabric' r
       from_start r played = record {
-        answered = widened (AndThen (Allowed {E = PlayFault LossyOffence}) (λ _. right_of)) right_of (world files fabric) (world files' fabric') r (after_leave right_of)
+        answered = widened (AndThen (Allowed {E = Halt LossyOffence}) (λ _. right_of)) right_of (world files fabric) (world files' fabric') r (after_leave right_of)
             (goes_on {next = λ _. right_of} (world files fabric) (world files mid) (world files' fabric') tt r leave played.answered);
         ended = played.ended;
         near = played.near;
@@ -95,7 +95,7 @@ module _ {M : Type 0} (mch : Machines M) (l : Layout) (s : Shape) (t : Timing) (
 
 -- the same of a net that was made of these parts
 pub of_net : {C M : Type 0} (mch : Machines M) (l : Layout) (s : Shape) (t : Timing) (losses : ℕ) (inputs lent : List (List Value)) (ms : List M) (net : LossyBenchState C M) (name : List ℕ) (files files' : FilesState) (fabric fabric' : FabricState)
-    (r : Result (Replayed M) (Or (PlayFault LossyOffence))) → IsMadeOfLossy l s t losses (length inputs) ms net → lent ≡ inputs →
+    (r : Result (Replayed M) (Or (Halt LossyOffence))) → IsMadeOfLossy l s t losses (length inputs) ms net → lent ≡ inputs →
     HasLossyPlayed mch net.layout net.shape net.timing net.watch.limit lent name files files' fabric fabric' r → HasLossyPlayed mch l s t losses inputs name files files' fabric fabric' r
 of_net mch l s t losses inputs lent ms net name files files' fabric fabric' r is same replayed =
     subst (λ z. HasLossyPlayed mch z s t losses inputs name files files' fabric fabric' r) is.layout

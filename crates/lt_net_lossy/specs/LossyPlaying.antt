@@ -10,7 +10,7 @@ use Rattle.lt_schedule.specs.Taken.{JudgesLine}
 use Rattle.lt_lossy.specs.declared.event.LossyEvent.{LossyEvent}
 use Rattle.lt_lossy.specs.declared.event.LossyOffence.{LossyOffence}
 use Rattle.lt_net.specs.declared.replayed.Replayed.{Replayed}
-use Rattle.lt_net_start.specs.declared.fault.PlayFault.{PlayFault}
+use Rattle.lt_schedule.specs.declared.halt.Halt.{Halt}
 use Rattle.lt_net_lossy.specs.declared.replay.playback.LossyPlayback.{LossyPlayback}
 use Rattle.lt_net_lossy.specs.Rules.{lossy_rules_of}
 use Rattle.lt_net_lossy.specs.LossyPlays.{IsPlayingLossy, KeepsLossyPlay}
@@ -37,6 +37,6 @@ KeepsLossyPlayback old new fabric fabric' = KeepsLossyPlay old.net new.net old.i
 
 -- it took the file of this name to its end, or a fault stands against the file
 abbrev pub HasTakenLossy : {M : Type 0} (mch : Machines M) → LossyPlayback M → (name : List ℕ) →
-    (files files' : FilesState) → (fabric fabric' : FabricState) → Result (Replayed M) (Or (PlayFault LossyOffence)) → Type 0
+    (files files' : FilesState) → (fabric fabric' : FabricState) → Result (Replayed M) (Or (Halt LossyOffence)) → Type 0
 HasTakenLossy mch p name files files' fabric fabric' result =
     HasLossyPlayed mch p.net.bench.layout p.net.bench.shape p.net.bench.timing p.net.bench.watch.limit p.inputs.now.rows name files files' fabric fabric' result

@@ -3,7 +3,7 @@ use Rattle.std.proofs.Common.{◌≡◌, ◌<◌, ℕ, false, List, Option, Some
 use Rattle.std.specs.Prelude.{IsSome, MatchResult, is_ok}
 use Rattle.lt_base.specs.declared.value.Value.{Value}
 use Rattle.lt_base.specs.declared.memory.Or.{Or}
-use Rattle.lt_base.specs.declared.memory.Or.TheVariants.{Fault}
+use Rattle.lt_base.specs.declared.memory.Or.TheVariants.{Fault, Memory}
 use Rattle.lt_arch.specs.declared.event.Event.{Event}
 use Rattle.lt_arch.specs.declared.event.Offence as arch
 use Rattle.lt_io.specs.FilesState.{FilesState, KeepsNames}
@@ -14,33 +14,27 @@ use Rattle.lt_answer.specs.World.{KeepsWorld, world}
 use Rattle.lt_answer.specs.Answered.{OfFile, Verdict, RefusesReading}
 use Rattle.lt_schedule.specs.declared.halt.ScheduleRefusal.{ScheduleRefusal}
 use Rattle.lt_schedule.specs.declared.halt.Halt.{Halt}
-use Rattle.lt_schedule.specs.declared.halt.Halt.TheVariants as halt
 use Rattle.lt_schedule.specs.Halted.{UnlessFailed, ReadCounted, HaltCounted, IsMemoryHalt}
 use Rattle.lt_schedule.specs.Rules.{file_judged_by}
 use Rattle.lt_schedule.specs.Replayed.{TakesFile, RefusesFile}
 use Rattle.lt_schedule.specs.Errand.{schedule_errand}
 use Rattle.lt_schedule.specs.Verdict.{rules_of}
 use Rattle.lt_net.specs.NetModel.{NetState}
-use Rattle.lt_net_start.specs.declared.fault.PlayFault.{PlayFault}
-use Rattle.lt_net_start.specs.declared.fault.PlayFault.TheVariants.{Refused, Read}
-use Rattle.lt_net_start.specs.Blamed.{ReplayEndsWith, play_blame, play_fault, IsNearPlay}
+use Rattle.lt_schedule.specs.declared.halt.Halt.TheVariants.{Refused, Read, Link}
+use Rattle.lt_net_start.specs.Blamed.{ReplayEndsWith, play_blame, IsNearPlay}
 use Rattle.lt_net_replay.specs.Plays.{Plays, KeepsPlay}
 use Rattle.lt_net_replay.specs.Played.{IsAtEnd, AtEndOf, play_verdict, HasPlayed}
+use Rattle.lt_net_start.proofs.Onward.{stands_too}
 use Rattle.lt_net_replay.proofs.AtEnd.{at_end}
 use Rattle.lt_machine.specs.declared.machine.Machine.{Ghosts as Machines}
 use Rattle.lt_arch.specs.declared.controller.Controller.{Ghosts as Controls}
-
--- the answer to what the row loop answers
-abbrev pub answer_of : Result (Unit {0}) (Halt arch.Offence) → Result (Unit {0}) (Or (PlayFault arch.Offence))
-answer_of (Ok x) = Ok x
-answer_of (Err h) = Err (play_fault h)
 
 module _ {C M : Type 0} (ctl : Controls C) (mch : Machines M) (old new : NetState C M) (inputs later : List (List Value)) (name : List ℕ) (files files' : FilesState) (fabric fabric' : FabricState)
     (keeps_files : KeepsNames files files') (keeps : KeepsPlay mch.size old new inputs later fabric fabric') where
   abbrev ends_at : List Event → Type 0
   ends_at = IsAtEnd ctl mch old new inputs fabric'
 
-  abbrev right_of : Option (List ℕ) → Verdict (Unit {0}) (PlayFault arch.Offence)
+  abbrev right_of : Option (List ℕ) → Verdict (Unit {0}) (Halt arch.Offence)
   right_of file = play_verdict ends_at old.bench.shape old.bench.timing old.bench.rows file
 
   abbrev Taken : ℕ → Type 0
@@ -77,7 +71,7 @@ module _ {C M : Type 0} (ctl : Controls C) (mch : Machines M) (old new : NetStat
   near refused refuses = subst (λ (file : Option (List ℕ)). IsNearPlay file files'.place (Fault (Refused refused))) (sym refuses.file_is) refuses.near
 
   refused_play : (refused : ScheduleRefusal arch.Offence) → Visited (schedule_errand name) files.visits files'.visits false → files'.faults ≡ files.faults → fabric'.faults ≡ fabric.faults → (IsTrue files.told → RefusedBy refused)
-      → HasPlayed ctl mch old new inputs later name files files' fabric fabric' (Err (play_fault (halt.Refused refused)))
+      → HasPlayed ctl mch old new inputs later name files files' fabric fabric' (Err (Fault (Refused refused)))
   refused_play refused visits calm link_calm refuses = record {
     answered = record {
       keeps = keeps_world;
@@ -92,10 +86,10 @@ module _ {C M : Type 0} (ctl : Controls C) (mch : Machines M) (old new : NetStat
     keeps = keeps;
   }
 
-  pub played : (r : Result (Unit {0}) (Halt arch.Offence)) → Visited (schedule_errand name) files.visits files'.visits (is_ok r) → ReadCounted files.faults files'.faults r → HaltCounted fabric.faults fabric'.faults r
+  pub played : (r : Result (Unit {0}) (Or (Halt arch.Offence))) → Visited (schedule_errand name) files.visits files'.visits (is_ok r) → ReadCounted files.faults files'.faults r → HaltCounted fabric.faults fabric'.faults r
       → (IsTrue files.sound → IsSome (files.named name) → files'.faults ≡ files.faults) → (IsTrue fabric.prompt → IsMemoryHalt r → ⊥)
       → MatchResult r (λ _. (steps : ℕ) × Taken steps) (UnlessFailed (λ refused. IsTrue files.told → RefusedBy refused))
-      → HasPlayed ctl mch old new inputs later name files files' fabric fabric' (answer_of r)
+      → HasPlayed ctl mch old new inputs later name files files' fabric fabric' r
   played (Ok x) visits calm link_calm found prompt takes = record {
     answered = record {
       keeps = keeps_world;
@@ -109,8 +103,8 @@ module _ {C M : Type 0} (ctl : Controls C) (mch : Machines M) (old new : NetStat
     prompt = λ prompt. tt;
     keeps = keeps;
   }
-  played (Err (halt.Refused refused)) visits calm link_calm found prompt refuses = refused_play refused visits calm link_calm refuses
-  played (Err halt.Read) visits counted link_calm found prompt none = record {
+  played (Err (Fault (Refused refused))) visits calm link_calm found prompt refuses = refused_play refused visits calm link_calm refuses
+  played (Err (Fault Read)) visits counted link_calm found prompt none = record {
     answered = record {
       keeps = keeps_world;
       visits = visits;
@@ -123,7 +117,7 @@ module _ {C M : Type 0} (ctl : Controls C) (mch : Machines M) (old new : NetStat
     prompt = λ prompt is. is;
     keeps = keeps;
   }
-  played (Err halt.Link) visits calm counted found prompt none = record {
+  played (Err (Fault Link)) visits calm counted found prompt none = record {
     answered = record {
       keeps = keeps_world;
       visits = visits;
@@ -136,7 +130,7 @@ module _ {C M : Type 0} (ctl : Controls C) (mch : Machines M) (old new : NetStat
     prompt = λ prompt is. is;
     keeps = keeps;
   }
-  played (Err halt.Memory) visits calm link_calm found prompt none = record {
+  played (Err Memory) visits calm link_calm found prompt none = record {
     answered = record {
       keeps = keeps_world;
       visits = visits;
@@ -149,3 +143,13 @@ module _ {C M : Type 0} (ctl : Controls C) (mch : Machines M) (old new : NetStat
     prompt = prompt;
     keeps = keeps;
   }
+
+  -- the same where what stands along the schedule plays
+  pub played_along : (playing : ℕ → List Event → Type 0) (r : Result (Unit {0}) (Or (Halt arch.Offence))) → Visited (schedule_errand name) files.visits files'.visits (is_ok r) → ReadCounted files.faults files'.faults r → HaltCounted fabric.faults fabric'.faults r
+      → (IsTrue files.sound → IsSome (files.named name) → files'.faults ≡ files.faults) → (IsTrue fabric.prompt → IsMemoryHalt r → ⊥)
+      → MatchResult r (λ _. (steps : ℕ) × TakesFile (rules_of old.bench.shape old.bench.timing old.bench.rows) (playing steps) files.told (files.named name)) (UnlessFailed (λ refused. IsTrue files.told → RefusedBy refused))
+      → ((steps : ℕ) (events : List Event) → playing steps events → Plays ctl mch later events steps new fabric')
+      → HasPlayed ctl mch old new inputs later name files files' fabric fabric' r
+  played_along playing (Ok x) visits calm link_calm found prompt judged plays =
+      played (Ok x) visits calm link_calm found prompt (judged.0, stands_too (rules_of old.bench.shape old.bench.timing old.bench.rows) (playing judged.0) (λ before. Plays ctl mch later before judged.0 new fabric') (plays judged.0) files.told (files.named name) judged.1)
+  played_along playing (Err h) visits calm link_calm found prompt judged plays = played (Err h) visits calm link_calm found prompt judged

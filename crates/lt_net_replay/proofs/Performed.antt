@@ -31,8 +31,8 @@ use Rattle.lt_place.specs.Layout.{IsPlaced}
 use Rattle.lt_net.specs.NetModel.{NetState}
 use Rattle.lt_net.specs.Kept.{IsSized}
 use Rattle.lt_net.specs.Starts.{IsMadeOf}
-use Rattle.lt_net_start.specs.declared.fault.PlayFault.{PlayFault}
-use Rattle.lt_net_start.specs.declared.fault.PlayFault.TheVariants.{Refused, Read}
+use Rattle.lt_schedule.specs.declared.halt.Halt.{Halt}
+use Rattle.lt_schedule.specs.declared.halt.Halt.TheVariants.{Refused, Read}
 use Rattle.lt_net_replay.specs.Played.{IsAtEnd, AtEndOf, play_verdict, HasPlayed}
 use Rattle.lt_net_replay.specs.Plays.{KeepsPlay}
 use Rattle.lt_net_start.specs.Blamed.{ReplayEndsWith, play_blame, link_fault}
@@ -53,7 +53,7 @@ module _ {C M : Type 0} (ctl : Controls C) (mch : Machines M)
     abbrev ends_at : List Event → Replayed M → Type 0
     ends_at = IsReplay mch l s t inputs fabric'
 
-    abbrev right_of : Verdict (Replayed M) (PlayFault Offence)
+    abbrev right_of : Verdict (Replayed M) (Halt Offence)
     right_of = replay_verdict ends_at s t (length inputs) (files.named name)
 
     unplayed_keeps : KeepsWorld (world files fabric) (world files fabric')
@@ -90,7 +90,7 @@ module _ {C M : Type 0} (ctl : Controls C) (mch : Machines M)
 
 -- there is no memory to begin with
 pub no_memory : {M : Type 0} (mch : Machines M) (l : Layout) (s : Shape) (t : Timing) (inputs : List (List Value)) (name : List ℕ) (files : FilesState) (fabric : FabricState)
-    (r : Result (Replayed M) (Or (PlayFault Offence))) → IsErrAnd r (λ f. f ≡ Memory) → HasReplayed mch l s t inputs name files files fabric fabric r
+    (r : Result (Replayed M) (Or (Halt Offence))) → IsErrAnd r (λ f. f ≡ Memory) → HasReplayed mch l s t inputs name files files fabric fabric r
 no_memory mch l s t inputs name files fabric r is =
     at_error (λ answer. HasReplayed mch l s t inputs name files files fabric fabric answer) r Memory is (record { answered = runs_short (world files fabric); ended = tt; near = λ told. tt; opens = record { calls = opens_none fabric; done = tt }; layout = tt })
 
@@ -142,16 +142,16 @@ module _ {C M : Type 0} (ctl : Controls C) (mch : Machines M)
   abbrev comes_to : List Event → Replayed M → Type 0
   comes_to = IsReplay mch l s t inputs fabric'
 
-  abbrev played_right : Option (List ℕ) → Verdict (Unit {0}) (PlayFault Offence)
+  abbrev played_right : Option (List ℕ) → Verdict (Unit {0}) (Halt Offence)
   played_right file = play_verdict ends_at_last old.bench.shape old.bench.timing old.bench.rows file
 
-  abbrev replayed_right : Option (List ℕ) → Verdict (Replayed M) (PlayFault Offence)
+  abbrev replayed_right : Option (List ℕ) → Verdict (Replayed M) (Halt Offence)
   replayed_right file = replay_verdict comes_to s t (length inputs) file
 
   same_verdict : (bytes : List ℕ) → file_judged_by (rules_of old.bench.shape old.bench.timing old.bench.rows) bytes ≡ file_judged_by (rules_of s t (length inputs)) bytes
   same_verdict bytes i = file_judged_by (rules_of (is.shape i) (is.timing i) (is.rows i)) bytes
 
-  error_ends : (v : Result (List Event) (ScheduleRefusal Offence)) (e : PlayFault Offence) → ReplayEndsWith (AtEndOf ends_at_last) v (Err e) → ReplayEndsWith comes_to v (Err e)
+  error_ends : (v : Result (List Event) (ScheduleRefusal Offence)) (e : Halt Offence) → ReplayEndsWith (AtEndOf ends_at_last) v (Err e) → ReplayEndsWith comes_to v (Err e)
   error_ends (Ok events) e h = absurd h
   error_ends (Err fault) e h = let same : e ≡ Refused fault = cc h in ap (λ x. Err x) same
 
@@ -159,7 +159,7 @@ module _ {C M : Type 0} (ctl : Controls C) (mch : Machines M)
   value_ends (Ok events) x taken goes h = goes events h
   value_ends (Err fault) x taken goes h = absurd (cc h)
 
-  error_wider : (file : Option (List ℕ)) (e : PlayFault Offence) → played_right file (Err e) → replayed_right file (Err e)
+  error_wider : (file : Option (List ℕ)) (e : Halt Offence) → played_right file (Err e) → replayed_right file (Err e)
   unfolding play_verdict replay_verdict
   error_wider None e h = let same : e ≡ Read = cc h in ap (λ x. Err x) same
   error_wider (Some bytes) e h = subst (λ v. ReplayEndsWith comes_to v (Err e)) (same_verdict bytes) (error_ends (file_judged_by (rules_of old.bench.shape old.bench.timing old.bench.rows) bytes) e h)
@@ -169,7 +169,7 @@ module _ {C M : Type 0} (ctl : Controls C) (mch : Machines M)
   value_wider None x taken goes h = absurd (cc h)
   value_wider (Some bytes) x taken goes h = subst (λ v. ReplayEndsWith comes_to v (Ok taken)) (same_verdict bytes) (value_ends (file_judged_by (rules_of old.bench.shape old.bench.timing old.bench.rows) bytes) x taken goes h)
 
-  leave : Answered play_blame [] (Allowed {E = PlayFault Offence}) (world files fabric) (world files mid) (Ok tt)
+  leave : Answered play_blame [] (Allowed {E = Halt Offence}) (world files fabric) (world files mid) (Ok tt)
   leave = record {
     keeps = record { files = record { sound = refl; told = refl; named = refl }; fabric = opened; steady = λ sound. calm };
     visits = visited_none files.visits _;
@@ -178,9 +178,9 @@ module _ {C M : Type 0} (ctl : Controls C) (mch : Machines M)
     sound = λ told sound rose. absurd (omega (arith, rose));
   }
 
-  from_start : (r : Result (Replayed M) (Or (PlayFault Offence))) → Answered play_blame (schedule_errand name) (replayed_right (files.named name)) (world files mid) (world files' fabric') r → Answered play_blame (schedule_errand name) (replayed_right (files.named name)) (world files fabric) (world files' fabric') r
+  from_start : (r : Result (Replayed M) (Or (Halt Offence))) → Answered play_blame (schedule_errand name) (replayed_right (files.named name)) (world files mid) (world files' fabric') r → Answered play_blame (schedule_errand name) (replayed_right (files.named name)) (world files fabric) (world files' fabric') r
   from_start r answered =
-      widened (AndThen (Allowed {E = PlayFault Offence}) (λ _. replayed_right (files.named name))) (replayed_right (files.named name)) (world files fabric) (world files' fabric') r (after_leave (replayed_right (files.named name)))
+      widened (AndThen (Allowed {E = Halt Offence}) (λ _. replayed_right (files.named name))) (replayed_right (files.named name)) (world files fabric) (world files' fabric') r (after_leave (replayed_right (files.named name)))
       (goes_on {next = λ _. replayed_right (files.named name)} (world files fabric) (world files mid) (world files' fabric') tt r leave answered)
 
   -- no event opens the fabric again
@@ -191,7 +191,7 @@ module _ {C M : Type 0} (ctl : Controls C) (mch : Machines M)
   one_call keeps = let is = same_opens keeps in record { least = omega (arith, is); most = omega (arith, is) }
 
   -- the play was refused
-  refused_play : (e : Or (PlayFault Offence)) → HasPlayed ctl mch old new inputs later name files files' mid fabric' (Err e) → HasReplayed mch l s t inputs name files files' fabric fabric' (Err e)
+  refused_play : (e : Or (Halt Offence)) → HasPlayed ctl mch old new inputs later name files files' mid fabric' (Err e) → HasReplayed mch l s t inputs name files files' fabric fabric' (Err e)
   refused_play e played = record {
     answered = from_start (Err e) (error_too play_blame (schedule_errand name) (played_right (files.named name)) (replayed_right (files.named name)) (world files mid) (world files' fabric') (error_wider (files.named name)) e played.answered);
     ended = tt;
@@ -200,7 +200,7 @@ module _ {C M : Type 0} (ctl : Controls C) (mch : Machines M)
     layout = tt;
   }
 
-  pub refused_by : (r : Result (Replayed M) (Or (PlayFault Offence))) (e : Or (PlayFault Offence)) → IsErrAnd r (λ f. f ≡ e) → (lent : List (List Value)) → lent ≡ inputs → HasPlayed ctl mch old new lent later name files files' mid fabric' (Err e) →
+  pub refused_by : (r : Result (Replayed M) (Or (Halt Offence))) (e : Or (Halt Offence)) → IsErrAnd r (λ f. f ≡ e) → (lent : List (List Value)) → lent ≡ inputs → HasPlayed ctl mch old new lent later name files files' mid fabric' (Err e) →
       HasReplayed mch l s t inputs name files files' fabric fabric' r
   refused_by r e is lent same played =
       at_error (λ answer. HasReplayed mch l s t inputs name files files' fabric fabric' answer) r e is
@@ -221,7 +221,7 @@ module _ {C M : Type 0} (ctl : Controls C) (mch : Machines M)
       layout = tt;
     }
 
-    pub untaken_by : (r : Result (Replayed M) (Or (PlayFault Offence))) → IsErrAnd r (λ f. f ≡ Memory) → HasReplayed mch l s t inputs name files files' fabric fabric' r
+    pub untaken_by : (r : Result (Replayed M) (Or (Halt Offence))) → IsErrAnd r (λ f. f ≡ Memory) → HasReplayed mch l s t inputs name files files' fabric fabric' r
     untaken_by r is = at_error (λ answer. HasReplayed mch l s t inputs name files files' fabric fabric' answer) r Memory is untaken
 
     -- it is taken
@@ -254,19 +254,19 @@ module _ {C M : Type 0} (ctl : Controls C) (mch : Machines M)
 
   -- whatever came of the play
   module _ (lent : List (List Value)) (same : lent ≡ inputs) where
-    pub at_end : (p : Result (Unit {0}) (Or (PlayFault Offence))) → HasPlayed ctl mch old new lent later name files files' mid fabric' p → OnOk p ((h : ℕ) × (new.bench.watch.horizon ≡ Some h))
+    pub at_end : (p : Result (Unit {0}) (Or (Halt Offence))) → HasPlayed ctl mch old new lent later name files files' mid fabric' p → OnOk p ((h : ℕ) × (new.bench.watch.horizon ≡ Some h))
     at_end (Ok x) played = played.ended.1.horizon
     at_end (Err e) played = tt
 
-    pub finished : (f : Originated) → IsPlaced f l → RowsFit f.func inputs → PlanIsSound l s t (length inputs) → IsSized new.bench → length new.bench.tracks ≡ length new.bench.layout.outs → (p : Result (Unit {0}) (Or (PlayFault Offence))) →
-        HasPlayed ctl mch old new lent later name files files' mid fabric' p → (r : Result (Replayed M) (Or (PlayFault Offence))) → FinishesBy (ReplayIsTaken new.bench) p r → HasReplayed mch l s t inputs name files files' fabric fabric' r
+    pub finished : (f : Originated) → IsPlaced f l → RowsFit f.func inputs → PlanIsSound l s t (length inputs) → IsSized new.bench → length new.bench.tracks ≡ length new.bench.layout.outs → (p : Result (Unit {0}) (Or (Halt Offence))) →
+        HasPlayed ctl mch old new lent later name files files' mid fabric' p → (r : Result (Replayed M) (Or (Halt Offence))) → FinishesBy (ReplayIsTaken new.bench) p r → HasReplayed mch l s t inputs name files files' fabric fabric' r
     finished f placed fit networks sized tracks (Ok x) played (Ok taken) ends = taken_so x lent same played f placed fit networks sized tracks taken ends
     finished f placed fit networks sized tracks (Ok x) played (Err e) ends = untaken_by x lent same played (Err e) ends
     finished f placed fit networks sized tracks (Err e) played r ends =
         subst (λ answer. HasReplayed mch l s t inputs name files files' fabric fabric' answer) (sym ends) (refused_by (Err e) e refl lent same played)
 
 -- the same of an equal layout, shape and timing
-pub of_equals : {M : Type 0} (mch : Machines M) (l l' : Layout) (s s' : Shape) (t t' : Timing) (inputs : List (List Value)) (name : List ℕ) (files files' : FilesState) (fabric fabric' : FabricState) (r : Result (Replayed M) (Or (PlayFault Offence))) →
+pub of_equals : {M : Type 0} (mch : Machines M) (l l' : Layout) (s s' : Shape) (t t' : Timing) (inputs : List (List Value)) (name : List ℕ) (files files' : FilesState) (fabric fabric' : FabricState) (r : Result (Replayed M) (Or (Halt Offence))) →
     l' ≡ l → s' ≡ s → t' ≡ t → HasReplayed mch l' s' t' inputs name files files' fabric fabric' r → HasReplayed mch l s t inputs name files files' fabric fabric' r
 of_equals mch l l' s s' t t' inputs name files files' fabric fabric' r same_layout same_shape same_timing replayed =
     subst (λ z. HasReplayed mch z s t inputs name files files' fabric fabric' r) same_layout

@@ -26,8 +26,8 @@ use Rattle.lt_net.specs.Net.{Lists}
 use Rattle.lt_net_node.specs.Layout.{IsLaidOut}
 use Rattle.lt_net_bench.specs.Whole.{RowsCoverInputs}
 use Rattle.lt_net.specs.Replay.{ReplayKeeps, ReplayEnds}
-use Rattle.lt_net_start.specs.declared.fault.PlayFault.{PlayFault}
-use Rattle.lt_net_start.specs.declared.fault.PlayFault.TheVariants.{Read}
+use Rattle.lt_schedule.specs.declared.halt.Halt.{Halt}
+use Rattle.lt_schedule.specs.declared.halt.Halt.TheVariants.{Read}
 use Rattle.lt_net_replay.specs.Plays.{KeepsPlay}
 use Rattle.lt_net_start.specs.Blamed.{ReplayEndsWith, play_blame, IsNearPlay}
 use Rattle.lt_machine.specs.declared.machine.Machine.{Ghosts as Machines}
@@ -57,12 +57,12 @@ abbrev pub AtEndOf : (end : List Event → Type 0) → List Event → Unit {0} �
 AtEndOf end events x = end events
 
 -- what is right of a schedule file, with so many rows of inputs
-unfoldable pub play_verdict : (end : List Event → Type 0) → Shape → Timing → (rows : ℕ) → Option (List ℕ) → Verdict (Unit {0}) (PlayFault Offence)
+unfoldable pub play_verdict : (end : List Event → Type 0) → Shape → Timing → (rows : ℕ) → Option (List ℕ) → Verdict (Unit {0}) (Halt Offence)
 play_verdict end s t rows file = OfFile Read file (λ bytes outcome. ReplayEndsWith (AtEndOf end) (file_judged_by (rules_of s t rows) bytes) outcome)
 
 -- the net took the file of this name to its end, or a fault stands against it
 pub record HasPlayed {C M : Type 0} (ctl : Controls C) (mch : Machines M) (old new : NetState C M) (inputs later : List (List Value))
-    (name : List ℕ) (files files' : FilesState) (fabric fabric' : FabricState) (result : Result (Unit {0}) (Or (PlayFault Offence))) : Type 0 where
+    (name : List ℕ) (files files' : FilesState) (fabric fabric' : FabricState) (result : Result (Unit {0}) (Or (Halt Offence))) : Type 0 where
   -- by the verdict of the file
   pub answered : Answered play_blame (schedule_errand name) (play_verdict (IsAtEnd ctl mch old new inputs fabric') old.bench.shape old.bench.timing old.bench.rows (files.named name)) (world files fabric) (world files' fabric') result
   -- whether or not the files tell their bytes

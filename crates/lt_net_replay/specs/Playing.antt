@@ -9,7 +9,7 @@ use Rattle.lt_schedule.specs.declared.halt.Stop.{Stop}
 use Rattle.lt_schedule.specs.Rules.{Rules}
 use Rattle.lt_schedule.specs.Taken.{JudgesLine}
 use Rattle.lt_schedule.specs.Verdict.{rules_of}
-use Rattle.lt_net_start.specs.declared.fault.PlayFault.{PlayFault}
+use Rattle.lt_schedule.specs.declared.halt.Halt.{Halt}
 use Rattle.lt_net_replay.specs.declared.playback.Playback.{Playback}
 use Rattle.lt_net_replay.specs.Plays.{IsPlaying, KeepsPlay}
 use Rattle.lt_net_replay.specs.Played.{HasPlayed}
@@ -35,6 +35,6 @@ KeepsPlayback size old new fabric fabric' = KeepsPlay size old.net new.net old.i
 
 -- it took the file of this name to its end, or a fault stands against the file
 abbrev pub HasTakenFile : {C M : Type 0} (ctl : Controls C) (mch : Machines M) → (old new : Playback C M) → (name : List ℕ) →
-    (files files' : FilesState) → (fabric fabric' : FabricState) → Result (Unit {0}) (Or (PlayFault Offence)) → Type 0
+    (files files' : FilesState) → (fabric fabric' : FabricState) → Result (Unit {0}) (Or (Halt Offence)) → Type 0
 HasTakenFile ctl mch old new name files files' fabric fabric' result =
     HasPlayed ctl mch old.net new.net old.inputs.now.rows new.inputs.now.rows name files files' fabric fabric' result

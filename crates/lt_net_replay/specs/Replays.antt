@@ -16,8 +16,8 @@ use Rattle.lt_schedule.specs.Rules.{file_judged_by}
 use Rattle.lt_schedule.specs.Verdict.{rules_of}
 use Rattle.lt_place.specs.declared.layout.Layout.{Layout}
 use Rattle.lt_net.specs.Net.{TimedBenchState}
-use Rattle.lt_net_start.specs.declared.fault.PlayFault.{PlayFault}
-use Rattle.lt_net_start.specs.declared.fault.PlayFault.TheVariants.{Read}
+use Rattle.lt_schedule.specs.declared.halt.Halt.{Halt}
+use Rattle.lt_schedule.specs.declared.halt.Halt.TheVariants.{Read}
 use Rattle.lt_net_start.specs.declared.plan.NetPlan.{NetPlan}
 use Rattle.lt_net_start.specs.Blamed.{ReplayEndsWith, play_blame, IsNearPlay}
 use Rattle.lt_net.specs.declared.replayed.Replayed.{Replayed}
@@ -37,12 +37,12 @@ pub record IsReplay {M : Type 0} (mch : Machines M) (l : Layout) (s : Shape) (t 
   pub steps : HasSteps mch l s t inputs events run.lists.got taken.machines
 
 -- what is right of a schedule file, with so many rows of inputs
-unfoldable pub replay_verdict : {T : Type 0} → (end : List Event → T → Type 0) → Shape → Timing → (rows : ℕ) → Option (List ℕ) → Verdict T (PlayFault Offence)
+unfoldable pub replay_verdict : {T : Type 0} → (end : List Event → T → Type 0) → Shape → Timing → (rows : ℕ) → Option (List ℕ) → Verdict T (Halt Offence)
 replay_verdict end s t rows file = OfFile Read file (λ bytes outcome. ReplayEndsWith end (file_judged_by (rules_of s t rows) bytes) outcome)
 
 -- the network took the file of this name to its end, or a fault stands against it
 pub record HasReplayed {M : Type 0} (mch : Machines M) (l : Layout) (s : Shape) (t : Timing) (inputs : List (List Value))
-    (name : List ℕ) (files files' : FilesState) (fabric fabric' : FabricState) (result : Result (Replayed M) (Or (PlayFault Offence))) : Type 0 where
+    (name : List ℕ) (files files' : FilesState) (fabric fabric' : FabricState) (result : Result (Replayed M) (Or (Halt Offence))) : Type 0 where
   -- by the verdict of the file
   pub answered : Answered play_blame (schedule_errand name) (replay_verdict (IsReplay mch l s t inputs fabric') s t (length inputs) (files.named name)) (world files fabric) (world files' fabric') result
   -- whether or not the files tell their bytes
@@ -55,5 +55,5 @@ pub record HasReplayed {M : Type 0} (mch : Machines M) (l : Layout) (s : Shape) 
   pub layout : IfOk result (λ taken. taken.layout ≡ l)
 
 -- so did the network of a plan on these inputs
-abbrev pub ReplaysPlan : {M : Type 0} (mch : Machines M) → NetPlan → InputTable → (name : List ℕ) → (files files' : FilesState) → (fabric fabric' : FabricState) → Result (Replayed M) (Or (PlayFault Offence)) → Type 0
+abbrev pub ReplaysPlan : {M : Type 0} (mch : Machines M) → NetPlan → InputTable → (name : List ℕ) → (files files' : FilesState) → (fabric fabric' : FabricState) → Result (Replayed M) (Or (Halt Offence)) → Type 0
 ReplaysPlan mch plan inputs name files files' fabric fabric' result = HasReplayed mch plan.layout plan.shape plan.timing inputs.rows name files files' fabric fabric' result

@@ -9,9 +9,8 @@ use lt_arch::{Controller, Offence};
 use lt_base::Or;
 use lt_io::{Fabric, Files};
 use lt_machine::Machine;
-use lt_net_start::{PlayFault, play_fault};
 use lt_rows::Lines;
-use lt_schedule::replay_schedule;
+use lt_schedule::{Halt, replay_schedule};
 
 /// Has a net that was just started take the events of a schedule file, row by row, over its fabric.
 ///
@@ -23,7 +22,7 @@ pub(crate) fn play<F: Files, W: Fabric, C: Controller, M: Machine>(
     name: &str,
     playback: &mut Playback<'_, C, M>,
     fabric: &mut W,
-) -> Result<(), Or<PlayFault<Offence>>>
+) -> Result<(), Or<Halt<Offence>>>
     requires count { MayFail (F.state files.old).faults }
     requires link_count { MayFail (W.state fabric.old).faults }
     requires fresh { lines.old ≡ fresh_lines }
@@ -31,8 +30,5 @@ pub(crate) fn play<F: Files, W: Fabric, C: Controller, M: Machine>(
     ensures { HasTakenFile C.Controller M.Machine playback.old playback.new name.now
         (F.state files.old) (F.state files.new) (W.state fabric.old) (W.state fabric.new) result }
 {
-    match replay_schedule(lines, files, name, playback, fabric) {
-        Ok(()) => Ok(()),
-        Err(halt) => Err(play_fault(halt)),
-    }
+    replay_schedule(lines, files, name, playback, fabric)
 }

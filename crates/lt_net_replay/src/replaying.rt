@@ -24,16 +24,17 @@ use lt_io::{Fabric, Files};
 use lt_lead::controllers_of;
 use lt_machine::Machine;
 use lt_net::{Net, Replayed};
-use lt_net_start::{NetPlan, PlayFault, link_fault};
+use lt_net_start::{NetPlan, link_fault};
 use lt_rows::Lines;
+use lt_schedule::Halt;
 use std::alloc::Global;
 
 // What a net comes to that has taken a file to its end, or why it has not.
 fn finish<C: Controller, M: Machine>(
     alloc: Global,
     net: Net<C, M>,
-    played: Result<(), Or<PlayFault<Offence>>>,
-) -> Result<Replayed<M>, Or<PlayFault<Offence>>>
+    played: Result<(), Or<Halt<Offence>>>,
+) -> Result<Replayed<M>, Or<Halt<Offence>>>
     requires { OnOk played ((h : ℕ) × (net.bench.watch.horizon ≡ Some h)) }
     ensures { FinishesBy (ReplayIsTaken net.bench) played result }
 {
@@ -58,7 +59,7 @@ fn perform<F: Files, W: Fabric, C: Controller, M: Machine>(
     controllers: Vec<C>,
     inputs: &Inputs,
     width: u32,
-) -> Result<Replayed<M>, Or<PlayFault<Offence>>>
+) -> Result<Replayed<M>, Or<Halt<Offence>>>
     requires fresh { lines.old ≡ fresh_lines }
     requires count { MayFail (F.state files.old).faults }
     requires link_count { MayFail (W.state fabric.old).faults }
@@ -105,7 +106,7 @@ fn replay_by<F: Files, W: Fabric, M: Machine>(
     machines: Vec<M>,
     inputs: &Inputs,
     width: u32,
-) -> Result<Replayed<M>, Or<PlayFault<Offence>>>
+) -> Result<Replayed<M>, Or<Halt<Offence>>>
     requires fresh { lines ≡ fresh_lines }
     requires count { MayFail (F.state files.old).faults }
     requires link_count { MayFail (W.state fabric.old).faults }
@@ -160,7 +161,7 @@ pub fn replay<F: Files, W: Fabric, M: Machine>(
     inputs: &Inputs,
     width: u32,
     machines: Vec<M>,
-) -> Result<Replayed<M>, Or<PlayFault<Offence>>>
+) -> Result<Replayed<M>, Or<Halt<Offence>>>
     requires count { MayFail (F.state files.old).faults }
     requires link_count { MayFail (W.state fabric.old).faults }
     requires empty { (W.state fabric.old).kinds ≡ [] }

@@ -8,8 +8,6 @@ use Rattle.lt_schedule.specs.declared.halt.Stop.TheVariants as stop
 use Rattle.lt_net.specs.declared.fault.First.{First}
 use Rattle.lt_net.specs.declared.fault.First.TheVariants as first
 use Rattle.lt_net.specs.declared.replayed.Replayed.{Replayed}
-use Rattle.lt_net_start.specs.declared.fault.PlayFault.{PlayFault}
-use Rattle.lt_net_start.specs.Blamed.{play_fault}
 
 -- a line that is taken leaves a net that runs; one that is refused leaves it as it was; a failed call or want of memory has stopped it. By
 -- what it is stopped then, if it is, is `stopped`
@@ -20,13 +18,8 @@ LeavesNet old new stopped (Err (stop.Offence offence)) = new ≡ old
 LeavesNet old new stopped (Err stop.Link) = stopped ≡ Some first.Link
 LeavesNet old new stopped (Err stop.Memory) = stopped ≡ Some first.Memory
 
--- the answer to a whole schedule, with why not all rows were taken as a fault of the play
-abbrev pub played_by : {O : Type 0} → Result (Unit {0}) (Halt O) → Result (Unit {0}) (Or (PlayFault O))
-played_by (Ok x) = Ok x
-played_by (Err halt) = Err (play_fault halt)
-
 -- after an answer to a whole schedule: what is taken from the net, or want of memory; else the fault of the answer
-abbrev pub FinishesBy : {M O : Type 0} → (is_taken : Replayed M → Type 0) → Result (Unit {0}) (Or (PlayFault O)) → Result (Replayed M) (Or (PlayFault O)) → Type 0
+abbrev pub FinishesBy : {M O : Type 0} → (is_taken : Replayed M → Type 0) → Result (Unit {0}) (Or (Halt O)) → Result (Replayed M) (Or (Halt O)) → Type 0
 FinishesBy is_taken (Ok x) (Ok taken) = is_taken taken
 FinishesBy is_taken (Ok x) (Err fault) = fault ≡ either.Memory
 FinishesBy is_taken (Err e) result = result ≡ Err e

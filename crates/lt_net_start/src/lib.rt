@@ -6,7 +6,7 @@ mod feeding;
 mod opening;
 mod plan;
 
-pub use fault::{PlayFault, link_fault, play_fault};
+pub use fault::link_fault;
 pub use feeding::{read_next, read_row, room_for, row_if};
 pub use opening::open;
 pub use plan::{NetPlan, copies};

@@ -33,10 +33,12 @@ use Rattle.lt_run.specs.Errands.{run_errands}
 use Rattle.lt_run.specs.Fault.{run_blame}
 use Rattle.lt_run.specs.Kinds.{EventsBy}
 use Rattle.lt_load.specs.Near.{IsNearCommand}
-use Rattle.lt_run.specs.Printed.{HasPrinted, ReplayShows, ShowsAt, run_loaded_verdict}
+use Rattle.lt_run.specs.Coded.{CodeShows, HasPrinted}
+use Rattle.lt_run.specs.Printed.{ShowsAt, run_loaded_verdict}
 use Rattle.lt_run.specs.Run.{AsCommand, KeepsShape, HasOutputs, IsLaidOutBy, OutputsShow, along_loaded, run_along_verdict, run_command_fault, placed_run_verdict, ordered_verdict}
 use Rattle.lt_run.proofs.Replays.{answered_value, answered_fault}
 use Rattle.lt_machine.specs.declared.machine.Machine.{Ghosts as Machines}
+use Rattle.lt_machine.specs.declared.step_machine.StepMachine.{StepMachine}
 
 same_blame : (s : Shape) (e : RunFault) → command_blame (run_command_fault s e) ≡ run_blame e
 same_blame s (run.Row row f) = refl
@@ -47,8 +49,8 @@ same_blame s run.Read = refl
 same_blame s run.Link = refl
 
 -- the outputs of what a replay answers show the same
-outputs_show : {M : Type 0} (mch : Machines M) (p : WholeProgram) (l : Layout) (s : Shape) (t : Timing) (pace : Pace) (inputs : List (List Value)) (fabric : FabricState) (printed : Printed M) (outputs : Outputs)
-    → outputs.names ≡ printed.names → outputs.cells ≡ printed.cells → (events : EventsBy pace) → ReplayShows mch p l s t pace inputs fabric events printed → OutputsShow p l s t pace inputs fabric events outputs
+outputs_show : {G : Type 0} (mch : Machines (StepMachine G)) (p : WholeProgram) (l : Layout) (s : Shape) (t : Timing) (pace : Pace) (inputs : List (List Value)) (fabric : FabricState) (printed : Printed G) (outputs : Outputs)
+    → outputs.names ≡ printed.names → outputs.cells ≡ printed.cells → (events : EventsBy pace) → CodeShows mch p l s t pace inputs fabric events printed → OutputsShow p l s t pace inputs fabric events outputs
 outputs_show mch p l s t pace inputs fabric printed outputs names cells events shown = record {
   horizon = printed.horizon;
   told =
@@ -56,12 +58,12 @@ outputs_show mch p l s t pace inputs fabric printed outputs names cells events s
       (subst (λ (cs : List (List Cell)). ShowsAt p l s t pace inputs fabric events printed.names cs printed.horizon) (sym cells) shown.shows);
 }
 
-module _ {M : Type 0} (mch : Machines M) (k : LoadedPlan) (name : List ℕ) (files files' : FilesState) (fabric fabric' : FabricState) where
+module _ {G : Type 0} (mch : Machines (StepMachine G)) (k : LoadedPlan) (name : List ℕ) (files files' : FilesState) (fabric fabric' : FabricState) where
   abbrev file : Option (List ℕ)
   file = files.named name
 
-  abbrev printed_end : EventsBy k.pace → Printed M → Type 0
-  printed_end = ReplayShows mch k.checked.program k.layout k.shape k.timing k.pace k.inputs.rows fabric'
+  abbrev printed_end : EventsBy k.pace → Printed G → Type 0
+  printed_end = CodeShows mch k.checked.program k.layout k.shape k.timing k.pace k.inputs.rows fabric'
 
   abbrev outputs_end : EventsBy k.pace → Outputs → Type 0
   outputs_end = OutputsShow k.checked.program k.layout k.shape k.timing k.pace k.inputs.rows fabric'
@@ -70,7 +72,7 @@ module _ {M : Type 0} (mch : Machines M) (k : LoadedPlan) (name : List ℕ) (fil
   Outs r = HasOutputs k name files files' fabric fabric' r
 
   -- the outputs of what a replay answers
-  pub outputs_of : (printed : Printed M) (outputs : Outputs) → outputs.names ≡ printed.names → outputs.cells ≡ printed.cells → HasPrinted mch k name files files' fabric fabric' (Ok printed) → Outs (Ok outputs)
+  pub outputs_of : (printed : Printed G) (outputs : Outputs) → outputs.names ≡ printed.names → outputs.cells ≡ printed.cells → HasPrinted mch k name files files' fabric fabric' (Ok printed) → Outs (Ok outputs)
   outputs_of printed outputs names cells has = record {
     answered =
         answered_value k.pace printed_end outputs_end k.shape k.timing (length k.inputs.rows) file (world files fabric) (world files' fabric') printed outputs
@@ -89,12 +91,6 @@ module _ {M : Type 0} (mch : Machines M) (k : LoadedPlan) (name : List ℕ) (fil
         opens = record { calls = has.opens.calls; done = tt };
       } in
       subst (λ (g : Or RunFault). Outs (Err g)) (sym is) told
-
--- no memory was found before a replay
-pub not_begun : (k : LoadedPlan) (name : List ℕ) (files : FilesState) (fabric : FabricState) (r : Result Outputs (Or RunFault)) → IsErrAnd r (λ f. f ≡ Memory) → HasOutputs k name files files fabric fabric r
-not_begun k name files fabric (Ok x) is = absurd is
-not_begun k name files fabric (Err f) is =
-    subst (λ (g : Or RunFault). HasOutputs k name files files fabric fabric (Err g)) (sym is) (record { answered = runs_short (world files fabric); near = λ told. tt; opens = record { calls = opens_none fabric; done = tt } })
 
 -- no memory was found before the run
 pub not_run : (k : LoadedPlan) (name : List ℕ) (files : FilesState) (fabric : FabricState) (r : Result Outputs (Or CommandFault)) → IsErrAnd r (λ f. f ≡ Memory)

@@ -23,8 +23,8 @@ use Rattle.lt_schedule.specs.declared.halt.ScheduleRefusal.{ScheduleRefusal}
 use Rattle.lt_schedule.specs.declared.halt.ScheduleRefusal.TheVariants as refusal
 use Rattle.lt_schedule.specs.Rules.{file_judged_by}
 use Rattle.lt_schedule.specs.Verdict.{rules_of, or_fault, verdict}
-use Rattle.lt_net_start.specs.declared.fault.PlayFault.{PlayFault}
-use Rattle.lt_net_start.specs.declared.fault.PlayFault.TheVariants as play
+use Rattle.lt_schedule.specs.declared.halt.Halt.{Halt}
+use Rattle.lt_schedule.specs.declared.halt.Halt.TheVariants as play
 use Rattle.lt_net_start.specs.Blamed.{ReplayEndsWith, play_blame, IsNearPlay}
 use Rattle.lt_net.specs.declared.replayed.Replayed.{Replayed}
 use Rattle.lt_net_replay.specs.Replays.{HasReplayed, IsReplay, replay_verdict}
@@ -37,21 +37,21 @@ use Rattle.lt_run.specs.Printed.{HasTaken, IsReplayBy}
 use Rattle.lt_machine.specs.declared.machine.Machine.{Ghosts as Machines}
 use Rattle.lt_arch.specs.declared.event.Offence.{Offence}
 
-same_blame : (e : PlayFault Offence) → run_blame (of_play e) ≡ play_blame e
+same_blame : (e : Halt Offence) → run_blame (of_play e) ≡ play_blame e
 same_blame (play.Refused (refusal.Row row f)) = refl
 same_blame (play.Refused (refusal.Offence event offence)) = refl
 same_blame (play.Refused refusal.Bytes) = refl
 same_blame play.Read = refl
 same_blame play.Link = refl
 
-near_fault : (file : Option (List ℕ)) (place : ℕ) (e : PlayFault Offence) → IsNearPlay file place (Fault e) → IsNearRun file place (Fault (of_play e))
+near_fault : (file : Option (List ℕ)) (place : ℕ) (e : Halt Offence) → IsNearPlay file place (Fault e) → IsNearRun file place (Fault (of_play e))
 near_fault file place (play.Refused (refusal.Row row f)) near = near
 near_fault file place (play.Refused (refusal.Offence event offence)) near = near
 near_fault file place (play.Refused refusal.Bytes) near = near
 near_fault file place play.Read near = tt
 near_fault file place play.Link near = tt
 
-near_run : (file : Option (List ℕ)) (place : ℕ) (e : Or (PlayFault Offence)) (g : Or RunFault) → MapsFault e g (λ f h. h ≡ of_play f) → IsNearPlay file place e → IsNearRun file place g
+near_run : (file : Option (List ℕ)) (place : ℕ) (e : Or (Halt Offence)) (g : Or RunFault) → MapsFault e g (λ f h. h ≡ of_play f) → IsNearPlay file place e → IsNearRun file place g
 near_run file place (Fault f) (Fault g) is near = subst (λ (h : RunFault). IsNearRun file place (Fault h)) (sym is) (near_fault file place f near)
 near_run file place (Fault f) Memory is near = absurd is
 near_run file place Memory (Fault g) is near = absurd is
@@ -68,18 +68,18 @@ module _ {T : Type 0} (end : List Event → T → Type 0) (end' : List Event →
   ends_value (Ok events) x right = too events x right
   ends_value (Err f) x right = absurd (cc)
 
-  ends_fault : (v : Result (List Event) (ScheduleRefusal Offence)) (d : PlayFault Offence) → ReplayEndsWith end v (Err d) → RunEndsBy of_schedule end' (or_fault v) (Err (of_play d))
+  ends_fault : (v : Result (List Event) (ScheduleRefusal Offence)) (d : Halt Offence) → ReplayEndsWith end v (Err d) → RunEndsBy of_schedule end' (or_fault v) (Err (of_play d))
   ends_fault (Ok events) d right = right
-  ends_fault (Err f) d right = let same : d ≡ play.Refused f = cc in ap (λ (g : PlayFault Offence). Err (of_play g)) same
+  ends_fault (Err f) d right = let same : d ≡ play.Refused f = cc in ap (λ (g : Halt Offence). Err (of_play g)) same
 
   plain_value : (file : Option (List ℕ)) (x : T) → replay_verdict end s t rows file (Ok x) → plain_verdict file (Ok x)
   unfolding replay_verdict
   plain_value None x right = absurd (cc)
   plain_value (Some bytes) x right = ends_value (file_judged_by (rules_of s t rows) bytes) x right
 
-  plain_fault : (file : Option (List ℕ)) (d : PlayFault Offence) → replay_verdict end s t rows file (Err d) → plain_verdict file (Err (of_play d))
+  plain_fault : (file : Option (List ℕ)) (d : Halt Offence) → replay_verdict end s t rows file (Err d) → plain_verdict file (Err (of_play d))
   unfolding replay_verdict
-  plain_fault None d right = let same : d ≡ play.Read = cc in ap (λ (g : PlayFault Offence). Err (of_play g)) same
+  plain_fault None d right = let same : d ≡ play.Read = cc in ap (λ (g : Halt Offence). Err (of_play g)) same
   plain_fault (Some bytes) d right = ends_fault (file_judged_by (rules_of s t rows) bytes) d right
 
   pub plainly : (file : Option (List ℕ)) (o : Result T RunFault) → Raised of_play (replay_verdict end s t rows file) o → plain_verdict file o
@@ -95,10 +95,10 @@ module _ {M : Type 0} (mch : Machines M) (l : Layout) (s : Shape) (t : Timing) (
   abbrev file : Option (List ℕ)
   file = files.named name
 
-  abbrev Right : Verdict (Replayed M) (PlayFault Offence)
+  abbrev Right : Verdict (Replayed M) (Halt Offence)
   Right = replay_verdict end s t (length inputs) file
 
-  abbrev Replays : Result (Replayed M) (Or (PlayFault Offence)) → Type 0
+  abbrev Replays : Result (Replayed M) (Or (Halt Offence)) → Type 0
   Replays r = HasReplayed mch l s t inputs name files files' fabric fabric' r
 
   abbrev Takes : Pace → Result (Replayed M) (Or RunFault) → Type 0
@@ -126,7 +126,7 @@ module _ {M : Type 0} (mch : Machines M) (l : Layout) (s : Shape) (t : Timing) (
     layout = replays.layout;
   }
 
-  pub not_taken : (pace : Pace) → allowed_of pace ≡ None → (e : Or (PlayFault Offence)) (g : Or RunFault) → MapsFault e g (λ f h. h ≡ of_play f) → Replays (Err e) → Takes pace (Err g)
+  pub not_taken : (pace : Pace) → allowed_of pace ≡ None → (e : Or (Halt Offence)) (g : Or RunFault) → MapsFault e g (λ f h. h ≡ of_play f) → Replays (Err e) → Takes pace (Err g)
   not_taken pace none e g is replays = record {
     answered =
         widened (Raised of_play Right) (run_file_verdict pace (IsReplayBy mch pace l s t inputs fabric') s t (length inputs) file) (world files fabric) (world files' fabric') (Err g) (wider pace none)

@@ -23,8 +23,8 @@ use Rattle.lt_schedule.specs.Rules.{file_judged_by}
 use Rattle.lt_lossy.specs.declared.event.LossyEvent.{LossyEvent}
 use Rattle.lt_lossy.specs.declared.event.LossyOffence.{LossyOffence}
 use Rattle.lt_net.specs.declared.replayed.Replayed.{Replayed}
-use Rattle.lt_net_start.specs.declared.fault.PlayFault.{PlayFault}
-use Rattle.lt_net_start.specs.declared.fault.PlayFault.TheVariants as lossy
+use Rattle.lt_schedule.specs.declared.halt.Halt.{Halt}
+use Rattle.lt_schedule.specs.declared.halt.Halt.TheVariants as lossy
 use Rattle.lt_net_lossy.specs.Rules.{lossy_rules_of}
 use Rattle.lt_net_start.specs.Blamed.{ReplayEndsWith, play_blame, IsNearPlay}
 use Rattle.lt_net_lossy.specs.LossyReplays.{HasLossyReplayed, IsLossyReplay, lossy_replay_verdict}
@@ -36,14 +36,14 @@ use Rattle.lt_run.specs.Kinds.{RunEndsBy, run_file_verdict}
 use Rattle.lt_run.specs.Printed.{HasTaken, IsReplayBy}
 use Rattle.lt_machine.specs.declared.machine.Machine.{Ghosts as Machines}
 
-same_blame : (e : PlayFault LossyOffence) → run_blame (of_lossy e) ≡ play_blame e
+same_blame : (e : Halt LossyOffence) → run_blame (of_lossy e) ≡ play_blame e
 same_blame (lossy.Refused (refusal.Row row f)) = refl
 same_blame (lossy.Refused (refusal.Offence event offence)) = refl
 same_blame (lossy.Refused refusal.Bytes) = refl
 same_blame lossy.Read = refl
 same_blame lossy.Link = refl
 
-near_fault : (file : Option (List ℕ)) (place : ℕ) (e : PlayFault LossyOffence) → IsNearPlay file place (Fault e) → IsNearRun file place (Fault (of_lossy e))
+near_fault : (file : Option (List ℕ)) (place : ℕ) (e : Halt LossyOffence) → IsNearPlay file place (Fault e) → IsNearRun file place (Fault (of_lossy e))
 near_fault None place (lossy.Refused (refusal.Row row f)) near = tt
 near_fault (Some bytes) place (lossy.Refused (refusal.Row row f)) near = near
 near_fault file place (lossy.Refused (refusal.Offence event offence)) near = near
@@ -52,7 +52,7 @@ near_fault (Some bytes) place (lossy.Refused refusal.Bytes) near = near
 near_fault file place lossy.Read near = tt
 near_fault file place lossy.Link near = tt
 
-near_run : (file : Option (List ℕ)) (place : ℕ) (e : Or (PlayFault LossyOffence)) (g : Or RunFault) → MapsFault e g (λ f h. h ≡ of_lossy f) → IsNearPlay file place e → IsNearRun file place g
+near_run : (file : Option (List ℕ)) (place : ℕ) (e : Or (Halt LossyOffence)) (g : Or RunFault) → MapsFault e g (λ f h. h ≡ of_lossy f) → IsNearPlay file place e → IsNearRun file place g
 near_run file place (Fault f) (Fault g) is near = subst (λ (h : RunFault). IsNearRun file place (Fault h)) (sym is) (near_fault file place f near)
 near_run file place (Fault f) Memory is near = absurd is
 near_run file place Memory (Fault g) is near = absurd is
@@ -69,18 +69,18 @@ module _ {T : Type 0} (end : List LossyEvent → T → Type 0) (end' : List Loss
   ends_value (Ok events) x right = too events x right
   ends_value (Err f) x right = absurd (cc)
 
-  ends_fault : (v : Result (List LossyEvent) (ScheduleRefusal LossyOffence)) (d : PlayFault LossyOffence) → ReplayEndsWith end v (Err d) → RunEndsBy of_refusal end' v (Err (of_lossy d))
+  ends_fault : (v : Result (List LossyEvent) (ScheduleRefusal LossyOffence)) (d : Halt LossyOffence) → ReplayEndsWith end v (Err d) → RunEndsBy of_refusal end' v (Err (of_lossy d))
   ends_fault (Ok events) d right = right
-  ends_fault (Err f) d right = let same : d ≡ lossy.Refused f = cc in ap (λ (g : PlayFault LossyOffence). Err (of_lossy g)) same
+  ends_fault (Err f) d right = let same : d ≡ lossy.Refused f = cc in ap (λ (g : Halt LossyOffence). Err (of_lossy g)) same
 
   lossy_value : (file : Option (List ℕ)) (x : T) → lossy_replay_verdict end s t losses rows file (Ok x) → run_verdict file (Ok x)
   unfolding lossy_replay_verdict
   lossy_value None x right = absurd (cc)
   lossy_value (Some bytes) x right = ends_value (file_judged_by (lossy_rules_of s t losses rows) bytes) x right
 
-  lossy_fault : (file : Option (List ℕ)) (d : PlayFault LossyOffence) → lossy_replay_verdict end s t losses rows file (Err d) → run_verdict file (Err (of_lossy d))
+  lossy_fault : (file : Option (List ℕ)) (d : Halt LossyOffence) → lossy_replay_verdict end s t losses rows file (Err d) → run_verdict file (Err (of_lossy d))
   unfolding lossy_replay_verdict
-  lossy_fault None d right = let same : d ≡ lossy.Read = cc in ap (λ (g : PlayFault LossyOffence). Err (of_lossy g)) same
+  lossy_fault None d right = let same : d ≡ lossy.Read = cc in ap (λ (g : Halt LossyOffence). Err (of_lossy g)) same
   lossy_fault (Some bytes) d right = ends_fault (file_judged_by (lossy_rules_of s t losses rows) bytes) d right
 
   pub lossily : (file : Option (List ℕ)) (o : Result T RunFault) → Raised of_lossy (lossy_replay_verdict end s t losses rows file) o → run_verdict file o
@@ -96,10 +96,10 @@ module _ {M : Type 0} (mch : Machines M) (l : Layout) (s : Shape) (t : Timing) (
   abbrev file : Option (List ℕ)
   file = files.named name
 
-  abbrev Right : Verdict (Replayed M) (PlayFault LossyOffence)
+  abbrev Right : Verdict (Replayed M) (Halt LossyOffence)
   Right = lossy_replay_verdict end s t losses (length inputs) file
 
-  abbrev Replays : Result (Replayed M) (Or (PlayFault LossyOffence)) → Type 0
+  abbrev Replays : Result (Replayed M) (Or (Halt LossyOffence)) → Type 0
   Replays r = HasLossyReplayed mch l s t losses inputs name files files' fabric fabric' r
 
   abbrev Takes : Pace → Result (Replayed M) (Or RunFault) → Type 0
@@ -126,7 +126,7 @@ module _ {M : Type 0} (mch : Machines M) (l : Layout) (s : Shape) (t : Timing) (
     layout = replays.layout;
   }
 
-  not_took : (e : Or (PlayFault LossyOffence)) (g : Or RunFault) → MapsFault e g (λ f h. h ≡ of_lossy f) → Replays (Err e) → Takes (LosesMessages losses) (Err g)
+  not_took : (e : Or (Halt LossyOffence)) (g : Or RunFault) → MapsFault e g (λ f h. h ≡ of_lossy f) → Replays (Err e) → Takes (LosesMessages losses) (Err g)
   not_took e g is replays = record {
     answered =
         widened (Raised of_lossy Right) (run_file_verdict (LosesMessages losses) Ends s t (length inputs) file) (world files fabric) (world files' fabric') (Err g) wider
@@ -141,5 +141,5 @@ module _ {M : Type 0} (mch : Machines M) (l : Layout) (s : Shape) (t : Timing) (
   pub taken_lossy : (pace : Pace) → pace ≡ LosesMessages losses → (x : Replayed M) → Replays (Ok x) → Takes pace (Ok x)
   taken_lossy pace is x replays = subst (λ (p : Pace). Takes p (Ok x)) (sym is) (took x replays)
 
-  pub not_taken_lossy : (pace : Pace) → pace ≡ LosesMessages losses → (e : Or (PlayFault LossyOffence)) (g : Or RunFault) → MapsFault e g (λ f h. h ≡ of_lossy f) → Replays (Err e) → Takes pace (Err g)
+  pub not_taken_lossy : (pace : Pace) → pace ≡ LosesMessages losses → (e : Or (Halt LossyOffence)) (g : Or RunFault) → MapsFault e g (λ f h. h ≡ of_lossy f) → Replays (Err e) → Takes pace (Err g)
   not_taken_lossy pace same e g is replays = subst (λ (p : Pace). Takes p (Err g)) (sym same) (not_took e g is replays)

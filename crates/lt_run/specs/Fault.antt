@@ -10,8 +10,8 @@ use Rattle.lt_lossy.specs.declared.event.LossyOffence.{LossyOffence}
 use Rattle.lt_schedule.specs.declared.halt.ScheduleRefusal.{ScheduleRefusal}
 use Rattle.lt_schedule.specs.declared.halt.ScheduleRefusal.TheVariants as refusal
 use Rattle.lt_schedule.specs.Near.{IsNearFile, IsNearIn}
-use Rattle.lt_net_start.specs.declared.fault.PlayFault.{PlayFault}
-use Rattle.lt_net_start.specs.declared.fault.PlayFault.TheVariants as play
+use Rattle.lt_schedule.specs.declared.halt.Halt.{Halt}
+use Rattle.lt_schedule.specs.declared.halt.Halt.TheVariants as play
 use Rattle.lt_schedule.specs.Verdict.{schedule_fault_of}
 use Rattle.lt_run.specs.declared.fault.RunFault.{RunFault}
 use Rattle.lt_run.specs.declared.fault.RunFault.TheVariants.{Row, Offence, Lossy, Bytes, Read, Link}
@@ -37,7 +37,7 @@ abbrev pub of_plain : ScheduleRefusal arch.Offence → RunFault
 of_plain refused = of_schedule (schedule_fault_of refused)
 
 -- the fault of a network's play
-abbrev pub of_play : PlayFault arch.Offence → RunFault
+abbrev pub of_play : Halt arch.Offence → RunFault
 of_play (play.Refused refused) = of_plain refused
 of_play play.Read = Read
 of_play play.Link = Link
@@ -49,7 +49,7 @@ of_refusal (refusal.Offence event offence) = Lossy event offence
 of_refusal refusal.Bytes = Bytes
 
 -- the fault of a network's play over such links
-abbrev pub of_lossy : PlayFault LossyOffence → RunFault
+abbrev pub of_lossy : Halt LossyOffence → RunFault
 of_lossy (play.Refused refused) = of_refusal refused
 of_lossy play.Read = Read
 of_lossy play.Link = Link

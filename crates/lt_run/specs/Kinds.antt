@@ -6,6 +6,7 @@ use Rattle.lt_base.specs.Program.{Function}
 use Rattle.lt_arch.specs.declared.event.Event.{Event}
 use Rattle.lt_arch.specs.declared.shape.Shape.{Shape}
 use Rattle.lt_arch.specs.declared.timing.Timing.{Timing}
+use Rattle.lt_arch.specs.declared.timing.Protocol.TheVariants.{TimeBased}
 use Rattle.lt_arch.specs.State.{executed_of}
 use Rattle.lt_arch.specs.Schedule.{reached}
 use Rattle.lt_io.specs.FabricState.{FabricState}
@@ -22,7 +23,7 @@ use Rattle.lt_lossy.specs.declared.event.LossyOffence.{LossyOffence}
 use Rattle.lt_lossy.specs.Schedule.{lossy_reached}
 use Rattle.lt_net_lossy.specs.Rules.{lossy_rules_of}
 use Rattle.lt_net_lossy.specs.LossyRun.{IsLossyRun, HasLossySteps, executed_in}
-use Rattle.lt_net_replay.specs.Run.{IsRun, HasSteps}
+use Rattle.lt_net_replay.specs.Run.{IsRun, HasSteps, MessagesAreWhole, ExecutesOnExactMessages}
 use Rattle.lt_run.specs.declared.fault.RunFault.{RunFault}
 use Rattle.lt_run.specs.declared.fault.RunFault.TheVariants.{Read}
 use Rattle.lt_run.specs.Fault.{of_refusal, of_schedule}
@@ -69,6 +70,19 @@ abbrev pub got_by : (pace : Pace) (l : Layout) (s : Shape) (t : Timing) (inputs 
 got_by Plain l s t inputs fabric events cells horizon run = run.lists.got
 got_by (Lossy losses) l s t inputs fabric events cells horizon run = run.got
 got_by (Leader leader) l s t inputs fabric events cells horizon run = run.lists.got
+
+-- under the time-based protocol, with a leader or without, each instant is executed on exactly the messages before it; where links lose messages the
+-- protocol is another one
+abbrev pub ExactBy : (pace : Pace) → Shape → Timing → (rows : ℕ) → EventsBy pace → Type 0
+ExactBy Plain s t rows events = t.protocol ≡ TimeBased → ExecutesOnExactMessages s t rows events
+ExactBy (Lossy losses) s t rows events = Unit {0}
+ExactBy (Leader leader) s t rows events = t.protocol ≡ TimeBased → ExecutesOnExactMessages s t rows events
+
+-- where links lose no messages, what was delivered and what is in transit has entries of the streams of a whole function
+abbrev pub CrossesBy : (pace : Pace) → Function → (l : Layout) (s : Shape) (t : Timing) (inputs : List (List Value)) (fabric : FabricState) (events : EventsBy pace) (cells : List (List Cell)) (horizon : ℕ) → IsRunBy pace l s t inputs fabric events cells horizon → Type 0
+CrossesBy Plain f l s t inputs fabric events cells horizon run = MessagesAreWhole f l s inputs run.lists fabric
+CrossesBy (Lossy losses) f l s t inputs fabric events cells horizon run = Unit {0}
+CrossesBy (Leader leader) f l s t inputs fabric events cells horizon run = MessagesAreWhole f l s inputs run.lists fabric
 
 -- there is a machine for each node, and it has run its part on the node's inputs and on what was delivered
 abbrev pub HasStepsBy : {M : Type 0} (mch : Machines M) (pace : Pace) → Layout → Shape → Timing → (inputs : List (List Value)) → EventsBy pace → (got : ℕ → List (List Value)) → List M → Type 0

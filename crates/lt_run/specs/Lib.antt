@@ -1,5 +1,6 @@
 pub mod Fault
 pub mod Kinds
 pub mod Printed
+pub mod Coded
 pub mod Run
 pub mod Errands

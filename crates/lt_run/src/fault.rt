@@ -4,9 +4,8 @@ ghost use Rattle.lt_run.specs.Fault.{of_lossy, of_plain, of_play, of_refusal};
 
 use lt_arch::Offence;
 use lt_lossy::LossyOffence;
-use lt_net_start::PlayFault;
 use lt_rows::RowFault;
-use lt_schedule::ScheduleRefusal;
+use lt_schedule::{Halt, ScheduleRefusal};
 
 /// Why the nodes of a loaded program do not take a schedule file to its end. Rows and events are counted from 1, and the header is row 0.
 #[derive(Clone, Copy)]
@@ -26,13 +25,13 @@ pub enum RunFault {
 }
 
 /// The fault of a network's play as one of a run.
-pub(crate) fn of_play(fault: PlayFault<Offence>) -> RunFault
+pub(crate) fn of_play(fault: Halt<Offence>) -> RunFault
     ensures { result ≡ of_play fault }
 {
     match fault {
-        PlayFault::Refused(refusal) => of_plain(refusal),
-        PlayFault::Read => RunFault::Read,
-        PlayFault::Link => RunFault::Link,
+        Halt::Refused(refusal) => of_plain(refusal),
+        Halt::Read => RunFault::Read,
+        Halt::Link => RunFault::Link,
     }
 }
 
@@ -47,13 +46,13 @@ fn of_plain(refusal: ScheduleRefusal<Offence>) -> RunFault
 }
 
 /// The fault of a network's play over links that lose messages as one of a run.
-pub(crate) fn of_lossy(fault: PlayFault<LossyOffence>) -> RunFault
+pub(crate) fn of_lossy(fault: Halt<LossyOffence>) -> RunFault
     ensures { result ≡ of_lossy fault }
 {
     match fault {
-        PlayFault::Refused(refusal) => of_refusal(refusal),
-        PlayFault::Read => RunFault::Read,
-        PlayFault::Link => RunFault::Link,
+        Halt::Refused(refusal) => of_refusal(refusal),
+        Halt::Read => RunFault::Read,
+        Halt::Link => RunFault::Link,
     }
 }
 

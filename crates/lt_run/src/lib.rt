@@ -1,13 +1,16 @@
 //! A run of a loaded program along a schedule, and what it shows.
 #![tactic(auto)]
 
-mod equipment;
+mod coded;
 mod fault;
 mod printed;
+mod printout;
 mod replaying;
 mod running;
 
+pub use coded::{replay_code, replay_whole};
 pub use fault::RunFault;
 pub use printed::Printed;
+pub use printout::Printout;
 pub use replaying::replay;
 pub use running::{run, run_loaded};

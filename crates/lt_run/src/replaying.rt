@@ -14,16 +14,12 @@ ghost use Rattle.lt_lead.specs.Paced.{KeepsPace};
 ghost use Rattle.lt_load_fit.specs.Fits.{HasWindowBy};
 ghost use Rattle.lt_load.specs.Plan.{IsLoaded};
 ghost use Rattle.lt_run.specs.Printed.{ReplaysLoaded, TakesSchedule, set_up};
-ghost use Rattle.lt_run.specs.Run.{HasOutputs};
 
-use crate::equipment::code_machines;
 use crate::fault::{of_lossy, of_play};
-use crate::printed::name_outputs;
-use crate::{Printed, RunFault};
-use lt_base::tables::imp;
+use crate::printout::name_outputs;
+use crate::{Printout, RunFault};
 use lt_base::{Inputs, Or};
 use lt_config::Pace;
-use lt_evaluate::Outputs;
 use lt_front::Checked;
 use lt_io::{Fabric, Files};
 use lt_load::{Loaded, main_of};
@@ -46,7 +42,7 @@ pub fn replay<F: Files, W: Fabric, M: Machine>(
     schedule: &str,
     fabric: &mut W,
     machines: Vec<M>,
-) -> Result<Printed<M>, Or<RunFault>>
+) -> Result<Printout<M>, Or<RunFault>>
     requires count { MayFail (F.state files.old).faults }
     requires link_count { MayFail (W.state fabric.old).faults }
     requires empty { (W.state fabric.old).kinds ≡ [] }
@@ -67,25 +63,7 @@ pub fn replay<F: Files, W: Fabric, M: Machine>(
     )
 }
 
-/// What the outputs show in a replay by machines of step code, with the table of the imported operators.
-pub(crate) fn replay_code<F: Files, W: Fabric>(
-    alloc: Global,
-    loaded: &Loaded,
-    files: &mut F,
-    schedule: &str,
-    fabric: &mut W,
-) -> Result<Outputs, Or<RunFault>>
-    requires count { MayFail (F.state files.old).faults }
-    requires link_count { MayFail (W.state fabric.old).faults }
-    requires empty { (W.state fabric.old).kinds ≡ [] }
-    ensures { HasOutputs loaded.now schedule.now (F.state files.old) (F.state files.new) (W.state fabric.old) (W.state fabric.new) result }
-{
-    let machines = code_machines(alloc, loaded, imp)?;
-    let printed = replay(alloc, loaded, files, schedule, fabric, machines)?;
-    Ok(printed.outputs())
-}
-
-// A program along a schedule, with its setup, which is given away: what its outputs show.
+// A program along a schedule, with its setup, which is given away.
 fn replay_setup<F: Files, W: Fabric, M: Machine>(
     alloc: Global,
     checked: &Checked,
@@ -96,7 +74,7 @@ fn replay_setup<F: Files, W: Fabric, M: Machine>(
     schedule: &str,
     fabric: &mut W,
     machines: Vec<M>,
-) -> Result<Printed<M>, Or<RunFault>>
+) -> Result<Printout<M>, Or<RunFault>>
     requires loaded { IsLoaded (set_up checked.now pace setup inputs.now) }
     requires count { MayFail (F.state files.old).faults }
     requires link_count { MayFail (W.state fabric.old).faults }
@@ -230,7 +208,7 @@ pub(crate) fn replay_given<F: Files, W: Fabric, M: Machine>(
     schedule: &str,
     fabric: &mut W,
     machines: Vec<M>,
-) -> Result<Printed<M>, Or<RunFault>>
+) -> Result<Printout<M>, Or<RunFault>>
     requires count { MayFail (F.state files.old).faults }
     requires link_count { MayFail (W.state fabric.old).faults }
     requires empty { (W.state fabric.old).kinds ≡ [] }
@@ -251,10 +229,10 @@ pub(crate) fn replay_given<F: Files, W: Fabric, M: Machine>(
         shape,
         timing,
     };
-    let printed = replay_setup(
+    let printout = replay_setup(
         alloc, &checked, pace, setup, &inputs, files, schedule, fabric, machines,
     );
     // The call is nearly over: to take a large tree and its program apart would be a fifth of its time.
     forget(checked);
-    printed
+    printout
 }

@@ -1,22 +1,19 @@
 // A run of a program along a schedule.
-ghost use Rattle.std.specs.Prelude.{◌≡◌, ◌<◌, ◌-◌, ◌^◌, [], length};
+ghost use Rattle.std.specs.Prelude.{◌≡◌, ◌<◌, ◌-◌, ◌^◌, [], IfOk};
 ghost use Rattle.lt_io.specs.Counts.{MayFail};
 ghost use Rattle.lt_io.specs.FabricState.{OpensOnce};
 ghost use Rattle.lt_answer.specs.Alone.{given_word};
-ghost use Rattle.lt_net_bench.specs.Starts.{AreReady};
 ghost use Rattle.lt_load.specs.Near.{IsReadNear};
-ghost use Rattle.lt_run.specs.Run.{AsCommand, LeavesUnloaded, RunsFiles, RunsLoaded};
+ghost use Rattle.lt_run.specs.Run.{AsCommand, HasOutputs, LeavesUnloaded, RunsFiles, RunsLoaded};
 
 use crate::RunFault;
-use crate::equipment::{Equipment, equip};
-use crate::replaying::{replay_code, replay_given};
+use crate::coded::{replay_code, replay_whole};
 use lt_arch::Shape;
-use lt_base::tables::imp;
 use lt_base::{Memory, Or};
 use lt_evaluate::Outputs;
 use lt_io::{Fabric, Files};
 use lt_load::{CommandFault, Loaded, What, load};
-use lt_machine::Machine;
+use lt_machine::ImportedOperators;
 use std::alloc::Global;
 
 /// Runs a program on the nodes of a setup, or on one node without a setup: each node's machine makes a step for each instant that
@@ -58,8 +55,8 @@ fn run_whole<F: Files, W: Fabric>(
     ensures near { IsReadNear schedule.now (F.state files.old) (F.state files.new) result }
     ensures opens { OpensOnce (W.state fabric.old) (W.state fabric.new) result }
 {
-    match equip(alloc, &loaded, imp) {
-        Ok(equipment) => run_with(alloc, files, fabric, loaded, equipment, schedule),
+    match copy_shape(&loaded) {
+        Ok(shape) => run_with(alloc, files, fabric, loaded, &shape, schedule),
         Err(Memory) => {
             drop(loaded);
             Err(Or::Memory)
@@ -67,17 +64,24 @@ fn run_whole<F: Files, W: Fabric>(
     }
 }
 
-// The same by these machines, beside a copy of its shape, whose nodes a fault names.
-fn run_with<F: Files, W: Fabric, M: Machine>(
+// A copy of its shape.
+fn copy_shape(loaded: &Loaded) -> Result<Shape, Memory>
+    ensures { IfOk result (λ shape. shape ≡ loaded.now.shape) }
+{
+    let shape = loaded.shape.copy()?;
+    Ok(shape)
+}
+
+// The same beside a copy of its shape, whose nodes a fault names.
+fn run_with<F: Files, W: Fabric>(
     alloc: Global,
     files: &mut F,
     fabric: &mut W,
     loaded: Loaded,
-    equipment: Equipment<M>,
+    shape: &Shape,
     schedule: &str,
 ) -> Result<Outputs, Or<CommandFault>>
-    requires same { equipment.shape ≡ loaded.shape }
-    requires machines { AreReady M.Machine loaded.layout (length loaded.inputs.rows) equipment.machines.items }
+    requires same { shape.now ≡ loaded.shape }
     requires count { MayFail (F.state files.old).faults }
     requires link_count { MayFail (W.state fabric.old).faults }
     requires empty { (W.state fabric.old).kinds ≡ [] }
@@ -85,10 +89,27 @@ fn run_with<F: Files, W: Fabric, M: Machine>(
     ensures near { IsReadNear schedule.now (F.state files.old) (F.state files.new) result }
     ensures opens { OpensOnce (W.state fabric.old) (W.state fabric.new) result }
 {
-    match replay_given(alloc, loaded, files, schedule, fabric, equipment.machines) {
+    match replay_whole(alloc, loaded, files, schedule, fabric, ImportedOperators) {
         Ok(printed) => Ok(printed.into_outputs()),
-        Err(fault) => Err(as_command(&equipment.shape, fault)),
+        Err(fault) => Err(as_command(shape, fault)),
     }
+}
+
+// What the outputs show in a replay by step code, with the table of the imported operators.
+fn replay_outputs<F: Files, W: Fabric>(
+    alloc: Global,
+    loaded: &Loaded,
+    files: &mut F,
+    schedule: &str,
+    fabric: &mut W,
+) -> Result<Outputs, Or<RunFault>>
+    requires count { MayFail (F.state files.old).faults }
+    requires link_count { MayFail (W.state fabric.old).faults }
+    requires empty { (W.state fabric.old).kinds ≡ [] }
+    ensures { HasOutputs loaded.now schedule.now (F.state files.old) (F.state files.new) (W.state fabric.old) (W.state fabric.new) result }
+{
+    let printed = replay_code(alloc, loaded, files, schedule, fabric, ImportedOperators)?;
+    Ok(printed.outputs())
 }
 
 /// Runs what was loaded along the schedule of a file, as `run` does.
@@ -106,7 +127,7 @@ pub fn run_loaded<F: Files, W: Fabric>(
     ensures near { IsReadNear schedule.now (F.state files.old) (F.state files.new) result }
     ensures opens { OpensOnce (W.state fabric.old) (W.state fabric.new) result }
 {
-    match replay_code(alloc, loaded, files, schedule, fabric) {
+    match replay_outputs(alloc, loaded, files, schedule, fabric) {
         Ok(outputs) => Ok(outputs),
         Err(fault) => Err(as_command(&loaded.shape, fault)),
     }

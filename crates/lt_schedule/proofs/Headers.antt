@@ -11,6 +11,8 @@ use Rattle.lt_rows.specs.Lines.{LinesState, fresh_lines, rows_ahead, end_ahead, 
 use Rattle.lt_rows.proofs.Commas.{none_long}
 use Rattle.lt_schedule.specs.declared.halt.ScheduleRefusal.{ScheduleRefusal}
 use Rattle.lt_schedule.specs.declared.halt.ScheduleRefusal.TheVariants.{Row, Bytes}
+use Rattle.lt_base.specs.declared.memory.Or.{Or}
+use Rattle.lt_base.specs.declared.memory.Or.TheVariants as either
 use Rattle.lt_schedule.specs.declared.halt.Halt.{Halt}
 use Rattle.lt_schedule.specs.declared.halt.Halt.TheVariants as halt
 use Rattle.lt_schedule.specs.Rules.{Rules, row_zero, header_refusal, unless_refused, judged_behind, judged_by, file_judged_by}
@@ -66,11 +68,11 @@ module _ {O : Type 0} where
       let first = past_first O 0 file_left end next in
       record { refuses = past_rows end file_left first.0 first.1; near = near_past O 0 file_left place first.0 near }
 
-  pub unlinked : (n : ℕ) (h : Halt O) → ¬ IsLink h → HaltCountedBy n n h
-  unlinked n (halt.Refused refusal) none = refl
-  unlinked n halt.Read none = refl
-  unlinked n halt.Link none = absurd (none tt)
-  unlinked n halt.Memory none = refl
+  pub unlinked : (n : ℕ) (h : Or (Halt O)) → ¬ IsLink h → HaltCountedBy n n h
+  unlinked n (either.Fault (halt.Refused refusal)) none = refl
+  unlinked n (either.Fault halt.Read) none = refl
+  unlinked n (either.Fault halt.Link) none = absurd (none tt)
+  unlinked n either.Memory none = refl
 
 -- Behind the header.
 
@@ -87,25 +89,25 @@ module _ {E O : Type 0} (rules : Rules E O) (end : ℕ) (file_left : List FileRo
   }
 
   -- a header that is lacked
-  pub lacked : (told : Bool) (place : ℕ) (h : Halt O) → (IsTrue told → UnlessFailed (LacksHeader end file_left place) h) → UnlessFailed (λ refusal. IsTrue told → RefusesRows rules end file_left place refusal) h
-  lacked told place (halt.Refused refusal) lacks = λ is. record {
+  pub lacked : (told : Bool) (place : ℕ) (h : Or (Halt O)) → (IsTrue told → UnlessFailed (LacksHeader end file_left place) h) → UnlessFailed (λ refusal. IsTrue told → RefusesRows rules end file_left place refusal) h
+  lacked told place (either.Fault (halt.Refused refusal)) lacks = λ is. record {
     verdict = ap (λ (r : Option (ScheduleRefusal O)). unless_refused r (judged_behind rules [] 1 end (drop 1 file_left))) (lacks is).refuses;
     near = (lacks is).near;
   }
-  lacked told place halt.Read lacks = tt
-  lacked told place halt.Link lacks = tt
-  lacked told place halt.Memory lacks = tt
+  lacked told place (either.Fault halt.Read) lacks = tt
+  lacked told place (either.Fault halt.Link) lacks = tt
+  lacked told place either.Memory lacks = tt
 
   -- the rows behind it were judged up to the end of a later call, which is the same
   module _ (later : List FileRow) (end' : ℕ) (told told' : Bool) (has : IsTrue told → HasHeader file_left later) (ends : IsTrue told → end' ≡ end) (tells : told' ≡ told) where
-    refused_behind : (place : ℕ) (h : Halt O) → UnlessFailed (λ refusal. IsTrue told' → RefusesSome rules end' later place refusal) h → UnlessFailed (λ refusal. IsTrue told → RefusesRows rules end file_left place refusal) h
-    refused_behind place (halt.Refused refusal) some = λ is.
+    refused_behind : (place : ℕ) (h : Or (Halt O)) → UnlessFailed (λ refusal. IsTrue told' → RefusesSome rules end' later place refusal) h → UnlessFailed (λ refusal. IsTrue told → RefusesRows rules end file_left place refusal) h
+    refused_behind place (either.Fault (halt.Refused refusal)) some = λ is.
         refuses_one later (has is) place refusal (subst (λ (n : ℕ). RefusesSome rules n later place refusal) (ends is) (some (tells ∙ is)))
-    refused_behind place halt.Read some = tt
-    refused_behind place halt.Link some = tt
-    refused_behind place halt.Memory some = tt
+    refused_behind place (either.Fault halt.Read) some = tt
+    refused_behind place (either.Fault halt.Link) some = tt
+    refused_behind place either.Memory some = tt
 
-    pub judged_all : {T : Type 0} (stands : List E → Type 0) (place : ℕ) (r : Result T (Halt O))
+    pub judged_all : {T : Type 0} (stands : List E → Type 0) (place : ℕ) (r : Result T (Or (Halt O)))
         → MatchResult r (λ _. TakesAll rules stands end' told' later) (UnlessFailed (λ refusal. IsTrue told' → RefusesSome rules end' later place refusal))
         → MatchResult r (λ _. TakesRows rules stands end told file_left) (UnlessFailed (λ refusal. IsTrue told → RefusesRows rules end file_left place refusal))
     judged_all stands place (Ok x) takes = record {
@@ -152,14 +154,14 @@ module _ {E O : Type 0} (rules : Rules E O) (lines : LinesState) (file : Option 
     is_first : IsTrue told → IsFirst lines file opened
     is_first is = record { first = first; start_is = (opens is).1; file_is = (opens is).0 }
 
-    unless_file : (place : ℕ) (h : Halt O) → UnlessFailed (λ refusal. IsTrue told' → RefusesRows rules (end_ahead lines opened) (rows_ahead lines opened) place refusal) h
+    unless_file : (place : ℕ) (h : Or (Halt O)) → UnlessFailed (λ refusal. IsTrue told' → RefusesRows rules (end_ahead lines opened) (rows_ahead lines opened) place refusal) h
         → UnlessFailed (λ refusal. IsTrue told → RefusesFile rules file place refusal) h
-    unless_file place (halt.Refused refusal) refuses = λ is. refused_file place refusal (is_first is) (refuses (tells ∙ is))
-    unless_file place halt.Read refuses = tt
-    unless_file place halt.Link refuses = tt
-    unless_file place halt.Memory refuses = tt
+    unless_file place (either.Fault (halt.Refused refusal)) refuses = λ is. refused_file place refusal (is_first is) (refuses (tells ∙ is))
+    unless_file place (either.Fault halt.Read) refuses = tt
+    unless_file place (either.Fault halt.Link) refuses = tt
+    unless_file place either.Memory refuses = tt
 
-    pub judged_file : {T : Type 0} (stands : ℕ → List E → Type 0) (place : ℕ) (r : Result T (Halt O))
+    pub judged_file : {T : Type 0} (stands : ℕ → List E → Type 0) (place : ℕ) (r : Result T (Or (Halt O)))
         → MatchResult r (λ _. (steps : ℕ) × TakesRows rules (stands steps) (end_ahead lines opened) told' (rows_ahead lines opened))
         (UnlessFailed (λ refusal. IsTrue told' → RefusesRows rules (end_ahead lines opened) (rows_ahead lines opened) place refusal))
         → MatchResult r (λ _. (steps : ℕ) × TakesFile rules (stands steps) told file) (UnlessFailed (λ refusal. IsTrue told → RefusesFile rules file place refusal))

@@ -6,6 +6,8 @@ use Rattle.lt_rows.specs.Rows.{FileRow}
 use Rattle.lt_rows.specs.Lines.{IsNearFirst}
 use Rattle.lt_schedule.specs.declared.halt.ScheduleRefusal.{ScheduleRefusal}
 use Rattle.lt_schedule.specs.declared.halt.ScheduleRefusal.TheVariants.{Row, Offence, Bytes}
+use Rattle.lt_base.specs.declared.memory.Or.{Or}
+use Rattle.lt_base.specs.declared.memory.Or.TheVariants as either
 use Rattle.lt_schedule.specs.declared.halt.Halt.{Halt}
 use Rattle.lt_schedule.specs.declared.halt.Halt.TheVariants as halt
 use Rattle.lt_schedule.specs.Rules.{Rules, unless_missing, judged_behind}
@@ -112,15 +114,15 @@ module _ {E O : Type 0} (rules : Rules E O) (events : List E) (number end : ℕ)
   }
 
 -- the rows of a later call are refused
-pub went_refused : {E O : Type 0} (rules rules' : Rules E O) (stands : List E → Type 0) (number end end' : ℕ) (told told' : Bool) (left later : List FileRow) (place : ℕ) (h : Halt O)
+pub went_refused : {E O : Type 0} (rules rules' : Rules E O) (stands : List E → Type 0) (number end end' : ℕ) (told told' : Bool) (left later : List FileRow) (place : ℕ) (h : Or (Halt O))
     → 1 ≤ number → rules' ≡ rules → (IsTrue told → end' ≡ end) → told' ≡ told → (went : Went rules stands number end told left later)
     → UnlessFailed (λ refusal. IsTrue told' → RefusesRow rules' went.events number end' later place refusal) h → UnlessFailed (λ refusal. IsTrue told → RefusesSome rules end left place refusal) h
-went_refused rules rules' stands number end end' told told' left later place (halt.Refused refusal) some same ends tells went refused = λ is.
+went_refused rules rules' stands number end end' told told' left later place (either.Fault (halt.Refused refusal)) some same ends tells went refused = λ is.
     let row = subst (λ (n : ℕ). RefusesRow rules' went.events number n later place refusal) (ends is) (refused (tells ∙ is)) in
     refused_row rules went.events number end left later some (went.rows is) place refusal (subst (λ (r : Rules _ _). RefusesRow r went.events number end later place refusal) same row)
-went_refused rules rules' stands number end end' told told' left later place halt.Read some same ends tells went refused = tt
-went_refused rules rules' stands number end end' told told' left later place halt.Link some same ends tells went refused = tt
-went_refused rules rules' stands number end end' told told' left later place halt.Memory some same ends tells went refused = tt
+went_refused rules rules' stands number end end' told told' left later place (either.Fault halt.Read) some same ends tells went refused = tt
+went_refused rules rules' stands number end end' told told' left later place (either.Fault halt.Link) some same ends tells went refused = tt
+went_refused rules rules' stands number end end' told told' left later place either.Memory some same ends tells went refused = tt
 
 -- no row is left, and the rules decide whether the list may stop
 module _ {E O : Type 0} (rules : Rules E O) (stands stands' : List E → Type 0) (number end end' : ℕ) (told told' : Bool) (left later : List FileRow) (place : ℕ) (some : 1 ≤ number) (ends : IsTrue told → end' ≡ end) (tells : told' ≡ told)
@@ -137,7 +139,7 @@ module _ {E O : Type 0} (rules : Rules E O) (stands stands' : List E → Type 0)
   }
   by_missing (Some offence) is = λ tell. stops_short rules went.events number end left later some (went.rows tell) place offence (is_over.none (tells ∙ tell)) (low tell) is
 
-  pub went_finished : (r : Result (Unit {0}) (Halt O)) → r ≡ finished number (rules.missing went.events) → MatchResult r (λ _. TakesAll rules stands' end told left) (UnlessFailed (λ refusal. IsTrue told → RefusesSome rules end left place refusal))
+  pub went_finished : (r : Result (Unit {0}) (Or (Halt O))) → r ≡ finished number (rules.missing went.events) → MatchResult r (λ _. TakesAll rules stands' end told left) (UnlessFailed (λ refusal. IsTrue told → RefusesSome rules end left place refusal))
   went_finished r is =
-      subst (λ (q : Result (Unit {0}) (Halt O)). MatchResult q (λ _. TakesAll rules stands' end told left) (UnlessFailed (λ refusal. IsTrue told → RefusesSome rules end left place refusal))) (sym is)
+      subst (λ (q : Result (Unit {0}) (Or (Halt O))). MatchResult q (λ _. TakesAll rules stands' end told left) (UnlessFailed (λ refusal. IsTrue told → RefusesSome rules end left place refusal))) (sym is)
       (by_missing (rules.missing went.events) refl)

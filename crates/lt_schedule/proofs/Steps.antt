@@ -12,6 +12,8 @@ use Rattle.lt_schedule.specs.declared.halt.ScheduleRefusal.{ScheduleRefusal}
 use Rattle.lt_schedule.specs.declared.halt.ScheduleRefusal.TheVariants.{Row, Offence, Bytes}
 use Rattle.lt_schedule.specs.declared.halt.Stop.{Stop}
 use Rattle.lt_schedule.specs.declared.halt.Stop.TheVariants as stop
+use Rattle.lt_base.specs.declared.memory.Or.{Or}
+use Rattle.lt_base.specs.declared.memory.Or.TheVariants as either
 use Rattle.lt_schedule.specs.declared.halt.Halt.{Halt}
 use Rattle.lt_schedule.specs.declared.halt.Halt.TheVariants as halt
 use Rattle.lt_schedule.specs.Rules.{Rules, unless_missing, unless_offence, unless_fault, row_event, judged_behind}
@@ -137,11 +139,11 @@ module _ {E O : Type 0} (rules : Rules E O) (before : List E) (number end : ℕ)
   }
   refuses_line place Bytes is near = absurd is
 
-  pub refuses_unless : (place : ℕ) (h : Halt O) → UnlessFailed (RefusesLine rules number row.line before) h → IsNearFirst left place → UnlessFailed (RefusesRow rules before number end left place) h
-  refuses_unless place (halt.Refused refusal) is near = refuses_line place refusal is near
-  refuses_unless place halt.Read is near = tt
-  refuses_unless place halt.Link is near = tt
-  refuses_unless place halt.Memory is near = tt
+  pub refuses_unless : (place : ℕ) (h : Or (Halt O)) → UnlessFailed (RefusesLine rules number row.line before) h → IsNearFirst left place → UnlessFailed (RefusesRow rules before number end left place) h
+  refuses_unless place (either.Fault (halt.Refused refusal)) is near = refuses_line place refusal is near
+  refuses_unless place (either.Fault halt.Read) is near = tt
+  refuses_unless place (either.Fault halt.Link) is near = tt
+  refuses_unless place either.Memory is near = tt
 
 -- A row that is not given.
 

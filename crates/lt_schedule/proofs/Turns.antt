@@ -3,6 +3,8 @@ use Rattle.std.proofs.Common.{◌≡◌, ℕ, Bool, true, false, IsTrue, List, S
 use Rattle.lt_io.specs.FilesState.{FilesState}
 use Rattle.lt_rows.specs.Rows.{FileRow}
 use Rattle.lt_rows.specs.Lines.{LinesState, GivesLine, rows_ahead, end_ahead, answered_to, next_line}
+use Rattle.lt_base.specs.declared.memory.Or.{Or}
+use Rattle.lt_base.specs.declared.memory.Or.TheVariants as either
 use Rattle.lt_schedule.specs.declared.halt.Halt.{Halt}
 use Rattle.lt_schedule.specs.declared.halt.Halt.TheVariants as halt
 use Rattle.lt_schedule.specs.Rules.{Rules}
@@ -25,16 +27,16 @@ module _ {E O : Type 0} (rules : Rules E O) (number : ℕ) (old new : LinesState
   }
 
   -- it was refused
-  pub refuses_row : (told : Bool) (text : List ℕ) (h : Halt O) → (IsTrue told → GivesLine old new before after true) → text ≡ new.line → UnlessFailed (RefusesLine rules number text events) h
+  pub refuses_row : (told : Bool) (text : List ℕ) (h : Or (Halt O)) → (IsTrue told → GivesLine old new before after true) → text ≡ new.line → UnlessFailed (RefusesLine rules number text events) h
       → UnlessFailed (λ refusal. IsTrue told → RefusesRow rules events number (end_ahead old before) (rows_ahead old before) after.place refusal) h
-  refuses_row told text (halt.Refused refusal) gives is refuses = λ tell.
+  refuses_row told text (either.Fault (halt.Refused refusal)) gives is refuses = λ tell.
       let g = gives tell in
       refuses_line rules events number (end_ahead old before) (rows_ahead old before) (rows_ahead new after) (record { line = new.line; ends = answered_to new }) g.leaves
       (given_limit (rows_ahead old before) (rows_ahead new after) (record { line = new.line; ends = answered_to new }) (end_ahead old before) (Some new.line) g.leaves g.next)
       after.place refusal (subst (λ (t : List ℕ). RefusesLine rules number t events refusal) is refuses) g.near
-  refuses_row told text halt.Read gives is refuses = tt
-  refuses_row told text halt.Link gives is refuses = tt
-  refuses_row told text halt.Memory gives is refuses = tt
+  refuses_row told text (either.Fault halt.Read) gives is refuses = tt
+  refuses_row told text (either.Fault halt.Link) gives is refuses = tt
+  refuses_row told text either.Memory gives is refuses = tt
 
 -- no line is left
 pub is_over : {E : Type 0} (old new : LinesState) (before after : FilesState) (stands : List E → Type 0) (events : List E) (told : Bool) → stands events → (IsTrue told → GivesLine old new before after false)

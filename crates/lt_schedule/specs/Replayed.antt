@@ -5,6 +5,7 @@ use Rattle.lt_rows.specs.Limits.{most_bytes}
 use Rattle.lt_rows.specs.Rows.{FileRow, rows_of}
 use Rattle.lt_rows.specs.Lines.{LinesState, IsNearFirst, rows_ahead, end_ahead}
 use Rattle.lt_rows.specs.Events.{header_fault}
+use Rattle.lt_base.specs.declared.memory.Or.{Or}
 use Rattle.lt_schedule.specs.declared.halt.Halt.{Halt}
 use Rattle.lt_schedule.specs.declared.halt.ScheduleRefusal.{ScheduleRefusal}
 use Rattle.lt_schedule.specs.declared.halt.ScheduleRefusal.TheVariants.{Row, Offence, Bytes}
@@ -119,31 +120,31 @@ pub record RefusesFile {E O : Type 0} (rules : Rules E O) (file : Option (List �
   pub near : IsNearIn (rows_of bytes) place refusal
 
 -- the verdict on the rows that are still to come: they are taken, or where the files tell their bytes one of them is refused
-abbrev pub JudgesRows : {E O : Type 0} → Rules E O → (stands : List E → Type 0) → LinesState → (old new : FilesState) → Result (Unit {0}) (Halt O) → Type 0
+abbrev pub JudgesRows : {E O : Type 0} → Rules E O → (stands : List E → Type 0) → LinesState → (old new : FilesState) → Result (Unit {0}) (Or (Halt O)) → Type 0
 JudgesRows rules stands lines old new result = MatchResult result
     (λ _. TakesRows rules stands (end_ahead lines old) old.told (rows_ahead lines old))
     (UnlessFailed (λ refusal. IsTrue old.told → RefusesRows rules (end_ahead lines old) (rows_ahead lines old) new.place refusal))
 
 -- the same by the steps that are taken from the first row on
-abbrev pub JudgesOpen : {E O : Type 0} → Rules E O → (stands : (steps : ℕ) → List E → Type 0) → LinesState → (old new : FilesState) → Result (Unit {0}) (Halt O) → Type 0
+abbrev pub JudgesOpen : {E O : Type 0} → Rules E O → (stands : (steps : ℕ) → List E → Type 0) → LinesState → (old new : FilesState) → Result (Unit {0}) (Or (Halt O)) → Type 0
 JudgesOpen rules stands lines old new result = MatchResult result
     (λ _. (steps : ℕ) × TakesRows rules (stands steps) (end_ahead lines old) old.told (rows_ahead lines old))
     (UnlessFailed (λ refusal. IsTrue old.told → RefusesRows rules (end_ahead lines old) (rows_ahead lines old) new.place refusal))
 
 -- the same of the rows behind a header
-abbrev pub JudgesAll : {E O : Type 0} → Rules E O → (stands : List E → Type 0) → LinesState → (old new : FilesState) → Result (Unit {0}) (Halt O) → Type 0
+abbrev pub JudgesAll : {E O : Type 0} → Rules E O → (stands : List E → Type 0) → LinesState → (old new : FilesState) → Result (Unit {0}) (Or (Halt O)) → Type 0
 JudgesAll rules stands lines old new result = MatchResult result
     (λ _. TakesAll rules stands (end_ahead lines old) old.told (rows_ahead lines old))
     (UnlessFailed (λ refusal. IsTrue old.told → RefusesSome rules (end_ahead lines old) (rows_ahead lines old) new.place refusal))
 
 -- the same of the row of this number, which comes behind these events; whether there is one
-abbrev pub JudgesNext : {E O : Type 0} → Rules E O → (stands : List E → Type 0) → (before : List E) → (number : ℕ) → (lines later : LinesState) → (old new : FilesState) → Result Bool (Halt O) → Type 0
+abbrev pub JudgesNext : {E O : Type 0} → Rules E O → (stands : List E → Type 0) → (before : List E) → (number : ℕ) → (lines later : LinesState) → (old new : FilesState) → Result Bool (Or (Halt O)) → Type 0
 JudgesNext rules stands before number lines later old new result = MatchResult result
     (ScheduleGoesOn rules stands before number (end_ahead lines old) old.told (rows_ahead lines old) (rows_ahead later new))
     (UnlessFailed (λ refusal. IsTrue old.told → RefusesRow rules before number (end_ahead lines old) (rows_ahead lines old) new.place refusal))
 
 -- the verdict on a file, by the steps that were taken: it is taken, or where the files tell their bytes it is refused
-abbrev pub JudgesFile : {E O : Type 0} → Rules E O → (stands : (steps : ℕ) → List E → Type 0) → (file : Option (List ℕ)) → (old new : FilesState) → Result (Unit {0}) (Halt O) → Type 0
+abbrev pub JudgesFile : {E O : Type 0} → Rules E O → (stands : (steps : ℕ) → List E → Type 0) → (file : Option (List ℕ)) → (old new : FilesState) → Result (Unit {0}) (Or (Halt O)) → Type 0
 JudgesFile rules stands file old new result = MatchResult result
     (λ _. (steps : ℕ) × TakesFile rules (stands steps) old.told file)
     (UnlessFailed (λ refusal. IsTrue old.told → RefusesFile rules file new.place refusal))

@@ -12,8 +12,8 @@ pub enum ScheduleRefusal<O> {
     Bytes,
 }
 
-/// Why the rows of a schedule are not all taken.
-#[derive(Drop)]
+/// Why the rows of a schedule file are not all taken.
+#[derive(Clone, Copy, Drop)]
 pub enum Halt<O> {
     /// The schedule is refused.
     Refused(ScheduleRefusal<O>),
@@ -21,8 +21,6 @@ pub enum Halt<O> {
     Read,
     /// A call on the outside failed, and its count of faults rose.
     Link,
-    /// No memory was found.
-    Memory,
 }
 
 /// Why a line is not taken.

@@ -8,11 +8,12 @@ ghost use Rattle.lt_rows.specs.Lines.{fresh_lines, CanGoOn, rows_ahead, end_ahea
 ghost use Rattle.lt_schedule.specs.Errand.{schedule_errand};
 ghost use Rattle.lt_schedule.specs.Halted.{UnlessFailed, ReadCounted, HaltCounted, IsMemoryHalt, IsLink, IsRead, halted_by, long_fault, finished};
 ghost use Rattle.lt_schedule.specs.Replayed.{TakesEvent, RefusesLine, HasHeader, LacksHeader, JudgesNext, JudgesAll, JudgesRows, JudgesOpen, JudgesFile};
+ghost use Rattle.lt_base.specs.declared.memory.Or.TheVariants as either;
 ghost use Rattle.lt_schedule.specs.declared.halt.Halt.TheVariants as halts;
 ghost use Rattle.lt_schedule.specs.declared.halt.ScheduleRefusal.TheVariants as refusals;
 
 use crate::{Halt, Replica, ScheduleRefusal, Stop};
-use lt_base::Steps;
+use lt_base::{Or, Steps};
 use lt_io::Files;
 use lt_rows::{LineFault, Lines, MOST_EVENTS, RowFault, read_header};
 use std::marker::Brand;
@@ -28,7 +29,7 @@ pub fn replay_schedule<F: Files, W, R: Replica<W>>(
     name: &str,
     replica: &mut R,
     outside: &mut W,
-) -> Result<(), Halt<R::Offence>>
+) -> Result<(), Or<Halt<R::Offence>>>
     requires count { MayFail (F.state files.old).faults }
     requires link_count { R.faults outside.old < 2 ^ 64 - 1 }
     requires fresh { lines.old ≡ fresh_lines }
@@ -49,7 +50,7 @@ pub fn replay_schedule<F: Files, W, R: Replica<W>>(
 {
     match files.open(name) {
         Ok(()) => replay_open::<F, W, R, Brand>(lines, files, replica, outside, Blank::new(1)),
-        Err(_) => Err(Halt::Read),
+        Err(_) => Err(Or::Fault(Halt::Read)),
     }
 }
 
@@ -60,7 +61,7 @@ fn replay_open<F: Files, W, R: Replica<W>, L: Ledger>(
     replica: &mut R,
     outside: &mut W,
     blank: Blank,
-) -> Result<(), Halt<R::Offence>>
+) -> Result<(), Or<Halt<R::Offence>>>
     requires count { MayFail (F.state files.old).faults }
     requires link_count { R.faults outside.old < 2 ^ 64 - 1 }
     requires ready { CanGoOn lines.old (F.state files.old) }
@@ -88,7 +89,7 @@ pub fn replay_lines<F: Files, W, R: Replica<W>, L: Ledger>(
     replica: &mut R,
     outside: &mut W,
     steps: &mut Steps<L>,
-) -> Result<(), Halt<R::Offence>>
+) -> Result<(), Or<Halt<R::Offence>>>
     requires count { MayFail (F.state files.old).faults }
     requires link_count { R.faults outside.old < 2 ^ 64 - 1 }
     requires ready { CanGoOn lines.old (F.state files.old) }
@@ -107,7 +108,7 @@ pub fn replay_lines<F: Files, W, R: Replica<W>, L: Ledger>(
 }
 
 // Takes the first row as the header.
-fn take_header<F: Files, O>(lines: &mut Lines, files: &mut F) -> Result<(), Halt<O>>
+fn take_header<F: Files, O>(lines: &mut Lines, files: &mut F) -> Result<(), Or<Halt<O>>>
     requires count { MayFail (F.state files.old).faults }
     requires ready { CanGoOn lines.old (F.state files.old) }
     ensures cause { ReadCounted (F.state files.old).faults (F.state files.new).faults result }
@@ -129,15 +130,15 @@ fn take_header<F: Files, O>(lines: &mut Lines, files: &mut F) -> Result<(), Halt
         },
         Ok(false) => Err(at_row(0, RowFault::Header)),
         Err(LineFault::TooLong) => Err(at_row(0, RowFault::NotCsv)),
-        Err(LineFault::Bytes) => Err(Halt::Refused(ScheduleRefusal::Bytes)),
-        Err(LineFault::Read) => Err(Halt::Read),
+        Err(LineFault::Bytes) => Err(Or::Fault(Halt::Refused(ScheduleRefusal::Bytes))),
+        Err(LineFault::Read) => Err(Or::Fault(Halt::Read)),
     }
 }
 
-fn at_row<O>(row: u32, fault: RowFault) -> Halt<O>
-    ensures { result ≡ halts.Refused (refusals.Row row fault) }
+fn at_row<O>(row: u32, fault: RowFault) -> Or<Halt<O>>
+    ensures { result ≡ either.Fault (halts.Refused (refusals.Row row fault)) }
 {
-    Halt::Refused(ScheduleRefusal::Row { row, fault })
+    Or::Fault(Halt::Refused(ScheduleRefusal::Row { row, fault }))
 }
 
 // Takes all rows behind the header as events.
@@ -147,7 +148,7 @@ fn take_rows<F: Files, W, R: Replica<W>, L: Ledger>(
     replica: &mut R,
     outside: &mut W,
     steps: &mut Steps<L>,
-) -> Result<(), Halt<R::Offence>>
+) -> Result<(), Or<Halt<R::Offence>>>
     requires count { MayFail (F.state files.old).faults }
     requires link_count { R.faults outside.old < 2 ^ 64 - 1 }
     requires ready { CanGoOn lines.old (F.state files.old) }
@@ -170,16 +171,16 @@ fn take_rows<F: Files, W, R: Replica<W>, L: Ledger>(
 }
 
 // Whether the list may stop, where the event of this number would follow.
-fn finish<W, R: Replica<W>>(replica: &R, next: u32) -> Result<(), Halt<R::Offence>>
+fn finish<W, R: Replica<W>>(replica: &R, next: u32) -> Result<(), Or<Halt<R::Offence>>>
     ensures { (outside : W) (steps : ℕ) (before : List R.Event) → R.stands replica.now outside steps before
         → result ≡ finished next ((R.rules replica.now).missing before) }
 {
     match replica.missing() {
         None => Ok(()),
-        Some(offence) => Err(Halt::Refused(ScheduleRefusal::Offence {
+        Some(offence) => Err(Or::Fault(Halt::Refused(ScheduleRefusal::Offence {
             event: next,
             offence,
-        })),
+        }))),
     }
 }
 
@@ -191,7 +192,7 @@ fn take_row<F: Files, W, R: Replica<W>, L: Ledger>(
     outside: &mut W,
     number: u32,
     steps: &mut Steps<L>,
-) -> Result<bool, Halt<R::Offence>>
+) -> Result<bool, Or<Halt<R::Offence>>>
     requires count { MayFail (F.state files.old).faults }
     requires link_count { R.faults outside.old < 2 ^ 64 - 1 }
     requires ready { CanGoOn lines.old (F.state files.old) }
@@ -217,13 +218,13 @@ fn take_row<F: Files, W, R: Replica<W>, L: Ledger>(
         }
         Ok(false) => Ok(false),
         Err(LineFault::TooLong) => Err(too_long(number)),
-        Err(LineFault::Bytes) => Err(Halt::Refused(ScheduleRefusal::Bytes)),
-        Err(LineFault::Read) => Err(Halt::Read),
+        Err(LineFault::Bytes) => Err(Or::Fault(Halt::Refused(ScheduleRefusal::Bytes))),
+        Err(LineFault::Read) => Err(Or::Fault(Halt::Read)),
     }
 }
 
-fn too_long<O>(number: u32) -> Halt<O>
-    ensures { result ≡ halts.Refused (refusals.Row number (long_fault number)) }
+fn too_long<O>(number: u32) -> Or<Halt<O>>
+    ensures { result ≡ either.Fault (halts.Refused (refusals.Row number (long_fault number))) }
 {
     if number > MOST_EVENTS {
         at_row(number, RowFault::TooMany)
@@ -239,7 +240,7 @@ fn take_event<W, R: Replica<W>, L: Ledger>(
     outside: &mut W,
     number: u32,
     steps: &mut Steps<L>,
-) -> Result<(), Halt<R::Offence>>
+) -> Result<(), Or<Halt<R::Offence>>>
     requires link_count { R.faults outside.old < 2 ^ 64 - 1 }
     requires stands { (before : List R.Event) × R.stands replica.old outside.old steps.old before }
     ensures link_cause { HaltCounted (R.faults outside.old) (R.faults outside.new) result }
@@ -260,16 +261,16 @@ fn take_event<W, R: Replica<W>, L: Ledger>(
     }
 }
 
-fn halt_of<O>(number: u32, stop: Stop<O>) -> Halt<O>
+fn halt_of<O>(number: u32, stop: Stop<O>) -> Or<Halt<O>>
     ensures { result ≡ halted_by number stop }
 {
     match stop {
         Stop::Row(fault) => at_row(number, fault),
-        Stop::Offence(offence) => Halt::Refused(ScheduleRefusal::Offence {
+        Stop::Offence(offence) => Or::Fault(Halt::Refused(ScheduleRefusal::Offence {
             event: number,
             offence,
-        }),
-        Stop::Link => Halt::Link,
-        Stop::Memory => Halt::Memory,
+        })),
+        Stop::Link => Or::Fault(Halt::Link),
+        Stop::Memory => Or::Memory,
     }
 }

@@ -9,11 +9,10 @@ ghost use Rattle.lt_step.specs.Compile.{CodeOf};
 ghost use Rattle.lt_step.specs.Size.{extent};
 
 use crate::answers::{tell_cells, tell_value};
-use lt_base::tables::imp;
 use lt_base::{Cell, Func, Memory, Or, Steps, Value};
 use lt_cause::order_of;
 use lt_front::Checked;
-use lt_machine::{Import, Machine, StepMachine, TableMachine};
+use lt_machine::{ImportedOperators, Machine, StepMachine, TableMachine};
 use lt_norm::Flat;
 use lt_step::{Code, compile};
 use std::alloc::Global;
@@ -168,7 +167,7 @@ fn run_code(
     requires code { CodeOf flat.now.func code }
     requires rows { length rows.now.items ≤ 3 }
 {
-    let mut machine = StepMachine::start(alloc, code, Import::new(imp), STEPS)?;
+    let mut machine = StepMachine::start(alloc, code, ImportedOperators, STEPS)?;
     tell_rows::<_, Brand>(
         line,
         &mut machine,
@@ -221,7 +220,7 @@ fn tell_start(
 ) -> Result<(), Memory>
     requires { CodeOf flat.now.func code }
 {
-    let machine = StepMachine::start(alloc, code, Import::new(imp), rows)?;
+    let machine = StepMachine::start(alloc, code, ImportedOperators, rows)?;
     tell_value(line, machine.is_flat())
 }
 

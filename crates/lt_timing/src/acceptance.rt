@@ -27,7 +27,9 @@ pub fn accepts(timing: &Timing) -> Result<(), TimingFault>
 // Whether an inequality holds of every node.
 fn holds(which: Which, timing: &Timing) -> Result<(), TimingFault>
     requires { 2 ≤ length timing.now.nodes }
-    ensures { MatchResult result (λ _. (j : ℕ) → j < length timing.now.nodes → InequalityHolds which timing.now (send_of timing.now) (execute_of timing.now) j) (λ fault. IsFaultOf which timing.now fault) }
+    ensures { MatchResult result
+        (λ _. (j : ℕ) → j < length timing.now.nodes → InequalityHolds which timing.now (send_of timing.now) (execute_of timing.now) j)
+        (λ fault. IsFaultOf which timing.now fault) }
 {
     for node in 0..timing.node_count() {
         let (left, right) = sides(which, timing, node);

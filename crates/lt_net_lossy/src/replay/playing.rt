@@ -2,7 +2,7 @@
 ghost use Rattle.std.specs.Prelude.{◌≡◌, ◌<◌, ◌-◌, ℕ, [], Some, OnOk};
 ghost use Rattle.lt_io.specs.Counts.{MayFail};
 ghost use Rattle.lt_rows.specs.Lines.{fresh_lines};
-ghost use Rattle.lt_net_start.specs.Ends.{FinishesBy, played_by};
+ghost use Rattle.lt_net_start.specs.Ends.{FinishesBy};
 ghost use Rattle.lt_net_lossy.specs.LossyPlays.{IsTakenFrom};
 ghost use Rattle.lt_net_lossy.specs.LossyPlaying.{StandsForLossy, HasTakenLossy};
 
@@ -16,7 +16,6 @@ use lt_io::{Fabric, Files};
 use lt_lossy::LossyOffence;
 use lt_machine::Machine;
 use lt_net::Replayed;
-use lt_net_start::{PlayFault, play_fault};
 use lt_rows::Lines;
 use lt_schedule::{Halt, replay_schedule};
 use std::alloc::Global;
@@ -31,7 +30,7 @@ pub(crate) fn play<F: Files, W: Fabric, M: Machine>(
     name: &str,
     playback: LossyPlayback<'_, M>,
     fabric: &mut W,
-) -> Result<Replayed<M>, Or<PlayFault<LossyOffence>>>
+) -> Result<Replayed<M>, Or<Halt<LossyOffence>>>
     requires count { MayFail (F.state files.old).faults }
     requires link_count { MayFail (W.state fabric.old).faults }
     requires fresh { lines.old ≡ fresh_lines }
@@ -49,16 +48,16 @@ pub(crate) fn play<F: Files, W: Fabric, M: Machine>(
 fn finish<M: Machine>(
     alloc: Global,
     net: LossyNet<M>,
-    answer: Result<(), Halt<LossyOffence>>,
-) -> Result<Replayed<M>, Or<PlayFault<LossyOffence>>>
+    answer: Result<(), Or<Halt<LossyOffence>>>,
+) -> Result<Replayed<M>, Or<Halt<LossyOffence>>>
     requires { OnOk answer ((h : ℕ) × (net.bench.watch.horizon ≡ Some h)) }
-    ensures { FinishesBy (IsTakenFrom net.bench) (played_by answer) result }
+    ensures { FinishesBy (IsTakenFrom net.bench) answer result }
 {
     match answer {
         Ok(()) => take(alloc, net),
         Err(halt) => {
             drop(net);
-            Err(play_fault(halt))
+            Err(halt)
         }
     }
 }

@@ -21,8 +21,9 @@ use lt_lossy::LossyOffence;
 use lt_machine::Machine;
 use lt_net::Replayed;
 use lt_net_bench::laws::shapes_fit;
-use lt_net_start::{NetPlan, PlayFault, link_fault};
+use lt_net_start::{NetPlan, link_fault};
 use lt_rows::Lines;
+use lt_schedule::Halt;
 use std::alloc::Global;
 
 // Plays the schedule with what acts at the nodes, and takes what it comes to.
@@ -37,7 +38,7 @@ fn perform<F: Files, W: Fabric, M: Machine>(
     inputs: &Inputs,
     width: u32,
     machines: Vec<M>,
-) -> Result<Replayed<M>, Or<PlayFault<LossyOffence>>>
+) -> Result<Replayed<M>, Or<Halt<LossyOffence>>>
     requires fresh { lines.old ≡ fresh_lines }
     requires count { MayFail (F.state files.old).faults }
     requires link_count { MayFail (W.state fabric.old).faults }
@@ -82,7 +83,7 @@ pub fn replay_lossy<F: Files, W: Fabric, M: Machine>(
     inputs: &Inputs,
     width: u32,
     machines: Vec<M>,
-) -> Result<Replayed<M>, Or<PlayFault<LossyOffence>>>
+) -> Result<Replayed<M>, Or<Halt<LossyOffence>>>
     requires count { MayFail (F.state files.old).faults }
     requires link_count { MayFail (W.state fabric.old).faults }
     requires empty { (W.state fabric.old).kinds ≡ [] }

@@ -8,14 +8,14 @@ use lt_base::Or;
 use lt_lossy::LossyOffence;
 use lt_machine::Machine;
 use lt_net::Replayed;
-use lt_net_start::PlayFault;
+use lt_schedule::Halt;
 use std::alloc::Global;
 
 /// The cells, the horizon, the machines and the layout of a net that took an end.
 pub(crate) fn take<M: Machine>(
     alloc: Global,
     net: LossyNet<M>,
-) -> Result<Replayed<M>, Or<PlayFault<LossyOffence>>>
+) -> Result<Replayed<M>, Or<Halt<LossyOffence>>>
     requires { (h : ℕ) × (net.bench.watch.horizon ≡ Some h) }
     ensures { FinishesBy (IsTakenFrom net.bench) (Ok tt) result }
 {

@@ -3,8 +3,8 @@ use Rattle.lt_machine.specs.contracts.step_machine.StepMachineMachine.TheImpl.{g
 use Rattle.lt_compile.specs.Ready.{AreReadySoFar}
 use Rattle.lt_compile.proofs.machines.each_machine.Given as goal
 
-abbrev pub invariant-loop-import : goal.invariant-loop-import
-invariant-loop-import g l = record {
-  count : length l.machines.items ≡ length l.yielded;
-  ready : AreReadySoFar (ghosts g.fn-1) l.layout l.rows l.machines.items;
+abbrev pub invariant-loop-node : goal.invariant-loop-node
+invariant-loop-node g l = record {
+  count : length l.machines.items ≡ l._node;
+  ready : AreReadySoFar (ghosts g.row.G g.G.Operators g.G.Operators-dict g.G.Operators-dict) l.layout l.rows l.machines.items;
 }

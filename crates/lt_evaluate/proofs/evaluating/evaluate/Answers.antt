@@ -26,6 +26,6 @@ evaluate_flat-requires-clause-rows c =
 pub returns : goal.returns
 returns c =
     let rows = c.args.inputs.now.rows in
-    let columns = c.in_ok-columns.columns in
+    let columns = c.in_ok-evaluated.evaluated.columns in
     subst (λ (p : WholeProgram). HasOutputStreams p rows columns) (ap (λ (t : CheckedText). t.program) c.checked.view_is)
-    (main_streams c.checked.inside.program c.invariant_holds-2.ensures c.checked.inside.flat c.checked.invariant.keeps rows columns c.in_ok-columns.ensures)
+    (main_streams c.checked.inside.program c.invariant_holds-2.ensures c.checked.inside.flat c.checked.invariant.keeps rows columns c.in_ok-evaluated.ensures.columns)

@@ -2,7 +2,7 @@ use Rattle.std.proofs.Common.{Err, ap, subst, sym}
 use Rattle.lt_base.specs.declared.memory.Or.{Or}
 use Rattle.lt_base.specs.Inputs.{InputTable}
 use Rattle.lt_arch.specs.declared.event.Offence.{Offence}
-use Rattle.lt_net_start.specs.declared.fault.PlayFault.{PlayFault}
+use Rattle.lt_schedule.specs.declared.halt.Halt.{Halt}
 use Rattle.lt_net_replay.specs.Replays.{HasReplayed}
 use Rattle.lt_net_replay.proofs.AtTheStart.{at_start, configured}
 use Rattle.lt_net_replay.proofs.Performed.{at_end, finished, not_opened}
@@ -28,7 +28,7 @@ returns-in-Ok g c =
 
 pub returns-in-Err : goal.returns-in-Err
 returns-in-Err g c =
-    subst (λ (fault : Or (PlayFault Offence)). HasReplayed g.M.Machine c.args.setup.layout c.args.setup.shape c.args.setup.timing c.args.inputs.now.rows c.args.schedule.now
+    subst (λ (fault : Or (Halt Offence)). HasReplayed g.M.Machine c.args.setup.layout c.args.setup.shape c.args.setup.timing c.args.inputs.now.rows c.args.schedule.now
     (g.F.Files.state c.args.files.now) (g.F.Files.state c.args.files.now) (g.W.Fabric.state c.args.fabric.now) (g.W.Fabric.state c.start-started.new.fabric) (Err fault)) (sym c.link_fault.ensures)
     (not_opened g.C.Controller g.M.Machine c.args.setup.layout c.args.setup.shape c.args.setup.timing c.args.inputs.now.rows c.args.schedule.now
     (g.F.Files.state c.args.files.now) (g.F.Files.state c.args.files.now) (g.W.Fabric.state c.args.fabric.now) (g.W.Fabric.state c.start-started.new.fabric) c.start-started.ensures.keeps c.start-started.ensures.sound c.start-started.ensures.opens.calls c.in-Err.e c.in-Err.ensures.cause)

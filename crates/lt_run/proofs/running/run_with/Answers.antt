@@ -10,8 +10,8 @@ returns-in-Ok g c =
     let shown = outputs_of _ c.args.loaded c.args.schedule.now _ _ _ _ c.in-Ok.printed c.into_outputs.result c.into_outputs.ensures.names c.into_outputs.ensures.cells c.in-Ok.ensures in
     record { answered = shown_by c.args.loaded c.args.schedule.now _ _ _ _ c.into_outputs.result shown; near = λ told. tt; opens = record { calls = shown.opens.calls; done = shown.opens.done } }
 
-pub returns : goal.returns
-returns g c =
+pub returns-in-Err : goal.returns-in-Err
+returns-in-Err g c =
     let is = subst (λ (s : Shape). AsCommand s c.in-Err.fault c.as_command.result) c.requires.same c.as_command.ensures in
     let refused = not_printed _ c.args.loaded c.args.schedule.now _ _ _ _ c.in-Err.fault (Err c.in-Err.fault) refl c.in-Err.ensures in
     record {

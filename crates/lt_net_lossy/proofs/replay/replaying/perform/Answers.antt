@@ -1,7 +1,7 @@
 use Rattle.std.proofs.Common.{Err, ap, subst, sym}
 use Rattle.lt_base.specs.declared.memory.Or.{Or}
 use Rattle.lt_base.specs.Inputs.{InputTable}
-use Rattle.lt_net_start.specs.declared.fault.PlayFault.{PlayFault}
+use Rattle.lt_schedule.specs.declared.halt.Halt.{Halt}
 use Rattle.lt_net_lossy.specs.LossyReplays.{HasLossyReplayed}
 use Rattle.lt_net_lossy.proofs.LossyPerformed.{not_opened, from_start, of_net}
 use Rattle.lt_net_lossy.proofs.replay.replaying.perform.Goals as goal
@@ -16,7 +16,7 @@ returns-in-Ok g c =
 
 pub returns-in-Err : goal.returns-in-Err
 returns-in-Err g c =
-    subst (λ (fault : Or (PlayFault LossyOffence)). HasLossyReplayed g.M.Machine c.args.setup.layout c.args.setup.shape c.args.setup.timing c.args.losses c.args.inputs.now.rows c.args.schedule.now
+    subst (λ (fault : Or (Halt LossyOffence)). HasLossyReplayed g.M.Machine c.args.setup.layout c.args.setup.shape c.args.setup.timing c.args.losses c.args.inputs.now.rows c.args.schedule.now
     (g.F.Files.state c.args.files.now) (g.F.Files.state c.args.files.now) (g.W.Fabric.state c.args.fabric.now) (g.W.Fabric.state c.start-started.new.fabric) (Err fault)) (sym c.link_fault.ensures)
     (not_opened g.M.Machine c.args.setup.layout c.args.setup.shape c.args.setup.timing c.args.losses c.args.inputs.now.rows c.args.schedule.now
     (g.F.Files.state c.args.files.now) (g.W.Fabric.state c.args.fabric.now) (g.W.Fabric.state c.start-started.new.fabric) c.start-started.ensures.keeps c.start-started.ensures.sound c.start-started.ensures.opens.calls c.in-Err.e c.in-Err.ensures.cause)
