@@ -24,7 +24,7 @@ use Rattle.lt_evaluate.specs.declared.outputs.Outputs.{Outputs}
 use Rattle.lt_run.specs.Fault.{of_schedule}
 use Rattle.lt_run.specs.Kinds.{RunEndsBy, run_file_verdict}
 use Rattle.lt_run.specs.Run.{IsLaidOutBy, OutputsShow, placed_run_verdict}
-use Rattle.lt_big.specs.Texts.{horizon_of}
+use Rattle.lt_big_texts.specs.Texts.{horizon_of}
 use Rattle.lt_big.specs.Big.{events_of, played_verdict, big_loaded_verdict, big_along_verdict, big_verdict}
 use Rattle.lt_big.specs.Stage.{AnsweredAlone, ReadsAsList, drawn_verdict, along_list, along_bytes}
 use Rattle.lt_big.proofs.Contents.{loaded_content}

@@ -37,7 +37,7 @@ use Rattle.lt_run.specs.Fault.{of_refusal, of_schedule}
 use Rattle.lt_run.specs.Kinds.{EventsBy, RunEndsBy, fault_by, run_file_verdict, verdict_by}
 use Rattle.lt_run.specs.Run.{run_command_fault}
 use Rattle.lt_big.specs.Big.{named_of, big_loaded_verdict}
-use Rattle.lt_big.specs.Texts.{program_text, setup_text, inputs_text}
+use Rattle.lt_big_texts.specs.Texts.{program_text, setup_text, inputs_text}
 use Rattle.lt_big.specs.Stage.{along_bytes}
 
 -- one file

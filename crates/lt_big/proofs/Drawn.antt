@@ -18,7 +18,7 @@ use Rattle.lt_sim.specs.Drawn.{drawn}
 use Rattle.lt_sim.specs.File.{file_text}
 use Rattle.lt_sim.specs.Laws.{DrawsSound, ReadsBack}
 use Rattle.lt_sim.specs.Recorded.{IsRecorded, IsBroken, AreTooManyEvents, Records}
-use Rattle.lt_big.specs.Texts.{horizon_of}
+use Rattle.lt_big_texts.specs.Texts.{horizon_of}
 use Rattle.lt_big.specs.Big.{events_of, too_many_events}
 use Rattle.lt_big.specs.Stage.{drawn_verdict}
 

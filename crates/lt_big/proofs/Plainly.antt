@@ -41,14 +41,14 @@ unfolding plain_setup_plan_verdict
 set_up named inputs config checked p (inl refused) = absurd refused
 set_up named inputs config checked p (inr (setup, read, fits)) = ap (λ (c : Config). c.pace) (fitted named inputs checked setup p fits) ∙ unpaced (named config) setup read
 
-loads : (named : List ℕ → Option (List ℕ)) (program inputs config : List ℕ) (p : Plan) → plain_load_verdict named program inputs config (Ok p) → p.setup.pace ≡ Plain
+pub plain_pace : (named : List ℕ → Option (List ℕ)) (program inputs config : List ℕ) (p : Plan) → plain_load_verdict named program inputs config (Ok p) → p.setup.pace ≡ Plain
 unfolding plain_load_verdict
-loads named program inputs config p (inl refused) = absurd refused
-loads named program inputs config p (inr (checked, examined, is)) = set_up named inputs config checked p is
+plain_pace named program inputs config p (inl refused) = absurd refused
+plain_pace named program inputs config p (inr (checked, examined, is)) = set_up named inputs config checked p is
 
 pub plain_plan : (instants : ℕ) (p : Plan) → big_loaded_verdict instants (Ok p) → p.setup.pace ≡ Plain
 unfolding big_loaded_verdict
-plain_plan instants p is = loads _ _ _ _ p is
+plain_plan instants p is = plain_pace _ _ _ _ p is
 
 pub plain_loaded : (instants : ℕ) (k : LoadedPlan) → Loads (big_loaded_verdict instants) (Ok k) → k.pace ≡ Plain
 plain_loaded instants k (p, is, from) = from.pace ∙ plain_plan instants p is

@@ -20,7 +20,7 @@ use Rattle.lt_load.specs.Pacing.{plain_load_verdict}
 use Rattle.lt_evaluate.specs.declared.outputs.Outputs.{Outputs}
 use Rattle.lt_run.specs.Run.{IsLaidOutBy, OutputsShow}
 use Rattle.lt_sim.specs.Drawn.{drawn}
-use Rattle.lt_big.specs.Texts.{program_text, setup_text, inputs_text, horizon_of}
+use Rattle.lt_big_texts.specs.Texts.{program_text, setup_text, inputs_text, horizon_of}
 
 -- the files of so many instants
 abbrev pub files_of : (instants : ℕ) → List MemFile

@@ -15,7 +15,7 @@ use Rattle.lt_load.specs.Blamed.{command_blame}
 use Rattle.lt_load.specs.Plan.{LoadedPlan}
 use Rattle.lt_evaluate.specs.declared.outputs.Outputs.{Outputs}
 use Rattle.lt_run.specs.Run.{along_loaded}
-use Rattle.lt_big.specs.Texts.{horizon_of}
+use Rattle.lt_big_texts.specs.Texts.{horizon_of}
 use Rattle.lt_big.specs.Big.{events_of, too_many_events, played_verdict}
 
 -- files that tell these bytes, and of which only a missing one fails

@@ -5,8 +5,8 @@ ghost use Rattle.lt_answer.specs.Answered.{Settles};
 ghost use Rattle.lt_big.specs.Big.{too_many_events};
 ghost use Rattle.lt_big.specs.Stage.{drawn_verdict};
 
-use crate::texts::horizon;
 use lt_base::{List, Or};
+use lt_big_texts::horizon;
 use lt_io::MemSink;
 use lt_load::{CommandFault, Loaded};
 use lt_net_replay::laws::networks_are_sound;

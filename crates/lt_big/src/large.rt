@@ -6,8 +6,8 @@ ghost use Rattle.lt_load.specs.Plan.{Loads};
 ghost use Rattle.lt_big.specs.Big.{files_of, big_loaded_verdict};
 ghost use Rattle.lt_big.specs.Stage.{FilesHold};
 
-use crate::texts::{inputs, program, setup};
 use lt_base::{List, Memory, Name, Or};
+use lt_big_texts::{inputs, program, setup};
 use lt_io::{MemFile, MemFiles};
 use lt_load::{CommandFault, Loaded, load_plain};
 use std::alloc::Global;

@@ -6,7 +6,5 @@ mod drawing;
 mod large;
 mod playing;
 mod running;
-mod texts;
 
 pub use running::big;
-pub use texts::{horizon, inputs, program, setup};

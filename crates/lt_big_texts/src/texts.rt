@@ -1,7 +1,7 @@
 // The files of the large input.
 ghost use Rattle.std.specs.Prelude.{◌≡◌, ◌≤◌, ◌++◌, IfOk, OnOk};
 ghost use Rattle.lt_arch.specs.declared.limits.TheConstants.{GREATEST_TIME};
-ghost use Rattle.lt_big.specs.Texts.{program_text, setup_text, inputs_text, row_text, horizon_of};
+ghost use Rattle.lt_big_texts.specs.Texts.{program_text, setup_text, inputs_text, row_text, horizon_of};
 
 use itoa::Buffer;
 use lt_base::{List, Memory};

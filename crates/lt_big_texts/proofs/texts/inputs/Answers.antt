@@ -1,6 +1,6 @@
 use Rattle.std.proofs.Common.{◌≡◌, ◌∙◌, ◌++◌, List, ℕ, ap, add-one, arith}
-use Rattle.lt_big.specs.Texts.{inputs_text, row_text}
-use Rattle.lt_big.proofs.texts.inputs.Goals as goal
+use Rattle.lt_big_texts.specs.Texts.{inputs_text, row_text}
+use Rattle.lt_big_texts.proofs.texts.inputs.Goals as goal
 
 pub loop-instant-init : goal.loop-instant-init
 unfolding inputs_text

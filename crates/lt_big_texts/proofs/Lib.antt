@@ -1,0 +1,5 @@
+mod Records
+mod InputRows
+mod SetupTable
+mod SetupRead
+mod Bounds
