@@ -235,7 +235,8 @@ fn asked(
     indent: &[u8],
     e: &Expression,
 ) -> Result<(), Memory>
-    ensures { OnOk result (out.new ≡ out.old ++ (indent.now ++ (codes "if (" ++ (open_text (spelled_in decls.now main.now nodes.now) (tree_of e.now) ++ codes ") {\n")))) }
+    ensures { OnOk result (out.new ≡ out.old
+        ++ (indent.now ++ (codes "if (" ++ (open_text (spelled_in decls.now main.now nodes.now) (tree_of e.now) ++ codes ") {\n")))) }
 {
     out.extend(indent)?;
     out.extend(b"if (")?;
@@ -313,7 +314,8 @@ fn otherwise(
     indent: &[u8],
     s: &Action,
 ) -> Result<(), Memory>
-    ensures { OnOk result (out.new ≡ out.old ++ (indent.now ++ closing_text (has_else (statement_of nothing s.now)) indent.now (statement_text (spelled_in decls.now main.now nodes.now) (codes "    " ++ indent.now) (statement_of nothing s.now)))) }
+    ensures { OnOk result (out.new ≡ out.old ++ (indent.now ++ closing_text (has_else (statement_of nothing s.now)) indent.now
+        (statement_text (spelled_in decls.now main.now nodes.now) (codes "    " ++ indent.now) (statement_of nothing s.now)))) }
 {
     if !has_else(s) {
         return two(out, indent, b"}\n");

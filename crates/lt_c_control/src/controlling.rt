@@ -91,7 +91,8 @@ fn started(alloc: Global, ins: &[u32], send: i64) -> Result<Action, Memory>
 
 // It sends, or counts down until it does.
 fn to_send(alloc: Global, ins: &[u32], execute: i64) -> Result<Action, Memory>
-    ensures { IfOk result (λ s. (run : Sentence) → statement_of run s ≡ branch (some_data ins.now (is_number left 1)) (both (sending [] (becomes phase 2)) (assign left (c_integer execute))) counted_down) }
+    ensures { IfOk result (λ s. (run : Sentence) → statement_of run s
+        ≡ branch (some_data ins.now (is_number left 1)) (both (sending [] (becomes phase 2)) (assign left (c_integer execute))) counted_down) }
 {
     let is_last = is_number(alloc, Variable::Left, 1)?;
     let may = some_data(alloc, ins, is_last)?;
@@ -103,7 +104,8 @@ fn to_send(alloc: Global, ins: &[u32], execute: i64) -> Result<Action, Memory>
 
 // It executes, or counts down until it does.
 fn to_execute(alloc: Global, ins: &[u32], send: i64) -> Result<Action, Memory>
-    ensures { IfOk result (λ s. (run : Sentence) → statement_of run s ≡ branch (is_number left 1) (branch (c_var more) (both (executing ins.now (perform run)) (assign left (c_integer send))) nothing) counted_down) }
+    ensures { IfOk result (λ s. (run : Sentence) → statement_of run s
+        ≡ branch (is_number left 1) (branch (c_var more) (both (executing ins.now (perform run)) (assign left (c_integer send))) nothing) counted_down) }
 {
     let is_last = is_number(alloc, Variable::Left, 1)?;
     let start = started(alloc, ins, send)?;

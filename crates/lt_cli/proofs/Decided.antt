@@ -58,7 +58,7 @@ plan_decided file = config_decided fault_status file
 
 one_drawn : (seed horizon : ℕ) (plan : Plan) (r r' : Result Drawing CommandFault) → plan_drawn_verdict seed horizon plan r → plan_drawn_verdict seed horizon plan r' → r ≡ r'
 unfolding plan_drawn_verdict
-one_drawn seed horizon plan r r' (l, s, laid, is) (m, z, other, it) =
+one_drawn seed horizon plan r r' (l, s, laid, is, shows) (m, z, other, it, too) =
     let same : z ≡ s = one_shape (flat_of plan.checked.program) plan.setup.placement m l other.layout laid.layout plan.setup.pace plan.setup.timing z s other.shape laid.shape in
     sym is ∙ ap (λ (t : Shape). drawing t plan.setup.timing (length plan.inputs.rows) seed horizon) (sym same) ∙ it
 

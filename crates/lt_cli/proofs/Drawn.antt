@@ -19,7 +19,11 @@ use Rattle.lt_load.specs.Blamed.{command_blame}
 use Rattle.lt_load.specs.Errands.{load_errands}
 use Rattle.lt_load.specs.Plan.{LoadedPlan, IsLoadedFrom, Plan, Loads}
 use Rattle.lt_load.specs.Pacing.{plain_load_verdict}
+use Rattle.lt_base.specs.Inputs.{InputTable}
+use Rattle.lt_arch.specs.declared.limits.TheConstants.{GREATEST_TIME}
+use Rattle.lt_arch.specs.Schedule.{OnePlace}
 use Rattle.lt_sim.specs.Drawn.{drawn}
+use Rattle.lt_sim.proofs.Shown.{shown}
 use Rattle.lt_sim.specs.File.{file_text, schedule_text}
 use Rattle.lt_sim.specs.declared.fault.SimFault.{SimFault}
 use Rattle.lt_sim.specs.declared.fault.SimFault.TheVariants as sim
@@ -32,8 +36,9 @@ use Rattle.lt_text_answers.specs.Blamed.{blame_of}
 use Rattle.lt_text_answers.specs.Texts.{status_of, refusal_status, refusal_line, drawing_text}
 use Rattle.lt_cli.specs.Written.{Written}
 use Rattle.lt_cli.specs.Objects.{Objects, KeepsSteady, world_of}
-use Rattle.lt_text_answers.specs.Draws.{Drawing, too_many_rows, drawing, plan_drawn_verdict, recorded_status, sim_verdict}
+use Rattle.lt_text_answers.specs.Draws.{Drawing, ShowsDrawing, too_many_rows, drawing, plan_drawn_verdict, recorded_status, sim_verdict}
 use Rattle.lt_cli.specs.Answers.{text_verdict}
+use Rattle.lt_cli.specs.Drawing.{DrawsShown}
 use Rattle.lt_cli.specs.Ran.{Reported, OutcomeBlames}
 use Rattle.lt_cli.specs.Ran.{printed, both_whole, out_broke, err_broke, both_short}
 use Rattle.lt_cli.specs.Asked.{FinishesDrawn, IsReported, drawn_outcome, shown_drawing}
@@ -74,18 +79,19 @@ module _ (named : List ℕ → Option (List ℕ)) (program inputs config : List 
   texts = text_verdict drawing_text (sim_verdict named program inputs config seed horizon)
 
   -- what is drawn of a loaded plan is drawn of the plan
-  loaded_drawn : (k : LoadedPlan) (p : Plan) → IsLoadedFrom p k → plan_drawn_verdict seed horizon p (drawing k.shape k.timing (length k.inputs.rows) seed horizon)
+  loaded_drawn : (k : LoadedPlan) (p : Plan) → IsLoadedFrom p k → DrawsShown k seed horizon → plan_drawn_verdict seed horizon p (drawing k.shape k.timing (length k.inputs.rows) seed horizon)
   unfolding plan_drawn_verdict
-  loaded_drawn k p from = (
+  loaded_drawn k p from shows = (
     k.layout,
     k.shape,
     record { layout = from.layout; shape = subst (λ (p : Pace × Timing). IsShapeBy k.layout p.0 p.1 k.shape) (λ i. (from.pace i, from.timing i)) from.shape },
     λ i. drawing k.shape (sym from.timing i) (length (sym from.inputs i).rows) seed horizon,
+    subst (λ (q : Timing × InputTable). ShowsDrawing k.shape q.0 (length q.1.rows) horizon (drawing k.shape k.timing (length k.inputs.rows) seed horizon)) (λ i. (from.timing i, from.inputs i)) shows,
   )
 
-  drawn_right : (k : LoadedPlan) → loads (Ok k) → texts (drawn_outcome k seed horizon)
+  drawn_right : (k : LoadedPlan) → DrawsShown k seed horizon → loads (Ok k) → texts (drawn_outcome k seed horizon)
   unfolding sim_verdict
-  drawn_right k (p, right, from) = shown_right named program inputs config seed horizon (drawing k.shape k.timing (length k.inputs.rows) seed horizon) (inr (p, right, loaded_drawn k p from))
+  drawn_right k shows (p, right, from) = shown_right named program inputs config seed horizon (drawing k.shape k.timing (length k.inputs.rows) seed horizon) (inr (p, right, loaded_drawn k p from shows))
 
   refused_right : (f : CommandFault) → loads (Err f) → texts (Err (Command f))
   unfolding sim_verdict
@@ -95,8 +101,8 @@ module _ (named : List ℕ → Option (List ℕ)) (program inputs config : List 
   blamed (f, is, right) = (Command f, is, refused_right f right)
 
   module _ (a b : FilesState) (w : FabricState) (o o' e e' : SinkState) (ends : Status) where
-    loaded_obeyed : (k : LoadedPlan) → Answered command_blame errands loads (world a w) (world b w) (Ok k) → IsReported (drawn_outcome k seed horizon) o o' e e' ends → ObeysErrands errands texts (objects (world a w) o e) (objects (world b w) o' e') ends
-    loaded_obeyed k answered finish =
+    loaded_obeyed : (k : LoadedPlan) → Answered command_blame errands loads (world a w) (world b w) (Ok k) → IsReported (drawn_outcome k seed horizon) o o' e e' ends × DrawsShown k seed horizon → ObeysErrands errands texts (objects (world a w) o e) (objects (world b w) o' e') ends
+    loaded_obeyed k answered (finish, shows) =
         let old = objects (world a w) o e in
         let new = objects (world b w) o' e' in
         let events : List Event = drawn k.shape k.timing (length k.inputs.rows) seed horizon in
@@ -107,7 +113,7 @@ module _ (named : List ℕ → Option (List ℕ)) (program inputs config : List 
             outcome = printed (record {
               outcome = drawn_outcome k seed horizon;
               cause = limited_calm (nat_lt 5000000 (length events)) d old new answered.cause;
-              right = λ told calm. drawn_right k (answered.exact told calm);
+              right = λ told calm. drawn_right k shows (answered.exact told calm);
               reported = finish.reported a b w w;
             });
             sound = λ told sound rose. blamed (answered.sound told sound rose);
@@ -135,6 +141,19 @@ module _ (named : List ℕ → Option (List ℕ)) (program inputs config : List 
 
     pub drawn_obeyed : (r : Result LoadedPlan (Or CommandFault)) → Answered command_blame errands loads (alone a) (alone b) r → FinishesDrawn r seed horizon o o' e e' ends → ObeysErrands errands texts (objects (world a w) o e) (objects (world b w) o' e') ends
     drawn_obeyed r answered finish = obeyed r (beside a b w r answered) finish
+
+-- what was drawn reads back
+
+draws_by : (k : LoadedPlan) (seed horizon : ℕ) → OnePlace k.shape k.timing (length k.inputs.rows) → horizon ≤ GREATEST_TIME → (b : Bool) → nat_lt 5000000 (length (drawn k.shape k.timing (length k.inputs.rows) seed horizon)) ≡ b
+    → ShowsDrawing k.shape k.timing (length k.inputs.rows) horizon (if b then Err too_many_rows else Ok (record { shape = k.shape; events = drawn k.shape k.timing (length k.inputs.rows) seed horizon }))
+draws_by k seed horizon one within true many = tt
+draws_by k seed horizon one within false few =
+    let events : List Event = drawn k.shape k.timing (length k.inputs.rows) seed horizon in
+    let within_limit : length events ≤ 5000000 = grind (arith, few) in
+    shown k.shape k.timing (length k.inputs.rows) seed horizon one within within_limit
+
+pub draws_shown : (k j : LoadedPlan) → k ≡ j → (seed horizon : ℕ) → OnePlace k.shape k.timing (length k.inputs.rows) → horizon ≤ GREATEST_TIME → DrawsShown j seed horizon
+draws_shown k j view seed horizon one within = subst (λ (p : LoadedPlan). DrawsShown p seed horizon) view (draws_by k seed horizon one within _ refl)
 
 -- what was written
 

@@ -3,7 +3,7 @@ use Rattle.std.proofs.Common.{◌≡◌, ℕ, List, Result, Ok, Err, refl, ◌�
 use Rattle.lt_answer.specs.Answered.{Verdict}
 use Rattle.lt_answer.specs.World.{IsCalm, Blame, Content, Reading, Linking, Blames}
 use Rattle.lt_text_answers.specs.declared.refusal.Refusal.{Refusal}
-use Rattle.lt_text_answers.specs.declared.refusal.Refusal.TheVariants.{Words, Command, Observer}
+use Rattle.lt_text_answers.specs.declared.refusal.Refusal.TheVariants.{Words, LttacWords, NoNode, Command, Observer}
 use Rattle.lt_text_answers.specs.declared.status.Status.{Status}
 use Rattle.lt_text_answers.specs.declared.status.Status.TheVariants as status
 use Rattle.lt_text_answers.specs.Blamed.{blame_of}
@@ -24,6 +24,10 @@ module _ (old new : Objects) where
   called_status r Content is blamed failed = absurd (not_calm failed blamed)
   called_status Words Reading is blamed failed = cc
   called_status Words Linking is blamed failed = cc
+  called_status LttacWords Reading is blamed failed = cc
+  called_status LttacWords Linking is blamed failed = cc
+  called_status (NoNode name) Reading is blamed failed = cc
+  called_status (NoNode name) Linking is blamed failed = cc
   called_status (Observer f) Reading is blamed failed = cc
   called_status (Observer f) Linking is blamed failed = cc
   called_status (Command f) Reading is blamed failed = ap fault_status (blamed_reads f is)

@@ -11,7 +11,7 @@ use Rattle.lt_answer.specs.World.{World, alone, world}
 use Rattle.lt_answer.specs.Answered.{Verdict, Answered}
 use Rattle.lt_answer.proofs.Stages.{beside}
 use Rattle.lt_text_answers.specs.declared.refusal.Refusal.{Refusal}
-use Rattle.lt_text_answers.specs.declared.refusal.Refusal.TheVariants.{Words, Command, Observer}
+use Rattle.lt_text_answers.specs.declared.refusal.Refusal.TheVariants.{Words, LttacWords, NoNode, Command, Observer}
 use Rattle.lt_text_answers.specs.declared.status.Status.{Status}
 use Rattle.lt_text_answers.specs.declared.status.Status.TheVariants as status
 use Rattle.lt_text_answers.specs.Blamed.{blame_of}
@@ -82,6 +82,8 @@ module _ (es : List Errand) (V : Verdict (List ℕ) Refusal) (a b : World) (o o'
   pub finished : (r : Result (List ℕ) (Or Refusal)) (ends : Status) → Answered blame_of es V a b r → IsOfCommand r → Finishes r o o' e e' ends → ObeysErrands es V (objects a o e) (objects b o' e') ends
   finished (Ok text) ends answered of_command (written, same) = text_written text ends answered written same
   finished (Err (Fault Words)) ends answered of_command finishes = absurd of_command
+  finished (Err (Fault LttacWords)) ends answered of_command finishes = absurd of_command
+  finished (Err (Fault (NoNode name))) ends answered of_command finishes = absurd of_command
   finished (Err (Fault (Command fault))) ends answered of_command (written, same) = line_written (Command fault) ends (fault_not_words fault) answered written same
   finished (Err (Fault (Observer fault))) ends answered of_command (written, same) = line_written (Observer fault) ends (λ is. cc) answered written same
   finished (Err Memory) ends answered of_command (is, same_out, same_err) = not_found ends answered is same_out same_err

@@ -32,6 +32,7 @@ use Rattle.lt_cli.specs.Headline.{HoldEvents, IsFirstRefused, IsRunShown, IsBigS
 use Rattle.lt_cli.specs.Taken.{TookLine}
 use Rattle.lt_cli.specs.WatchShown.{IsWatchShown}
 use Rattle.lt_cli.specs.AuditShown.{HoldSchedule, TookClean, IsAuditShown}
+use Rattle.lt_cli.specs.DrawnShown.{IsDrawnShown}
 use Rattle.lt_cli.specs.Clauses.{Performs, IsExact, IsExactFor, IsMissingExact, IsMissingFor}
 use Rattle.lt_cli.proofs.Gave.{Gave, gave}
 use Rattle.lt_cli.proofs.Facts.{words_exact, asked_gave}
@@ -43,6 +44,7 @@ use Rattle.lt_cli.proofs.Accepted.{accepted_ends}
 use Rattle.lt_cli.proofs.Refused.{run_refused}
 use Rattle.lt_cli.proofs.Shown.{run_shown, big_shown}
 use Rattle.lt_cli.proofs.Watched.{watch_shown}
+use Rattle.lt_cli.proofs.DrawnRead.{drawn_shown}
 use Rattle.lt_cli.proofs.Audited.{audit_shown, audit_clean}
 use Rattle.lt_cli.proofs.Decided.{check_decided, meaning_decided, run_decided, plan_decided, sim_decided, big_decided, watched_decided, audit_decided, trace_decided}
 
@@ -89,6 +91,12 @@ module _ (asked : List (List ℕ)) (old new : Objects) (ends : Status) (did : As
   sim_exact program inputs config seed horizon is tells quiet enough =
       exact_for (λ f. Command f) drawing_text (sim_verdict old.files.named program inputs config seed horizon) (sim_decided old.files.named program inputs config seed horizon) old new ends
       (given (sim program inputs config seed horizon) is tells quiet enough)
+
+  shown_sim : (program inputs config : List ℕ) (seed horizon : ℕ) → command_of asked ≡ Some (sim program inputs config seed horizon) → IsTrue old.files.told → IsQuiet old new → ends ≡ status.Ok
+      → IsDrawnShown old.files.named program inputs config seed horizon old new
+  shown_sim program inputs config seed horizon is tells quiet at =
+      let told = (sim_exact program inputs config seed horizon is tells quiet (λ none. let wrong : status.Ok ≡ status.Memory = sym at ∙ none in cc)).text at in
+      drawn_shown old.files.named program inputs config seed horizon old new told.0 told.2 told.1
 
   big_exact : (instants : ℕ) → command_of asked ≡ Some (big instants) → IsTrue old.files.told → IsQuiet old new → ends ≢ status.Memory
       → IsExact (summarized_text instants) (big_verdict instants new.fabric) old new ends
@@ -209,6 +217,7 @@ module _ (asked : List (List ℕ)) (old new : Objects) (ends : Status) (did : As
       run_refused = refused_run;
       run_shown = shown;
       big_shown = shown_big;
+      sim_shown = shown_sim;
       watch_shown = shown_watch;
       audit_shown = shown_audit;
       audit_clean = clean_audit;

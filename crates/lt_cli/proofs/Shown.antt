@@ -26,7 +26,7 @@ use Rattle.lt_run.specs.Run.{IsLaidOutBy, OutputsShow, run_along_verdict, ordere
 use Rattle.lt_run.proofs.Reading.{has_read}
 use Rattle.lt_big.specs.Big as big
 use Rattle.lt_big.specs.Big.{ShowsList, big_verdict, big_loaded_verdict, events_of}
-use Rattle.lt_big.specs.Texts.{horizon_of}
+use Rattle.lt_big_texts.specs.Texts.{horizon_of}
 use Rattle.lt_big.proofs.Plainly.{plain_plan}
 use Rattle.lt_text_answers.specs.Replies.{printed_text, summarized_text}
 use Rattle.lt_cli.specs.Objects.{Objects, world_of}
@@ -80,6 +80,8 @@ module _ (named : List ℕ → Option (List ℕ)) (program inputs schedule : Lis
           reads = read.reads;
           shows = read.at_end;
           outputs = output_shown p l s fabric _ read.at_end.told.got _ ran site.shape site.layout read.at_end.told.shown;
+          exact = read.at_end.told.exact;
+          crosses = read.at_end.told.crosses;
         },
         refl,
       )

@@ -8,7 +8,7 @@ use Rattle.lt_answer.specs.Answered.{Verdict, Answered}
 use Rattle.lt_answer.specs.Rules.{Raised, Shown}
 use Rattle.lt_load_fit.specs.declared.fault.CommandFault.{CommandFault}
 use Rattle.lt_text_answers.specs.declared.refusal.Refusal.{Refusal}
-use Rattle.lt_text_answers.specs.declared.refusal.Refusal.TheVariants.{Words, Command, Observer}
+use Rattle.lt_text_answers.specs.declared.refusal.Refusal.TheVariants.{Words, LttacWords, NoNode, Command, Observer}
 use Rattle.lt_text_answers.specs.Blamed.{blame_of}
 
 -- the text of what a command gives, or its refusal
@@ -22,6 +22,8 @@ text_verdict shown V = answer_verdict (λ fault. Command fault) shown V
 abbrev pub IsOfCommand : Result (List ℕ) (Or Refusal) → Type 0
 IsOfCommand (Ok text) = Unit {0}
 IsOfCommand (Err (Fault Words)) = ⊥
+IsOfCommand (Err (Fault LttacWords)) = ⊥
+IsOfCommand (Err (Fault (NoNode name))) = ⊥
 IsOfCommand (Err (Fault (Command fault))) = Unit {0}
 IsOfCommand (Err (Fault (Observer fault))) = Unit {0}
 IsOfCommand (Err Memory) = Unit {0}

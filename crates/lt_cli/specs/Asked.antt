@@ -19,6 +19,7 @@ use Rattle.lt_text_answers.specs.declared.status.Status.{Status}
 use Rattle.lt_text_answers.specs.declared.status.Status.TheVariants as status
 use Rattle.lt_text_answers.specs.Texts.{refusal_status, refusal_line, drawing_text}
 use Rattle.lt_cli.specs.Commands.{command_verdict, said_errands, asked_errands, words_verdict}
+use Rattle.lt_cli.specs.Drawing.{DrawsShown}
 use Rattle.lt_cli.specs.Objects.{Objects, Between, KeepsSteady, world_of}
 use Rattle.lt_cli.specs.Written.{Written}
 use Rattle.lt_text_answers.specs.Draws.{Drawing, drawing}
@@ -73,9 +74,9 @@ pub record IsReported (outcome : Result (List ℕ) Refusal) (out out' err err' :
   pub reported : (files files' : FilesState) (fabric fabric' : FabricState) →
       Reported outcome (record { files = files; fabric = fabric; out = out; err = err }) (record { files = files'; fabric = fabric'; out = out'; err = err' }) ends
 
--- what was loaded ends a call that draws a schedule: `out` takes it, or `err` the line of a refusal
+-- what was loaded ends a call that draws a schedule, which reads back: `out` takes it, or `err` the line of a refusal
 abbrev pub FinishesDrawn : Result LoadedPlan (Or CommandFault) → (seed horizon : ℕ) → (out out' err err' : SinkState) → (ends : Status) → Type 0
-FinishesDrawn (Ok k) seed horizon out out' err err' ends = IsReported (drawn_outcome k seed horizon) out out' err err' ends
+FinishesDrawn (Ok k) seed horizon out out' err err' ends = IsReported (drawn_outcome k seed horizon) out out' err err' ends × DrawsShown k seed horizon
 FinishesDrawn (Err (Fault fault)) seed horizon out out' err err' ends = Finishes (Err (Fault (Command fault))) out out' err err' ends
 FinishesDrawn (Err Memory) seed horizon out out' err err' ends = Finishes (Err Memory) out out' err err' ends
 

@@ -41,6 +41,7 @@ use Rattle.lt_cli.specs.Taken.{TookLine, TookText}
 use Rattle.lt_cli.specs.Headline.{HoldEvents, IsFirstRefused, IsRunShown, IsBigShown}
 use Rattle.lt_cli.specs.WatchShown.{IsWatchShown}
 use Rattle.lt_cli.specs.AuditShown.{HoldSchedule, TookClean, IsAuditShown}
+use Rattle.lt_cli.specs.DrawnShown.{IsDrawnShown}
 use Rattle.lt_cli.specs.Objects.{Objects, AreSound, Between, IsQuiet, world_of}
 use Rattle.lt_cli.specs.Ran.{Ran}
 use Rattle.lt_cli.specs.Asked.{EndsBySaid, VisitsFiles}
@@ -153,6 +154,9 @@ pub record Performs (asked : List (List ℕ)) (old new : Objects) (ends : Status
   -- the same of a run of the large input
   pub big_shown : (instants : ℕ) → EndsWell asked (said.big instants) old new ends
       (IsBigShown instants old new)
+  -- what a drawn schedule shows: it reads back as its list, and a run along it is not refused
+  pub sim_shown : (program inputs config : List ℕ) (seed horizon : ℕ) → EndsWell asked (said.sim program inputs config seed horizon) old new ends
+      (IsDrawnShown old.files.named program inputs config seed horizon old new)
   -- what a watched run and an audit show that ended well
   pub watch_shown : (program inputs schedule observer : List ℕ) (config : Option (List ℕ)) → EndsWell asked (said.watch program inputs schedule observer config) old new ends
       (IsWatchShown old.files.named program inputs schedule observer config old new)

@@ -29,9 +29,9 @@ use Rattle.lt_front.specs.Flattened.{flat_of}
 use Rattle.lt_evaluate.specs.Main.{output_streams}
 use Rattle.lt_load.specs.Plan.{Plan, load_verdict}
 use Rattle.lt_evaluate.specs.declared.outputs.Outputs.{Outputs}
-use Rattle.lt_run.specs.Kinds.{EventsBy, executed_by, verdict_by}
+use Rattle.lt_run.specs.Kinds.{EventsBy, ExactBy, CrossesBy, executed_by, verdict_by}
 use Rattle.lt_run.specs.Run.{OutputsShow}
-use Rattle.lt_big.specs.Texts.{horizon_of}
+use Rattle.lt_big_texts.specs.Texts.{horizon_of}
 use Rattle.lt_big.specs.Big.{big_loaded_verdict, events_of}
 use Rattle.lt_text_answers.specs.Replies.{printed_text, summarized_text}
 use Rattle.lt_cli.specs.Objects.{Objects}
@@ -72,6 +72,12 @@ pub record IsRunAlong (named : List ℕ → Option (List ℕ)) (program inputs s
   pub outputs : (y n x : ℕ) → y < length layout.outs → n < length layout.nodes → PartGives (part_of layout n) (slice_index_or layout.outs y 0) x →
       IsOutputShown plan.checked.program layout shape plan.inputs.rows fabric shows.told.got
       (executed_by plan.setup.pace shape plan.setup.timing (length plan.inputs.rows) events n) (bound_by plan.setup.pace plan.setup.timing n shows.horizon) y n x (slice_index_or ran.cells y [])
+  -- Under the time-based protocol, with a leader or without, a node that executes an instant after k others has exactly k messages delivered on each
+  -- channel of values to it: the one of the instant before is there, and none of a later one.
+  pub exact : ExactBy plan.setup.pace shape plan.setup.timing (length plan.inputs.rows) events
+  -- Over links that hand on what they were given and lose none, message k + 1 of a channel of values, delivered or in transit, has entry k of each
+  -- variable that crosses there, in the whole program.
+  pub crosses : IsTrue fabric.faithful → CrossesBy plan.setup.pace (flat_of plan.checked.program).func layout shape plan.setup.timing plan.inputs.rows fabric events ran.cells shows.horizon shows.told.run
 
 -- These files hold a program, inputs and a setup that are not refused, in which no link loses messages, and a schedule whose rows all read as
 -- these events, within the limits, over the nodes and channels of this shape.

@@ -10,4 +10,5 @@ pub mod Asked
 pub mod Taken
 pub mod WatchShown
 pub mod AuditShown
+pub mod DrawnShown
 pub mod Clauses

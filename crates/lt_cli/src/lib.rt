@@ -7,5 +7,6 @@ mod process;
 mod top;
 
 pub use lt_text_answers::{Refusal, Status};
+pub use printer::Printer;
 pub use process::program;
-pub use top::ltta;
+pub use top::{finish, ltta, refuse};

@@ -5,7 +5,7 @@ ghost use Rattle.lt_arch.specs.declared.limits.TheConstants.{GREATEST_TIME};
 ghost use Rattle.lt_base.specs.declared.memory.Or.TheVariants.{Memory as Wanting};
 ghost use Rattle.lt_io.specs.declared.fault.SinkErr.TheVariants.{Memory as SinkWanting};
 ghost use Rattle.lt_text_answers.specs.Texts.{refusal_line};
-ghost use Rattle.lt_cli.specs.Drawing.{RecordsDrawn};
+ghost use Rattle.lt_cli.specs.Drawing.{RecordsDrawn, DrawsShown};
 ghost use Rattle.lt_cli.specs.Objects.{KeepsSteady};
 ghost use Rattle.lt_cli.specs.Written.{PrintsText};
 
@@ -19,7 +19,7 @@ use std::alloc::Global;
 
 /// A sink that a call prints on. No state shows that memory was wanting, so `short` says that one of these functions answered so:
 /// code that is generic in the sink has it from their answers alone.
-pub(crate) trait Printer: Sink {
+pub trait Printer: Sink {
     ghost short: { Type 0 };
 
     /// Prints a text.
@@ -45,6 +45,7 @@ pub(crate) trait Printer: Sink {
         requires count { MayFail (Self.state self.old).faults }
         requires horizon { horizon ≤ GREATEST_TIME }
         ensures records { RecordsDrawn loaded.now seed horizon (Self.state self.old) (Self.state self.new) result }
+        ensures shown { DrawsShown loaded.now seed horizon }
         ensures keeps { KeepsSteady (Self.state self.old) (Self.state self.new) }
         ensures short { result ≡ Err Wanting → short };
 }

@@ -156,8 +156,8 @@ fn obey<F: Files, W: Fabric, O: Sink, E: Sink>(
     }
 }
 
-// Prints an answer's text on `out`, or the line of its refusal on `err`.
-fn finish<O: Printer, E: Printer>(
+/// Prints an answer's text on `out`, or the line of its refusal on `err`.
+pub fn finish<O: Printer, E: Printer>(
     alloc: Global,
     out: &mut O,
     err: &mut E,
@@ -190,7 +190,7 @@ fn written_status(done: Status, printed: Result<(), SinkErr>) -> Status
 }
 
 /// Prints a refusal's line on `err`.
-pub(crate) fn refuse<E: Printer>(alloc: Global, err: &mut E, refusal: Refusal) -> Status
+pub fn refuse<E: Printer>(alloc: Global, err: &mut E, refusal: Refusal) -> Status
     requires { MayFail (E.state err.old).faults }
     ensures written { Written (refusal_status refusal) (refusal_line refusal ++ 10 ∷ []) (E.state err.old) (E.state err.new) result }
     ensures short { result ≡ Status.Memory → E.short }

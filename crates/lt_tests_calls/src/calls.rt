@@ -1,4 +1,4 @@
-// A call of `ltta` over objects in memory.
+// A call of `ltta`, or of `lttac`, over objects in memory.
 ghost use Rattle.std.specs.Prelude.{◌≡◌, ◌<◌, ◌-◌, ◌^◌, [], All, IfOk};
 ghost use Rattle.lt_io.specs.Counts.{MayFail};
 ghost use Rattle.lt_io.specs.MemFiles.{mem_files_state};
@@ -8,6 +8,7 @@ use crate::drift::DriftFabric;
 use crate::texts::bytes;
 use lt_base::{List, Memory, Name};
 use lt_cli::{Status, ltta};
+use lt_cli_c::lttac;
 use lt_io::{Fabric, FlipFabric, MemFabric, MemFile, MemFiles, MemSink, Sink, TightFabric};
 use std::alloc::Global;
 
@@ -129,7 +130,8 @@ pub fn call(alloc: Global, line: &str, texts: Texts, fails: Fails) -> Result<End
     })
 }
 
-/// The same with a sink for what is printed. Answers the status, and what is written of a refusal.
+/// The same with a sink for what is printed. Answers the status, and what is written of a refusal. The words behind `lttac` are those
+/// of the second program.
 pub fn call_into<O: Sink>(
     alloc: Global,
     line: &str,
@@ -139,6 +141,9 @@ pub fn call_into<O: Sink>(
 ) -> Result<(Status, List<u8>), Memory>
     requires count { MayFail (O.state out.old).faults }
 {
+    if let Some(line) = line.strip_prefix("lttac ") {
+        return call_second(alloc, line, texts, fails, out);
+    }
     if fails.whose == "flip" {
         let mut fabric = FlipFabric::new(alloc);
         return call_over(alloc, line, texts, fails, &mut fabric, out);
@@ -172,5 +177,22 @@ fn call_over<W: Fabric, O: Sink>(
     let mut files = files(alloc, texts, fails)?;
     let mut err = sink(alloc, fails, "err")?;
     let status = ltta(alloc, &words, &mut files, fabric, out, &mut err);
+    Ok((status, err.into_bytes()))
+}
+
+// Does what the words of this line say to the second program.
+fn call_second<O: Sink>(
+    alloc: Global,
+    line: &str,
+    texts: Texts,
+    fails: Fails,
+    out: &mut O,
+) -> Result<(Status, List<u8>), Memory>
+    requires { MayFail (O.state out.old).faults }
+{
+    let words = words(alloc, line)?;
+    let mut files = files(alloc, texts, fails)?;
+    let mut err = sink(alloc, fails, "err")?;
+    let status = lttac(alloc, &words, &mut files, out, &mut err);
     Ok((status, err.into_bytes()))
 }

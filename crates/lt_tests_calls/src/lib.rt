@@ -11,13 +11,13 @@ mod drawn;
 #[cfg(test)]
 mod drift;
 #[cfg(test)]
+mod emission;
+#[cfg(test)]
 mod fronts;
 #[cfg(test)]
 mod limits;
 #[cfg(test)]
 mod losses;
-#[cfg(test)]
-mod machines;
 #[cfg(test)]
 mod network;
 #[cfg(test)]

@@ -18,6 +18,19 @@ c protocol = 'lossy'/losses = 1/period = [9, 11]/delay = [1, 4]/[nodes]/a = ['x'
 s time,event,place/0,act,a/0,act,b/3,loseack,a>b/3,ack,b>a/10,act,a/10,act,b/12,data,a>b/12,ack,a>b/12,ack,b>a/20,act,a/20,act,b/22,data,b>a/24,data,a>b/24,ack,a>b/24,ack,b>a/30,act,a/30,end,/
 > run p i s c
 0 u: 1 11/v: 10/
+- the channels are opened, the nodes send once, once, twice, once, and twice each later time, and nine messages are delivered or lost
+x fabric 1 21
+6 fault: link/
+x fabric 22 22
+0 u: 1 11/v: 10/
+- of the eleven messages one finds no memory
+x send 1 11
+9
+x send 12 12
+0 u: 1 11/v: 10/
+- each int is one more than what was sent
+x flip 0 0
+0 u: 1 12/v: 10/
 > check p c
 0 node main(x: int) returns (u: int; v: int)/let/  u = x + (0 fby v);/  v = 10 + (0 fby u);/tel/
 - message 1 of a is the third delivery and, again, the seventh, each of which changes it by its number: b runs on the last one

@@ -11,7 +11,7 @@ use Rattle.lt_load_fit.specs.declared.fault.CommandFault.{CommandFault}
 use Rattle.lt_load_fit.specs.declared.fault.CommandFault.TheVariants as fault
 use Rattle.lt_load.specs.Blamed.{command_blame}
 use Rattle.lt_text_answers.specs.declared.refusal.Refusal.{Refusal}
-use Rattle.lt_text_answers.specs.declared.refusal.Refusal.TheVariants.{Words, Command, Observer}
+use Rattle.lt_text_answers.specs.declared.refusal.Refusal.TheVariants.{Words, LttacWords, NoNode, Command, Observer}
 use Rattle.lt_text_answers.specs.declared.status.Status.{Status}
 use Rattle.lt_text_answers.specs.declared.status.Status.TheVariants as status
 use Rattle.lt_text_answers.specs.Blamed.{blame_of}
@@ -96,18 +96,24 @@ fault_not_memory f is =
 -- no refusal has the status of success
 pub not_ok : (r : Refusal) → refusal_status r ≡ status.Ok → ⊥
 not_ok Words is = cc
+not_ok LttacWords is = cc
+not_ok (NoNode name) is = cc
 not_ok (Command f) is = fault_not_ok f is
 not_ok (Observer f) is = cc
 
 -- nor that of a failed write
 pub not_write : (r : Refusal) → refusal_status r ≡ status.Write → ⊥
 not_write Words is = cc
+not_write LttacWords is = cc
+not_write (NoNode name) is = cc
 not_write (Command f) is = fault_not_write f is
 not_write (Observer f) is = cc
 
 -- nor that of want of memory
 pub not_memory : (r : Refusal) → refusal_status r ≡ status.Memory → ⊥
 not_memory Words is = cc
+not_memory LttacWords is = cc
+not_memory (NoNode name) is = cc
 not_memory (Command f) is = fault_not_memory f is
 not_memory (Observer f) is = cc
 
@@ -122,6 +128,8 @@ blames_by f (inr link) = inr (ap command_blame link)
 
 pub outside_blames : (r : Refusal) → refusal_status r ≡ status.Outside → (blame_of r ≡ Reading) ⊎ (blame_of r ≡ Linking)
 outside_blames Words is = cc
+outside_blames LttacWords is = cc
+outside_blames (NoNode name) is = cc
 outside_blames (Command f) is = blames_by f (fault_calls f is)
 outside_blames (Observer f) is = cc
 
@@ -156,11 +164,15 @@ blamed_links f is = subst (λ (whose : Blame). BlamedFor whose f) is (blamed_for
 
 pub reading_line : (r : Refusal) → blame_of r ≡ Reading → refusal_line r ≡ codes "fault: read"
 reading_line Words is = cc
+reading_line LttacWords is = cc
+reading_line (NoNode name) is = cc
 reading_line (Command f) is = ap (λ (e : CommandFault). refusal_line (Command e)) (blamed_reads f is)
 reading_line (Observer f) is = cc
 
 pub linking_line : (r : Refusal) → blame_of r ≡ Linking → refusal_line r ≡ codes "fault: link"
 linking_line Words is = cc
+linking_line LttacWords is = cc
+linking_line (NoNode name) is = cc
 linking_line (Command f) is = ap (λ (e : CommandFault). refusal_line (Command e)) (blamed_links f is)
 linking_line (Observer f) is = cc
 

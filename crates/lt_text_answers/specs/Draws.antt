@@ -16,6 +16,7 @@ use Rattle.lt_run.specs.Run.{IsLaidOutBy}
 use Rattle.lt_sim.specs.declared.fault.SimFault.{SimFault}
 use Rattle.lt_sim.specs.declared.fault.SimFault.TheVariants.{Write, TooMany}
 use Rattle.lt_sim.specs.Drawn.{drawn}
+use Rattle.lt_sim.specs.Laws.{IsSimShown}
 use Rattle.lt_text_answers.specs.declared.status.Status.{Status}
 use Rattle.lt_text_answers.specs.declared.status.Status.TheVariants as status
 
@@ -40,6 +41,11 @@ drawing_within s events = if nat_lt most_drawn (length events) then Err too_many
 abbrev pub drawing : Shape → Timing → (rows seed horizon : ℕ) → Result Drawing CommandFault
 drawing s t rows seed horizon = drawing_within s (drawn s t rows seed horizon)
 
+-- where they are not too many they keep to the bounds, end at the horizon, and their file reads back as they are
+abbrev pub ShowsDrawing : Shape → Timing → (rows horizon : ℕ) → Result Drawing CommandFault → Type 0
+ShowsDrawing s t rows horizon (Ok d) = IsSimShown s t rows horizon d.events
+ShowsDrawing s t rows horizon (Err e) = Unit {0}
+
 -- how a call ends by how its schedule was recorded; one with too many events is refused
 abbrev pub recorded_status : Result ℕ (Or SimFault) → Option Status
 recorded_status (Ok count) = Some status.Ok
@@ -47,10 +53,11 @@ recorded_status (Err (Fault Write)) = Some status.Write
 recorded_status (Err (Fault TooMany)) = None
 recorded_status (Err Memory) = Some status.Memory
 
--- a plan: the schedule over the channels of its nodes
+-- a plan: the schedule over the channels of its nodes, which reads back
 unfoldable pub plan_drawn_verdict : (seed horizon : ℕ) → Plan → Verdict Drawing CommandFault
 plan_drawn_verdict seed horizon plan outcome =
     (l : Layout) × (s : Shape) × IsLaidOutBy plan l s × (drawing s plan.setup.timing (length plan.inputs.rows) seed horizon ≡ outcome)
+    × ShowsDrawing s plan.setup.timing (length plan.inputs.rows) horizon outcome
 
 -- the program, the setup, in which no node leads, the placement, the timing and the inputs, in this order, and then the schedule
 unfoldable pub sim_verdict : (named : List ℕ → Option (List ℕ)) (program inputs config : List ℕ) (seed horizon : ℕ) → Verdict Drawing CommandFault

@@ -23,7 +23,7 @@ use Rattle.lt_watch.specs.declared.watched.Watched.{Watched}
 use Rattle.lt_watch.specs.declared.watched.Watched.TheVariants.{Holds, Fails}
 use Rattle.lt_text_answers.specs.Draws.{Drawing}
 use Rattle.lt_text_answers.specs.declared.refusal.Refusal.{Refusal}
-use Rattle.lt_text_answers.specs.declared.refusal.Refusal.TheVariants.{Words, Command, Observer}
+use Rattle.lt_text_answers.specs.declared.refusal.Refusal.TheVariants.{Words, LttacWords, NoNode, Command, Observer}
 use Rattle.lt_text_answers.specs.declared.status.Status.{Status}
 use Rattle.lt_text_answers.specs.declared.status.Status.TheVariants as status
 
@@ -51,9 +51,15 @@ fault_line (fault.Limit what) = file_limit_line what
 fault_line fault.Read = codes "fault: read"
 fault_line fault.Link = codes "fault: link"
 
+-- no node of a setup has this name
+abbrev pub no_node_line : (name : List ℕ) → List ℕ
+no_node_line name = codes "words: no node " ++ name
+
 abbrev pub refusal_line : Refusal → List ℕ
 refusal_line Words =
     codes "words: usage: ltta check P [C] | meaning P I | run P I S [C] | plan C [--horizon H] | sim P I C --seed N --horizon H | big N | watch P I S O [C] | audit P I S C | trace P I S C [--node NAME] [--from T] [--to T]"
+refusal_line LttacWords = codes "words: usage: lttac emit P C NODE"
+refusal_line (NoNode name) = no_node_line name
 refusal_line (Command f) = fault_line f
 refusal_line (Observer f) = observer_line f
 
@@ -87,6 +93,8 @@ fault_status fault.Link = status.Outside
 
 abbrev pub refusal_status : Refusal → Status
 refusal_status Words = status.Words
+refusal_status LttacWords = status.Words
+refusal_status (NoNode name) = status.Words
 refusal_status (Command f) = fault_status f
 refusal_status (Observer f) = status.Observer
 

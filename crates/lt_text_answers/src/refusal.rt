@@ -2,11 +2,11 @@
 ghost use Rattle.std.specs.Prelude.{◌≡◌, ◌++◌, IfOk, OnOk};
 ghost use Rattle.lt_text_answers.specs.Replies.{watch_refusal};
 ghost use Rattle.lt_text_lines.specs.Lines.{program_line};
-ghost use Rattle.lt_text_answers.specs.Texts.{fault_line, fault_status, inputs_status, file_limit_line, refusal_line, program_status, refusal_status, row_status};
+ghost use Rattle.lt_text_answers.specs.Texts.{fault_line, fault_status, no_node_line, inputs_status, file_limit_line, refusal_line, program_status, refusal_status, row_status};
 
 use crate::Status;
 use crate::place_line::append_placement;
-use lt_base::{List, Memory};
+use lt_base::{List, Memory, Name};
 use lt_front::ProgramFault;
 use lt_inputs::InputKind;
 use lt_load::{CommandFault, What};
@@ -22,8 +22,12 @@ use std::alloc::Global;
 /// Why a command is refused.
 #[derive(Drop)]
 pub enum Refusal {
-    /// The words ask for no command.
+    /// The words ask for no command of `ltta`.
     Words,
+    /// The words ask for no command of `lttac`.
+    LttacWords,
+    /// The setup has no node of the name that the words give.
+    NoNode(Name),
     /// The command's files are at fault, or a call on them failed.
     Command(CommandFault),
     /// The observer is at fault.
@@ -37,6 +41,8 @@ impl Refusal {
     {
         match self {
             Refusal::Words => Status::Words,
+            Refusal::LttacWords => Status::Words,
+            Refusal::NoNode(_) => Status::Words,
             Refusal::Command(fault) => fault_status(fault),
             Refusal::Observer(_) => Status::Observer,
         }
@@ -119,9 +125,26 @@ fn append_refusal(alloc: Global, line: &mut List<u8>, refusal: &Refusal) -> Resu
                 b"words: usage: ltta check P [C] | meaning P I | run P I S [C] | plan C [--horizon H] | sim P I C --seed N --horizon H | big N | watch P I S O [C] | audit P I S C | trace P I S C [--node NAME] [--from T] [--to T]",
             )
         }
+        Refusal::LttacWords => line.extend(b"words: usage: lttac emit P C NODE"),
+        Refusal::NoNode(name) => append_no_node(line, name),
         Refusal::Command(fault) => append_fault(alloc, line, fault),
         Refusal::Observer(fault) => append_observer(line, *fault),
     }
+}
+
+// Appends that there is no node of this name.
+fn append_no_node(line: &mut List<u8>, name: &Name) -> Result<(), Memory>
+    ensures { OnOk result (line.new ≡ line.old ++ no_node_line name.now) }
+{
+    append_both(line, b"words: no node ", name.as_str().as_bytes())
+}
+
+// Appends two texts.
+fn append_both(line: &mut List<u8>, head: &[u8], tail: &[u8]) -> Result<(), Memory>
+    ensures { OnOk result (line.new ≡ line.old ++ (head.now ++ tail.now)) }
+{
+    line.extend(head)?;
+    line.extend(tail)
 }
 
 fn append_fault(alloc: Global, line: &mut List<u8>, fault: &CommandFault) -> Result<(), Memory>

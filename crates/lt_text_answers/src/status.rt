@@ -1,12 +1,12 @@
 // How a call ends.
 ghost use Rattle.std.specs.Prelude.{◌≡◌};
 
-/// How a call of `ltta` ends.
+/// How a call of `ltta` or `lttac` ends.
 #[derive(Clone, Copy, Debug, PartialEq, Eq)]
 pub enum Status {
     /// The command's whole text is written.
     Ok,
-    /// The words ask for no command.
+    /// The words ask for no command, or for a node that the setup does not have.
     Words,
     /// The program is at fault.
     Program,

@@ -75,10 +75,10 @@ audit_app = replayed_app (codes "audit") (codes "config")
 abbrev pub trace_app : App
 trace_app = with_rule (with_rule (with_rule (replayed_app (codes "trace") (codes "config")) (name_rule (codes "node"))) (number_rule (codes "from") greatest_time)) (number_rule (codes "to") greatest_time)
 
--- a command is needed; help, version and the word `help` are none
-abbrev pub bare_app : App
-bare_app = record {
-  top = record (new_app (codes "ltta")).top { no_binary_name = true; disable_help_flag = true; disable_help_subcommand = true; subcommand_required = true };
+-- a program of this name, of which a command is needed; help, version and the word `help` are none
+abbrev pub bare_app : (name : Text) → App
+bare_app name = record {
+  top = record (new_app name).top { no_binary_name = true; disable_help_flag = true; disable_help_subcommand = true; subcommand_required = true };
   subs = [];
 }
 
@@ -95,4 +95,4 @@ abbrev pub with_views : App → App
 with_views app = with_subcommand (with_subcommand (with_subcommand app watch_app.top) audit_app.top) trace_app.top
 
 unfoldable pub program_app : App
-program_app = with_views (with_drawings (with_programs bare_app))
+program_app = with_views (with_drawings (with_programs (bare_app (codes "ltta"))))

@@ -63,7 +63,7 @@ abbrev pub said : (words : List Text) → Option Said
 said words = option_map (λ p. said_by p.0 p.1) (subcommand_of program_app words)
 
 -- nothing where there is a fault
-abbrev pub unless_faulty : {A : Type 0} → (faults : List A) → Option Said → Option Said
+abbrev pub unless_faulty : {A S : Type 0} → (faults : List A) → Option S → Option S
 unless_faulty [] command = command
 unless_faulty (fault ∷ faults) command = None
 

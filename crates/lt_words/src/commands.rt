@@ -1,9 +1,10 @@
-// The commands of the program, as `clap` is told of them.
+// The commands of both programs, as `clap` is told of them.
 ghost use Rattle.std.specs.Prelude.{IfOk};
 ghost use Rattle.clap.specs.Words.{App, new_app};
 ghost use Rattle.lt_words.specs.Local.{IsMadeAs, MakesCommand};
 ghost use Rattle.lt_words.specs.Commands.{check_app, meaning_app, run_app, plan_app, fed_app, scheduled_app, placed_app, sim_app, big_app, replayed_app, watch_app, audit_app, trace_app};
 ghost use Rattle.lt_words.specs.Commands.{with_programs, with_drawings, with_views, bare_app, program_app};
+ghost use Rattle.lt_words.specs.Lttac.{emit_app, lttac_app};
 
 use crate::arguments::{
     count_argument, name, needed_number, number, optional_text, text, with_argument, with_command,
@@ -33,6 +34,14 @@ fn command_on_inputs<'a>(alloc: Global, name: &'a str) -> Result<Command<'a>, Me
 {
     let command = with_argument(plain(alloc, name), text(alloc, "program"));
     with_argument(command, text(alloc, "inputs"))
+}
+
+fn emit<'a>(alloc: Global) -> Result<Command<'a>, Memory>
+    ensures { MakesCommand emit_app result }
+{
+    let command = with_argument(plain(alloc, "emit"), text(alloc, "program"));
+    let command = with_argument(command, text(alloc, "config"));
+    with_argument(command, text(alloc, "node"))
 }
 
 // A command of this name on a program, its inputs and a schedule.
@@ -121,10 +130,11 @@ fn trace<'a>(alloc: Global) -> Result<Command<'a>, Memory>
     with_argument(command, number(alloc, "to", GREATEST_TIME))
 }
 
-fn bare<'a>(alloc: Global) -> Result<Command<'a>, Memory>
-    ensures { MakesCommand bare_app result }
+// A program's command of this name, which needs one below it.
+fn bare<'a>(alloc: Global, name: &'a str) -> Result<Command<'a>, Memory>
+    ensures { MakesCommand (bare_app name.entry.now) result }
 {
-    let command = Command::new(alloc, "ltta")
+    let command = Command::new(alloc, name)
         .no_binary_name(true)
         .disable_help_flag(true)
         .disable_help_subcommand(true)
@@ -168,11 +178,18 @@ fn with_views<'a>(
     with_command(command, trace(alloc))
 }
 
-/// The program's command, with those below it.
+/// The command of `lttac`, with those below it.
+pub fn second_program<'a>(alloc: Global) -> Result<Command<'a>, Memory>
+    ensures { MakesCommand lttac_app result }
+{
+    with_command(bare(alloc, "lttac"), emit(alloc))
+}
+
+/// The command of `ltta`, with those below it.
 pub fn program<'a>(alloc: Global) -> Result<Command<'a>, Memory>
     ensures { MakesCommand program_app result }
 {
-    let command = with_programs(alloc, bare(alloc));
+    let command = with_programs(alloc, bare(alloc, "ltta"));
     let command = with_drawings(alloc, command);
     with_views(alloc, command)
 }

@@ -24,7 +24,7 @@ fn text_at<'a>(matches: &ArgMatches<'a>, id: &str) -> Option<&'a str>
     matches.get_str(id)
 }
 
-fn text_or_empty<'a>(matches: &ArgMatches<'a>, id: &str) -> &'a str
+pub(crate) fn text_or_empty<'a>(matches: &ArgMatches<'a>, id: &str) -> &'a str
     ensures { result.now ≡ unwrap_or (first_of id.now (rows_of (found_of matches.now))) [] }
 {
     match text_at(matches, id) {
@@ -224,8 +224,8 @@ fn read<'a>(alloc: Global, words: &'a [String]) -> Result<Option<Command<'a>>, M
     take_words(program(alloc)?, words)
 }
 
-// Words that `clap` refuses say no command, but for its own want of memory.
-fn refuse_words<'a>(error: Error) -> Result<Option<Command<'a>>, Memory>
+/// Words that `clap` refuses say no command, but for its own want of memory.
+pub(crate) fn refuse_words<C>(error: Error) -> Result<Option<C>, Memory>
     ensures none { IfOk result (λ command. command ≡ None) }
     ensures refused { OnOk result (kind_of error ≢ ErrorKind.OutOfMemory) }
     ensures memory { OnErr result (kind_of error ≡ ErrorKind.OutOfMemory) }

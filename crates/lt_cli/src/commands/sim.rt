@@ -5,6 +5,7 @@ ghost use Rattle.lt_arch.specs.declared.limits.TheConstants.{GREATEST_TIME};
 ghost use Rattle.lt_text_answers.specs.Draws.{recorded_status};
 ghost use Rattle.lt_cli.specs.Asked.{FinishesDrawn, IsDrawnShort, IsReported, drawn_outcome};
 ghost use Rattle.lt_cli.specs.Commands.Sim.{ObeysSim};
+ghost use Rattle.lt_cli.specs.Drawing.{DrawsShown};
 
 use crate::printer::Printer;
 use crate::top::refuse;
@@ -77,6 +78,7 @@ fn draw_loaded<O: Printer, E: Printer>(
     requires out { MayFail (O.state out.old).faults }
     requires err { MayFail (E.state err.old).faults }
     ensures reported { IsReported (drawn_outcome loaded.now seed horizon) (O.state out.old) (O.state out.new) (E.state err.old) (E.state err.new) result }
+    ensures shown { DrawsShown loaded.now seed horizon }
     ensures short { result ≡ Status.Memory → O.short ⊎ E.short }
 {
     match recorded_status(out.print_drawn(alloc, loaded, seed, horizon)) {

@@ -1,7 +1,9 @@
 use Rattle.std.proofs.Common.{◌∙◌, map, string_bytes}
 use Rattle.clap.specs.Words.{app_of}
 use Rattle.lt_words.specs.Commands.{program_app}
-use Rattle.lt_words.proofs.Simple.{met_one, refused_words, told_none, told_some}
+use Rattle.lt_words.specs.Reading.{said_by, said_of}
+use Rattle.lt_words.specs.Ranges.{HasRanges}
+use Rattle.lt_words.proofs.Simple.{program_is_plain, met_one, refused_words, told_none, told_some}
 use Rattle.lt_words.proofs.reading.take_words.Goals as goal
 
 pub returns-in-Err : goal.returns-in-Err
@@ -9,14 +11,14 @@ returns-in-Err c =
     let h = c.in-Err.ensures in
     let error = c.in-Err.error in
     let words = map string_bytes c.args.words.now in
-    told_none words c.refuse_words.result error c.refuse_words.ensures.none c.refuse_words.ensures.refused
-    (refused_words (app_of c.args.command) error words c.requires.app h.passes h.kinds)
+    told_none program_app program_is_plain said_of said_by HasRanges words c.refuse_words.result error c.refuse_words.ensures.none c.refuse_words.ensures.refused
+    (refused_words program_app program_is_plain (app_of c.args.command) error words c.requires.app h.passes h.kinds)
 
 pub returns-in-Ok : goal.returns-in-Ok
 returns-in-Ok c =
     let h = c.in-Ok.ensures in
     let m = c.in-Ok.matches in
     let words = map string_bytes c.args.words.now in
-    told_some words (app_of c.args.command) m c.found_command.result c.requires.app h.matches h.kinds
-    (c.found_command.ensures.variant ∙ met_one c.args.command m c.requires.app c.requires.local h.parsed)
+    told_some program_app program_is_plain said_of said_by HasRanges words (app_of c.args.command) m c.found_command.result c.requires.app h.matches h.kinds
+    (c.found_command.ensures.variant ∙ met_one program_app program_is_plain c.args.command m c.requires.app c.requires.local h.parsed)
     c.found_command.ensures.said c.found_command.ensures.ranges

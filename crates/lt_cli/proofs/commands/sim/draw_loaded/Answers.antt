@@ -15,3 +15,9 @@ returns-in-None-clause-reported g c =
 
 pub returns-in-None-clause-short : goal.returns-in-None-clause-short
 returns-in-None-clause-short g c = λ at. inr (c.refuse.ensures.short at)
+
+pub returns-in-Some-clause-shown : goal.returns-in-Some-clause-shown
+returns-in-Some-clause-shown g c = c.print_drawn.ensures.shown
+
+pub returns-in-None-clause-shown : goal.returns-in-None-clause-shown
+returns-in-None-clause-shown g c = c.print_drawn.ensures.shown

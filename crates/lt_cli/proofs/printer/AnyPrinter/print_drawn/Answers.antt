@@ -2,7 +2,7 @@ use Rattle.std.proofs.Common.{ℕ, sym, subst}
 use Rattle.lt_arch.specs.Schedule.{OnePlace}
 use Rattle.lt_load.specs.Plan.{LoadedPlan}
 use Rattle.lt_big.proofs.Drawn.{loaded_sound}
-use Rattle.lt_cli.proofs.Drawn.{records_of}
+use Rattle.lt_cli.proofs.Drawn.{records_of, draws_shown}
 use Rattle.lt_cli.proofs.printer.AnyPrinter.print_drawn.Goals as goal
 
 pub record-requires-clause-same : goal.record-requires-clause-same
@@ -24,6 +24,11 @@ pub returns-clause-records : goal.returns-clause-records
 returns-clause-records g c =
     let k : LoadedPlan = record { checked = c.loaded.inside.checked; layout = c.loaded.inside.layout; shape = c.loaded.inside.shape; timing = c.loaded.inside.timing; inputs = c.loaded.inside.inputs; pace = c.loaded.inside.pace } in
     records_of k c.args.loaded.now c.loaded.view_is c.rows.result c.rows.ensures c.args.seed c.args.horizon _ _ c.record.result c.record.ensures.records
+
+pub returns-clause-shown : goal.returns-clause-shown
+returns-clause-shown g c =
+    let k : LoadedPlan = record { checked = c.loaded.inside.checked; layout = c.loaded.inside.layout; shape = c.loaded.inside.shape; timing = c.loaded.inside.timing; inputs = c.loaded.inside.inputs; pace = c.loaded.inside.pace } in
+    draws_shown k c.args.loaded.now c.loaded.view_is c.args.seed c.args.horizon (loaded_sound k c.loaded.invariant c.networks_are_sound.ensures).one_place c.requires.horizon
 
 pub returns-clause-keeps : goal.returns-clause-keeps
 returns-clause-keeps g c =

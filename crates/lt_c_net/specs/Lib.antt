@@ -1,0 +1,13 @@
+pub mod Stands
+pub mod Moves
+pub mod Laws
+pub mod Lists
+pub mod Shows
+pub mod Kept
+pub mod Turns
+pub mod Nets
+pub mod Answers
+pub mod Emitted
+pub mod Runs
+pub mod Told
+pub mod WholeRuns

@@ -1,0 +1,5 @@
+pub mod Growing
+pub mod Typing
+pub mod Placed
+pub mod Linked
+pub mod Naming

@@ -1,0 +1,11 @@
+pub mod Words
+pub mod Types
+pub mod Heads
+pub mod Variables
+pub mod Starts
+pub mod Steps
+pub mod Acts
+pub mod Messages
+pub mod NodeText
+pub mod Names
+pub mod NodeOf

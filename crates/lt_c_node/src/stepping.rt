@@ -1,0 +1,151 @@
+// The step of a node.
+
+ghost use Rattle.std.specs.Prelude.{◌≡◌, ◌++◌, ◌<◌, ◌^◌, length, IfOk, OnOk, codes};
+ghost use Rattle.lt_c.specs.Tree.{Statement, slot, output, assign, both, c_var};
+ghost use Rattle.lt_c.specs.Text.{spelled, statement_text};
+ghost use Rattle.lt_c.specs.Views.{place_in, statement_of};
+ghost use Rattle.lt_c_step.specs.Translate.{of_lets, of_keeps};
+ghost use Rattle.lt_c_step.specs.Part.{place_of, feeding, telling, showing};
+ghost use Rattle.lt_c_node.specs.Words.{text_if, spelling, indent};
+ghost use Rattle.lt_c_node.specs.Types.{has_items};
+ghost use Rattle.lt_c_node.specs.Steps.{execute_text};
+
+use crate::code::{keeps_of, lets_of};
+use crate::file::NodeFile;
+use crate::statements::{copied, statement, then};
+use crate::words::{has_items, one_if};
+use lt_base::{Clock, Decl, List, Memory};
+use lt_c::{Action, Variable};
+use lt_c_step::{Output, Source, clock_expression, keeps, lets};
+use lt_step::{Keep, Let};
+use std::alloc::Global;
+
+// The variable from which an input comes.
+fn place_of(source: Source) -> Variable
+    ensures { place_in result ≡ place_of source }
+{
+    match source {
+        Source::Given(x) => Variable::Input(x),
+        Source::Arrived(j, k) => Variable::Payload(j, k),
+    }
+}
+
+// An input is fed before others.
+fn fed_before(alloc: Global, x: u32, source: Source, rest: Action) -> Result<Action, Memory>
+    ensures { IfOk result (λ s. (run : Statement) → statement_of run s ≡ both (assign (slot x) (c_var (place_of source))) (statement_of run rest)) }
+{
+    then(alloc, copied(Variable::Slot(x), place_of(source)), rest)
+}
+
+fn feeding(alloc: Global, sources: &[Source]) -> Result<Action, Memory>
+    requires few { length sources.now < 2 ^ 32 }
+    ensures { IfOk result (λ s. (run : Statement) → statement_of run s ≡ feeding 0 sources.now) }
+{
+    let mut all = Action::Nothing;
+    'sources: for i in 0..sources.len() {
+        let x = sources.len() - 1 - i;
+        all = fed_before(alloc, x as u32, sources[x], all)?;
+    }
+    Ok(all)
+}
+
+// Whether the output of a number, and of this clock, has a value is told, where it need not have one.
+fn telling(alloc: Global, y: u32, clock: &Clock) -> Result<Action, Memory>
+    ensures { IfOk result (λ s. (run : Statement) → statement_of run s ≡ telling y clock.now) }
+{
+    if clock.steps.is_empty() {
+        return Ok(Action::Nothing);
+    }
+    let holds = clock_expression(alloc, clock)?;
+    Ok(Action::Assign(Variable::Has(y), holds))
+}
+
+// An output is shown before others.
+fn shown_before(alloc: Global, o: &Output, rest: Action) -> Result<Action, Memory>
+    ensures { IfOk result (λ s. (run : Statement) → statement_of run s ≡ both (both (telling o.now.output_number o.now.guard) (assign (output o.now.output_number) (c_var (slot o.now.from_slot)))) (statement_of run rest)) }
+{
+    let told = telling(alloc, o.output_number, &o.guard)?;
+    let value = copied(
+        Variable::Output(o.output_number),
+        Variable::Slot(o.from_slot),
+    );
+    let first = then(alloc, told, value)?;
+    then(alloc, first, rest)
+}
+
+fn showing(alloc: Global, outputs: &[Output]) -> Result<Action, Memory>
+    ensures { IfOk result (λ s. (run : Statement) → statement_of run s ≡ showing outputs.now) }
+{
+    let mut all = Action::Nothing;
+    'outputs: for i in 0..outputs.len() {
+        let output = &outputs[outputs.len() - 1 - i];
+        all = shown_before(alloc, output, all)?;
+    }
+    Ok(all)
+}
+
+// Appends what an instant is fed with, in its statements.
+fn feeds(alloc: Global, out: &mut List<u8>, file: &NodeFile) -> Result<(), Memory>
+    ensures { OnOk result (out.new ≡ out.old ++ statement_text (spelling file.now) indent (feeding 0 file.now.part.sources)) }
+{
+    let feeds = feeding(alloc, &file.part.sources)?;
+    statement(alloc, out, file, &feeds)
+}
+
+fn fed(alloc: Global, out: &mut List<u8>, file: &NodeFile) -> Result<(), Memory>
+    ensures { OnOk result (out.new ≡ out.old ++ (text_if (has_items file.now.part.sources) (codes "    /* what the instant is fed with */\n") ++ statement_text (spelling file.now) indent (feeding 0 file.now.part.sources))) }
+{
+    one_if(
+        out,
+        has_items(file.part.sources.as_slice()),
+        b"    /* what the instant is fed with */\n",
+    )?;
+    feeds(alloc, out, file)
+}
+
+// Appends its equations.
+fn equations(out: &mut List<u8>, decls: &[Decl], items: &[Let]) -> Result<(), Memory>
+    ensures { OnOk result (out.new ≡ out.old ++ (text_if (has_items items.now) (codes "    /* the equations */\n") ++ statement_text (spelled decls.now) indent (of_lets items.now))) }
+{
+    one_if(out, has_items(items), b"    /* the equations */\n")?;
+    lets(out, decls, items)
+}
+
+// Appends its outputs, in their statements.
+fn shows(alloc: Global, out: &mut List<u8>, file: &NodeFile) -> Result<(), Memory>
+    ensures { OnOk result (out.new ≡ out.old ++ statement_text (spelling file.now) indent (showing file.now.part.outputs)) }
+{
+    let shows = showing(alloc, &file.part.outputs)?;
+    statement(alloc, out, file, &shows)
+}
+
+fn shown(alloc: Global, out: &mut List<u8>, file: &NodeFile) -> Result<(), Memory>
+    ensures { OnOk result (out.new ≡ out.old ++ (text_if (has_items file.now.part.outputs) (codes "    /* the outputs */\n") ++ statement_text (spelling file.now) indent (showing file.now.part.outputs))) }
+{
+    one_if(
+        out,
+        has_items(file.part.outputs.as_slice()),
+        b"    /* the outputs */\n",
+    )?;
+    shows(alloc, out, file)
+}
+
+// Appends what delays keep.
+fn kept(out: &mut List<u8>, decls: &[Decl], items: &[Keep]) -> Result<(), Memory>
+    ensures { OnOk result (out.new ≡ out.old ++ (text_if (has_items items.now) (codes "    /* what delays keep */\n") ++ statement_text (spelled decls.now) indent (of_keeps items.now))) }
+{
+    one_if(out, has_items(items), b"    /* what delays keep */\n")?;
+    keeps(out, decls, items)
+}
+
+/// Appends the function that executes an instant.
+pub(crate) fn execute(alloc: Global, out: &mut List<u8>, file: &NodeFile) -> Result<(), Memory>
+    ensures { OnOk result (out.new ≡ out.old ++ execute_text file.now) }
+{
+    out.extend(b"\n/* Executes the next instant. */\nstatic void execute(void)\n{\n")?;
+    fed(alloc, out, file)?;
+    equations(out, &file.part.decls, lets_of(&file.part.code))?;
+    shown(alloc, out, file)?;
+    kept(out, &file.part.decls, keeps_of(&file.part.code))?;
+    out.extend(b"}\n")
+}

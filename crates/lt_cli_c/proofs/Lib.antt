@@ -1,0 +1,3 @@
+pub mod Obeying
+pub mod LttacAsking
+pub mod LttacPerformed

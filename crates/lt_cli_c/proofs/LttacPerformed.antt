@@ -1,0 +1,123 @@
+-- All that holds of a call of `lttac`, from what it printed and whose count rose.
+use Rattle.std.proofs.Common.{◌≡◌, ◌≢◌, ◌<◌, ℕ, IsTrue, List, ◌++◌, Bool, Option, Some, None, Result, Err, refl, sym, ◌∙◌, ap, subst, append-nil, arith, inl, inr}
+use Rattle.std.specs.Prelude.{codes, if◌then◌else◌}
+use Rattle.lt_io.specs.FabricState.{FabricState}
+use Rattle.lt_answer.specs.World.{Reading}
+use Rattle.lt_answer.proofs.Decided.{HasOneKind}
+use Rattle.lt_words.specs.Lttac.{LttacSaid, emit, lttac_command_of}
+use Rattle.lt_load_fit.specs.declared.fault.CommandFault.TheVariants.{Read}
+use Rattle.lt_emit.specs.declared.fault.EmitFault.{EmitFault}
+use Rattle.lt_emit.specs.declared.fault.EmitFault.TheVariants as fault
+use Rattle.lt_emit.proofs.OneEmit.{emit_decided, same_node}
+use Rattle.lt_text_answers.specs.declared.refusal.Refusal.{Refusal}
+use Rattle.lt_text_answers.specs.declared.refusal.Refusal.TheVariants.{LttacWords}
+use Rattle.lt_text_answers.specs.declared.status.Status.{Status}
+use Rattle.lt_text_answers.specs.declared.status.Status.TheVariants as status
+use Rattle.lt_text_answers.specs.Blamed.{blame_of}
+use Rattle.lt_text_answers.specs.Texts.{status_of, out_text, err_text, refusal_line, refusal_status, no_node_line}
+use Rattle.lt_text_answers.proofs.Refusals.{blamed_reads, fault_not_words}
+use Rattle.lt_cli.specs.Answers.{answer_verdict}
+use Rattle.lt_cli.specs.Clauses.{IsExactFor, IsMissingFor, IsCallFailed, IsOutsideCaused}
+use Rattle.lt_cli.specs.Objects.{Objects, IsQuiet}
+use Rattle.lt_cli.specs.Ran.{Ran}
+use Rattle.lt_cli.specs.Taken.{TookLine}
+use Rattle.lt_cli.proofs.Accepted.{accepted_ends}
+use Rattle.lt_cli.proofs.Causes.{outside_caused, write_caused, missing_for}
+use Rattle.lt_cli.proofs.Exact.{exact_for}
+use Rattle.lt_cli.proofs.Failed.{call_failed}
+use Rattle.lt_cli.proofs.Gave.{Gave, gave}
+use Rattle.lt_cli_c.specs.Emit.{emit_refusal, emit_verdict}
+use Rattle.lt_cli_c.specs.LttacAsked.{LttacAsked, lttac_asked_verdict, lttac_verdict, lttac_words_verdict}
+use Rattle.lt_cli_c.specs.LttacClauses.{IsNodeExact, LttacPerforms}
+
+-- all right refusals have one status
+decided : (named : List ℕ → Option (List ℕ)) (program config node : List ℕ) → HasOneKind (λ e. refusal_status (emit_refusal e)) (emit_verdict named program config node)
+decided named program config node =
+    emit_decided named program config node (λ e. refusal_status (emit_refusal e)) (λ e f same. ap (λ (b : Bool). if b then status.Limit else status.Program) same) (λ f g main main'. refl) (λ f g names names' mixed mixed'. refl)
+
+-- only a missing file blames the files
+only_read : (e : EmitFault) → blame_of (emit_refusal e) ≡ Reading → e ≡ fault.Command Read
+only_read (fault.Command f) is = ap (λ g. fault.Command g) (blamed_reads f is)
+only_read (fault.NoNode name) is = cc
+
+-- only the node's name has the status of wrong words
+only_node : (named : List ℕ → Option (List ℕ)) (program config node : List ℕ) (f : EmitFault) → emit_verdict named program config node (Err f) → refusal_status (emit_refusal f) ≡ status.Words → f ≡ fault.NoNode node
+only_node named program config node (fault.Command f) right is = absurd (fault_not_words f is)
+only_node named program config node (fault.NoNode name) right is = same_node named program config node name right
+
+node_exact : (named : List ℕ → Option (List ℕ)) (program config node : List ℕ) (old new : Objects) (ends : Status) → IsExactFor emit_refusal (λ text. text) (emit_verdict named program config node) old new ends
+    → IsNodeExact named program config node old new ends
+node_exact named program config node old new ends x =
+    let wrong = x.refused status.Words (λ is. cc) in
+    record {
+      exact = (
+        (λ at. let f = wrong.0 at in subst (λ (e : EmitFault). emit_verdict named program config node (Err e)) (only_node named program config node f.0 f.1 f.2) f.1),
+        (λ right. wrong.1 (fault.NoNode node, right, refl)),
+      );
+      line = λ at.
+          let f = x.line (λ is. let both : status.Words ≡ status.Ok = sym at ∙ is in cc) in
+          subst (λ (e : EmitFault). TookLine (refusal_line (emit_refusal e)) old new) (only_node named program config node f.0 f.1 (f.2 ∙ at)) f.3;
+    }
+
+module _ (asked : List (List ℕ)) (old new : Objects) (ends : Status) (did : LttacAsked asked old new ends) (still : new.fabric ≡ old.fabric) where
+  -- what was printed
+  whole : IsTrue old.files.told → IsQuiet old new → ends ≢ status.Memory → Gave (lttac_words_verdict old.files.named asked) old new ends
+  whole tells quiet enough = gave (lttac_words_verdict old.files.named asked) old new ends did.does.ran tells quiet enough
+
+  -- the words say no command
+  usage_line : (g : Gave (lttac_words_verdict old.files.named asked) old new ends) → lttac_command_of asked ≡ None → (ends ≡ status.Words) × TookLine (refusal_line LttacWords) old new
+  unfolding lttac_words_verdict
+  usage_line g none =
+      let here : g.outcome ≡ Err LttacWords = subst (λ (s : Option LttacSaid). lttac_asked_verdict old.files.named s g.outcome) none g.right in (
+        g.status ∙ ap status_of here,
+        record {
+          out = λ told. g.out told ∙ ap (λ (o : Result (List ℕ) Refusal). old.out.taken ++ out_text o) here ∙ append-nil old.out.taken;
+          err = λ told. g.err told ∙ ap (λ (o : Result (List ℕ) Refusal). old.err.taken ++ err_text o) here;
+        },
+      )
+
+  -- they say one
+  said_gave : (said : LttacSaid) → lttac_command_of asked ≡ Some said → Gave (lttac_words_verdict old.files.named asked) old new ends → Gave (lttac_verdict old.files.named said) old new ends
+  unfolding lttac_words_verdict
+  said_gave said is g = record {
+    outcome = g.outcome;
+    right = subst (λ (s : Option LttacSaid). lttac_asked_verdict old.files.named s g.outcome) is g.right;
+    status = g.status;
+    out = g.out;
+    err = g.err;
+  }
+
+  said_ran : (said : LttacSaid) → lttac_command_of asked ≡ Some said → Ran (lttac_verdict old.files.named said) old new ends
+  unfolding lttac_words_verdict
+  said_ran said is = subst (λ (s : Option LttacSaid). Ran (lttac_asked_verdict old.files.named s) old new ends) is did.does.ran
+
+  emitted_exact : (program config node : List ℕ) → lttac_command_of asked ≡ Some (emit program config node) → IsTrue old.files.told → IsQuiet old new → ends ≢ status.Memory
+      → IsExactFor emit_refusal (λ text. text) (emit_verdict old.files.named program config node) old new ends
+  emitted_exact program config node is tells quiet enough =
+      exact_for emit_refusal (λ text. text) (emit_verdict old.files.named program config node) (decided old.files.named program config node) old new ends (said_gave (emit program config node) is (whole tells quiet enough))
+
+  steady : new.fabric.faults ≡ old.fabric.faults
+  steady = ap (λ (w : FabricState). w.faults) still
+
+  read_failed : IsOutsideCaused old new → IsCallFailed (codes "fault: read") old.files.faults new.files.faults old new
+  read_failed (inl failed) = failed
+  read_failed (inr failed) = let rose = failed.rose in let same = steady in absurd (omega (arith, rose, same))
+
+  pub lttac_performed : (IsTrue old.files.sound → IsTrue old.files.told) → LttacPerforms asked old new ends
+  lttac_performed tells = record {
+    unsaid = did.unsaid;
+    usage = λ none told quiet enough. usage_line (whole told quiet enough) none;
+    visits = did.does.visits;
+    emitted = emitted_exact;
+    no_node = λ program config node is told quiet enough. node_exact old.files.named program config node old new ends (emitted_exact program config node is told quiet enough);
+    outside = λ at. read_failed (outside_caused (lttac_words_verdict old.files.named asked) old new ends did.does.ran at);
+    failed = λ rose. call_failed old new (lttac_words_verdict old.files.named asked) ends did.does.ran (inl rose);
+    write = λ at. write_caused (lttac_words_verdict old.files.named asked) old new ends did.does.ran at;
+    out_steady = did.does.ran.keeps.out.steady;
+    err_steady = did.does.ran.keeps.err.steady;
+    accepted = λ said is sound unrefused. accepted_ends (lttac_verdict old.files.named said) old new ends (tells sound.files) sound (said_ran said is) unrefused;
+    emit_missing = λ program config node is sound enough.
+        missing_for emit_refusal (fault.Command Read) refl only_read (λ text. text) (emit_verdict old.files.named program config node) (decided old.files.named program config node) old new steady ends (tells sound) sound enough
+        (said_ran (emit program config node) is);
+    ran = did.does.ran;
+  }

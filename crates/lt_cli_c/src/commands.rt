@@ -1,0 +1,2 @@
+// What each command does, a file for each.
+pub(crate) mod emit;

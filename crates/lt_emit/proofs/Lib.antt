@@ -1,0 +1,4 @@
+pub mod Coded
+pub mod Emission
+pub mod Numbered
+pub mod OneEmit
