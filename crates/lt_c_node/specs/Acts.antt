@@ -45,9 +45,13 @@ activation f run = acting f.regime (numbers_of f.links.senders) f.links.answerer
 abbrev pub file_calls : NodeFile → Calls
 file_calls f = calls_and (statement_calls (of_lets f.part.code.lets)) (calls_and (statement_calls (of_keeps f.part.code.keeps)) (statement_calls (activation f nothing)))
 
+-- where the inputs stand, and where the outputs go
+abbrev pub pointing_text : NodeFile → List ℕ
+pointing_text f = text_if (has_inputs f.part.sources) (codes "    in = inputs;\n") ++ text_if (has_items f.part.outputs) (codes "    out = outputs;\n")
+
 -- what it gets is put where its statements find it
 abbrev pub placing_text : NodeFile → List ℕ
-placing_text f = codes "    more = has_inputs;\n" ++ (text_if (has_inputs f.part.sources) (codes "    in = inputs;\n") ++ text_if (has_items f.part.outputs) (codes "    out = outputs;\n"))
+placing_text f = codes "    more = has_inputs;\n" ++ pointing_text f
 
 -- what it tells
 abbrev pub deed_text : (t : List ℕ) → List ℕ

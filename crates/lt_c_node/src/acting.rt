@@ -4,10 +4,10 @@ ghost use Rattle.std.specs.Prelude.{◌≡◌, ◌++◌, ◌<◌, ◌^◌, lengt
 ghost use Rattle.lt_c.specs.Tree.{Statement, perform};
 ghost use Rattle.lt_c.specs.Views.{statement_of};
 ghost use Rattle.lt_c.specs.Uses.{calls_and};
-ghost use Rattle.lt_c_node.specs.Words.{made_from, text_if};
+ghost use Rattle.lt_c_node.specs.Words.{made_from};
 ghost use Rattle.lt_c_node.specs.Types.{has_inputs, has_items};
 ghost use Rattle.lt_c_node.specs.Heads.{activate_head};
-ghost use Rattle.lt_c_node.specs.Acts.{numbers_of, post_of, posts_of, acting, activation, file_calls, placing_text, deed_text, activate_text};
+ghost use Rattle.lt_c_node.specs.Acts.{numbers_of, post_of, posts_of, acting, activation, file_calls, pointing_text, placing_text, deed_text, activate_text};
 
 use crate::file::{Carried, NodeFile, Peer, Regime};
 use crate::heads::activate_head;
@@ -105,7 +105,7 @@ fn opening(out: &mut List<u8>, t: &[u8], file: &NodeFile) -> Result<(), Memory>
 
 // Appends where the inputs of an activation stand, and where its outputs go.
 fn placing_pointers(out: &mut List<u8>, file: &NodeFile) -> Result<(), Memory>
-    ensures { OnOk result (out.new ≡ out.old ++ (text_if (has_inputs file.now.part.sources) (codes "    in = inputs;\n") ++ text_if (has_items file.now.part.outputs) (codes "    out = outputs;\n"))) }
+    ensures { OnOk result (out.new ≡ out.old ++ pointing_text file.now) }
 {
     let inputs = has_inputs(&file.part.sources);
     let outputs = has_items(file.part.outputs.as_slice());

@@ -1,14 +1,13 @@
 // The step of a node.
 
-ghost use Rattle.std.specs.Prelude.{◌≡◌, ◌++◌, ◌<◌, ◌^◌, length, IfOk, OnOk, codes};
+ghost use Rattle.std.specs.Prelude.{◌≡◌, ◌++◌, ◌<◌, ◌^◌, length, IfOk, OnOk};
 ghost use Rattle.lt_c.specs.Tree.{Statement, slot, output, assign, both, c_var};
-ghost use Rattle.lt_c.specs.Text.{spelled, statement_text};
+ghost use Rattle.lt_c.specs.Text.{statement_text};
 ghost use Rattle.lt_c.specs.Views.{place_in, statement_of};
-ghost use Rattle.lt_c_step.specs.Translate.{of_lets, of_keeps};
 ghost use Rattle.lt_c_step.specs.Part.{place_of, feeding, telling, showing};
-ghost use Rattle.lt_c_node.specs.Words.{text_if, spelling, indent};
+ghost use Rattle.lt_c_node.specs.Words.{spelling, indent};
 ghost use Rattle.lt_c_node.specs.Types.{has_items};
-ghost use Rattle.lt_c_node.specs.Steps.{execute_text};
+ghost use Rattle.lt_c_node.specs.Steps.{fed_text, equations_text, shown_text, kept_text, shown_one, execute_text};
 
 use crate::code::{keeps_of, lets_of};
 use crate::file::NodeFile;
@@ -62,7 +61,7 @@ fn telling(alloc: Global, y: u32, clock: &Clock) -> Result<Action, Memory>
 
 // An output is shown before others.
 fn shown_before(alloc: Global, o: &Output, rest: Action) -> Result<Action, Memory>
-    ensures { IfOk result (λ s. (run : Statement) → statement_of run s ≡ both (both (telling o.now.output_number o.now.guard) (assign (output o.now.output_number) (c_var (slot o.now.from_slot)))) (statement_of run rest)) }
+    ensures { IfOk result (λ s. (run : Statement) → statement_of run s ≡ both (shown_one o.now) (statement_of run rest)) }
 {
     let told = telling(alloc, o.output_number, &o.guard)?;
     let value = copied(
@@ -93,7 +92,7 @@ fn feeds(alloc: Global, out: &mut List<u8>, file: &NodeFile) -> Result<(), Memor
 }
 
 fn fed(alloc: Global, out: &mut List<u8>, file: &NodeFile) -> Result<(), Memory>
-    ensures { OnOk result (out.new ≡ out.old ++ (text_if (has_items file.now.part.sources) (codes "    /* what the instant is fed with */\n") ++ statement_text (spelling file.now) indent (feeding 0 file.now.part.sources))) }
+    ensures { OnOk result (out.new ≡ out.old ++ fed_text file.now) }
 {
     one_if(
         out,
@@ -105,7 +104,7 @@ fn fed(alloc: Global, out: &mut List<u8>, file: &NodeFile) -> Result<(), Memory>
 
 // Appends its equations.
 fn equations(out: &mut List<u8>, decls: &[Decl], items: &[Let]) -> Result<(), Memory>
-    ensures { OnOk result (out.new ≡ out.old ++ (text_if (has_items items.now) (codes "    /* the equations */\n") ++ statement_text (spelled decls.now) indent (of_lets items.now))) }
+    ensures { OnOk result (out.new ≡ out.old ++ equations_text decls.now items.now) }
 {
     one_if(out, has_items(items), b"    /* the equations */\n")?;
     lets(out, decls, items)
@@ -120,7 +119,7 @@ fn shows(alloc: Global, out: &mut List<u8>, file: &NodeFile) -> Result<(), Memor
 }
 
 fn shown(alloc: Global, out: &mut List<u8>, file: &NodeFile) -> Result<(), Memory>
-    ensures { OnOk result (out.new ≡ out.old ++ (text_if (has_items file.now.part.outputs) (codes "    /* the outputs */\n") ++ statement_text (spelling file.now) indent (showing file.now.part.outputs))) }
+    ensures { OnOk result (out.new ≡ out.old ++ shown_text file.now) }
 {
     one_if(
         out,
@@ -132,7 +131,7 @@ fn shown(alloc: Global, out: &mut List<u8>, file: &NodeFile) -> Result<(), Memor
 
 // Appends what delays keep.
 fn kept(out: &mut List<u8>, decls: &[Decl], items: &[Keep]) -> Result<(), Memory>
-    ensures { OnOk result (out.new ≡ out.old ++ (text_if (has_items items.now) (codes "    /* what delays keep */\n") ++ statement_text (spelled decls.now) indent (of_keeps items.now))) }
+    ensures { OnOk result (out.new ≡ out.old ++ kept_text decls.now items.now) }
 {
     one_if(out, has_items(items), b"    /* what delays keep */\n")?;
     keeps(out, decls, items)
