@@ -13,7 +13,7 @@ use Rattle.lt_base.specs.declared.value.Value.TheVariants.{Int}
 use Rattle.lt_base.specs.Program.{Function}
 use Rattle.lt_inputs.specs.declared.fault.InputFault.{InputFault}
 use Rattle.lt_inputs.specs.Fields.{int_of, field_value}
-use Rattle.lt_inputs.specs.Inputs.{inputs_in, inputs_of, input_rows_of, input_rows_from, input_table_of, then_rows, row_of, instant_and_values, values_of, with_value, or_no_value, is_this_number, is_text, same_fields, header_of}
+use Rattle.lt_inputs.specs.Inputs.{inputs_in, inputs_of, input_rows_of, input_rows_from, input_table_of, then_rows, row_of, instant_and_values, field_values, with_value, or_no_value, is_this_number, is_text, same_fields, header_of}
 use Rattle.lt_inputs.proofs.TextLemmas.{reads-text}
 use Rattle.csv.specs.Reading.{records, default_config, strip_bom}
 use Rattle.lt_big_texts.specs.Texts.{inputs_text}
@@ -35,7 +35,7 @@ int_read (c ∷ cs) n is low =
 abbrev pub instant_row : ℕ → List Value
 instant_row k = Int (pos k) ∷ []
 
-values_read : (d : Decl) (k : ℕ) → d.ty ≡ ty.Int → k < 100000 → values_of (d ∷ []) (decimal k ∷ []) ≡ Some (instant_row k)
+values_read : (d : Decl) (k : ℕ) → d.ty ≡ ty.Int → k < 100000 → field_values (d ∷ []) (decimal k ∷ []) ≡ Some (instant_row k)
 values_read d k is low =
     let low64 : k < 2 ^ 64 = omega (arith, low) in
     let low63 : k < 2 ^ 63 = omega (arith, low) in

@@ -12,9 +12,9 @@ use Rattle.lt_base.specs.Operators.{int_eq, wrap}
 use Rattle.lt_c.specs.Tree.{Helper, h_add, h_sub, h_mul, h_div, h_mod, h_min, h_max, h_gcd}
 use Rattle.lt_c.specs.Meaning.{helper}
 use Rattle.lt_base.specs.Operators.{gcd, gcd_within}
-use Rattle.lt_c.specs.Head.{Number, signed, unsigned, Frame, fits, in_range, as_int, on_ints, quotient_of, rest_of, own_y, aid_signed, aid_neg, aid_size, turned, act_after, next_pair, aid_value, helper_value, HeadIsSound}
+use Rattle.lt_c.specs.Head.{Number, signed, unsigned, LocalFrame, fits, unless_overflow, as_int, on_ints, quotient_of, remainder_of, own_y, aid_signed, aid_neg, aid_size, after_turns, act_after, next_pair, aid_value, helper_value, HeadIsSound}
 
-fits_negative : (k : ℕ) → k < 2 ^ 63 → in_range (negsuc k) ≡ Some (signed (negsuc k))
+fits_negative : (k : ℕ) → k < 2 ^ 63 → unless_overflow (negsuc k) ≡ Some (signed (negsuc k))
 fits_negative k l = let t : nat_lt k (2 ^ 63) ≡ true = grind (arith, nat_tests, l) in ap (λ (b : Bool). if b then Some (signed (negsuc k)) else None) t
 
 int_of : (n : ℕ) → n < 2 ^ 63 → as_int (Some (unsigned n)) ≡ Some (signed (pos n))
@@ -27,23 +27,23 @@ minus_one (suc k) = ap negsuc (omega arith)
 low : (n : ℕ) → n < 2 ^ 63 → as_int (Some (unsigned n)) ≡ Some (signed (to_z w64 n))
 low n l = int_of n l ∙ ap (λ z. Some (signed z)) (sym (to_z_pos w64 n l))
 
-high : (n : ℕ) → 2 ^ 63 ≤ n → n < 2 ^ 64 → on_ints (λ m n. in_range (m -ℤ n)) (Some (signed (negsuc 0))) (as_int (Some (unsigned ((18446744073709551615 + (2 ^ 64 - n)) % 2 ^ 64)))) ≡ Some (signed (to_z w64 n))
+high : (n : ℕ) → 2 ^ 63 ≤ n → n < 2 ^ 64 → on_ints (λ m n. unless_overflow (m -ℤ n)) (Some (signed (negsuc 0))) (as_int (Some (unsigned ((18446744073709551615 + (2 ^ 64 - n)) % 2 ^ 64)))) ≡ Some (signed (to_z w64 n))
 high n l h =
     let k = 18446744073709551615 - n in
     let e : (18446744073709551615 + (2 ^ 64 - n)) % 2 ^ 64 ≡ k = omega (arith, l, h) in
     let s : k < 2 ^ 63 = omega (arith, l, h) in
     let back : n ≡ 2 ^ 64 - suc k = omega (arith, l, h) in
     let z : negsuc k ≡ to_z w64 n = sym (ap (to_z w64) back ∙ to_z-neg w64 k s) in
-    ap (λ m. on_ints (λ m n. in_range (m -ℤ n)) (Some (signed (negsuc 0))) (as_int (Some (unsigned m)))) e
-    ∙ ap (λ o. on_ints (λ m n. in_range (m -ℤ n)) (Some (signed (negsuc 0))) o) (int_of k s)
-    ∙ ap in_range (minus_one k) ∙ fits_negative k s ∙ ap (λ y. Some (signed y)) z
+    ap (λ m. on_ints (λ m n. unless_overflow (m -ℤ n)) (Some (signed (negsuc 0))) (as_int (Some (unsigned m)))) e
+    ∙ ap (λ o. on_ints (λ m n. unless_overflow (m -ℤ n)) (Some (signed (negsuc 0))) o) (int_of k s)
+    ∙ ap unless_overflow (minus_one k) ∙ fits_negative k s ∙ ap (λ y. Some (signed y)) z
 
 pub signed_is : (n : ℕ) → n < 2 ^ 64 → aid_value aid_signed (Some (unsigned n)) ≡ Some (signed (to_z w64 n))
 signed_is n h = go (nat_le n 9223372036854775807) refl
   where
     go : (b : Bool) → nat_le n 9223372036854775807 ≡ b → aid_value aid_signed (Some (unsigned n)) ≡ Some (signed (to_z w64 n))
-    go true e = let l : n < 2 ^ 63 = grind (arith, nat_tests, e) in ap (λ (b : Bool). if b then as_int (Some (unsigned n)) else on_ints (λ m n. in_range (m -ℤ n)) (Some (signed (negsuc 0))) (as_int (Some (unsigned ((18446744073709551615 + (2 ^ 64 - n)) % 2 ^ 64))))) e ∙ low n l
-    go false e = let l : 2 ^ 63 ≤ n = grind (arith, nat_tests, e) in ap (λ (b : Bool). if b then as_int (Some (unsigned n)) else on_ints (λ m n. in_range (m -ℤ n)) (Some (signed (negsuc 0))) (as_int (Some (unsigned ((18446744073709551615 + (2 ^ 64 - n)) % 2 ^ 64))))) e ∙ high n l h
+    go true e = let l : n < 2 ^ 63 = grind (arith, nat_tests, e) in ap (λ (b : Bool). if b then as_int (Some (unsigned n)) else on_ints (λ m n. unless_overflow (m -ℤ n)) (Some (signed (negsuc 0))) (as_int (Some (unsigned ((18446744073709551615 + (2 ^ 64 - n)) % 2 ^ 64))))) e ∙ low n l
+    go false e = let l : 2 ^ 63 ≤ n = grind (arith, nat_tests, e) in ap (λ (b : Bool). if b then as_int (Some (unsigned n)) else on_ints (λ m n. unless_overflow (m -ℤ n)) (Some (signed (negsuc 0))) (as_int (Some (unsigned ((18446744073709551615 + (2 ^ 64 - n)) % 2 ^ 64))))) e ∙ high n l h
 
 -- ---- sums, differences and products
 
@@ -139,24 +139,24 @@ div_is turns a b f (other e g d) =
     let w = quotient_fits a b f d in
     ap (λ (t : Bool). if t then Some (signed (pos 0)) else (if int_eq b (negsuc 0) then aid_value aid_neg (Some (signed a)) else quotient_of a b)) e
     ∙ ap (λ (t : Bool). if t then aid_value aid_neg (Some (signed a)) else quotient_of a b) g
-    ∙ ap (λ (t : Bool). if t then None else in_range (int_div a b)) e
+    ∙ ap (λ (t : Bool). if t then None else unless_overflow (int_div a b)) e
     ∙ ap (λ (t : Bool). if t then Some (signed (int_div a b)) else None) w.0
     ∙ ap (λ z. Some (signed z)) (sym w.1)
     ∙ ap (λ (t : Bool). Some (signed (if t then pos 0 else wrap (int_div a b)))) (sym e)
 
 mod_is : (turns : ℕ) (a b : ℤ) → FitsSigned w64 a → Kind b → helper_value turns h_mod (Some (signed a)) (Some (signed b)) ≡ Some (signed (helper h_mod a b))
 mod_is turns a b f (is_zero e i) =
-    ap (λ (t : Bool). if t then Some (signed a) else (if int_eq b (negsuc 0) then Some (signed (pos 0)) else rest_of a b)) e
+    ap (λ (t : Bool). if t then Some (signed a) else (if int_eq b (negsuc 0) then Some (signed (pos 0)) else remainder_of a b)) e
     ∙ ap (λ (t : Bool). Some (signed (if t then a else int_rem a b))) (sym e)
 mod_is turns a b f (is_minus e g i) =
-    ap (λ (t : Bool). if t then Some (signed a) else (if int_eq b (negsuc 0) then Some (signed (pos 0)) else rest_of a b)) e
-    ∙ ap (λ (t : Bool). if t then Some (signed (pos 0)) else rest_of a b) g
+    ap (λ (t : Bool). if t then Some (signed a) else (if int_eq b (negsuc 0) then Some (signed (pos 0)) else remainder_of a b)) e
+    ∙ ap (λ (t : Bool). if t then Some (signed (pos 0)) else remainder_of a b) g
     ∙ ap (λ z. Some (signed z)) (sym (rest_by_minus a) ∙ ap (int_rem a) (sym i))
     ∙ ap (λ (t : Bool). Some (signed (if t then a else int_rem a b))) (sym e)
 mod_is turns a b f (other e g d) =
     let w = quotient_fits a b f d in
-    ap (λ (t : Bool). if t then Some (signed a) else (if int_eq b (negsuc 0) then Some (signed (pos 0)) else rest_of a b)) e
-    ∙ ap (λ (t : Bool). if t then Some (signed (pos 0)) else rest_of a b) g
+    ap (λ (t : Bool). if t then Some (signed a) else (if int_eq b (negsuc 0) then Some (signed (pos 0)) else remainder_of a b)) e
+    ∙ ap (λ (t : Bool). if t then Some (signed (pos 0)) else remainder_of a b) g
     ∙ ap (λ (t : Bool). if t then None else (if fits (int_div a b) then Some (signed (int_rem a b)) else None)) e
     ∙ ap (λ (t : Bool). if t then Some (signed (int_rem a b)) else None) w.0
     ∙ ap (λ (t : Bool). Some (signed (if t then a else int_rem a b))) (sym e)
@@ -187,15 +187,15 @@ size_small (pos n) f = omega (arith, ints, f)
 size_small (negsuc n) f = omega (arith, ints, f)
 
 -- in the loop: what the parameters are, the pair of numbers, and the number that was the rest last
-abbrev pair_frame : (p q : Option Number) (x y : ℕ) (z : Option Number) → Frame
+abbrev pair_frame : (p q : Option Number) (x y : ℕ) (z : Option Number) → LocalFrame
 pair_frame p q x y z = record { for_a = p; for_b = q; for_x = Some (unsigned x); for_y = Some (unsigned y); for_z = z }
 
 -- a number that is found by the loop
 module _ (P : Option Number → Option Number) (turns : ℕ) (p q : Option Number) where
-  abbrev step : Frame → Option Frame
+  abbrev step : LocalFrame → Option LocalFrame
   step f = act_after turns aid_value next_pair f
 
-  loop_is : (n x y : ℕ) (z : Option Number) → y < n → option_and_then (λ f. P f.for_x) (turned n step own_y (pair_frame p q x y z)) ≡ P (Some (unsigned (gcd_within n x y)))
+  loop_is : (n x y : ℕ) (z : Option Number) → y < n → option_and_then (λ f. P f.for_x) (after_turns n step own_y (pair_frame p q x y z)) ≡ P (Some (unsigned (gcd_within n x y)))
   loop_is zero x y z l = absurd (omega (arith, l))
   loop_is (suc n) x zero z l = refl
   loop_is (suc n) x (suc y) z l = loop_is n (suc y) (x % suc y) (Some (unsigned (x % suc y))) (omega (arith, l))
@@ -229,7 +229,7 @@ gcd_value turns t a b f g =
     let v : y ≤ 2 ^ 63 = size_small b g in
     let l : y < turns = omega (arith, t, v) in
     let s : gcd_within turns x y < 2 ^ 64 = gcd_small turns x y (omega (arith, u)) (omega (arith, v)) in
-    (λ i. option_and_then (λ f. aid_value aid_signed f.for_x) (turned turns (λ f. act_after turns aid_value next_pair f) own_y (record { for_a = p; for_b = q; for_x = size_is a f i; for_y = size_is b g i; for_z = None })))
+    (λ i. option_and_then (λ f. aid_value aid_signed f.for_x) (after_turns turns (λ f. act_after turns aid_value next_pair f) own_y (record { for_a = p; for_b = q; for_x = size_is a f i; for_y = size_is b g i; for_z = None })))
     ∙ loop_is (aid_value aid_signed) turns p q turns x y None l
     ∙ signed_is (gcd_within turns x y) s
     ∙ ap (λ z. Some (signed z)) (wrap_pos (gcd_within turns x y) s ∙ ap (λ n. wrap (pos n)) (gcd_same turns x y l))

@@ -3,13 +3,13 @@ use Rattle.std.proofs.Common.{◌≡◌, ℕ, Bool, true, false, refl, sym, ap, 
 use Rattle.std.specs.Prelude.{◌&&◌, nat_eq, if◌then◌else◌}
 use Rattle.lt_base.specs.declared.value.Ty.TheVariants.{Bool as Truth}
 use Rattle.lt_base.proofs.Solution.{and_left, and_right}
-use Rattle.lt_c.specs.Tree.{Place, slot, did, more, phase, left, sent, executed, bit, read, payload, ack, seen, input, output, has, message_bit, message, answer_bit, executions, sendings, newest, answered, message_number, answer_number, posted, tag, number_in, second_in, same, Operator, o_eq, o_ne, o_lt, o_le, o_gt, o_ge, o_and, o_or, Tree, c_integer, c_truth, c_var, c_negate, c_call, c_not, c_join, c_choice, assign, only, branch, both, nothing, perform, noted}
-use Rattle.lt_c.specs.Meaning.{Store, truth_of, of_truth, operator, value, holds, stored, after}
-use Rattle.lt_c.specs.Truths.{Types, type_of, IsTruthNumber, HoldsTruths, IsTruthTree, TruthsStay}
+use Rattle.lt_c.specs.Tree.{CVariable, slot, did, more, phase, left, sent, executed, bit, read, payload, ack, seen, input, output, has, message_bit, message, answer_bit, executions, sendings, newest, answered, message_number, answer_number, posted, tag, variable_number, second_in, same, Operator, o_eq, o_ne, o_lt, o_le, o_gt, o_ge, o_and, o_or, Tree, c_integer, c_truth, c_var, c_negate, c_call, c_not, c_join, c_choice, assign, only, branch, both, nothing, perform, noted}
+use Rattle.lt_c.specs.Meaning.{Store, c_truth_of, of_truth, operator_value, value, holds, stored, store_left}
+use Rattle.lt_c.specs.Truths.{Types, c_type_of, IsTruthNumber, HoldsTruths, IsTruthTree, TruthsStay}
 
 -- ---- a variable is its kind and its numbers
 
-abbrev place_by : ℕ → ℕ → ℕ → Place
+abbrev place_by : ℕ → ℕ → ℕ → CVariable
 place_by t n k =
     if nat_eq t 0 then slot n
     else (if nat_eq t 1 then did
@@ -37,7 +37,7 @@ place_by t n k =
     else (if nat_eq t 23 then answer_number
     else posted n k)))))))))))))))))))))))
 
-by_numbers : (p : Place) → place_by (tag p) (number_in p) (second_in p) ≡ p
+by_numbers : (p : CVariable) → place_by (tag p) (variable_number p) (second_in p) ≡ p
 by_numbers (slot x) = refl
 by_numbers did = refl
 by_numbers more = refl
@@ -64,12 +64,12 @@ by_numbers message_number = refl
 by_numbers answer_number = refl
 by_numbers (posted j k) = refl
 
-pub same_is : (p q : Place) → same p q ≡ true → p ≡ q
+pub same_is : (p q : CVariable) → same p q ≡ true → p ≡ q
 same_is p q h =
-    let t : tag p ≡ tag q = eqb-true (tag p) (tag q) (and_left (nat_eq (tag p) (tag q)) (nat_eq (second_in p) (second_in q) && nat_eq (number_in p) (number_in q)) h) in
-    let r = and_right (nat_eq (tag p) (tag q)) (nat_eq (second_in p) (second_in q) && nat_eq (number_in p) (number_in q)) h in
-    let k : second_in p ≡ second_in q = eqb-true (second_in p) (second_in q) (and_left (nat_eq (second_in p) (second_in q)) (nat_eq (number_in p) (number_in q)) r) in
-    let n : number_in p ≡ number_in q = eqb-true (number_in p) (number_in q) (and_right (nat_eq (second_in p) (second_in q)) (nat_eq (number_in p) (number_in q)) r) in
+    let t : tag p ≡ tag q = eqb-true (tag p) (tag q) (and_left (nat_eq (tag p) (tag q)) (nat_eq (second_in p) (second_in q) && nat_eq (variable_number p) (variable_number q)) h) in
+    let r = and_right (nat_eq (tag p) (tag q)) (nat_eq (second_in p) (second_in q) && nat_eq (variable_number p) (variable_number q)) h in
+    let k : second_in p ≡ second_in q = eqb-true (second_in p) (second_in q) (and_left (nat_eq (second_in p) (second_in q)) (nat_eq (variable_number p) (variable_number q)) r) in
+    let n : variable_number p ≡ variable_number q = eqb-true (variable_number p) (variable_number q) (and_right (nat_eq (second_in p) (second_in q)) (nat_eq (variable_number p) (variable_number q)) r) in
     sym (by_numbers p) ∙ (λ i. place_by (t i) (n i) (k i)) ∙ by_numbers q
 
 -- ---- values
@@ -78,7 +78,7 @@ truth_number : (b : Bool) → IsTruthNumber (of_truth b)
 truth_number true = refl
 truth_number false = refl
 
-operator_truth : (o : Operator) (a b : ℤ) → IsTruthNumber (operator o a b)
+operator_truth : (o : Operator) (a b : ℤ) → IsTruthNumber (operator_value o a b)
 operator_truth o_eq a b = truth_number _
 operator_truth o_ne a b = truth_number _
 operator_truth o_lt a b = truth_number _
@@ -100,15 +100,15 @@ value_truth ts m h (c_negate a) t = elim t [ ]
 value_truth ts m h (c_call f a b) t = elim t [ ]
 value_truth ts m h (c_not a) t = truth_number _
 value_truth ts m h (c_join o a b) t = operator_truth o (value m a) (value m b)
-value_truth ts m h (c_choice c a b) t = one_truth (truth_of (value m c)) (value m a) (value m b) (value_truth ts m h a t.0) (value_truth ts m h b t.1)
+value_truth ts m h (c_choice c a b) t = one_truth (c_truth_of (value m c)) (value m a) (value m b) (value_truth ts m h a t.0) (value_truth ts m h b t.1)
 
 -- ---- statements
 
-stored_truth : (ts : Types) (m : Store) → HoldsTruths ts m → (p : Place) (z : ℤ) → (type_of ts p ≡ Truth → IsTruthNumber z) → HoldsTruths ts (stored m p z)
+stored_truth : (ts : Types) (m : Store) → HoldsTruths ts m → (p : CVariable) (z : ℤ) → (c_type_of ts p ≡ Truth → IsTruthNumber z) → HoldsTruths ts (stored m p z)
 stored_truth ts m h p z f q t = go (same q p) refl
   where
     go : (b : Bool) → same q p ≡ b → IsTruthNumber (if b then z else m q)
-    go true e = f (ap (type_of ts) (sym (same_is q p e)) ∙ t)
+    go true e = f (ap (c_type_of ts) (sym (same_is q p e)) ∙ t)
     go false e = h q t
 
 one_store : (ts : Types) (b : Bool) (m n : Store) → HoldsTruths ts m → HoldsTruths ts n → HoldsTruths ts (if b then m else n)
@@ -117,9 +117,9 @@ one_store ts false m n f g = g
 
 pub truths_stay : TruthsStay
 truths_stay ts (assign p e) a m h = stored_truth ts m h p (value m e) (λ t. value_truth ts m h e (a t))
-truths_stay ts (only ck s) a m h = one_store ts (holds m ck) (after s m) m (truths_stay ts s a m h) h
-truths_stay ts (branch e s t) a m h = one_store ts (truth_of (value m e)) (after s m) (after t m) (truths_stay ts s a.0 m h) (truths_stay ts t a.1 m h)
-truths_stay ts (both s t) a m h = truths_stay ts t a.1 (after s m) (truths_stay ts s a.0 m h)
+truths_stay ts (only ck s) a m h = one_store ts (holds m ck) (store_left s m) m (truths_stay ts s a m h) h
+truths_stay ts (branch e s t) a m h = one_store ts (c_truth_of (value m e)) (store_left s m) (store_left t m) (truths_stay ts s a.0 m h) (truths_stay ts t a.1 m h)
+truths_stay ts (both s t) a m h = truths_stay ts t a.1 (store_left s m) (truths_stay ts s a.0 m h)
 truths_stay ts nothing a m h = h
 truths_stay ts (perform s) a m h = truths_stay ts s a m h
 truths_stay ts (noted c s) a m h = truths_stay ts s a m h

@@ -77,21 +77,21 @@ pub record Body : Type 0 where
 -- ---- what they mean
 
 -- what the variables hold; one that holds nothing has no value
-pub record Frame : Type 0 where
+pub record LocalFrame : Type 0 where
   pub for_a : Option Number
   pub for_b : Option Number
   pub for_x : Option Number
   pub for_y : Option Number
   pub for_z : Option Number
 
-abbrev pub held_by : Frame → Local → Option Number
+abbrev pub held_by : LocalFrame → Local → Option Number
 held_by f in_a = f.for_a
 held_by f in_b = f.for_b
 held_by f own_x = f.for_x
 held_by f own_y = f.for_y
 held_by f own_z = f.for_z
 
-abbrev pub with_local : Frame → Local → Option Number → Frame
+abbrev pub with_local : LocalFrame → Local → Option Number → LocalFrame
 with_local f in_a v = record f { for_a = v }
 with_local f in_b v = record f { for_b = v }
 with_local f own_x v = record f { for_x = v }
@@ -104,8 +104,8 @@ fits (pos n) = nat_lt n (2 ^ 63)
 fits (negsuc n) = nat_lt n (2 ^ 63)
 
 -- an operation overflows, and so is undefined, where its result has more bits
-abbrev pub in_range : ℤ → Option Number
-in_range z = if fits z then Some (signed z) else None
+abbrev pub unless_overflow : ℤ → Option Number
+unless_overflow z = if fits z then Some (signed z) else None
 
 abbrev pub as_bits : Option Number → Option Number
 as_bits None = None
@@ -128,10 +128,10 @@ on_ints f _ _ = None
 
 -- nothing is divided by 0, and neither operator is defined where the quotient overflows
 abbrev pub quotient_of : ℤ → ℤ → Option Number
-quotient_of a b = if int_eq b (pos 0) then None else in_range (int_div a b)
+quotient_of a b = if int_eq b (pos 0) then None else unless_overflow (int_div a b)
 
-abbrev pub rest_of : ℤ → ℤ → Option Number
-rest_of a b = if int_eq b (pos 0) then None else (if fits (int_div a b) then Some (signed (int_rem a b)) else None)
+abbrev pub remainder_of : ℤ → ℤ → Option Number
+remainder_of a b = if int_eq b (pos 0) then None else (if fits (int_div a b) then Some (signed (int_rem a b)) else None)
 
 abbrev pub bits_rest_of : ℕ → ℕ → Option Number
 bits_rest_of a zero = None
@@ -142,9 +142,9 @@ arithmetic bits_add p q = on_bits (λ m n. Some (unsigned ((m + n) % 2 ^ 64))) p
 arithmetic bits_sub p q = on_bits (λ m n. Some (unsigned ((m + (2 ^ 64 - n)) % 2 ^ 64))) p q
 arithmetic bits_mul p q = on_bits (λ m n. Some (unsigned ((m * n) % 2 ^ 64))) p q
 arithmetic bits_rest p q = on_bits bits_rest_of p q
-arithmetic int_sub p q = on_ints (λ m n. in_range (m -ℤ n)) p q
+arithmetic int_sub p q = on_ints (λ m n. unless_overflow (m -ℤ n)) p q
 arithmetic int_over p q = on_ints quotient_of p q
-arithmetic int_rest p q = on_ints rest_of p q
+arithmetic int_rest p q = on_ints remainder_of p q
 
 abbrev pub chosen : (ℤ → ℤ → Bool) → Option Number → Option Number → Option Number → Option Number → Option Number
 chosen f (Some (signed a)) (Some (signed b)) c d = if f a b then c else d
@@ -161,7 +161,7 @@ comparison ints_most p q c d = chosen int_le p q c d
 comparison bits_most p q c d = chosen_bits nat_le p q c d
 
 -- the value of an expression, where a call gives this
-abbrev pub term_value : (Aid → Option Number → Option Number) → Frame → Term → Option Number
+abbrev pub term_value : (Aid → Option Number → Option Number) → LocalFrame → Term → Option Number
 term_value call f (t_local x) = held_by f x
 term_value call f (t_int z) = Some (signed z)
 term_value call f (t_bits n) = Some (unsigned n)
@@ -172,32 +172,32 @@ term_value call f (t_choice o a b c d) = comparison o (term_value call f a) (ter
 term_value call f (t_call k a) = call k (term_value call f a)
 
 -- a loop stops where its variable is 0, and else goes on
-abbrev pub stops_or : Option Number → (stop more : Option Frame) → Option Frame
+abbrev pub stops_or : Option Number → (stop more : Option LocalFrame) → Option LocalFrame
 stops_or None stop more = None
 stops_or (Some (signed z)) stop more = if int_eq z (pos 0) then stop else more
 stops_or (Some (unsigned zero)) stop more = stop
 stops_or (Some (unsigned (suc n))) stop more = more
 
 -- what a loop leaves, which ends within so many turns; a longer one leaves nothing
-abbrev pub turned : (turns : ℕ) → (Frame → Option Frame) → Local → Frame → Option Frame
-turned zero step x f = None
-turned (suc n) step x f = stops_or (held_by f x) (Some f) (option_and_then (turned n step x) (step f))
+abbrev pub after_turns : (turns : ℕ) → (LocalFrame → Option LocalFrame) → Local → LocalFrame → Option LocalFrame
+after_turns zero step x f = None
+after_turns (suc n) step x f = stops_or (held_by f x) (Some f) (option_and_then (after_turns n step x) (step f))
 
 -- what a statement leaves whose loops end within so many turns
-abbrev pub act_after : (turns : ℕ) → (Aid → Option Number → Option Number) → Act → Frame → Option Frame
+abbrev pub act_after : (turns : ℕ) → (Aid → Option Number → Option Number) → Act → LocalFrame → Option LocalFrame
 act_after turns call a_skip f = Some f
 act_after turns call (a_declare x e) f = Some (with_local f x (term_value call f e))
 act_after turns call (a_set x e) f = Some (with_local f x (term_value call f e))
 act_after turns call (a_both s t) f = option_and_then (act_after turns call t) (act_after turns call s f)
-act_after turns call (a_while x s) f = turned turns (act_after turns call s) x f
+act_after turns call (a_while x s) f = after_turns turns (act_after turns call s) x f
 
 -- a function begins with its parameters
-abbrev pub begun : (a b : Option Number) → Frame
-begun a b = record { for_a = a; for_b = b; for_x = None; for_y = None; for_z = None }
+abbrev pub with_parameters : (a b : Option Number) → LocalFrame
+with_parameters a b = record { for_a = a; for_b = b; for_x = None; for_y = None; for_z = None }
 
 -- what a function returns whose loops end within so many turns
 abbrev pub body_value : (turns : ℕ) → (Aid → Option Number → Option Number) → Body → (a b : Option Number) → Option Number
-body_value turns call d a b = option_and_then (λ f. term_value call f d.gives) (act_after turns call d.does (begun a b))
+body_value turns call d a b = option_and_then (λ f. term_value call f d.gives) (act_after turns call d.does (with_parameters a b))
 
 -- ---- the bodies
 

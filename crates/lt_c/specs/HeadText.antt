@@ -52,8 +52,8 @@ act_text before (a_both s t) = act_text before s ++ act_text before t
 act_text before (a_while x s) = before ++ (codes "while (" ++ (local_text x ++ (codes " != UINT64_C(0)) {\n" ++ (act_text (codes "    " ++ before) s ++ (before ++ codes "}\n")))))
 
 -- a function behind its parameters
-abbrev pub body_text : Body → List ℕ
-body_text d = codes ")\n{\n" ++ (act_text (codes "    ") d.does ++ (codes "    return " ++ (term_text d.gives ++ codes ";\n}\n")))
+abbrev pub head_body_text : Body → List ℕ
+head_body_text d = codes ")\n{\n" ++ (act_text (codes "    ") d.does ++ (codes "    return " ++ (term_text d.gives ++ codes ";\n}\n")))
 
 -- the type of what a function returns, and its parameter
 abbrev pub aid_type : Aid → List ℕ
@@ -67,10 +67,10 @@ aid_parameter aid_neg = codes "int64_t a"
 aid_parameter aid_size = codes "int64_t a"
 
 abbrev pub aid_function : Aid → List ℕ
-aid_function k = aid_type k ++ (aid_text k ++ (aid_parameter k ++ body_text (aid_body k)))
+aid_function k = aid_type k ++ (aid_text k ++ (aid_parameter k ++ head_body_text (aid_body k)))
 
 abbrev pub helper_function : Helper → List ℕ
-helper_function h = codes "\nstatic inline int64_t " ++ (helper_text h ++ (codes "int64_t a, int64_t b" ++ body_text (helper_body h)))
+helper_function h = codes "\nstatic inline int64_t " ++ (helper_text h ++ (codes "int64_t a, int64_t b" ++ head_body_text (helper_body h)))
 
 -- where it is wanted
 abbrev pub aid_if : Bool → Aid → List ℕ
@@ -93,5 +93,5 @@ abbrev pub others_text : Calls → List ℕ
 others_text c = helper_if c.rest h_mod ++ (helper_if c.min h_min ++ (helper_if c.max h_max ++ helper_if c.gcd h_gcd))
 
 -- the head of a file that makes these calls
-abbrev pub head_text : Calls → List ℕ
-head_text c = codes "#include <stdbool.h>\n#include <stdint.h>\n" ++ (aids_text c ++ (sums_text c ++ others_text c))
+abbrev pub file_head_text : Calls → List ℕ
+file_head_text c = codes "#include <stdbool.h>\n#include <stdint.h>\n" ++ (aids_text c ++ (sums_text c ++ others_text c))

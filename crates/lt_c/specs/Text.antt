@@ -2,11 +2,11 @@
 use Rattle.std.specs.Prelude.{ℕ, zero, suc, ◌++◌, Bool, true, false, List, [], ◌∷◌, codes, decimal, ℤ, pos, negsuc, nat_eq, if◌then◌else◌}
 use Rattle.lt_base.specs.declared.function.Decl.{Decl}
 use Rattle.lt_base.specs.Meaning.{ClockPairs}
-use Rattle.lt_c.specs.Tree.{Place, slot, Helper, h_add, h_sub, h_mul, h_div, h_mod, h_min, h_max, h_gcd, Operator, o_eq, o_ne, o_lt, o_le, o_gt, o_ge, o_and, o_or, Tree, c_integer, c_truth, c_var, c_negate, c_call, c_not, c_join, c_choice, Statement, assign, only, branch, both, nothing, perform, noted}
+use Rattle.lt_c.specs.Tree.{CVariable, slot, Helper, h_add, h_sub, h_mul, h_div, h_mod, h_min, h_max, h_gcd, Operator, o_eq, o_ne, o_lt, o_le, o_gt, o_ge, o_and, o_or, Tree, c_integer, c_truth, c_var, c_negate, c_call, c_not, c_join, c_choice, Statement, assign, only, branch, both, nothing, perform, noted}
 
 -- how a variable is written
 abbrev pub Spelling : Type 0
-Spelling = Place → List ℕ
+Spelling = CVariable → List ℕ
 
 -- the name of a declared variable, and of another number nothing
 abbrev pub name_at : List Decl → ℕ → List ℕ
@@ -49,19 +49,19 @@ abbrev pub integer_text : ℤ → List ℕ
 integer_text (pos n) = codes "INT64_C(" ++ (decimal n ++ codes ")")
 integer_text (negsuc n) = if nat_eq n 9223372036854775807 then codes "INT64_MIN" else codes "(-INT64_C(" ++ (decimal (suc n) ++ codes "))")
 
-abbrev pub truth_text : Bool → List ℕ
-truth_text true = codes "true"
-truth_text false = codes "false"
+abbrev pub c_truth_text : Bool → List ℕ
+c_truth_text true = codes "true"
+c_truth_text false = codes "false"
 
-abbrev pub text : Spelling → Tree → List ℕ
-text nm (c_integer z) = integer_text z
-text nm (c_truth b) = truth_text b
-text nm (c_var x) = nm x
-text nm (c_negate a) = codes "lt_neg(" ++ (text nm a ++ codes ")")
-text nm (c_call h a b) = helper_text h ++ (text nm a ++ (codes ", " ++ (text nm b ++ codes ")")))
-text nm (c_not a) = codes "(!" ++ (text nm a ++ codes ")")
-text nm (c_join o a b) = codes "(" ++ (text nm a ++ (operator_text o ++ (text nm b ++ codes ")")))
-text nm (c_choice c a b) = codes "(" ++ (text nm c ++ (codes " ? " ++ (text nm a ++ (codes " : " ++ (text nm b ++ codes ")")))))
+abbrev pub tree_text : Spelling → Tree → List ℕ
+tree_text nm (c_integer z) = integer_text z
+tree_text nm (c_truth b) = c_truth_text b
+tree_text nm (c_var x) = nm x
+tree_text nm (c_negate a) = codes "lt_neg(" ++ (tree_text nm a ++ codes ")")
+tree_text nm (c_call h a b) = helper_text h ++ (tree_text nm a ++ (codes ", " ++ (tree_text nm b ++ codes ")")))
+tree_text nm (c_not a) = codes "(!" ++ (tree_text nm a ++ codes ")")
+tree_text nm (c_join o a b) = codes "(" ++ (tree_text nm a ++ (operator_text o ++ (tree_text nm b ++ codes ")")))
+tree_text nm (c_choice c a b) = codes "(" ++ (tree_text nm c ++ (codes " ? " ++ (tree_text nm a ++ (codes " : " ++ (tree_text nm b ++ codes ")")))))
 
 -- a variable with what it is to be
 abbrev pub condition_text : Spelling → ℕ → Bool → List ℕ
@@ -76,8 +76,8 @@ conditions_text nm ((c, b) ∷ p ∷ ck) = conditions_text nm (p ∷ ck) ++ (cod
 
 -- the same where C has parentheses of its own around it
 abbrev pub open_text : Spelling → Tree → List ℕ
-open_text nm (c_join o a b) = text nm a ++ (operator_text o ++ text nm b)
-open_text nm e = text nm e
+open_text nm (c_join o a b) = tree_text nm a ++ (operator_text o ++ tree_text nm b)
+open_text nm e = tree_text nm e
 
 -- whether a branch has an else
 abbrev pub has_else : Statement → Bool
@@ -90,13 +90,13 @@ has_else (perform s) = true
 has_else (noted t s) = true
 
 -- the end of a branch behind its indentation, and what it does otherwise, whose text is given
-abbrev pub closing_text : (otherwise : Bool) → (before text : List ℕ) → List ℕ
+abbrev pub closing_text : (otherwise : Bool) → (before tree_text : List ℕ) → List ℕ
 closing_text true before t = codes "} else {\n" ++ (t ++ (before ++ codes "}\n"))
 closing_text false before t = codes "}\n"
 
 -- a statement, with so much before each of its lines
 abbrev pub statement_text : Spelling → List ℕ → Statement → List ℕ
-statement_text nm before (assign x e) = before ++ (nm x ++ (codes " = " ++ (text nm e ++ codes ";\n")))
+statement_text nm before (assign x e) = before ++ (nm x ++ (codes " = " ++ (tree_text nm e ++ codes ";\n")))
 statement_text nm before (only ck s) = before ++ (codes "if (" ++ (conditions_text nm ck ++ (codes ") {\n" ++ (statement_text nm (codes "    " ++ before) s ++ (before ++ codes "}\n")))))
 statement_text nm before (branch e s t) =
     before ++ (codes "if (" ++ (open_text nm e ++ (codes ") {\n" ++ (statement_text nm (codes "    " ++ before) s

@@ -3,48 +3,48 @@ use Rattle.std.specs.Prelude.{ℕ, ◌&&◌, Bool, ℤ, List, nat_eq}
 use Rattle.lt_base.specs.Meaning.{ClockPairs}
 
 -- a variable of an emitted file
-pub data Place : Type 0 where
+pub data CVariable : Type 0 where
   -- a slot of the step code
-  slot : ℕ → Place
+  slot : ℕ → CVariable
   -- what this activation did, and whether an instant's inputs are at hand
-  did : Place
-  more : Place
+  did : CVariable
+  more : CVariable
   -- the controller's phase, and what is left of its countdown
-  phase : Place
-  left : Place
+  phase : CVariable
+  left : CVariable
   -- the bit of the messages that were sent last, and of the last acknowledgements
-  sent : Place
-  executed : Place
+  sent : CVariable
+  executed : CVariable
   -- of the inbox for data of a node, by its number: the bit, the bit that was read last, and the value at a place of the payload
-  bit : ℕ → Place
-  read : ℕ → Place
-  payload : ℕ → ℕ → Place
+  bit : ℕ → CVariable
+  read : ℕ → CVariable
+  payload : ℕ → ℕ → CVariable
   -- of the inbox for a node's acknowledgements: the bit, and the bit that was read last
-  ack : ℕ → Place
-  seen : ℕ → Place
+  ack : ℕ → CVariable
+  seen : ℕ → CVariable
   -- an input of the program at this activation
-  input : ℕ → Place
+  input : ℕ → CVariable
   -- an output of the program: its value, and whether it has one at this instant
-  output : ℕ → Place
-  has : ℕ → Place
+  output : ℕ → CVariable
+  has : ℕ → CVariable
   -- a message that comes or goes: its bit, and the value at a place of its payload
-  message_bit : Place
-  message : ℕ → Place
+  message_bit : CVariable
+  message : ℕ → CVariable
   -- the bit of an acknowledgement that comes
-  answer_bit : Place
+  answer_bit : CVariable
   -- where links lose messages: how many instants were executed and how many messages were sent, the greatest number in the inbox for data
   -- of a node and in that for its acknowledgements, and the number of a message and of an acknowledgement that comes or goes
-  executions : Place
-  sendings : Place
-  newest : ℕ → Place
-  answered : ℕ → Place
-  message_number : Place
-  answer_number : Place
+  executions : CVariable
+  sendings : CVariable
+  newest : ℕ → CVariable
+  answered : ℕ → CVariable
+  message_number : CVariable
+  answer_number : CVariable
   -- the value at a place of the last message to a node, which is sent again
-  posted : ℕ → ℕ → Place
+  posted : ℕ → ℕ → CVariable
 
 -- the kind of a variable, as a number
-abbrev pub tag : Place → ℕ
+abbrev pub tag : CVariable → ℕ
 tag (slot x) = 0
 tag did = 1
 tag more = 2
@@ -72,34 +72,34 @@ tag answer_number = 23
 tag (posted j k) = 24
 
 -- the numbers in it; 0 where it has none
-abbrev pub number_in : Place → ℕ
-number_in (slot x) = x
-number_in did = 0
-number_in more = 0
-number_in phase = 0
-number_in left = 0
-number_in sent = 0
-number_in executed = 0
-number_in (bit j) = j
-number_in (read j) = j
-number_in (payload j k) = j
-number_in (ack j) = j
-number_in (seen j) = j
-number_in (input i) = i
-number_in (output y) = y
-number_in (has y) = y
-number_in message_bit = 0
-number_in (message k) = k
-number_in answer_bit = 0
-number_in executions = 0
-number_in sendings = 0
-number_in (newest j) = j
-number_in (answered j) = j
-number_in message_number = 0
-number_in answer_number = 0
-number_in (posted j k) = j
+abbrev pub variable_number : CVariable → ℕ
+variable_number (slot x) = x
+variable_number did = 0
+variable_number more = 0
+variable_number phase = 0
+variable_number left = 0
+variable_number sent = 0
+variable_number executed = 0
+variable_number (bit j) = j
+variable_number (read j) = j
+variable_number (payload j k) = j
+variable_number (ack j) = j
+variable_number (seen j) = j
+variable_number (input i) = i
+variable_number (output y) = y
+variable_number (has y) = y
+variable_number message_bit = 0
+variable_number (message k) = k
+variable_number answer_bit = 0
+variable_number executions = 0
+variable_number sendings = 0
+variable_number (newest j) = j
+variable_number (answered j) = j
+variable_number message_number = 0
+variable_number answer_number = 0
+variable_number (posted j k) = j
 
-abbrev pub second_in : Place → ℕ
+abbrev pub second_in : CVariable → ℕ
 second_in (slot x) = 0
 second_in did = 0
 second_in more = 0
@@ -127,8 +127,8 @@ second_in answer_number = 0
 second_in (posted j k) = k
 
 -- the two are one
-abbrev pub same : Place → Place → Bool
-same a b = nat_eq (tag a) (tag b) && (nat_eq (second_in a) (second_in b) && nat_eq (number_in a) (number_in b))
+abbrev pub same : CVariable → CVariable → Bool
+same a b = nat_eq (tag a) (tag b) && (nat_eq (second_in a) (second_in b) && nat_eq (variable_number a) (variable_number b))
 
 -- the functions of two 64-bit numbers that stand at the head of an emitted file
 pub data Helper : Type 0 where
@@ -156,7 +156,7 @@ pub data Operator : Type 0 where
 pub data Tree : Type 0 where
   c_integer : ℤ → Tree
   c_truth : Bool → Tree
-  c_var : Place → Tree
+  c_var : CVariable → Tree
   -- a call of the function that negates, and of one of the others
   c_negate : Tree → Tree
   c_call : Helper → Tree → Tree → Tree
@@ -169,7 +169,7 @@ pub data Tree : Type 0 where
 -- a statement
 pub data Statement : Type 0 where
   -- x = e;
-  assign : Place → Tree → Statement
+  assign : CVariable → Tree → Statement
   -- if (c1 && !c2 ..) { s }, where the conditions are slots with what they are to be, the first of them last
   only : ClockPairs → Statement → Statement
   -- if (e) { s } else { t }, or if (e) { s } where t is nothing

@@ -36,21 +36,21 @@ calls_and a b = record {
 }
 
 -- the calls in an expression
-abbrev pub calls_in : Tree → Calls
-calls_in (c_integer z) = no_calls
-calls_in (c_truth b) = no_calls
-calls_in (c_var p) = no_calls
-calls_in (c_negate a) = calls_and negating (calls_in a)
-calls_in (c_call h a b) = calls_and (calling h) (calls_and (calls_in a) (calls_in b))
-calls_in (c_not a) = calls_in a
-calls_in (c_join o a b) = calls_and (calls_in a) (calls_in b)
-calls_in (c_choice c a b) = calls_and (calls_in c) (calls_and (calls_in a) (calls_in b))
+abbrev pub calls_of_tree : Tree → Calls
+calls_of_tree (c_integer z) = no_calls
+calls_of_tree (c_truth b) = no_calls
+calls_of_tree (c_var p) = no_calls
+calls_of_tree (c_negate a) = calls_and negating (calls_of_tree a)
+calls_of_tree (c_call h a b) = calls_and (calling h) (calls_and (calls_of_tree a) (calls_of_tree b))
+calls_of_tree (c_not a) = calls_of_tree a
+calls_of_tree (c_join o a b) = calls_and (calls_of_tree a) (calls_of_tree b)
+calls_of_tree (c_choice c a b) = calls_and (calls_of_tree c) (calls_and (calls_of_tree a) (calls_of_tree b))
 
 -- those in a statement
 abbrev pub statement_calls : Statement → Calls
-statement_calls (assign p e) = calls_in e
+statement_calls (assign p e) = calls_of_tree e
 statement_calls (only ck s) = statement_calls s
-statement_calls (branch e s t) = calls_and (calls_in e) (calls_and (statement_calls s) (statement_calls t))
+statement_calls (branch e s t) = calls_and (calls_of_tree e) (calls_and (statement_calls s) (statement_calls t))
 statement_calls (both s t) = calls_and (statement_calls s) (statement_calls t)
 statement_calls nothing = no_calls
 statement_calls (perform s) = statement_calls s

@@ -9,9 +9,9 @@ use Rattle.lt_c.specs.declared.trees.Expression as f
 use Rattle.lt_c.specs.declared.trees.Expression.{Expression}
 use Rattle.lt_c.specs.declared.trees.Action as a
 use Rattle.lt_c.specs.declared.trees.Action.{Action}
-use Rattle.lt_c.specs.Tree.{Place, slot, did, more, phase, left, sent, executed, bit, read, payload, ack, seen, input, output, has, message_bit, message, answer_bit, executions, sendings, newest, answered, message_number, answer_number, posted, Helper, h_add, h_sub, h_mul, h_div, h_mod, h_min, h_max, h_gcd, Operator, o_eq, o_ne, o_lt, o_le, o_gt, o_ge, o_and, o_or, Tree, c_integer, c_truth, c_var, c_negate, c_call, c_not, c_join, c_choice, Statement, assign, branch, both, nothing, perform, noted}
+use Rattle.lt_c.specs.Tree.{CVariable, slot, did, more, phase, left, sent, executed, bit, read, payload, ack, seen, input, output, has, message_bit, message, answer_bit, executions, sendings, newest, answered, message_number, answer_number, posted, Helper, h_add, h_sub, h_mul, h_div, h_mod, h_min, h_max, h_gcd, Operator, o_eq, o_ne, o_lt, o_le, o_gt, o_ge, o_and, o_or, Tree, c_integer, c_truth, c_var, c_negate, c_call, c_not, c_join, c_choice, Statement, assign, branch, both, nothing, perform, noted}
 
-abbrev pub place_in : Variable → Place
+abbrev pub place_in : Variable → CVariable
 place_in (Slot x) = slot x
 place_in Did = did
 place_in More = more
@@ -48,15 +48,15 @@ helper_of Min = h_min
 helper_of Max = h_max
 helper_of Gcd = h_gcd
 
-abbrev pub operator_of : Symbol → Operator
-operator_of Eq = o_eq
-operator_of Ne = o_ne
-operator_of Lt = o_lt
-operator_of Le = o_le
-operator_of Gt = o_gt
-operator_of Ge = o_ge
-operator_of And = o_and
-operator_of Or = o_or
+abbrev pub viewed_operator : Symbol → Operator
+viewed_operator Eq = o_eq
+viewed_operator Ne = o_ne
+viewed_operator Lt = o_lt
+viewed_operator Le = o_le
+viewed_operator Gt = o_gt
+viewed_operator Ge = o_ge
+viewed_operator And = o_and
+viewed_operator Or = o_or
 
 abbrev pub tree_of : Expression → Tree
 tree_of (f.Number z) = c_integer z
@@ -65,7 +65,7 @@ tree_of (f.Var p) = c_var (place_in p)
 tree_of (f.Negate' p a) = c_negate (tree_of a)
 tree_of (f.Call' h p a q b) = c_call (helper_of h) (tree_of a) (tree_of b)
 tree_of (f.Not' p a) = c_not (tree_of a)
-tree_of (f.Join' o p a q b) = c_join (operator_of o) (tree_of a) (tree_of b)
+tree_of (f.Join' o p a q b) = c_join (viewed_operator o) (tree_of a) (tree_of b)
 tree_of (f.Choice' p c q a r b) = c_choice (tree_of c) (tree_of a) (tree_of b)
 
 -- where the step of the part is this statement

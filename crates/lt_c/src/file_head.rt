@@ -3,7 +3,7 @@
 ghost use Rattle.std.specs.Prelude.{◌≡◌, ◌++◌, ◌||◌, OnOk, codes, decimal};
 ghost use Rattle.lt_c.specs.Head.{helper_body};
 ghost use Rattle.lt_c.specs.Text.{helper_text};
-ghost use Rattle.lt_c.specs.HeadText.{local_text, arithmetic_text, comparison_text, aid_text, term_text, act_text, body_text, aid_type, aid_parameter, aid_function, helper_function, aid_if, helper_if, needs_signed, aids_text, sums_text, others_text, head_text};
+ghost use Rattle.lt_c.specs.HeadText.{local_text, arithmetic_text, comparison_text, aid_text, term_text, act_text, head_body_text, aid_type, aid_parameter, aid_function, helper_function, aid_if, helper_if, needs_signed, aids_text, sums_text, others_text, file_head_text};
 ghost use Rattle.lt_c.specs.HeadViews.{local_of, arithmetic_of, comparison_of, aid_of, term_of, act_of};
 ghost use Rattle.lt_c.specs.Views.{helper_of};
 
@@ -186,7 +186,7 @@ fn returned(out: &mut List<u8>, gives: &Term) -> Result<(), Memory>
 
 // Appends a function behind its parameters.
 fn body(alloc: Global, out: &mut List<u8>, does: &Step, gives: &Term) -> Result<(), Memory>
-    ensures { OnOk result (out.new ≡ out.old ++ body_text (record { does = act_of does.now; gives = term_of gives.now })) }
+    ensures { OnOk result (out.new ≡ out.old ++ head_body_text (record { does = act_of does.now; gives = term_of gives.now })) }
 {
     out.extend(b")\n{\n")?;
     step(alloc, out, b"    ", does)?;
@@ -213,7 +213,7 @@ fn helper_name(out: &mut List<u8>, h: Function) -> Result<(), Memory>
 
 // Appends it behind these.
 fn helper_body(alloc: Global, out: &mut List<u8>, h: Function) -> Result<(), Memory>
-    ensures { OnOk result (out.new ≡ out.old ++ body_text (helper_body (helper_of h))) }
+    ensures { OnOk result (out.new ≡ out.old ++ head_body_text (helper_body (helper_of h))) }
 {
     let does = helper_act(alloc, h)?;
     let gives = helper_term(alloc, h)?;
@@ -298,7 +298,7 @@ fn others(alloc: Global, out: &mut List<u8>, c: &Calls) -> Result<(), Memory>
 ///
 /// When memory is short. What was appended till then stays.
 pub fn head(alloc: Global, out: &mut List<u8>, calls: &Calls) -> Result<(), Memory>
-    ensures { OnOk result (out.new ≡ out.old ++ head_text calls.now) }
+    ensures { OnOk result (out.new ≡ out.old ++ file_head_text calls.now) }
 {
     out.extend(b"#include <stdbool.h>\n#include <stdint.h>\n")?;
     aids(alloc, out, calls)?;

@@ -1,10 +1,10 @@
 // The text of trees.
 
 ghost use Rattle.std.specs.Prelude.{◌≡◌, ◌++◌, OnOk, IfOk, codes};
-ghost use Rattle.lt_c.specs.Text.{helper_text, operator_text, text, open_text, has_else, closing_text, statement_text};
+ghost use Rattle.lt_c.specs.Text.{helper_text, operator_text, tree_text, open_text, has_else, closing_text, statement_text};
 ghost use Rattle.lt_c.specs.Tree.{assign, nothing};
 ghost use Rattle.lt_c.specs.Spelled.{node_at, spelled_in};
-ghost use Rattle.lt_c.specs.Views.{place_in, helper_of, operator_of, tree_of, statement_of};
+ghost use Rattle.lt_c.specs.Views.{place_in, helper_of, viewed_operator, tree_of, statement_of};
 
 use crate::spelling::{integer, name_in, number, truth, variable};
 use crate::trees::{Action, Expression, Function, Symbol, Variable};
@@ -106,7 +106,7 @@ pub(crate) fn function_text(h: Function) -> &'static [u8]
 }
 
 fn symbol_text(o: Symbol) -> &'static [u8]
-    ensures { result.now ≡ operator_text (operator_of o) }
+    ensures { result.now ≡ operator_text (viewed_operator o) }
 {
     match o {
         Symbol::Eq => b" == ",
@@ -129,7 +129,7 @@ pub fn expression(
     nodes: &[Name],
     e: &Expression,
 ) -> Result<(), Memory>
-    ensures { OnOk result (out.new ≡ out.old ++ text (spelled_in decls.now main.now nodes.now) (tree_of e.now)) }
+    ensures { OnOk result (out.new ≡ out.old ++ tree_text (spelled_in decls.now main.now nodes.now) (tree_of e.now)) }
 {
     match e {
         Expression::Number(n) => integer(out, *n),
@@ -172,7 +172,7 @@ fn expression_after(
     before: &[u8],
     e: &Expression,
 ) -> Result<(), Memory>
-    ensures { OnOk result (out.new ≡ out.old ++ (before.now ++ text (spelled_in decls.now main.now nodes.now) (tree_of e.now))) }
+    ensures { OnOk result (out.new ≡ out.old ++ (before.now ++ tree_text (spelled_in decls.now main.now nodes.now) (tree_of e.now))) }
 {
     out.extend(before)?;
     expression(out, decls, main, nodes, e)
@@ -262,11 +262,11 @@ fn has_else(s: &Action) -> bool
 }
 
 // Appends the head of a comment's statement.
-fn comment(out: &mut List<u8>, indent: &[u8], text: &[u8]) -> Result<(), Memory>
-    ensures { OnOk result (out.new ≡ out.old ++ (indent.now ++ (codes "/* " ++ (text.now ++ codes " */\n")))) }
+fn comment(out: &mut List<u8>, indent: &[u8], tree_text: &[u8]) -> Result<(), Memory>
+    ensures { OnOk result (out.new ≡ out.old ++ (indent.now ++ (codes "/* " ++ (tree_text.now ++ codes " */\n")))) }
 {
     two(out, indent, b"/* ")?;
-    two(out, text, b" */\n")
+    two(out, tree_text, b" */\n")
 }
 
 /// Appends a statement, with so much before each of its lines, and with the names that `place` writes.
@@ -296,8 +296,8 @@ pub fn action(
             action(alloc, out, decls, main, nodes, indent, b)
         }
         Action::Run => two(out, indent, b"execute();\n"),
-        Action::Noted(text, a) => {
-            comment(out, indent, text.as_slice())?;
+        Action::Noted(tree_text, a) => {
+            comment(out, indent, tree_text.as_slice())?;
             action(alloc, out, decls, main, nodes, indent, a)
         }
     }

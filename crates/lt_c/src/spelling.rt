@@ -2,7 +2,7 @@
 
 ghost use Rattle.std.specs.Prelude.{◌≡◌, ◌++◌, ◌<◌, OnOk, codes, decimal};
 ghost use Rattle.lt_c.specs.Tree.{slot};
-ghost use Rattle.lt_c.specs.Text.{name_at, behind, spelled, integer_text, truth_text};
+ghost use Rattle.lt_c.specs.Text.{name_at, behind, spelled, integer_text, c_truth_text};
 ghost use Rattle.lt_c.specs.Literals.{literal_text};
 
 use itoa::Buffer;
@@ -53,7 +53,7 @@ pub fn variable(out: &mut List<u8>, decls: &[Decl], x: u32) -> Result<(), Memory
 
 /// Appends `true` or `false`.
 pub(crate) fn truth(out: &mut List<u8>, b: bool) -> Result<(), Memory>
-    ensures { OnOk result (out.new ≡ out.old ++ truth_text b) }
+    ensures { OnOk result (out.new ≡ out.old ++ c_truth_text b) }
 {
     if b {
         out.extend(b"true")

@@ -2,7 +2,7 @@
 
 ghost use Rattle.std.specs.Prelude.{◌≡◌};
 ghost use Rattle.lt_c.specs.Tree.{nothing};
-ghost use Rattle.lt_c.specs.Uses.{no_calls, negating, calling, calls_and, calls_in, statement_calls};
+ghost use Rattle.lt_c.specs.Uses.{no_calls, negating, calling, calls_and, calls_of_tree, statement_calls};
 ghost use Rattle.lt_c.specs.Views.{helper_of, tree_of, statement_of};
 
 use crate::calls::Calls;
@@ -71,7 +71,7 @@ pub fn calls_and(a: Calls, b: Calls) -> Calls
 
 /// The calls in an expression.
 pub fn calls_in(e: &Expression) -> Calls
-    ensures { result ≡ calls_in (tree_of e.now) }
+    ensures { result ≡ calls_of_tree (tree_of e.now) }
 {
     match e {
         Expression::Number(_) | Expression::Truth(_) | Expression::Var(_) => no_calls(),

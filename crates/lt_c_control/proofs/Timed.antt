@@ -10,7 +10,7 @@ use Rattle.lt_arch.specs.declared.event.Deed.TheVariants.{Nothing, Execute, Send
 use Rattle.lt_arch.specs.State.{Phase, Wait, Ready, First, Sending, Executing}
 use Rattle.lt_arch.specs.Deeds.{phase_after}
 use Rattle.lt_c.specs.Tree.{did, more, phase, left, Statement, both}
-use Rattle.lt_c.specs.Meaning.{Store, truth_of, of_truth, value, stored, after, WritesStep}
+use Rattle.lt_c.specs.Meaning.{Store, c_truth_of, of_truth, value, stored, store_left, WritesStep}
 use Rattle.lt_c_control.specs.Control.{is_number, some_data, becomes, counted_down, executing, sending, counting, fresh_data, some, HasPhase, Does, CountingIsDeed}
 use Rattle.lt_c_control.proofs.Pressing.{some_truth, or_turned, does_nothing, does_execute}
 use Rattle.lt_c.proofs.Stores.{truth_back}
@@ -31,13 +31,13 @@ module _ (ins : List ℕ) (run : Statement) (send execute : ℕ) (m : Store) (w 
 
   -- what the branches leave
   abbrev ran : Store
-  ran = after (both (executing ins run) (becomes left send)) m0
+  ran = store_left (both (executing ins run) (becomes left send)) m0
 
   abbrev told : Store
-  told = after (both (sending [] (becomes phase 2)) (becomes left execute)) m0
+  told = store_left (both (sending [] (becomes phase 2)) (becomes left execute)) m0
 
   abbrev counted : Store
-  counted = after counted_down m0
+  counted = store_left counted_down m0
 
   executes : Does ins [] run m ran Execute (Sending send)
   executes = let d = does_execute ins [] run m w in record {
@@ -89,18 +89,18 @@ module _ (ins : List ℕ) (run : Statement) (send execute : ℕ) (m : Store) (w 
 
   -- by the phase
   abbrev first_branch : Store
-  first_branch = if truth_of (m more) then ran else m0
+  first_branch = if c_truth_of (m more) then ran else m0
 
   abbrev send_branch : Store
-  send_branch = if truth_of (value m0 (some_data ins (is_number left 1))) then told else counted
+  send_branch = if c_truth_of (value m0 (some_data ins (is_number left 1))) then told else counted
 
   abbrev execute_branch : Store
-  execute_branch = if truth_of (of_truth (int_eq (m left) (pos 1))) then first_branch else counted
+  execute_branch = if c_truth_of (of_truth (int_eq (m left) (pos 1))) then first_branch else counted
 
   abbrev by_phase : ℤ → Store
-  by_phase z = if truth_of (of_truth (int_eq z (pos 0))) then first_branch else (if truth_of (of_truth (int_eq z (pos 1))) then send_branch else execute_branch)
+  by_phase z = if c_truth_of (of_truth (int_eq z (pos 0))) then first_branch else (if c_truth_of (of_truth (int_eq z (pos 1))) then send_branch else execute_branch)
 
-  leaves : after (counting send execute ins run) m ≡ by_phase (m phase)
+  leaves : store_left (counting send execute ins run) m ≡ by_phase (m phase)
   leaves = refl
 
   first_by : HasPhase m First → (c : Bool) → let deed : Deed = if c then Execute else Nothing in Does ins [] run m (if c then ran else m0) deed (phase_after send execute First deed)
@@ -123,16 +123,16 @@ module _ (ins : List ℕ) (run : Statement) (send execute : ℕ) (m : Store) (w 
       subst (λ (b : Bool). Does ins [] run m counted Nothing (if b then Executing 1 else Executing (n - 1))) (sym e)
       (counts (Executing (n - 1)) (h.0, left_less n l k h.1))
 
-  first_leaves : HasPhase m First → after (counting send execute ins run) m ≡ first_branch
+  first_leaves : HasPhase m First → store_left (counting send execute ins run) m ≡ first_branch
   first_leaves h = leaves ∙ ap by_phase h
 
-  send_leaves : (n : ℕ) → HasPhase m (Sending n) → after (counting send execute ins run) m ≡ (if nat_eq n 1 || some (fresh_data m) ins then told else counted)
+  send_leaves : (n : ℕ) → HasPhase m (Sending n) → store_left (counting send execute ins run) m ≡ (if nat_eq n 1 || some (fresh_data m) ins then told else counted)
   send_leaves n h =
       leaves ∙ ap by_phase h.0
-      ∙ ap (λ (b : Bool). if b then told else counted) (some_truth m0 ins (is_number left 1) ∙ or_turned (some (fresh_data m) ins) (truth_of (of_truth (int_eq (m left) (pos 1))))
+      ∙ ap (λ (b : Bool). if b then told else counted) (some_truth m0 ins (is_number left 1) ∙ or_turned (some (fresh_data m) ins) (c_truth_of (of_truth (int_eq (m left) (pos 1))))
       ∙ (λ i. truth_back (int_eq (h.1 i) (pos 1)) i || some (fresh_data m) ins))
 
-  execute_leaves : (n : ℕ) → HasPhase m (Executing n) → after (counting send execute ins run) m ≡ (if nat_eq n 1 then first_branch else counted)
+  execute_leaves : (n : ℕ) → HasPhase m (Executing n) → store_left (counting send execute ins run) m ≡ (if nat_eq n 1 then first_branch else counted)
   execute_leaves n h =
       leaves ∙ ap by_phase h.0
       ∙ ap (λ (b : Bool). if b then first_branch else counted) (truth_back (int_eq (m left) (pos 1)) ∙ ap (λ z. int_eq z (pos 1)) h.1)
@@ -141,8 +141,8 @@ pub counting_is_deed : CountingIsDeed
 counting_is_deed ins run send execute m Wait all_in all_ack w c h = elim c [ ]
 counting_is_deed ins run send execute m Ready all_in all_ack w c h = elim c [ ]
 counting_is_deed ins run send execute m First all_in all_ack w c h =
-    subst (λ (n : Store). let deed : Deed = if truth_of (m more) then Execute else Nothing in Does ins [] run m n deed (phase_after send execute First deed)) (sym (first_leaves ins run send execute m w h)) (first_by ins run send execute m w h (truth_of (m more)))
+    subst (λ (n : Store). let deed : Deed = if c_truth_of (m more) then Execute else Nothing in Does ins [] run m n deed (phase_after send execute First deed)) (sym (first_leaves ins run send execute m w h)) (first_by ins run send execute m w h (c_truth_of (m more)))
 counting_is_deed ins run send execute m (Sending n) all_in all_ack w c h =
     subst (λ (s : Store). let deed : Deed = if nat_eq n 1 || some (fresh_data m) ins then Send else Nothing in Does ins [] run m s deed (phase_after send execute (Sending n) deed)) (sym (send_leaves ins run send execute m w n h)) (send_by ins run send execute m w n c.0 c.1 h (nat_eq n 1 || some (fresh_data m) ins))
 counting_is_deed ins run send execute m (Executing n) all_in all_ack w c h =
-    subst (λ (s : Store). let deed : Deed = if nat_eq n 1 && truth_of (m more) then Execute else Nothing in Does ins [] run m s deed (phase_after send execute (Executing n) deed)) (sym (execute_leaves ins run send execute m w n h)) (execute_by ins run send execute m w n c.0 c.1 h (nat_eq n 1) (truth_of (m more)) refl)
+    subst (λ (s : Store). let deed : Deed = if nat_eq n 1 && c_truth_of (m more) then Execute else Nothing in Does ins [] run m s deed (phase_after send execute (Executing n) deed)) (sym (execute_leaves ins run send execute m w n h)) (execute_by ins run send execute m w n c.0 c.1 h (nat_eq n 1) (c_truth_of (m more)) refl)

@@ -7,16 +7,16 @@ use Rattle.lt_arch.specs.declared.event.Deed.TheVariants.{Nothing, Execute, Send
 use Rattle.lt_arch.specs.State.{Phase, Wait, Ready, First, Sending, Executing}
 use Rattle.lt_arch.specs.Deeds.{deed_of, phase_after}
 use Rattle.lt_arch.specs.Step.{is_execute, is_send}
-use Rattle.lt_c.specs.Tree.{Place, slot, did, more, phase, left, sent, executed, bit, read, payload, ack, seen, output, has, h_sub, o_eq, o_ne, o_and, o_or, Tree, c_integer, c_var, c_call, c_not, c_join, Statement, assign, branch, both, nothing}
-use Rattle.lt_c.specs.Meaning.{Store, truth_of, of_truth, stored, after, WritesStep}
+use Rattle.lt_c.specs.Tree.{CVariable, slot, did, more, phase, left, sent, executed, bit, read, payload, ack, seen, output, has, h_sub, o_eq, o_ne, o_and, o_or, Tree, c_integer, c_var, c_call, c_not, c_join, Statement, assign, branch, both, nothing}
+use Rattle.lt_c.specs.Meaning.{Store, c_truth_of, of_truth, stored, store_left, WritesStep}
 
 -- ---- the statements
 
 -- a variable is a number, and becomes one
-abbrev pub is_number : Place → ℕ → Tree
+abbrev pub is_number : CVariable → ℕ → Tree
 is_number p n = c_join o_eq (c_var p) (c_integer (pos n))
 
-abbrev pub becomes : Place → ℕ → Statement
+abbrev pub becomes : CVariable → ℕ → Statement
 becomes p n = assign p (c_integer (pos n))
 
 -- the inbox for data of a node has a message that was not read, and so has that for its acknowledgements
@@ -54,7 +54,7 @@ read_acks [] = nothing
 read_acks (j ∷ js) = both (assign (seen j) (c_var (ack j))) (read_acks js)
 
 -- the bit of a message, or of an acknowledgement, that is sent
-abbrev pub turned : Place → Statement
+abbrev pub turned : CVariable → Statement
 turned p = assign p (c_not (c_var p))
 
 -- an instant is executed: run is the step of the part
@@ -131,7 +131,7 @@ pub record Does (ins acks : List ℕ) (run : Statement) (old new : Store) (deed 
   pub deed_is : new did ≡ deed_number deed
   pub next_is : HasPhase new next
   -- the step is made where an instant is executed, and else the slots stay
-  pub slots : (x : ℕ) → new (slot x) ≡ (if is_execute deed then after run (stored old did (pos 0)) (slot x) else old (slot x))
+  pub slots : (x : ℕ) → new (slot x) ≡ (if is_execute deed then store_left run (stored old did (pos 0)) (slot x) else old (slot x))
   -- the data that was used is read where an instant is executed, and acknowledgements where messages are sent
   pub reads : (j : ℕ) → new (read j) ≡ (if is_execute deed && list_any (nat_eq j) ins then old (bit j) else old (read j))
   pub seens : (j : ℕ) → new (seen j) ≡ (if is_send deed && list_any (nat_eq j) acks then old (ack j) else old (seen j))
@@ -140,11 +140,11 @@ pub record Does (ins acks : List ℕ) (run : Statement) (old new : Store) (deed 
   pub acks_stay : (j : ℕ) → new (ack j) ≡ old (ack j)
   pub payloads : (j k : ℕ) → new (payload j k) ≡ old (payload j k)
   -- the outputs are those of the step, and else stay
-  pub outputs : (y : ℕ) → new (output y) ≡ (if is_execute deed then after run (stored old did (pos 0)) (output y) else old (output y))
-  pub told : (y : ℕ) → new (has y) ≡ (if is_execute deed then after run (stored old did (pos 0)) (has y) else old (has y))
+  pub outputs : (y : ℕ) → new (output y) ≡ (if is_execute deed then store_left run (stored old did (pos 0)) (output y) else old (output y))
+  pub told : (y : ℕ) → new (has y) ≡ (if is_execute deed then store_left run (stored old did (pos 0)) (has y) else old (has y))
   -- the bits of what is sent alternate
-  pub sent_is : new sent ≡ (if is_send deed then of_truth (not (truth_of (old sent))) else old sent)
-  pub executed_is : new executed ≡ (if is_execute deed then of_truth (not (truth_of (old executed))) else old executed)
+  pub sent_is : new sent ≡ (if is_send deed then of_truth (not (c_truth_of (old sent))) else old sent)
+  pub executed_is : new executed ≡ (if is_execute deed then of_truth (not (c_truth_of (old executed))) else old executed)
 
 -- an activation does what the table of deeds says
 abbrev pub PressureIsDeed : Type 0
@@ -152,8 +152,8 @@ PressureIsDeed =
     (ins acks : List ℕ) (run : Statement) (send execute : ℕ) (m : Store) (ready : Bool) (some_in : Bool) → WritesStep run →
     let now : Phase = if ready then Ready else Wait in
     HasPhase m now →
-    let deed = deed_of now (every (fresh_data m) ins) some_in (every (fresh_ack m) acks) (truth_of (m more)) in
-    Does ins acks run m (after (pressure ins acks run) m) deed (phase_after send execute now deed)
+    let deed = deed_of now (every (fresh_data m) ins) some_in (every (fresh_ack m) acks) (c_truth_of (m more)) in
+    Does ins acks run m (store_left (pressure ins acks run) m) deed (phase_after send execute now deed)
 
 -- a phase of the time-based protocol, whose countdown is a number of 63 bits
 abbrev pub IsCounting : Phase → Type 0
@@ -166,5 +166,5 @@ IsCounting (Executing n) = (1 ≤ n) × (n < 2 ^ 63)
 abbrev pub CountingIsDeed : Type 0
 CountingIsDeed =
     (ins : List ℕ) (run : Statement) (send execute : ℕ) (m : Store) (now : Phase) (all_in all_ack : Bool) → WritesStep run → IsCounting now → HasPhase m now →
-    let deed = deed_of now all_in (some (fresh_data m) ins) all_ack (truth_of (m more)) in
-    Does ins [] run m (after (counting send execute ins run) m) deed (phase_after send execute now deed)
+    let deed = deed_of now all_in (some (fresh_data m) ins) all_ack (c_truth_of (m more)) in
+    Does ins [] run m (store_left (counting send execute ins run) m) deed (phase_after send execute now deed)

@@ -4,19 +4,19 @@ use Rattle.std.specs.List.{AllByRecursion}
 use Rattle.lt_base.specs.declared.value.Value.{Value}
 use Rattle.lt_base.specs.declared.value.Value.TheVariants.{Bool as Truth}
 use Rattle.lt_link.specs.Inbox.{InboxState}
-use Rattle.lt_c.specs.Tree.{Place, phase, left, sent, executed, bit, read, payload, ack, seen, message_bit, message, answer_bit, tag, c_integer, c_truth, c_var, Statement, assign, both, nothing}
-use Rattle.lt_c.specs.Meaning.{Store, of_truth, after}
-use Rattle.lt_c.specs.Literals.{number, of_value}
+use Rattle.lt_c.specs.Tree.{CVariable, phase, left, sent, executed, bit, read, payload, ack, seen, message_bit, message, answer_bit, tag, c_integer, c_truth, c_var, Statement, assign, both, nothing}
+use Rattle.lt_c.specs.Meaning.{Store, of_truth, store_left}
+use Rattle.lt_c.specs.Literals.{c_number, of_value}
 
 -- the value at a place of a message
-abbrev pub value_in : List Value → (k : ℕ) → Value
-value_in vs k = slice_index_or vs k (Truth false)
+abbrev pub payload_value : List Value → (k : ℕ) → Value
+payload_value vs k = slice_index_or vs k (Truth false)
 
 -- the variables for data of node j are this inbox
 pub record HasData (m : Store) (j : ℕ) (b : InboxState) : Type 0 where
   pub bit_is : m (bit j) ≡ of_truth b.bit
   pub read_is : m (read j) ≡ of_truth b.read
-  pub values : (k : ℕ) → k < length b.payload → m (payload j k) ≡ number (value_in b.payload k)
+  pub values : (k : ℕ) → k < length b.payload → m (payload j k) ≡ c_number (payload_value b.payload k)
 
 -- those for acknowledgements of node j are this inbox
 pub record HasAck (m : Store) (j : ℕ) (b : InboxState) : Type 0 where
@@ -42,18 +42,18 @@ pub record PutsData (j : ℕ) (new old : Store) (b : InboxState) : Type 0 where
   pub is : HasData new j b
   pub other_bits : (i : ℕ) → nat_eq i j ≡ false → new (bit i) ≡ old (bit i)
   pub other_values : (i k : ℕ) → nat_eq i j ≡ false → new (payload i k) ≡ old (payload i k)
-  pub others : (p : Place) → nat_eq (tag p) 7 ≡ false → nat_eq (tag p) 9 ≡ false → new p ≡ old p
+  pub others : (p : CVariable) → nat_eq (tag p) 7 ≡ false → nat_eq (tag p) 9 ≡ false → new p ≡ old p
 
 pub record PutsAck (j : ℕ) (new old : Store) (b : InboxState) : Type 0 where
   pub is : HasAck new j b
   pub other_acks : (i : ℕ) → nat_eq i j ≡ false → new (ack i) ≡ old (ack i)
-  pub others : (p : Place) → nat_eq (tag p) 10 ≡ false → new p ≡ old p
+  pub others : (p : CVariable) → nat_eq (tag p) 10 ≡ false → new p ≡ old p
 
 -- what comes is put into its inbox, as Inbox::put does: the payload and the bit are replaced
 pub record MessagesPut : Type 0 where
-  pub messages : (j : ℕ) (b : InboxState) (t : Bool) (vs : List Value) (m : Store) → HasData m j b → m message_bit ≡ of_truth t → ((k : ℕ) → k < length vs → m (message k) ≡ number (value_in vs k)) →
-      PutsData j (after (delivering j (length vs)) m) m (record b { payload = vs; bit = t })
-  pub acks : (j : ℕ) (b : InboxState) (t : Bool) (m : Store) → HasAck m j b → m answer_bit ≡ of_truth t → PutsAck j (after (acknowledging j) m) m (record b { bit = t })
+  pub messages : (j : ℕ) (b : InboxState) (t : Bool) (vs : List Value) (m : Store) → HasData m j b → m message_bit ≡ of_truth t → ((k : ℕ) → k < length vs → m (message k) ≡ c_number (payload_value vs k)) →
+      PutsData j (store_left (delivering j (length vs)) m) m (record b { payload = vs; bit = t })
+  pub acks : (j : ℕ) (b : InboxState) (t : Bool) (m : Store) → HasAck m j b → m answer_bit ≡ of_truth t → PutsAck j (store_left (acknowledging j) m) m (record b { bit = t })
 
 -- ---- the start
 
@@ -108,5 +108,5 @@ pub record BeginsFresh (ds : List FirstData) (js : List ℕ) (m : Store) : Type 
 
 -- and slots stay
 pub record StartsFresh : Type 0 where
-  pub fresh : (ds : List FirstData) → DifferInNode ds → (js : List ℕ) (counts : Bool) (m : Store) → BeginsFresh ds js (after (starting ds js counts) m)
-  pub slots : (ds : List FirstData) (js : List ℕ) (counts : Bool) (m : Store) (p : Place) → nat_eq (tag p) 0 ≡ true → after (starting ds js counts) m p ≡ m p
+  pub fresh : (ds : List FirstData) → DifferInNode ds → (js : List ℕ) (counts : Bool) (m : Store) → BeginsFresh ds js (store_left (starting ds js counts) m)
+  pub slots : (ds : List FirstData) (js : List ℕ) (counts : Bool) (m : Store) (p : CVariable) → nat_eq (tag p) 0 ≡ true → store_left (starting ds js counts) m p ≡ m p

@@ -7,8 +7,8 @@ use Rattle.lt_arch.specs.declared.event.Deed.TheVariants.{Send}
 use Rattle.lt_arch.specs.State.{Phase, Wait, Ready}
 use Rattle.lt_arch.specs.Deeds.{deed_of, phase_after}
 use Rattle.lt_arch.specs.Step.{is_execute, is_send}
-use Rattle.lt_c.specs.Tree.{slot, did, more, phase, output, has, executions, sendings, newest, answered, posted, h_add, o_le, o_and, Tree, c_integer, c_var, c_call, c_join, Statement, assign, branch, both, nothing, Place}
-use Rattle.lt_c.specs.Meaning.{Store, truth_of, stored, after, WritesStep}
+use Rattle.lt_c.specs.Tree.{slot, did, more, phase, output, has, executions, sendings, newest, answered, posted, h_add, o_le, o_and, Tree, c_integer, c_var, c_call, c_join, Statement, assign, branch, both, nothing, CVariable}
+use Rattle.lt_c.specs.Meaning.{Store, c_truth_of, stored, store_left, WritesStep}
 use Rattle.lt_c_control.specs.declared.posts.Post.{Post}
 use Rattle.lt_c_control.specs.Control.{is_number, becomes, HasPhase, deed_number, every}
 
@@ -35,7 +35,7 @@ if_answered [] s = s
 if_answered (j ∷ js) s = branch (all_answers js (new_answer j)) s nothing
 
 -- one more
-abbrev pub counted_up : Place → Statement
+abbrev pub counted_up : CVariable → Statement
 counted_up p = assign p (c_call h_add (c_var p) (c_integer (pos 1)))
 
 -- the values of a message are kept, since slots change before it is sent again
@@ -82,9 +82,9 @@ pub record DoesLosing (ps : List Post) (run : Statement) (old new : Store) (coun
   pub executions_are : new executions ≡ (if is_execute deed then pos (count + 1) else pos count)
   pub sendings_are : new sendings ≡ (if is_send deed then pos (messages + 1) else pos messages)
   -- the step is made where an instant is executed, and else slots and outputs stay
-  pub slots : (x : ℕ) → new (slot x) ≡ (if is_execute deed then after run (stored old did (pos 0)) (slot x) else old (slot x))
-  pub outputs : (y : ℕ) → new (output y) ≡ (if is_execute deed then after run (stored old did (pos 0)) (output y) else old (output y))
-  pub told : (y : ℕ) → new (has y) ≡ (if is_execute deed then after run (stored old did (pos 0)) (has y) else old (has y))
+  pub slots : (x : ℕ) → new (slot x) ≡ (if is_execute deed then store_left run (stored old did (pos 0)) (slot x) else old (slot x))
+  pub outputs : (y : ℕ) → new (output y) ≡ (if is_execute deed then store_left run (stored old did (pos 0)) (output y) else old (output y))
+  pub told : (y : ℕ) → new (has y) ≡ (if is_execute deed then store_left run (stored old did (pos 0)) (has y) else old (has y))
   -- what was sent last is what the slots hold where a message is sent, and else stays
   pub posts : deed ≡ Send → AllByRecursion (λ p. new (posted p.to_node p.at_place) ≡ old (slot p.from_slot)) ps
   pub posts_stay : is_send deed ≡ false → (j k : ℕ) → new (posted j k) ≡ old (posted j k)
@@ -99,5 +99,5 @@ LosingIsDeed =
     m executions ≡ pos count → m sendings ≡ pos messages → count + 1 < 2 ^ 63 → messages + 1 < 2 ^ 63 →
     let now : Phase = if ready then Ready else Wait in
     HasPhase m now →
-    let deed = deed_of now (every (has_new_data m) ins) some_in (every (has_new_answer m) acks) (truth_of (m more)) in
-    DoesLosing ps run m (after (losing ins acks ps run) m) count messages deed (phase_after send execute now deed)
+    let deed = deed_of now (every (has_new_data m) ins) some_in (every (has_new_answer m) acks) (c_truth_of (m more)) in
+    DoesLosing ps run m (store_left (losing ins acks ps run) m) count messages deed (phase_after send execute now deed)

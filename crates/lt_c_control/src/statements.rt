@@ -2,7 +2,7 @@
 
 ghost use Rattle.std.specs.Prelude.{◌≡◌, IfOk};
 ghost use Rattle.lt_c.specs.Tree.{Statement as Sentence, assign, branch, both, c_integer, c_var, c_join, o_eq, o_ne};
-ghost use Rattle.lt_c.specs.Views.{place_in, operator_of, tree_of, statement_of};
+ghost use Rattle.lt_c.specs.Views.{place_in, viewed_operator, tree_of, statement_of};
 ghost use Rattle.lt_c_control.specs.Control.{turned};
 
 use lt_base::Memory;
@@ -15,7 +15,7 @@ pub(crate) fn joined(
     a: Expression,
     b: Expression,
 ) -> Result<Expression, Memory>
-    ensures { IfOk result (λ e. tree_of e ≡ c_join (operator_of o) (tree_of a) (tree_of b)) }
+    ensures { IfOk result (λ e. tree_of e ≡ c_join (viewed_operator o) (tree_of a) (tree_of b)) }
 {
     let a = Box::new(alloc, a)?;
     let b = Box::new(alloc, b)?;

@@ -33,16 +33,16 @@ use Rattle.lt_net.proofs.Counts as counts
 use Rattle.lt_step.specs.Code.{StepCode}
 use Rattle.lt_step.specs.Run.{slots_after}
 use Rattle.lt_c.specs.Tree.{did, sent, executed, bit, read, payload, ack, seen, Statement, perform}
-use Rattle.lt_c.specs.Meaning.{Store, truth_of, of_truth, stored, after}
+use Rattle.lt_c.specs.Meaning.{Store, c_truth_of, of_truth, stored, store_left}
 use Rattle.lt_c_step.specs.Laws.{Matches}
-use Rattle.lt_c.specs.Literals.{number}
+use Rattle.lt_c.specs.Literals.{c_number}
 use Rattle.lt_c_step.specs.declared.sources.Source.{Source}
 use Rattle.lt_c_step.specs.declared.sources.Output.{Output}
-use Rattle.lt_c_step.specs.Part.{place_of, part_step, Offers}
+use Rattle.lt_c_step.specs.Part.{source_variable, part_step, Offers}
 use Rattle.lt_c_control.specs.Control.{HasPhase, Does}
 use Rattle.lt_c.proofs.Stores.{truth_back}
 use Rattle.lt_c_step.proofs.Executing.{parts_execute}
-use Rattle.lt_c_control.specs.Inboxes.{value_in, HasData, HasAck}
+use Rattle.lt_c_control.specs.Inboxes.{payload_value, HasData, HasAck}
 use Rattle.lt_c_net.specs.Stands.{sender, NodeAt, offered, ListsSenders}
 use Rattle.lt_c_net.specs.Moves.{feed_source, feed_sources, given_by, IsCodeOfNode, Moves, rows_after, own_row}
 use Rattle.lt_c_net.specs.Laws.{IsFed}
@@ -50,9 +50,9 @@ use Rattle.lt_c_net.proofs.Taking.{one_kind}
 use Rattle.lt_machine.specs.declared.machine.Machine.{Ghosts as Machines}
 
 -- a bit that alternates is that of its count
-pub turned_bit : (b : Bool) (old new : ℤ) (a a' : ℕ) → old ≡ of_truth (bit_of a) → a' ≡ a + one_if b → new ≡ (if b then of_truth (not (truth_of old)) else old) → new ≡ of_truth (bit_of a')
+pub turned_bit : (b : Bool) (old new : ℤ) (a a' : ℕ) → old ≡ of_truth (bit_of a) → a' ≡ a + one_if b → new ≡ (if b then of_truth (not (c_truth_of old)) else old) → new ≡ of_truth (bit_of a')
 turned_bit true old new a a' was grows is =
-    is ∙ ap (λ z. of_truth (not (truth_of z))) was ∙ ap (λ (x : Bool). of_truth (not x)) (truth_back (bit_of a)) ∙ ap (λ k. of_truth (bit_of k)) (sym (add-one a) ∙ sym grows)
+    is ∙ ap (λ z. of_truth (not (c_truth_of z))) was ∙ ap (λ (x : Bool). of_truth (not x)) (truth_back (bit_of a)) ∙ ap (λ k. of_truth (bit_of k)) (sym (add-one a) ∙ sym grows)
 turned_bit false old new a a' was grows is = is ∙ was ∙ ap (λ k. of_truth (bit_of k)) (let e : a ≡ a' = omega (arith, grows) in e)
 
 -- which inboxes become read
@@ -155,16 +155,16 @@ offers cs n ph count bs code rows m has row at = record {
     phase_stays (Executing k) h = h
 
 -- what a part is fed with is offered
-all_offered : (m : Store) (l : Layout) (routes : List Route) (bs : List InboxState) (row : List Value) (from : ℕ) (feeds : List Feed) → ((x : ℕ) (d : Feed) → slice_get feeds x ≡ Some d → m (place_of (feed_source l (from + x) d)) ≡ number (fed_by routes bs row d)) →
+all_offered : (m : Store) (l : Layout) (routes : List Route) (bs : List InboxState) (row : List Value) (from : ℕ) (feeds : List Feed) → ((x : ℕ) (d : Feed) → slice_get feeds x ≡ Some d → m (source_variable (feed_source l (from + x) d)) ≡ c_number (fed_by routes bs row d)) →
     Offers m (feed_sources l from feeds) (map (fed_by routes bs row) feeds)
 all_offered m l routes bs row from [] h = tt
 all_offered m l routes bs row from (d ∷ ds) h = (
-  subst (λ x. m (place_of (feed_source l x d)) ≡ number (fed_by routes bs row d)) (add-zero from) (h 0 d refl),
-  all_offered m l routes bs row (suc from) ds (λ x e is. let next : from + suc x ≡ suc from + x = omega arith in subst (λ y. m (place_of (feed_source l y e)) ≡ number (fed_by routes bs row e)) next (h (suc x) e is)),
+  subst (λ x. m (source_variable (feed_source l x d)) ≡ c_number (fed_by routes bs row d)) (add-zero from) (h 0 d refl),
+  all_offered m l routes bs row (suc from) ds (λ x e is. let next : from + suc x ≡ suc from + x = omega arith in subst (λ y. m (source_variable (feed_source l y e)) ≡ c_number (fed_by routes bs row e)) next (h (suc x) e is)),
 )
 
 -- the value of an input that comes from outside
-given_value : (row : List Value) (feeds : List Feed) (x : ℕ) (d : Feed) → slice_get feeds x ≡ Some d → value_in (map (given_by row) feeds) x ≡ given_by row d
+given_value : (row : List Value) (feeds : List Feed) (x : ℕ) (d : Feed) → slice_get feeds x ≡ Some d → payload_value (map (given_by row) feeds) x ≡ given_by row d
 given_value row [] x d h = absurd (cc)
 given_value row (e ∷ es) zero d h = ap (given_by row) (some_same e d h)
   where
@@ -187,7 +187,7 @@ module _ {C M : Type 0} (p : BenchState C M) (n : ℕ) (row : List Value) (rows 
   unfolding chan_of
   is_sender c lt = fed.channels.from c lt
 
-  crossed : (c : ℕ) → c < length p.layout.cross → (crossing_of p.layout c).to ≡ n → CanFeed p.routes p.inboxes row (Cross c) → m (payload (crossing_of p.layout c).from (crossing_place p.layout c)) ≡ number (fed_by p.routes p.inboxes row (Cross c))
+  crossed : (c : ℕ) → c < length p.layout.cross → (crossing_of p.layout c).to ≡ n → CanFeed p.routes p.inboxes row (Cross c) → m (payload (crossing_of p.layout c).from (crossing_place p.layout c)) ≡ c_number (fed_by p.routes p.inboxes row (Cross c))
   crossed c lt to can =
       let ch = fed.routes.channels c lt in
       let pl = fed.routes.places c lt in
@@ -196,21 +196,21 @@ module _ {C M : Type 0} (p : BenchState C M) (n : ℕ) (row : List Value) (rows 
       let h : HasData m (sender p.shape.channels (k c)) b = at.messages (k c) (fed.channels.there c lt) (is_channel c lt to) in
       ap (λ j. m (payload j (crossing_place p.layout c))) (sym (is_sender c lt))
       ∙ h.values (crossing_place p.layout c) within
-      ∙ ap (λ x. number (value_in b.payload x)) (sym pl)
-      ∙ ap (λ x. number (value_in (slice_index_or p.inboxes x no_inbox).payload (route_of p.routes c).place)) (sym ch)
+      ∙ ap (λ x. c_number (payload_value b.payload x)) (sym pl)
+      ∙ ap (λ x. c_number (payload_value (slice_index_or p.inboxes x no_inbox).payload (route_of p.routes c).place)) (sym ch)
 
-  fed_at : (has : Bool) (x : ℕ) (d : Feed) → slice_get (part_of p.layout n).feeds x ≡ Some d → CanFeed p.routes p.inboxes row d → stored (offered has (own_row p.layout n row) m) did (pos 0) (place_of (feed_source p.layout x d)) ≡ number (fed_by p.routes p.inboxes row d)
-  fed_at has x (Input i) is can = ap number (given_value row (part_of p.layout n).feeds x (Input i) is)
+  fed_at : (has : Bool) (x : ℕ) (d : Feed) → slice_get (part_of p.layout n).feeds x ≡ Some d → CanFeed p.routes p.inboxes row d → stored (offered has (own_row p.layout n row) m) did (pos 0) (source_variable (feed_source p.layout x d)) ≡ c_number (fed_by p.routes p.inboxes row d)
+  fed_at has x (Input i) is can = ap c_number (given_value row (part_of p.layout n).feeds x (Input i) is)
   fed_at has x (Cross c) is can = let on = fed.crosses x c is in crossed c on.0 on.1 can
 
   -- the store offers the row
   pub feeds_offered : (has : Bool) (ins acks : List ℕ) (ss : List Source) (os : List Output) → IsCodeOfNode p.layout p.shape n code ins acks ss os → Offers (stored (offered has (own_row p.layout n row) m) did (pos 0)) ss (ins_of p n row)
   feeds_offered has ins acks ss os file =
       subst (λ ss. Offers (stored (offered has (own_row p.layout n row) m) did (pos 0)) ss (ins_of p n row)) (sym file.sources_are)
-      (all_offered (stored (offered has (own_row p.layout n row) m) did (pos 0)) p.layout p.routes p.inboxes row 0 (part_of p.layout n).feeds (λ x d is. subst (λ y. stored (offered has (own_row p.layout n row) m) did (pos 0) (place_of (feed_source p.layout y d)) ≡ number (fed_by p.routes p.inboxes row d)) (sym (zero-add x)) (fed_at has x d is (fed.feeds x d is))))
+      (all_offered (stored (offered has (own_row p.layout n row) m) did (pos 0)) p.layout p.routes p.inboxes row 0 (part_of p.layout n).feeds (λ x d is. subst (λ y. stored (offered has (own_row p.layout n row) m) did (pos 0) (source_variable (feed_source p.layout y d)) ≡ c_number (fed_by p.routes p.inboxes row d)) (sym (zero-add x)) (fed_at has x d is (fed.feeds x d is))))
 
   -- the step of the part leaves the slots of one more instant
-  pub slots_go : (has : Bool) (ins acks : List ℕ) (ss : List Source) (os : List Output) → IsCodeOfNode p.layout p.shape n code ins acks ss os → Matches (slots_after code (map (map Some) (ins_of p n row ∷ rows))) (after (part_step ss os code) (stored (offered has (own_row p.layout n row) m) did (pos 0)))
+  pub slots_go : (has : Bool) (ins acks : List ℕ) (ss : List Source) (os : List Output) → IsCodeOfNode p.layout p.shape n code ins acks ss os → Matches (slots_after code (map (map Some) (ins_of p n row ∷ rows))) (store_left (part_step ss os code) (stored (offered has (own_row p.layout n row) m) did (pos 0)))
   slots_go has ins acks ss os file =
       (parts_execute (part_of p.layout n).flat.func code file.code_of ss os file.differ rows (ins_of p n row) fed.fit (stored (offered has (own_row p.layout n row) m) did (pos 0)) at.slots (feeds_offered has ins acks ss os file)).matches
 

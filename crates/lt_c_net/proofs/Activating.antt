@@ -17,7 +17,7 @@ use Rattle.lt_net_bench.proofs.RunByCode.{same_machine}
 use Rattle.lt_net.proofs.Counts as counts
 use Rattle.lt_step.specs.Code.{StepCode}
 use Rattle.lt_c.specs.Tree.{more, Statement, perform}
-use Rattle.lt_c.specs.Meaning.{Store, truth_of, after}
+use Rattle.lt_c.specs.Meaning.{Store, c_truth_of, store_left}
 use Rattle.lt_c_step.specs.declared.sources.Source.{Source}
 use Rattle.lt_c_step.specs.declared.sources.Output.{Output}
 use Rattle.lt_c_step.specs.Part.{part_step}
@@ -40,8 +40,8 @@ got_set (x ∷ xs) zero a lt = refl
 got_set (x ∷ xs) (suc n) a lt = got_set xs n a (omega (arith, lt))
 
 pressing_does : (ins acks : List ℕ) (run : Statement) (send execute : ℕ) (m : Store) (ph : Phase) (some_in : Bool) → WritesStep run → IsPressing ph → HasPhase m ph →
-    let deed : Deed = deed_of ph (every (fresh_data m) ins) some_in (every (fresh_ack m) acks) (truth_of (m more)) in
-    Does ins acks run m (after (pressure ins acks run) m) deed (phase_after send execute ph deed)
+    let deed : Deed = deed_of ph (every (fresh_data m) ins) some_in (every (fresh_ack m) acks) (c_truth_of (m more)) in
+    Does ins acks run m (store_left (pressure ins acks run) m) deed (phase_after send execute ph deed)
 pressing_does ins acks run send execute m Wait some_in w ok h = pressure_is_deed ins acks run send execute m false some_in w h
 pressing_does ins acks run send execute m Ready some_in w ok h = pressure_is_deed ins acks run send execute m true some_in w h
 pressing_does ins acks run send execute m First some_in w ok h = absurd ok
@@ -126,15 +126,15 @@ module _ {C M : Type 0} (ctl : Controls C) (mch : Machines M)
         deed_is = d.deed_is;
       }
 
-  pub presses_deed : IsPressing ph → Does ins acks run m1 (after (pressure ins acks run) m1) deed (next deed)
+  pub presses_deed : IsPressing ph → Does ins acks run m1 (store_left (pressure ins acks run) m1) deed (next deed)
   presses_deed ok =
-      let same : deed_of ph (every (fresh_data m1) ins) some_in (every (fresh_ack m1) acks) (truth_of (m1 more)) ≡ deed =
+      let same : deed_of ph (every (fresh_data m1) ins) some_in (every (fresh_ack m1) acks) (c_truth_of (m1 more)) ≡ deed =
       (λ i. deed_of ph (every_in i) some_in (every_ack i) (truth_back has i)) ∙ sym acts.wakes.deed_is in
-      subst (λ d. Does ins acks run m1 (after (pressure ins acks run) m1) d (next d)) same
+      subst (λ d. Does ins acks run m1 (store_left (pressure ins acks run) m1) d (next d)) same
       (pressing_does ins acks run (ctl.send control) (ctl.execute control) m1 ph some_in writes ok has_phase)
 
-  pub presses : IsPressing ph → StandsAfter ctl p q n row code rows deed (after (pressure ins acks run) m1)
-  presses ok = finish (after (pressure ins acks run) m1) (presses_deed ok)
+  pub presses : IsPressing ph → StandsAfter ctl p q n row code rows deed (store_left (pressure ins acks run) m1)
+  presses ok = finish (store_left (pressure ins acks run) m1) (presses_deed ok)
 
 pub pressing_keeps : {C M : Type 0} (ctl : Controls C) (mch : Machines M) → PressingKeeps ctl mch
 pressing_keeps ctl mch p q n code ins acks ss os rows row deed m file ok acts s =

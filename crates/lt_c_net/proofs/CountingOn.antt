@@ -9,7 +9,7 @@ use Rattle.lt_net_node.specs.Freshness.{fresh_or_other}
 use Rattle.lt_net_bench.specs.Bench.{BenchState}
 use Rattle.lt_step.specs.Code.{StepCode}
 use Rattle.lt_c.specs.Tree.{more, Statement, perform}
-use Rattle.lt_c.specs.Meaning.{Store, truth_of, after}
+use Rattle.lt_c.specs.Meaning.{Store, c_truth_of, store_left}
 use Rattle.lt_c_step.specs.declared.sources.Source.{Source}
 use Rattle.lt_c_step.specs.declared.sources.Output.{Output}
 use Rattle.lt_c_step.specs.Part.{part_step}
@@ -47,18 +47,18 @@ module _ {C M : Type 0} (ctl : Controls C) (mch : Machines M)
   abbrev all_ack : Bool
   all_ack = all_below (fresh_or_other p.shape.channels p.inboxes n false) (length p.shape.channels)
 
-  pub counts_deed : Does ins [] run m1 (after (counting sends executes ins run) m1) deed (phase_after sends executes ph deed)
+  pub counts_deed : Does ins [] run m1 (store_left (counting sends executes ins run) m1) deed (phase_after sends executes ph deed)
   counts_deed =
-      let same : deed_of ph all_in (some (fresh_data m1) ins) all_ack (truth_of (m1 more)) ≡ deed =
+      let same : deed_of ph all_in (some (fresh_data m1) ins) all_ack (c_truth_of (m1 more)) ≡ deed =
       (λ i. deed_of ph all_in (some_of_in ctl mch p q n code ins [] ss os rows row deed m file acts s i) all_ack (truth_back has i)) ∙ sym acts.wakes.deed_is in
-      subst (λ d. Does ins [] run m1 (after (counting sends executes ins run) m1) d (phase_after sends executes ph d)) same
+      subst (λ d. Does ins [] run m1 (store_left (counting sends executes ins run) m1) d (phase_after sends executes ph d)) same
       (counting_is_deed ins run sends executes m1 ph all_in all_ack (λ m x h. parts_write_slots ss os code m x h) counted (has_phase ctl mch p q n code ins [] ss os rows row deed m file acts s))
 
-  pub counts_on : StandsAfter ctl p q n row code rows deed (after (counting sends executes ins run) m1)
+  pub counts_on : StandsAfter ctl p q n row code rows deed (store_left (counting sends executes ins run) m1)
   counts_on =
-      finish ctl mch p q n code ins [] ss os rows row deed m file acts s (after (counting sends executes ins run) m1)
-      (subst (λ x. Does ins [] run m1 (after (counting sends executes ins run) m1) deed (phase_after x (ctl.execute acts.wakes.before) ph deed)) (sym sends_are)
-      (subst (λ x. Does ins [] run m1 (after (counting sends executes ins run) m1) deed (phase_after sends x ph deed)) (sym executes_are) counts_deed))
+      finish ctl mch p q n code ins [] ss os rows row deed m file acts s (store_left (counting sends executes ins run) m1)
+      (subst (λ x. Does ins [] run m1 (store_left (counting sends executes ins run) m1) deed (phase_after x (ctl.execute acts.wakes.before) ph deed)) (sym sends_are)
+      (subst (λ x. Does ins [] run m1 (store_left (counting sends executes ins run) m1) deed (phase_after sends x ph deed)) (sym executes_are) counts_deed))
 
 pub counting_keeps : {C M : Type 0} (ctl : Controls C) (mch : Machines M) → CountingKeeps ctl mch
 counting_keeps ctl mch p q n code ins ss os rows row deed m sends executes file ok acts s =

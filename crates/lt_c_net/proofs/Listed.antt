@@ -25,7 +25,7 @@ use Rattle.lt_net_bench.proofs.Firsts.{map-upto, upto-same}
 use Rattle.lt_net_bench.proofs.NextRun.{longer, earlier_row, last_row}
 use Rattle.lt_net_bench.proofs.OwnValues.{sees_extended, grows_extends, fed_row_same}
 use Rattle.lt_c.specs.Tree.{perform}
-use Rattle.lt_c.specs.Meaning.{of_truth, after}
+use Rattle.lt_c.specs.Meaning.{of_truth, store_left}
 use Rattle.lt_c_step.specs.Part.{part_step}
 use Rattle.lt_c_control.specs.Control.{pressure, counting}
 use Rattle.lt_c_net.specs.Stands.{NodeStands, offered}
@@ -136,10 +136,10 @@ pub pressing_follows : {C M : Type 0} (ctl : Controls C) (mch : Machines M) → 
 pressing_follows ctl mch p q inputs inputs' got n code ins acks ss os row deed m file ok a s =
     let r = pressing_keeps ctl mch p q n code ins acks ss os (rows_of_node p.layout p.shape inputs got n) row deed m file ok
     (acts_of ctl mch p q inputs inputs' got n row deed a) s in
-    (subst (λ rows. NodeStands ctl q n code rows (after (pressure ins acks (perform (part_step ss os code))) (offered (nat_lt (slice_index_or p.executed n 0) p.rows) (own_row p.layout n row) m))) (rows_are ctl mch p q inputs inputs' got n row deed a) r.is_there, r.deed_is)
+    (subst (λ rows. NodeStands ctl q n code rows (store_left (pressure ins acks (perform (part_step ss os code))) (offered (nat_lt (slice_index_or p.executed n 0) p.rows) (own_row p.layout n row) m))) (rows_are ctl mch p q inputs inputs' got n row deed a) r.is_there, r.deed_is)
 
 pub counting_follows : {C M : Type 0} (ctl : Controls C) (mch : Machines M) → CountingFollows ctl mch
 counting_follows ctl mch p q inputs inputs' got n code ins ss os row deed m sends executes file ok a s =
     let r = counting_keeps ctl mch p q n code ins ss os (rows_of_node p.layout p.shape inputs got n) row deed m sends executes file ok
     (acts_of ctl mch p q inputs inputs' got n row deed a) s in
-    (subst (λ rows. NodeStands ctl q n code rows (after (counting sends executes ins (perform (part_step ss os code))) (offered (nat_lt (slice_index_or p.executed n 0) p.rows) (own_row p.layout n row) m))) (rows_are ctl mch p q inputs inputs' got n row deed a) r.is_there, r.deed_is)
+    (subst (λ rows. NodeStands ctl q n code rows (store_left (counting sends executes ins (perform (part_step ss os code))) (offered (nat_lt (slice_index_or p.executed n 0) p.rows) (own_row p.layout n row) m))) (rows_are ctl mch p q inputs inputs' got n row deed a) r.is_there, r.deed_is)

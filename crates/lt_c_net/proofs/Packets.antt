@@ -29,10 +29,10 @@ use Rattle.lt_net_bench.proofs.Entries.{and_parts}
 use Rattle.lt_net.specs.Net.{TimedBenchState, Lists, bench_of, reached_state}
 use Rattle.lt_net.specs.Event.{SameStatic}
 use Rattle.lt_c.specs.Tree.{slot, sent, message_bit, message}
-use Rattle.lt_c.specs.Meaning.{Store, stored, after}
-use Rattle.lt_c.specs.Literals.{number}
+use Rattle.lt_c.specs.Meaning.{Store, stored, store_left}
+use Rattle.lt_c.specs.Literals.{c_number}
 use Rattle.lt_c.proofs.Stores.{same_self}
-use Rattle.lt_c_control.specs.Inboxes.{value_in}
+use Rattle.lt_c_control.specs.Inboxes.{payload_value}
 use Rattle.lt_c_net.specs.Lists.{NodeFollows}
 use Rattle.lt_c_net.specs.Nets.{IsNet}
 use Rattle.lt_c_net.specs.Emitted.{NodeCode, IsEmittedNode, values_tree, packet_for}
@@ -53,16 +53,16 @@ abbrev with_bit : Store → Store
 with_bit m = stored m message_bit (m sent)
 
 -- values at earlier places stay
-earlier_stay : (xs : List ℕ) (k i : ℕ) (m : Store) → i < k → after (values_tree k xs) m (message i) ≡ m (message i)
+earlier_stay : (xs : List ℕ) (k i : ℕ) (m : Store) → i < k → store_left (values_tree k xs) m (message i) ≡ m (message i)
 earlier_stay [] k i m lt = refl
 earlier_stay (x ∷ xs) k i m lt =
     earlier_stay xs (suc k) i (stored m (message k) (m (slot x))) (omega (arith, lt))
     ∙ ap (λ (b : Bool). if b then m (slot x) else m (message i)) (differ_below i k lt)
 
-value_told : (xs : List ℕ) (k i x : ℕ) (m : Store) → slice_get xs i ≡ Some x → after (values_tree k xs) m (message (k + i)) ≡ m (slot x)
+value_told : (xs : List ℕ) (k i x : ℕ) (m : Store) → slice_get xs i ≡ Some x → store_left (values_tree k xs) m (message (k + i)) ≡ m (slot x)
 value_told [] k i x m is = absurd (cc)
 value_told (y ∷ ys) k zero x m is =
-    ap (λ j. after (values_tree k (y ∷ ys)) m (message j)) (add-zero k)
+    ap (λ j. store_left (values_tree k (y ∷ ys)) m (message j)) (add-zero k)
     ∙ earlier_stay ys (suc k) k (stored m (message k) (m (slot y))) (omega arith)
     ∙ ap (λ (b : Bool). if b then m (slot y) else m (message k)) (same_self k)
     ∙ ap (λ j. m (slot j)) (some_same y x is)
@@ -71,10 +71,10 @@ value_told (y ∷ ys) k zero x m is =
     some_same a b e = cc
 value_told (y ∷ ys) k (suc i) x m is =
     let next : k + suc i ≡ suc k + i = omega arith in
-    ap (λ j. after (values_tree k (y ∷ ys)) m (message j)) next
+    ap (λ j. store_left (values_tree k (y ∷ ys)) m (message j)) next
     ∙ value_told ys (suc k) i x (stored m (message k) (m (slot y))) is
 
-mark_told : (xs : List ℕ) (k : ℕ) (m : Store) → after (values_tree k xs) m message_bit ≡ m message_bit
+mark_told : (xs : List ℕ) (k : ℕ) (m : Store) → store_left (values_tree k xs) m message_bit ≡ m message_bit
 mark_told [] k m = refl
 mark_told (x ∷ xs) k m = mark_told xs (suc k) (stored m (message k) (m (slot x)))
 
@@ -158,7 +158,7 @@ module _ {C M : Type 0} (ctl : Controls C) (mch : Machines M) (net later : Timed
       at_least d e u k h g = omega (arith, h, g)
 
   module _ (carries : carries_data s c ≡ true) (k : ℕ) (len : length (next.inputs n) ≡ suc k) where
-    value_of_place : (i : ℕ) → i < length payload → (packet_for node (to_of s c) m).values i ≡ number (value_in payload i)
+    value_of_place : (i : ℕ) → i < length payload → (packet_for node (to_of s c) m).values i ≡ c_number (payload_value payload i)
     unfolding crossing_of
     value_of_place i lt =
         let many = how_many_values l s c payload carries typed in
@@ -178,14 +178,14 @@ module _ {C M : Type 0} (ctl : Controls C) (mch : Machines M) (net later : Timed
         let ch_is : channel_between s (crossing_of l x).from (crossing_of l x).to ≡ c =
         channels.once (channel_between s (crossing_of l x).from (crossing_of l x).to) c (channels.there x r.1) in_channels (channels.carries x r.1) carries (channels.from x r.1 ∙ from_is) (channels.to x r.1 ∙ to_is) in
         let agree = agrees x gives.0 r.1 from_n gives_n node_in in
-        ap (λ j. after (values_tree 0 (node.slots_for (to_of s c))) (with_bit m) (message j)) (sym (zero-add i))
+        ap (λ j. store_left (values_tree 0 (node.slots_for (to_of s c))) (with_bit m) (message j)) (sym (zero-add i))
         ∙ value_told (node.slots_for (to_of s c)) 0 i gives.0 (with_bit m) slot_is
         ∙ agree
-        ∙ (λ j. number (slice_index_or (slice_index_or later.buffers (ch_is j) []) (place j) (crossing_of l x).first))
-        ∙ ap number (get_or_default payload i (crossing_of l x).first (Truth false) lt)
+        ∙ (λ j. c_number (slice_index_or (slice_index_or later.buffers (ch_is j) []) (place j) (crossing_of l x).first))
+        ∙ ap c_number (get_or_default payload i (crossing_of l x).first (Truth false) lt)
       where
         agrees : (x v : ℕ) → x < length l.cross → (crossing_of l x).from ≡ n → PartGives (part_of l n) (crossing_of l x).var v → n < length l.nodes →
-            m (slot v) ≡ number (slice_index_or (slice_index_or later.buffers (channel_between s (crossing_of l x).from (crossing_of l x).to) []) (crossing_place l x) (crossing_of l x).first)
+            m (slot v) ≡ c_number (slice_index_or (slice_index_or later.buffers (channel_between s (crossing_of l x).from (crossing_of l x).to) []) (crossing_place l x) (crossing_of l x).first)
         agrees x v lt from_n gives node_in =
             values_agree ctl mch (record (bench_of later) { layout = l; shape = s }) (reached_state later next) next.inputs next.got n k x v node.code node.ins node.acks node.sources node.outputs m b.fixed.whole
             (subst (λ z. IsLaidOut b.fixed.whole z) static.layout b.fixed.laid)

@@ -25,7 +25,7 @@ use Rattle.lt_step.specs.Run.{after_keeps, at_instant, slots_after, instants}
 use Rattle.lt_step.proofs.Keeps.{keeps_leave}
 use Rattle.lt_step.proofs.Solved.{solves, own_keeps}
 use Rattle.lt_c.specs.Tree.{did}
-use Rattle.lt_c.specs.Meaning.{Store, stored, after}
+use Rattle.lt_c.specs.Meaning.{Store, stored, store_left}
 use Rattle.lt_c_step.specs.Laws.{shown}
 use Rattle.lt_c_step.specs.declared.sources.Source.{Source}
 use Rattle.lt_c_step.specs.declared.sources.Output.{Output}
@@ -105,13 +105,13 @@ module _ {C M : Type 0} (ctl : Controls C) (mch : Machines M) (p q : BenchState 
   turned : map (map Some) so_far ≡ reverse (map (map Some) old)
   turned = map-upto (map Some) F (length (inputs n)) ∙ sym (reverse-firsts (λ k. map Some (F k)) (length (inputs n))) ∙ ap reverse (sym (map-firsts (map Some) F (length (inputs n))))
 
-  shows_cell : (y : ℕ) → y < length f.decls → shown f.decls y (after (before_outputs ss code) m2) ≡ cell env (clock_of f.decls y) y
+  shows_cell : (y : ℕ) → y < length f.decls → shown f.decls y (store_left (before_outputs ss code) m2) ≡ cell env (clock_of f.decls y) y
   shows_cell y lt =
       let fed = is_fed ctl mch p q inputs inputs' got n row a in
       (parts_execute f code file.code_of ss os file.differ so_far (ins_of p n row) fed.fit m2 at.2.slots
       (feeds_offered p n row so_far fed (ctl.phase at.0) (slice_index_or p.executed n 0) code m at.2 (nat_lt (slice_index_or p.executed n 0) p.rows) ins acks ss os file)).shows y lt
 
-  pub next_cell : (y : ℕ) → y < length f.decls → local_stream p.layout (payloads_between p.shape got) n (row_at (inputs' n)) (length (inputs' n)) y ≡ local_stream p.layout (payloads_between p.shape got) n (row_at (inputs n)) (length (inputs n)) y ++ shown f.decls y (after (before_outputs ss code) m2) ∷ []
+  pub next_cell : (y : ℕ) → y < length f.decls → local_stream p.layout (payloads_between p.shape got) n (row_at (inputs' n)) (length (inputs' n)) y ≡ local_stream p.layout (payloads_between p.shape got) n (row_at (inputs n)) (length (inputs n)) y ++ shown f.decls y (store_left (before_outputs ss code) m2) ∷ []
   next_cell y lt =
       let fed = is_fed ctl mch p q inputs inputs' got n row a in
       let more : firsts (λ k. fed_row p.layout (payloads_between p.shape got) n (row_at (inputs' n) k) k) (length (inputs' n)) ≡ old ++ ins_of p n row ∷ [] =

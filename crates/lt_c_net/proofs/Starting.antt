@@ -18,7 +18,7 @@ use Rattle.lt_net_bench.proofs.Entries.{and_parts}
 use Rattle.lt_place_reads.specs.declared.crossing.Crossing.{Crossing}
 use Rattle.lt_step.specs.Code.{StepCode}
 use Rattle.lt_c.specs.Tree.{slot}
-use Rattle.lt_c.specs.Meaning.{Store, of_truth, after}
+use Rattle.lt_c.specs.Meaning.{Store, of_truth, store_left}
 use Rattle.lt_c_control.specs.Control.{HasPhase}
 use Rattle.lt_c_step.proofs.Statements.{firsts_match}
 use Rattle.lt_c_control.specs.Inboxes.{HasData, HasAck, FirstData, starting, DifferInNode, BeginsFresh}
@@ -48,10 +48,10 @@ of_same P (j ∷ js) h = (h.0, of_same P js h.1)
 
 module _ (cross : List Crossing) (cs : List Chan) (n : ℕ) (code : StepCode) (m : Store) (ins acks : List ℕ) (counts : Bool) (ins_are : ListsSenders cs n true ins) (acks_are : ListsSenders cs n false acks) (differ : DifferInNode (firsts_from cross n ins)) where
   abbrev m1 : Store
-  m1 = after (of_firsts code.keeps) m
+  m1 = store_left (of_firsts code.keeps) m
 
   abbrev m' : Store
-  m' = after (starting (firsts_from cross n ins) acks counts) m1
+  m' = store_left (starting (firsts_from cross n ins) acks counts) m1
 
   begins_fresh : BeginsFresh (firsts_from cross n ins) acks m'
   begins_fresh = starts_fresh.fresh (firsts_from cross n ins) differ acks counts m1
@@ -118,7 +118,7 @@ starts_stand {C} {M} ctl mch p t n code ins acks counts m node start none inboxe
     let c = there p.controllers n (let e = start.count in omega (arith, node, e)) in (
       c.0,
       c.1,
-      subst (λ b. NodeAt p.shape.channels n (ctl.phase c.0) (slice_index_or p.executed n 0) b code [] (after (init_of code (firsts_from p.layout.cross n ins) acks counts) m)) (sym inboxes)
+      subst (λ b. NodeAt p.shape.channels n (ctl.phase c.0) (slice_index_or p.executed n 0) b code [] (store_left (init_of code (firsts_from p.layout.cross n ins) acks counts) m)) (sym inboxes)
           (begins p.layout.cross p.shape.channels n code m ins acks counts ins_are acks_are differ (ctl.phase c.0) (slice_index_or p.executed n 0) t.protocol (start.phases n c.0 c.1)
           (ap (λ e. slice_index_or e n 0) none ∙ get_or-replicate (node_count p.shape) n 0 0 node)),
     )

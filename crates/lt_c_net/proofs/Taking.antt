@@ -15,7 +15,7 @@ use Rattle.lt_link.specs.Ports.{is_to}
 use Rattle.lt_net_bench.proofs.Entries.{other_number}
 use Rattle.lt_step.specs.Code.{StepCode}
 use Rattle.lt_c.specs.Tree.{slot, phase, left, sent, executed, bit, read, payload, ack, seen}
-use Rattle.lt_c.specs.Meaning.{Store, of_truth, after}
+use Rattle.lt_c.specs.Meaning.{Store, of_truth, store_left}
 use Rattle.lt_c_control.specs.Control.{HasPhase}
 use Rattle.lt_c_control.specs.Inboxes.{HasData, HasAck, delivering, acknowledging, PutsData, PutsAck}
 use Rattle.lt_c_control.proofs.Delivered.{messages_put}
@@ -163,10 +163,10 @@ module _ (cs : List Chan) (n : ℕ) (ph : Phase) (count : ℕ) (bs : List InboxS
   takes one one' = by_kind (is_to cs n true ch) (is_to cs n false ch) refl refl
     where
       by_kind : (a b : Bool) → is_to cs n true ch ≡ a → is_to cs n false ch ≡ b →
-          NodeAt cs n ph count after_it code rows (if a then after (delivering (sender cs ch) (length msg.payload)) m1 else (if b then after (acknowledging (sender cs ch)) m1 else m))
-      by_kind true b h g = takes_data cs n ph count bs code rows m1 at1 ch msg in_channels in_inboxes (after (delivering (sender cs ch) (length msg.payload)) m1)
+          NodeAt cs n ph count after_it code rows (if a then store_left (delivering (sender cs ch) (length msg.payload)) m1 else (if b then store_left (acknowledging (sender cs ch)) m1 else m))
+      by_kind true b h g = takes_data cs n ph count bs code rows m1 at1 ch msg in_channels in_inboxes (store_left (delivering (sender cs ch) (length msg.payload)) m1)
           (messages_put.messages (sender cs ch) (slice_index_or bs ch no_inbox) msg.bit msg.payload m1 (at1.messages ch in_channels h) is.mark_is is.values_are) one h
-      by_kind false true h g = takes_ack cs n ph count bs code rows m1 at1 ch msg in_channels in_inboxes (after (acknowledging (sender cs ch)) m1) (record (slice_index_or bs ch no_inbox) { bit = msg.bit })
+      by_kind false true h g = takes_ack cs n ph count bs code rows m1 at1 ch msg in_channels in_inboxes (store_left (acknowledging (sender cs ch)) m1) (record (slice_index_or bs ch no_inbox) { bit = msg.bit })
           (messages_put.acks (sender cs ch) (slice_index_or bs ch no_inbox) msg.bit m1 (at1.acks ch in_channels g) is.mark_is) refl refl one' h g
       by_kind false false h g = takes_none cs n ph count bs code rows m at ch msg in_channels in_inboxes h g
 

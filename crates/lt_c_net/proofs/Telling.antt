@@ -16,11 +16,11 @@ use Rattle.lt_net_bench.specs.Bench.{BenchState}
 use Rattle.lt_net_bench.specs.Executes.{ins_of}
 use Rattle.lt_step.specs.Code.{StepCode}
 use Rattle.lt_c.specs.Tree.{did, has, perform}
-use Rattle.lt_c.specs.Meaning.{Store, truth_of, holds, stored, after}
+use Rattle.lt_c.specs.Meaning.{Store, c_truth_of, holds, stored, store_left}
 use Rattle.lt_c_step.specs.declared.sources.Source.{Source}
 use Rattle.lt_c_step.specs.declared.sources.Output.{Output}
 use Rattle.lt_c_step.specs.Laws.{value_as, shown}
-use Rattle.lt_c_step.specs.Part.{IsTimed, ShowsSlot, before_outputs, part_step}
+use Rattle.lt_c_step.specs.Part.{HasConditions, ShowsSlot, before_outputs, part_step}
 use Rattle.lt_c_step.proofs.Executing.{parts_execute}
 use Rattle.lt_c_control.specs.Control.{Does}
 use Rattle.lt_c_net.specs.Stands.{offered}
@@ -45,9 +45,9 @@ one_of_all P (y ∷ ys) zero x h is = subst P (some_same y x is) h.0
 one_of_all P (y ∷ ys) (suc i) x h is = one_of_all P ys i x h.1 is
 
 -- whether a variable is told to have a value, in a store that has what the step left
-told_same : (ck : ClockPairs) (x : ℕ) (new mid old : Store) → new (has x) ≡ mid (has x) → (IsTimed ck → truth_of (mid (has x)) ≡ holds old ck) → is_told ck x new ≡ holds old ck
+told_same : (ck : ClockPairs) (x : ℕ) (new mid old : Store) → new (has x) ≡ mid (has x) → (HasConditions ck → c_truth_of (mid (has x)) ≡ holds old ck) → is_told ck x new ≡ holds old ck
 told_same [] x new mid old e h = refl
-told_same (p ∷ ck) x new mid old e h = ap truth_of e ∙ h tt
+told_same (p ∷ ck) x new mid old e h = ap c_truth_of e ∙ h tt
 
 module _ {C M : Type 0} (ctl : Controls C) (mch : Machines M) (p q : BenchState C M) (inputs inputs' got : ℕ → List (List Value)) (n : ℕ) (code : StepCode) (ins acks : List ℕ) (ss : List Source) (os : List Output) (row : List Value) (m : Store)
     (file : IsCodeOfNode p.layout p.shape n code ins acks ss os) (a : ActsListed ctl mch p q inputs inputs' got n row Execute) (at : NodeFollows ctl p inputs got n code m) where
@@ -64,9 +64,9 @@ module _ {C M : Type 0} (ctl : Controls C) (mch : Machines M) (p q : BenchState 
   m2 = stored m1 did (pos 0)
 
   abbrev left_by_step : Store
-  left_by_step = after (part_step ss os code) m2
+  left_by_step = store_left (part_step ss os code) m2
 
-  gives : AllByRecursion (ShowsSlot left_by_step (after (before_outputs ss code) m2)) os
+  gives : AllByRecursion (ShowsSlot left_by_step (store_left (before_outputs ss code) m2)) os
   gives =
       let fed = is_fed ctl mch p q inputs inputs' got n row a in
       (parts_execute f code file.code_of ss os file.differ so_far (ins_of p n row) fed.fit m2 at.2.slots
@@ -75,9 +75,9 @@ module _ {C M : Type 0} (ctl : Controls C) (mch : Machines M) (p q : BenchState 
   pub tells_next : (next : Phase) (m' : Store) → Does ins acks (perform (part_step ss os code)) m1 m' Execute next → TellsNextCells p inputs inputs' got n os m'
   tells_next next m' d i x lt is =
       let o : Output = record { output_number = x; from_slot = x; guard = clock_of f.decls x } in
-      let s : ShowsSlot left_by_step (after (before_outputs ss code) m2) o = one_of_all (ShowsSlot left_by_step (after (before_outputs ss code) m2)) os i o gives is in
-      let told : is_told (clock_of f.decls x) x m' ≡ holds (after (before_outputs ss code) m2) (clock_of f.decls x) = told_same (clock_of f.decls x) x m' left_by_step (after (before_outputs ss code) m2) (d.told x) s.told in
-      let same : told_cell f.decls x m' ≡ shown f.decls x (after (before_outputs ss code) m2) =
+      let s : ShowsSlot left_by_step (store_left (before_outputs ss code) m2) o = one_of_all (ShowsSlot left_by_step (store_left (before_outputs ss code) m2)) os i o gives is in
+      let told : is_told (clock_of f.decls x) x m' ≡ holds (store_left (before_outputs ss code) m2) (clock_of f.decls x) = told_same (clock_of f.decls x) x m' left_by_step (store_left (before_outputs ss code) m2) (d.told x) s.told in
+      let same : told_cell f.decls x m' ≡ shown f.decls x (store_left (before_outputs ss code) m2) =
       (λ k. if told k then Here (value_as (ty_at f.decls x) ((d.outputs x ∙ s.value_is) k)) else Absent) in
       next_cell ctl mch p q inputs inputs' got n code ins acks ss os row m file a at x lt
       ∙ ap (λ c. local_stream p.layout (payloads_between p.shape got) n (row_at (inputs n)) (length (inputs n)) x ++ c ∷ []) (sym same)

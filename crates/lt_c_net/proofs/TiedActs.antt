@@ -44,7 +44,7 @@ use Rattle.lt_net.specs.Stands.{NetStands}
 use Rattle.lt_net.proofs.EndTaken.{kinds_kept}
 use Rattle.lt_net.proofs.NextLists.{next_lists}
 use Rattle.lt_net.proofs.ReplayStep.{keeps_on, deed_more}
-use Rattle.lt_c.specs.Meaning.{Store, after}
+use Rattle.lt_c.specs.Meaning.{Store, store_left}
 use Rattle.lt_c_control.specs.Control.{deed_number, IsCounting}
 use Rattle.lt_c_net.specs.Stands.{Carries, offered, ListsSenders}
 use Rattle.lt_c_net.specs.Moves.{IsCodeOfNode, Moves, own_row}
@@ -205,12 +205,12 @@ module _ (f : Originated) (d : Deployment) (placed : IsPlaced f d.layout) (fits 
 
   -- the store after the activation, by the protocol
   under : Protocol → Store
-  under p = after (activation_under p (send_of d.timing n) (execute_of d.timing n) node) (offered (nat_lt count (length d.inputs)) (own_row d.layout n row) (w.stores n))
+  under p = store_left (activation_under p (send_of d.timing n) (execute_of d.timing n) node) (offered (nat_lt count (length d.inputs)) (own_row d.layout n row) (w.stores n))
 
   store_is : (p : Protocol) → d.timing.protocol ≡ p → under p ≡ m'
   unfolding under
   store_is p is = λ i.
-      after (activation_under (sym is i) (send_of d.timing n) (execute_of d.timing n) node) (offered (nat_lt (sym (t.used n event.placed) i) (length d.inputs)) (own_row d.layout n (row_at d.inputs (sym (t.used n event.placed) i))) (w.stores n))
+      store_left (activation_under (sym is i) (send_of d.timing n) (execute_of d.timing n) node) (offered (nat_lt (sym (t.used n event.placed) i) (length d.inputs)) (own_row d.layout n (row_at d.inputs (sym (t.used n event.placed) i))) (w.stores n))
 
   -- without acknowledgements the code is that of a file that names none
   counting_code : d.timing.protocol ≡ TimeBased → IsCodeOfNode d.layout d.shape n node.code node.ins [] node.sources node.outputs

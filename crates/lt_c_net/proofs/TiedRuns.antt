@@ -43,7 +43,7 @@ use Rattle.lt_net.proofs.OutputFronts.{cells_are_fronts}
 use Rattle.lt_net.proofs.ReplayStep.{keeps_on}
 use Rattle.lt_lead.specs.Paced.{bound_by}
 use Rattle.lt_net_replay.specs.Sound.{PlansAreSound, PlanIsSound}
-use Rattle.lt_c.specs.Meaning.{Store, after}
+use Rattle.lt_c.specs.Meaning.{Store, store_left}
 use Rattle.lt_c_control.specs.Inboxes.{delivering, acknowledging}
 use Rattle.lt_c_net.specs.Stands.{sender, Packet, Carries, handed}
 use Rattle.lt_c_net.specs.Laws.{taken_in}
@@ -71,9 +71,9 @@ count_matters s i c a b k m same = by_kind (is_to s.channels i true c) refl
     by_kind : (x : Bool) → is_to s.channels i true c ≡ x → taken_in s.channels i c a k m ≡ taken_in s.channels i c b k m
     by_kind true e = ap (λ count. taken_in s.channels i c count k m) (same (to_data s i c e))
     by_kind false e =
-        let rest : Store = if is_to s.channels i false c then after (acknowledging (sender s.channels c)) (handed k m) else m in
-        (λ j. if e j then after (delivering (sender s.channels c) a) (handed k m) else rest)
-        ∙ sym (λ j. if e j then after (delivering (sender s.channels c) b) (handed k m) else rest)
+        let rest : Store = if is_to s.channels i false c then store_left (acknowledging (sender s.channels c)) (handed k m) else m in
+        (λ j. if e j then store_left (delivering (sender s.channels c) a) (handed k m) else rest)
+        ∙ sym (λ j. if e j then store_left (delivering (sender s.channels c) b) (handed k m) else rest)
 
 module _ (f : Originated) (d : Deployment) (placed : IsPlaced f d.layout) (fits : FitsLayout d.layout d.timing.protocol d.shape) (one : OnePlace d.shape d.timing (length d.inputs)) (rows_fit : RowsFit f.func d.inputs) where
   -- ---- a delivery

@@ -16,7 +16,7 @@ use Rattle.lt_place.specs.Layout.{PartGives, part_of, crossing_of}
 use Rattle.lt_net_node.specs.Layout.{crossing_place}
 use Rattle.lt_step.specs.Code.{StepCode}
 use Rattle.lt_c.specs.Tree.{slot, did, sent, executed, output, has, message_bit, message, c_var, Statement, assign, both, nothing, perform}
-use Rattle.lt_c.specs.Meaning.{Store, truth_of, after}
+use Rattle.lt_c.specs.Meaning.{Store, c_truth_of, store_left}
 use Rattle.lt_c_step.specs.declared.sources.Source.{Source}
 use Rattle.lt_c_step.specs.declared.sources.Output.{Output}
 use Rattle.lt_c_step.specs.Laws.{value_as}
@@ -91,7 +91,7 @@ abbrev pub packet_in : Store → Packet
 packet_in m = record { mark = m message_bit; values = λ k. m (message k) }
 
 abbrev pub packet_for : NodeCode → (j : ℕ) → Store → Packet
-packet_for node j m = packet_in (after (message_tree (node.slots_for j)) m)
+packet_for node j m = packet_in (store_left (message_tree (node.slots_for j)) m)
 
 abbrev pub answer_packet : Store → Packet
 answer_packet m = record { mark = m executed; values = λ k. pos 0 }
@@ -99,7 +99,7 @@ answer_packet m = record { mark = m executed; values = λ k. pos 0 }
 -- a variable that is shown has a value where its clock has conditions and that is told, or where it has none
 abbrev pub is_told : ClockPairs → ℕ → Store → Bool
 is_told [] x m = true
-is_told (p ∷ ck) x m = truth_of (m (has x))
+is_told (p ∷ ck) x m = c_truth_of (m (has x))
 
 abbrev pub told_cell : List Decl → ℕ → Store → Cell
 told_cell ds x m = if is_told (clock_of ds x) x m then Here (value_as (ty_at ds x) (m (output x))) else Absent

@@ -27,7 +27,7 @@ use Rattle.lt_net.specs.Receives.{Receives}
 use Rattle.lt_net.specs.Sends.{message_on}
 use Rattle.lt_step.specs.Code.{StepCode}
 use Rattle.lt_c.specs.Tree.{did, sent, executed, Statement, both, perform}
-use Rattle.lt_c.specs.Meaning.{Store, of_truth, after}
+use Rattle.lt_c.specs.Meaning.{Store, of_truth, store_left}
 use Rattle.lt_c_step.specs.declared.sources.Source.{Source}
 use Rattle.lt_c_step.specs.declared.sources.Output.{Output}
 use Rattle.lt_c_step.specs.Part.{part_step}
@@ -59,14 +59,14 @@ StartsStand {C} {M} ctl mch =
     (p : BenchState C M) (t : Timing) (n : ℕ) (code : StepCode) (ins acks : List ℕ) (counts : Bool) (m : Store) → n < node_count p.shape → ControllersAreAtStart ctl p.shape t p.controllers →
     p.executed ≡ replicate (node_count p.shape) 0 → p.inboxes ≡ map (first_inbox p.layout.cross) p.shape.channels →
     ListsSenders p.shape.channels n true ins → ListsSenders p.shape.channels n false acks → DifferInNode (firsts_from p.layout.cross n ins) →
-    NodeStands ctl p n code [] (after (init_of code (firsts_from p.layout.cross n ins) acks counts) m)
+    NodeStands ctl p n code [] (store_left (init_of code (firsts_from p.layout.cross n ins) acks counts) m)
 
 -- ---- deliveries
 
 -- what the store of node n is after channel ch has delivered so many values: the message is put into the inbox that it is for
 abbrev pub taken_in : List Chan → (n ch count : ℕ) → Packet → Store → Store
 taken_in cs n ch count k m =
-    if is_to cs n true ch then after (delivering (sender cs ch) count) (handed k m) else (if is_to cs n false ch then after (acknowledging (sender cs ch)) (handed k m) else m)
+    if is_to cs n true ch then store_left (delivering (sender cs ch) count) (handed k m) else (if is_to cs n false ch then store_left (acknowledging (sender cs ch)) (handed k m) else m)
 
 -- only inboxes have changed
 pub record SameNodes {C M : Type 0} (p q : BenchState C M) : Type 0 where
@@ -119,7 +119,7 @@ PressingKeeps {C} {M} ctl mch =
     (p q : BenchState C M) (n : ℕ) (code : StepCode) (ins acks : List ℕ) (ss : List Source) (os : List Output) (rows : List (List Value)) (row : List Value) (deed : Deed) (m : Store) →
     IsCodeOfNode p.layout p.shape n code ins acks ss os → ((c : C) → slice_get p.controllers n ≡ Some c → IsPressing (ctl.phase c)) →
     Acts ctl mch p q n row rows deed → NodeStands ctl p n code rows m →
-    StandsAfter ctl p q n row code rows deed (after (pressure ins acks (perform (part_step ss os code))) (offered (nat_lt (slice_index_or p.executed n 0) p.rows) (own_row p.layout n row) m))
+    StandsAfter ctl p q n row code rows deed (store_left (pressure ins acks (perform (part_step ss os code))) (offered (nat_lt (slice_index_or p.executed n 0) p.rows) (own_row p.layout n row) m))
 
 -- the countdowns in the file are the controller's
 abbrev pub CountingKeeps : {C M : Type 0} → (ctl : Controls C) (mch : Machines M) → Type 0
@@ -127,7 +127,7 @@ CountingKeeps {C} {M} ctl mch =
     (p q : BenchState C M) (n : ℕ) (code : StepCode) (ins : List ℕ) (ss : List Source) (os : List Output) (rows : List (List Value)) (row : List Value) (deed : Deed) (m : Store) (sends executes : ℕ) →
     IsCodeOfNode p.layout p.shape n code ins [] ss os → ((c : C) → slice_get p.controllers n ≡ Some c → IsCounting (ctl.phase c) × (ctl.send c ≡ sends) × (ctl.execute c ≡ executes)) →
     Acts ctl mch p q n row rows deed → NodeStands ctl p n code rows m →
-    StandsAfter ctl p q n row code rows deed (after (counting sends executes ins (perform (part_step ss os code))) (offered (nat_lt (slice_index_or p.executed n 0) p.rows) (own_row p.layout n row) m))
+    StandsAfter ctl p q n row code rows deed (store_left (counting sends executes ins (perform (part_step ss os code))) (offered (nat_lt (slice_index_or p.executed n 0) p.rows) (own_row p.layout n row) m))
 
 -- ---- what is handed out
 

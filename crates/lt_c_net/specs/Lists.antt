@@ -24,7 +24,7 @@ use Rattle.lt_net_bench.specs.Standing.{StandsAt}
 use Rattle.lt_net.specs.Receives.{Receives}
 use Rattle.lt_step.specs.Code.{StepCode}
 use Rattle.lt_c.specs.Tree.{did, perform}
-use Rattle.lt_c.specs.Meaning.{Store, after}
+use Rattle.lt_c.specs.Meaning.{Store, store_left}
 use Rattle.lt_c_step.specs.declared.sources.Source.{Source}
 use Rattle.lt_c_step.specs.declared.sources.Output.{Output}
 use Rattle.lt_c_step.specs.Part.{part_step}
@@ -90,11 +90,11 @@ PressingFollows {C} {M} ctl mch =
     (p q : BenchState C M) (inputs inputs' got : ℕ → List (List Value)) (n : ℕ) (code : StepCode) (ins acks : List ℕ) (ss : List Source) (os : List Output) (row : List Value) (deed : Deed) (m : Store) →
     IsCodeOfNode p.layout p.shape n code ins acks ss os → ((c : C) → slice_get p.controllers n ≡ Some c → IsPressing (ctl.phase c)) →
     ActsListed ctl mch p q inputs inputs' got n row deed → NodeFollows ctl p inputs got n code m →
-    FollowsAfter ctl q inputs' got n code deed (after (pressure ins acks (perform (part_step ss os code))) (offered (nat_lt (slice_index_or p.executed n 0) p.rows) (own_row p.layout n row) m))
+    FollowsAfter ctl q inputs' got n code deed (store_left (pressure ins acks (perform (part_step ss os code))) (offered (nat_lt (slice_index_or p.executed n 0) p.rows) (own_row p.layout n row) m))
 
 abbrev pub CountingFollows : {C M : Type 0} → (ctl : Controls C) (mch : Machines M) → Type 0
 CountingFollows {C} {M} ctl mch =
     (p q : BenchState C M) (inputs inputs' got : ℕ → List (List Value)) (n : ℕ) (code : StepCode) (ins : List ℕ) (ss : List Source) (os : List Output) (row : List Value) (deed : Deed) (m : Store) (sends executes : ℕ) →
     IsCodeOfNode p.layout p.shape n code ins [] ss os → ((c : C) → slice_get p.controllers n ≡ Some c → IsCounting (ctl.phase c) × (ctl.send c ≡ sends) × (ctl.execute c ≡ executes)) →
     ActsListed ctl mch p q inputs inputs' got n row deed → NodeFollows ctl p inputs got n code m →
-    FollowsAfter ctl q inputs' got n code deed (after (counting sends executes ins (perform (part_step ss os code))) (offered (nat_lt (slice_index_or p.executed n 0) p.rows) (own_row p.layout n row) m))
+    FollowsAfter ctl q inputs' got n code deed (store_left (counting sends executes ins (perform (part_step ss os code))) (offered (nat_lt (slice_index_or p.executed n 0) p.rows) (own_row p.layout n row) m))

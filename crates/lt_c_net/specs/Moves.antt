@@ -3,7 +3,7 @@ use Rattle.std.specs.Prelude.{◌≡◌, ℕ, suc, true, false, List, [], ◌∷
 use Rattle.lt_base.specs.declared.value.Value.{Value}
 use Rattle.lt_base.specs.declared.value.Value.TheVariants.{Bool as Truth}
 use Rattle.lt_arch.specs.declared.shape.Shape.{Shape}
-use Rattle.lt_c_control.specs.Inboxes.{value_in}
+use Rattle.lt_c_control.specs.Inboxes.{payload_value}
 use Rattle.lt_arch.specs.declared.event.Deed.{Deed}
 use Rattle.lt_arch.specs.declared.event.Deed.TheVariants.{Nothing, Execute, Send}
 use Rattle.lt_net_node.specs.Freshness.{TakenUpTo}
@@ -36,7 +36,7 @@ feed_sources l x (d ∷ ds) = feed_source l x d ∷ feed_sources l (suc x) ds
 
 -- what an input of a part is from outside, where the program has this input row
 abbrev pub given_by : (row : List Value) → Feed → Value
-given_by row (Input i) = value_in row i
+given_by row (Input i) = payload_value row i
 given_by row (Cross c) = Truth false
 
 -- what node n is given of it, in the order of its part's inputs

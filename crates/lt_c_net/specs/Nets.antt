@@ -18,7 +18,7 @@ use Rattle.lt_net.specs.Event.{ListsGoOn, SameStatic}
 use Rattle.lt_net.specs.Receives.{Receives}
 use Rattle.lt_step.specs.Code.{StepCode}
 use Rattle.lt_c.specs.Tree.{perform}
-use Rattle.lt_c.specs.Meaning.{Store, after}
+use Rattle.lt_c.specs.Meaning.{Store, store_left}
 use Rattle.lt_c_step.specs.declared.sources.Source.{Source}
 use Rattle.lt_c_step.specs.declared.sources.Output.{Output}
 use Rattle.lt_c_step.specs.Part.{part_step}
@@ -62,14 +62,14 @@ PressingNet {C} {M} ctl mch =
     (net later : TimedBenchState C M) (ls next : Lists) (n at : ℕ) (row : List Value) (codes : ℕ → StepCode) (stores : ℕ → Store) (ins acks : List ℕ) (ss : List Source) (os : List Output) →
     NetActs ctl mch net later ls next n at row → IsCodeOfNode net.layout net.shape n (codes n) ins acks ss os →
     ((c : C) → slice_get net.controllers n ≡ Some c → IsPressing (ctl.phase c)) → NetFollows ctl net ls codes stores →
-    NetFollows ctl later next codes (with_store n (after (pressure ins acks (perform (part_step ss os (codes n)))) (offered (nat_lt (slice_index_or net.executed n 0) net.rows) (own_row net.layout n row) (stores n))) stores)
+    NetFollows ctl later next codes (with_store n (store_left (pressure ins acks (perform (part_step ss os (codes n)))) (offered (nat_lt (slice_index_or net.executed n 0) net.rows) (own_row net.layout n row) (stores n))) stores)
 
 abbrev pub CountingNet : {C M : Type 0} → (ctl : Controls C) (mch : Machines M) → Type 0
 CountingNet {C} {M} ctl mch =
     (net later : TimedBenchState C M) (ls next : Lists) (n at : ℕ) (row : List Value) (codes : ℕ → StepCode) (stores : ℕ → Store) (ins : List ℕ) (ss : List Source) (os : List Output) (sends executes : ℕ) →
     NetActs ctl mch net later ls next n at row → IsCodeOfNode net.layout net.shape n (codes n) ins [] ss os →
     ((c : C) → slice_get net.controllers n ≡ Some c → IsCounting (ctl.phase c) × (ctl.send c ≡ sends) × (ctl.execute c ≡ executes)) → NetFollows ctl net ls codes stores →
-    NetFollows ctl later next codes (with_store n (after (counting sends executes ins (perform (part_step ss os (codes n)))) (offered (nat_lt (slice_index_or net.executed n 0) net.rows) (own_row net.layout n row) (stores n))) stores)
+    NetFollows ctl later next codes (with_store n (store_left (counting sends executes ins (perform (part_step ss os (codes n)))) (offered (nat_lt (slice_index_or net.executed n 0) net.rows) (own_row net.layout n row) (stores n))) stores)
 
 -- channel ch delivered the oldest message of its transit
 pub record NetDelivers {C M : Type 0} (ctl : Controls C) (mch : Machines M) (net later : TimedBenchState C M) (ls next : Lists) (ch at : ℕ) (old new : FabricState) : Type 0 where

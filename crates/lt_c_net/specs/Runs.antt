@@ -12,7 +12,7 @@ use Rattle.lt_place.specs.declared.layout.Layout.{Layout}
 use Rattle.lt_place.specs.Layout.{part_of}
 use Rattle.lt_net_node.specs.Layout.{joins}
 use Rattle.lt_net_node.specs.Payloads.{row_at}
-use Rattle.lt_c.specs.Meaning.{Store, after}
+use Rattle.lt_c.specs.Meaning.{Store, store_left}
 use Rattle.lt_c_net.specs.Stands.{Packet, offered}
 use Rattle.lt_c_net.specs.Moves.{own_row}
 use Rattle.lt_c_net.specs.Laws.{taken_in}
@@ -43,7 +43,7 @@ pub record NodesRunning : Type 0 where
 -- each node has begun, whatever its memory held before
 abbrev pub begun_with : Deployment → (memory : ℕ → Store) → NodesRunning
 begun_with d memory = record {
-  stores = λ n. after (init_tree d.layout d.timing n (d.nodes n)) (memory n);
+  stores = λ n. store_left (init_tree d.layout d.timing n (d.nodes n)) (memory n);
   under_way = λ c. [];
   used = λ n. 0;
   shown_so_far = λ n x. [];
@@ -52,7 +52,7 @@ begun_with d memory = record {
 -- node n is activated, with the inputs of its next instant at hand while rows are left
 abbrev pub activated_store : Deployment → NodesRunning → (n : ℕ) → Store
 activated_store d w n =
-    after (activation_tree d.timing n (d.nodes n)) (offered (nat_lt (w.used n) (length d.inputs)) (own_row d.layout n (row_at d.inputs (w.used n))) (w.stores n))
+    store_left (activation_tree d.timing n (d.nodes n)) (offered (nat_lt (w.used n) (length d.inputs)) (own_row d.layout n (row_at d.inputs (w.used n))) (w.stores n))
 
 -- what it puts on channel c where its variables are these afterwards: its message where it has sent, its acknowledgement where it has executed
 abbrev pub put_on : Deployment → (n : ℕ) → Store → (c : ℕ) → List Packet

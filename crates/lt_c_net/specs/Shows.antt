@@ -14,9 +14,9 @@ use Rattle.lt_net_bench.specs.Standing.{StandsAt}
 use Rattle.lt_net.specs.Sends.{message_on}
 use Rattle.lt_step.specs.Code.{StepCode}
 use Rattle.lt_c.specs.Tree.{slot, did}
-use Rattle.lt_c.specs.Meaning.{Store, stored, after}
+use Rattle.lt_c.specs.Meaning.{Store, stored, store_left}
 use Rattle.lt_c_step.specs.Laws.{shown}
-use Rattle.lt_c.specs.Literals.{number}
+use Rattle.lt_c.specs.Literals.{c_number}
 use Rattle.lt_c_step.specs.declared.sources.Source.{Source}
 use Rattle.lt_c_step.specs.declared.sources.Output.{Output}
 use Rattle.lt_c_step.specs.Part.{before_outputs}
@@ -33,7 +33,7 @@ ValuesAgree {C} {M} ctl mch =
     IsLaidOut f p.layout → HasChannels p.layout p.shape → StandsAt ctl mch p st inputs got → n < length p.layout.nodes →
     IsCodeOfNode p.layout p.shape n code ins acks ss os → NodeFollows ctl p inputs got n code m → length (inputs n) ≡ suc k →
     c < length p.layout.cross → (crossing_of p.layout c).from ≡ n → PartGives (part_of p.layout n) (crossing_of p.layout c).var x →
-    m (slot x) ≡ number (slice_index_or (message_on p.buffers p.inboxes (channel_between p.shape (crossing_of p.layout c).from (crossing_of p.layout c).to)).payload (crossing_place p.layout c) (crossing_of p.layout c).first)
+    m (slot x) ≡ c_number (slice_index_or (message_on p.buffers p.inboxes (channel_between p.shape (crossing_of p.layout c).from (crossing_of p.layout c).to)).payload (crossing_place p.layout c) (crossing_of p.layout c).first)
 
 -- where an activation executes, each variable shows, when outputs are read, the next cell of its stream
 abbrev pub OutputsAgree : {C M : Type 0} → (ctl : Controls C) (mch : Machines M) → Type 0
@@ -43,4 +43,4 @@ OutputsAgree {C} {M} ctl mch =
     y < length (part_of p.layout n).flat.func.decls →
     local_stream p.layout (payloads_between p.shape got) n (row_at (inputs' n)) (length (inputs' n)) y
     ≡ local_stream p.layout (payloads_between p.shape got) n (row_at (inputs n)) (length (inputs n)) y
-    ++ shown (part_of p.layout n).flat.func.decls y (after (before_outputs ss code) (stored (offered (nat_lt (slice_index_or p.executed n 0) p.rows) (own_row p.layout n row) m) did (pos 0))) ∷ []
+    ++ shown (part_of p.layout n).flat.func.decls y (store_left (before_outputs ss code) (stored (offered (nat_lt (slice_index_or p.executed n 0) p.rows) (own_row p.layout n row) m) did (pos 0))) ∷ []

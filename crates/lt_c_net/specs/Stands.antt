@@ -14,10 +14,10 @@ use Rattle.lt_step.specs.Code.{StepCode}
 use Rattle.lt_step.specs.Run.{slots_after}
 use Rattle.lt_c.specs.Tree.{more, sent, executed, input, message_bit, message, answer_bit}
 use Rattle.lt_c.specs.Meaning.{Store, of_truth}
-use Rattle.lt_c.specs.Literals.{number}
+use Rattle.lt_c.specs.Literals.{c_number}
 use Rattle.lt_c_step.specs.Laws.{Matches}
 use Rattle.lt_c_control.specs.Control.{HasPhase}
-use Rattle.lt_c_control.specs.Inboxes.{value_in, HasData, HasAck}
+use Rattle.lt_c_control.specs.Inboxes.{payload_value, HasData, HasAck}
 use Rattle.lt_arch.specs.declared.controller.Controller.{Ghosts as Controls}
 
 -- the node that sends on channel c
@@ -46,7 +46,7 @@ NodeStands {C} ctl p n code rows m =
 -- the inputs of an instant are at hand, or not
 abbrev pub offered : (at_hand : Bool) → List Value → Store → Store
 offered at_hand row m more = of_truth at_hand
-offered at_hand row m (input i) = number (value_in row i)
+offered at_hand row m (input i) = c_number (payload_value row i)
 offered at_hand row m p = m p
 
 -- what a link carries, as numbers: the bit and the values of a message; of an acknowledgement the bit counts
@@ -57,7 +57,7 @@ pub record Packet : Type 0 where
 -- it is this message
 pub record Carries (k : Packet) (msg : Message) : Type 0 where
   pub mark_is : k.mark ≡ of_truth msg.bit
-  pub values_are : (i : ℕ) → i < length msg.payload → k.values i ≡ number (value_in msg.payload i)
+  pub values_are : (i : ℕ) → i < length msg.payload → k.values i ≡ c_number (payload_value msg.payload i)
 
 -- a message has come, or an acknowledgement
 abbrev pub handed : Packet → Store → Store

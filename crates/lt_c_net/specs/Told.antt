@@ -16,7 +16,7 @@ use Rattle.lt_net.specs.Event.{SameStatic}
 use Rattle.lt_net.specs.Sends.{message_on}
 use Rattle.lt_step.specs.Code.{StepCode}
 use Rattle.lt_c.specs.Tree.{perform}
-use Rattle.lt_c.specs.Meaning.{Store, after}
+use Rattle.lt_c.specs.Meaning.{Store, store_left}
 use Rattle.lt_c_step.specs.declared.sources.Source.{Source}
 use Rattle.lt_c_step.specs.declared.sources.Output.{Output}
 use Rattle.lt_c_step.specs.Part.{part_step}
@@ -51,11 +51,11 @@ PressingTells {C} {M} ctl mch =
     (p q : BenchState C M) (inputs inputs' got : ℕ → List (List Value)) (n : ℕ) (code : StepCode) (ins acks : List ℕ) (ss : List Source) (os : List Output) (row : List Value) (m : Store) →
     IsCodeOfNode p.layout p.shape n code ins acks ss os → ((c : C) → slice_get p.controllers n ≡ Some c → IsPressing (ctl.phase c)) →
     ActsListed ctl mch p q inputs inputs' got n row Execute → NodeFollows ctl p inputs got n code m →
-    TellsNextCells p inputs inputs' got n os (after (pressure ins acks (perform (part_step ss os code))) (offered (nat_lt (slice_index_or p.executed n 0) p.rows) (own_row p.layout n row) m))
+    TellsNextCells p inputs inputs' got n os (store_left (pressure ins acks (perform (part_step ss os code))) (offered (nat_lt (slice_index_or p.executed n 0) p.rows) (own_row p.layout n row) m))
 
 abbrev pub CountingTells : {C M : Type 0} → (ctl : Controls C) (mch : Machines M) → Type 0
 CountingTells {C} {M} ctl mch =
     (p q : BenchState C M) (inputs inputs' got : ℕ → List (List Value)) (n : ℕ) (code : StepCode) (ins : List ℕ) (ss : List Source) (os : List Output) (row : List Value) (m : Store) (sends executes : ℕ) →
     IsCodeOfNode p.layout p.shape n code ins [] ss os → ((c : C) → slice_get p.controllers n ≡ Some c → IsCounting (ctl.phase c) × (ctl.send c ≡ sends) × (ctl.execute c ≡ executes)) →
     ActsListed ctl mch p q inputs inputs' got n row Execute → NodeFollows ctl p inputs got n code m →
-    TellsNextCells p inputs inputs' got n os (after (counting sends executes ins (perform (part_step ss os code))) (offered (nat_lt (slice_index_or p.executed n 0) p.rows) (own_row p.layout n row) m))
+    TellsNextCells p inputs inputs' got n os (store_left (counting sends executes ins (perform (part_step ss os code))) (offered (nat_lt (slice_index_or p.executed n 0) p.rows) (own_row p.layout n row) m))

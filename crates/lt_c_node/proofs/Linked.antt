@@ -7,7 +7,7 @@ use Rattle.std.proofs.lemmas.List.Elements.{filter-append, All-push}
 use Rattle.lt_arch.specs.declared.chan.Chan.{Chan}
 use Rattle.lt_place.specs.declared.layout.Layout.{Layout}
 use Rattle.lt_c_node.specs.declared.file.Peer.{Peer}
-use Rattle.lt_c_node.specs.Acts.{numbers_of}
+use Rattle.lt_c_node.specs.Acts.{peer_numbers}
 use Rattle.lt_c_node.specs.NodeOf.{values_between, brings_data, takes_data, AreSenders, AreReceivers}
 
 next_taken : {A : Type 0} (xs : List A) (i : ℕ) (x : A) → i < length xs → x ≡ get_or xs i x → take (i + 1) xs ≡ take i xs ++ x ∷ []
@@ -24,7 +24,7 @@ passed p chs i ch h is no_one =
 
 -- one more number, that of the picked channel's end
 numbered : (end : Chan → ℕ) (p : Chan → Bool) (chs : List Chan) (i : ℕ) (ch : Chan) (ps : List Peer) (q : Peer) → i < length chs → ch ≡ get_or chs i ch → p ch ≡ true → q.number ≡ end ch
-    → numbers_of ps ≡ map end (filter p (take i chs)) → numbers_of (ps ++ q ∷ []) ≡ map end (filter p (take (i + 1) chs))
+    → peer_numbers ps ≡ map end (filter p (take i chs)) → peer_numbers (ps ++ q ∷ []) ≡ map end (filter p (take (i + 1) chs))
 numbered end p chs i ch ps q h is picks number so_far =
     map-append (λ (x : Peer). x.number) ps (q ∷ []) ∙ (λ k. so_far k ++ number k ∷ [])
     ∙ sym (ap (map end) (picked p chs i ch h is picks) ∙ map-append end (filter p (take i chs)) (ch ∷ []))

@@ -2,7 +2,7 @@
 use Rattle.std.proofs.Common.{◌≡◌, ℕ, Bool, List, drop, get_or, refl, sym, ap, ◌∙◌}
 use Rattle.std.proofs.lemmas.List.{append_cancel_left}
 use Rattle.std.specs.Prelude.{nat_eq, if◌then◌else◌}
-use Rattle.lt_c_node.specs.Names.{External, of_init, of_activate, of_deed, of_nothing, of_execute, of_send, of_inputs, of_outputs, of_answer, of_deliver, of_acknowledge, of_message, of_got, of_sent, ending, NamesDiffer}
+use Rattle.lt_c_node.specs.Names.{External, of_init, of_activate, of_deed, of_nothing, of_execute, of_send, of_inputs, of_outputs, of_answer, of_deliver, of_acknowledge, of_message, of_got, of_sent, external_ending, FileNamesDiffer}
 
 -- a byte of a name
 is_byte : List ℕ → (place byte : ℕ) → Bool
@@ -33,7 +33,7 @@ read_back l =
     (if◌then◌else◌ {A = External} (is_byte l 1 97) (read_a l)
     (if◌then◌else◌ {A = External} (is_byte l 1 100) (read_d l) (read_other l)))
 
-reads_back : (e : External) → read_back (ending e) ≡ e
+reads_back : (e : External) → read_back (external_ending e) ≡ e
 unfolding read_back read_i read_a read_did read_d read_other is_byte
 reads_back of_init = refl
 reads_back of_activate = refl
@@ -50,5 +50,5 @@ reads_back (of_message n) = refl
 reads_back (of_got n) = refl
 reads_back (of_sent n) = refl
 
-pub names_differ : NamesDiffer
-names_differ t a b h = sym (reads_back a) ∙ ap read_back (append_cancel_left t (ending a) (ending b) h) ∙ reads_back b
+pub names_differ : FileNamesDiffer
+names_differ t a b h = sym (reads_back a) ∙ ap read_back (append_cancel_left t (external_ending a) (external_ending b) h) ∙ reads_back b

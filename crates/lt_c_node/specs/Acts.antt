@@ -19,8 +19,8 @@ use Rattle.lt_c_node.specs.Types.{has_inputs, has_items}
 use Rattle.lt_c_node.specs.Heads.{activate_head}
 
 -- the numbers of nodes
-abbrev pub numbers_of : List Peer → List ℕ
-numbers_of ps = map (λ p. p.number) ps
+abbrev pub peer_numbers : List Peer → List ℕ
+peer_numbers ps = map (λ p. p.number) ps
 
 -- the values that are sent again: those of each message, in order
 abbrev pub post_of : (j k : ℕ) → Carried → Post
@@ -39,7 +39,7 @@ acting (Counting n) ins acks ps run = counting n.send n.execute ins run
 acting Losing ins acks ps run = losing ins acks ps run
 
 abbrev pub activation : NodeFile → Statement → Statement
-activation f run = acting f.regime (numbers_of f.links.senders) f.links.answerers (posts_of f.links.receivers) (perform run)
+activation f run = acting f.regime (peer_numbers f.links.senders) f.links.answerers (posts_of f.links.receivers) (perform run)
 
 -- which functions at the head the file calls
 abbrev pub file_calls : NodeFile → Calls

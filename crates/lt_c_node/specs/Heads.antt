@@ -51,17 +51,17 @@ answer_head t (Counting n) = []
 answer_head t Losing = codes "int64_t " ++ (t ++ codes "_acknowledgement(void)")
 
 -- all of them are declared before they are defined
-abbrev pub declared : List ℕ → List ℕ
-declared h = h ++ codes ";\n"
+abbrev pub as_prototype : List ℕ → List ℕ
+as_prototype h = h ++ codes ";\n"
 
 abbrev pub answer_prototype : (t : List ℕ) → Regime → List ℕ
-answer_prototype t Pressing = declared (answer_head t Pressing)
+answer_prototype t Pressing = as_prototype (answer_head t Pressing)
 answer_prototype t (Counting n) = []
-answer_prototype t Losing = declared (answer_head t Losing)
+answer_prototype t Losing = as_prototype (answer_head t Losing)
 
 abbrev pub prototypes_text : (t : List ℕ) → NodeFile → List ℕ
 prototypes_text t f =
-    (codes "\n" ++ (declared (init_head t) ++ declared (activate_head t f)))
-    ++ (flat_map (λ p. declared (deliver_head t f.names p)) f.links.senders
-    ++ (flat_map (λ j. declared (acknowledge_head t f.regime f.names j)) f.links.answerers
-    ++ (flat_map (λ p. declared (message_head t f.names p)) f.links.receivers ++ answer_prototype t f.regime)))
+    (codes "\n" ++ (as_prototype (init_head t) ++ as_prototype (activate_head t f)))
+    ++ (flat_map (λ p. as_prototype (deliver_head t f.names p)) f.links.senders
+    ++ (flat_map (λ j. as_prototype (acknowledge_head t f.regime f.names j)) f.links.answerers
+    ++ (flat_map (λ p. as_prototype (message_head t f.names p)) f.links.receivers ++ answer_prototype t f.regime)))

@@ -34,7 +34,7 @@ use Rattle.lt_c_node.specs.declared.file.PartCode.{PartCode}
 use Rattle.lt_c_node.specs.declared.file.Correspondence.{Correspondence}
 use Rattle.lt_c_node.specs.declared.file.NodeFile.{NodeFile}
 use Rattle.lt_c_node.specs.Words.{made_from}
-use Rattle.lt_c_node.specs.Acts.{numbers_of}
+use Rattle.lt_c_node.specs.Acts.{peer_numbers}
 use Rattle.lt_c_node.specs.NodeText.{node_text}
 
 -- ---- the step
@@ -100,12 +100,12 @@ brings_answers n ch = is_answer ch.kind && (ch.to == n)
 
 -- the nodes whose data comes, in the order of channels, with what they send
 pub record AreSenders (l : Layout) (channels : List Chan) (n : ℕ) (ps : List Peer) : Type 0 where
-  pub numbers : numbers_of ps ≡ map (λ ch. ch.from) (filter (brings_data n) channels)
+  pub numbers : peer_numbers ps ≡ map (λ ch. ch.from) (filter (brings_data n) channels)
   pub values : All (λ p. p.values ≡ values_between l p.number n) ps
 
 -- those to which data goes, with what they are sent
 pub record AreReceivers (l : Layout) (channels : List Chan) (n : ℕ) (ps : List Peer) : Type 0 where
-  pub numbers : numbers_of ps ≡ map (λ ch. ch.to) (filter (takes_data n) channels)
+  pub numbers : peer_numbers ps ≡ map (λ ch. ch.to) (filter (takes_data n) channels)
   pub values : All (λ p. p.values ≡ values_between l n p.number) ps
 
 -- ---- the controller
@@ -136,7 +136,7 @@ pub record AreLinksOf (l : Layout) (channels : List Chan) (n : ℕ) (c : Corresp
   pub answerers : c.answerers ≡ map (λ ch. ch.from) (filter (brings_answers n) channels)
 
 -- the file is that of node n of a layout, with the channels, the bounds of time and the pace of its setup
-pub record IsFileOf (l : Layout) (s : Shape) (t : Timing) (pace : Pace) (n : ℕ) (f : NodeFile) : Type 0 where
+pub record IsFileOfNode (l : Layout) (s : Shape) (t : Timing) (pace : Pace) (n : ℕ) (f : NodeFile) : Type 0 where
   pub names : f.names ≡ l.names
   pub node : f.node ≡ n
   pub part : IsPartCodeOf l (part_of l n) f.part
@@ -146,5 +146,5 @@ pub record IsFileOf (l : Layout) (s : Shape) (t : Timing) (pace : Pace) (n : ℕ
 -- the text is that of such a file
 pub record IsEmitted (l : Layout) (s : Shape) (t : Timing) (pace : Pace) (n : ℕ) (text : List ℕ) : Type 0 where
   pub file : NodeFile
-  pub is_file : IsFileOf l s t pace n file
+  pub is_file : IsFileOfNode l s t pace n file
   pub is_text : text ≡ node_text file

@@ -1,10 +1,10 @@
 -- The C file of a node.
 use Rattle.std.specs.Prelude.{ℕ, ◌++◌, List, codes}
-use Rattle.lt_c.specs.HeadText.{head_text}
+use Rattle.lt_c.specs.HeadText.{file_head_text}
 use Rattle.lt_c.specs.Spelled.{node_at}
 use Rattle.lt_c_node.specs.declared.file.NodeFile.{NodeFile}
 use Rattle.lt_c_node.specs.Words.{title}
-use Rattle.lt_c_node.specs.Types.{types_text}
+use Rattle.lt_c_node.specs.Types.{file_types_text}
 use Rattle.lt_c_node.specs.Heads.{prototypes_text}
 use Rattle.lt_c_node.specs.Variables.{variables_text}
 use Rattle.lt_c_node.specs.Starts.{init_text}
@@ -18,14 +18,14 @@ opening_text f = codes "/* The node " ++ (node_at f.names f.node ++ codes ". Thi
 
 -- types and prototypes, variables, and functions
 abbrev pub declarations_text : (t : List ℕ) → NodeFile → List ℕ
-declarations_text t f = types_text t f ++ (prototypes_text t f ++ variables_text t f)
+declarations_text t f = file_types_text t f ++ (prototypes_text t f ++ variables_text t f)
 
 abbrev pub functions_text : (t : List ℕ) → NodeFile → List ℕ
 functions_text t f = init_text t f ++ (execute_text f ++ (activate_text t f ++ transport_text t f))
 
 -- the whole file, also where what begins its names is given
 abbrev pub titled_text : (t : List ℕ) → NodeFile → List ℕ
-titled_text t f = opening_text f ++ (head_text (file_calls f) ++ (declarations_text t f ++ functions_text t f))
+titled_text t f = opening_text f ++ (file_head_text (file_calls f) ++ (declarations_text t f ++ functions_text t f))
 
 abbrev pub node_text : NodeFile → List ℕ
 node_text f = titled_text (title f) f

@@ -92,8 +92,8 @@ got_type_text t r ns p =
     ++ (message_struct_text r p.values ++ (t ++ (codes "_from_" ++ (node_at ns p.number ++ codes ";\n"))))
 
 -- all of them
-abbrev pub types_text : (t : List ℕ) → NodeFile → List ℕ
-types_text t f =
+abbrev pub file_types_text : (t : List ℕ) → NodeFile → List ℕ
+file_types_text t f =
     deed_type_text t
     ++ (inputs_type_text t f.part.decls f.part.sources
     ++ (outputs_type_text t f.part.decls f.part.outputs

@@ -7,7 +7,7 @@ ghost use Rattle.lt_c.specs.Uses.{calls_and};
 ghost use Rattle.lt_c_node.specs.Words.{made_from};
 ghost use Rattle.lt_c_node.specs.Types.{has_inputs, has_items};
 ghost use Rattle.lt_c_node.specs.Heads.{activate_head};
-ghost use Rattle.lt_c_node.specs.Acts.{numbers_of, post_of, posts_of, acting, activation, file_calls, pointing_text, placing_text, deed_text, activate_text};
+ghost use Rattle.lt_c_node.specs.Acts.{peer_numbers, post_of, posts_of, acting, activation, file_calls, pointing_text, placing_text, deed_text, activate_text};
 
 use crate::file::{Carried, NodeFile, Peer, Regime};
 use crate::heads::activate_head;
@@ -20,7 +20,7 @@ use lt_c_step::{keeps_calls, lets_calls};
 use std::alloc::Global;
 
 fn numbers_of(alloc: Global, peers: &[Peer]) -> Result<List<u32>, Memory>
-    ensures { IfOk result (λ all. all ≡ numbers_of peers.now) }
+    ensures { IfOk result (λ all. all ≡ peer_numbers peers.now) }
 {
     let mut all = List::new(alloc);
     'peers: for peer in peers {

@@ -6,7 +6,7 @@ ghost use Rattle.lt_norm.specs.Flat.{Originated};
 ghost use Rattle.lt_place.specs.Layout.{IsPlaced};
 ghost use Rattle.lt_place.specs.Sizes.{HasCodeRoom, IsCompilable};
 ghost use Rattle.lt_step.specs.Compile.{CodeOf};
-ghost use Rattle.lt_c_node.specs.NodeOf.{IsFeedOf, sources_of, protocol_regime, regime_of, IsPartCodeOf, IsFileOf, IsEmitted};
+ghost use Rattle.lt_c_node.specs.NodeOf.{IsFeedOf, sources_of, protocol_regime, regime_of, IsPartCodeOf, IsFileOfNode, IsEmitted};
 
 use crate::file::{NodeFile, PartCode, Regime};
 use crate::linking::links_of;
@@ -103,7 +103,7 @@ pub fn node_of(
     requires node { node < length layout.now.nodes }
     requires timed { length timing.now.nodes ≡ length layout.now.names }
     requires few { length layout.now.names < 2 ^ 32 }
-    ensures { IfOk result (IsFileOf layout.now shape.now timing.now pace node) }
+    ensures { IfOk result (IsFileOfNode layout.now shape.now timing.now pace node) }
 {
     parts_compile();
     let n = node as u32;

@@ -2,7 +2,7 @@
 
 ghost use Rattle.std.specs.Prelude.{◌≡◌, ◌++◌, OnOk, codes};
 ghost use Rattle.std.specs.List.{flat_map};
-ghost use Rattle.lt_c_node.specs.Heads.{init_head, inputs_parameter, outputs_parameter, activate_head, deliver_head, answer_parameter, acknowledge_head, message_head, answer_head, declared, answer_prototype, prototypes_text};
+ghost use Rattle.lt_c_node.specs.Heads.{init_head, inputs_parameter, outputs_parameter, activate_head, deliver_head, answer_parameter, acknowledge_head, message_head, answer_head, as_prototype, answer_prototype, prototypes_text};
 
 use crate::file::{NodeFile, Peer, Regime};
 use crate::words::{four, has_inputs, has_items, three, three_if, two};
@@ -109,14 +109,14 @@ pub(crate) fn answer_head(out: &mut List<u8>, t: &[u8], regime: Regime) -> Resul
 }
 
 fn init_prototype(out: &mut List<u8>, t: &[u8]) -> Result<(), Memory>
-    ensures { OnOk result (out.new ≡ out.old ++ declared (init_head t.now)) }
+    ensures { OnOk result (out.new ≡ out.old ++ as_prototype (init_head t.now)) }
 {
     init_head(out, t)?;
     out.extend(b";\n")
 }
 
 fn activate_prototype(out: &mut List<u8>, t: &[u8], file: &NodeFile) -> Result<(), Memory>
-    ensures { OnOk result (out.new ≡ out.old ++ declared (activate_head t.now file.now)) }
+    ensures { OnOk result (out.new ≡ out.old ++ as_prototype (activate_head t.now file.now)) }
 {
     activate_head(out, t, file)?;
     out.extend(b";\n")
@@ -128,7 +128,7 @@ fn deliver_prototype(
     names: &[Name],
     peer: &Peer,
 ) -> Result<(), Memory>
-    ensures { OnOk result (out.new ≡ out.old ++ declared (deliver_head t.now names.now peer.now)) }
+    ensures { OnOk result (out.new ≡ out.old ++ as_prototype (deliver_head t.now names.now peer.now)) }
 {
     deliver_head(out, t, names, peer)?;
     out.extend(b";\n")
@@ -140,7 +140,7 @@ fn deliver_prototypes(
     names: &[Name],
     peers: &[Peer],
 ) -> Result<(), Memory>
-    ensures { OnOk result (out.new ≡ out.old ++ flat_map (λ p. declared (deliver_head t.now names.now p)) peers.now) }
+    ensures { OnOk result (out.new ≡ out.old ++ flat_map (λ p. as_prototype (deliver_head t.now names.now p)) peers.now) }
 {
     'peers: for peer in peers {
         deliver_prototype(out, t, names, peer)?;
@@ -155,7 +155,7 @@ fn acknowledge_prototype(
     names: &[Name],
     j: u32,
 ) -> Result<(), Memory>
-    ensures { OnOk result (out.new ≡ out.old ++ declared (acknowledge_head t.now regime names.now j)) }
+    ensures { OnOk result (out.new ≡ out.old ++ as_prototype (acknowledge_head t.now regime names.now j)) }
 {
     acknowledge_head(out, t, regime, names, j)?;
     out.extend(b";\n")
@@ -168,7 +168,7 @@ fn acknowledge_prototypes(
     names: &[Name],
     answerers: &[u32],
 ) -> Result<(), Memory>
-    ensures { OnOk result (out.new ≡ out.old ++ flat_map (λ j. declared (acknowledge_head t.now regime names.now j)) answerers.now) }
+    ensures { OnOk result (out.new ≡ out.old ++ flat_map (λ j. as_prototype (acknowledge_head t.now regime names.now j)) answerers.now) }
 {
     'nodes: for j in answerers {
         acknowledge_prototype(out, t, regime, names, *j)?;
@@ -182,7 +182,7 @@ fn message_prototype(
     names: &[Name],
     peer: &Peer,
 ) -> Result<(), Memory>
-    ensures { OnOk result (out.new ≡ out.old ++ declared (message_head t.now names.now peer.now)) }
+    ensures { OnOk result (out.new ≡ out.old ++ as_prototype (message_head t.now names.now peer.now)) }
 {
     message_head(out, t, names, peer)?;
     out.extend(b";\n")
@@ -194,7 +194,7 @@ fn message_prototypes(
     names: &[Name],
     peers: &[Peer],
 ) -> Result<(), Memory>
-    ensures { OnOk result (out.new ≡ out.old ++ flat_map (λ p. declared (message_head t.now names.now p)) peers.now) }
+    ensures { OnOk result (out.new ≡ out.old ++ flat_map (λ p. as_prototype (message_head t.now names.now p)) peers.now) }
 {
     'peers: for peer in peers {
         message_prototype(out, t, names, peer)?;
@@ -203,7 +203,7 @@ fn message_prototypes(
 }
 
 fn answer_declared(out: &mut List<u8>, t: &[u8], regime: Regime) -> Result<(), Memory>
-    ensures { OnOk result (out.new ≡ out.old ++ declared (answer_head t.now regime)) }
+    ensures { OnOk result (out.new ≡ out.old ++ as_prototype (answer_head t.now regime)) }
 {
     answer_head(out, t, regime)?;
     out.extend(b";\n")
@@ -220,7 +220,7 @@ fn answer_prototype(out: &mut List<u8>, t: &[u8], regime: Regime) -> Result<(), 
 
 // Appends the declarations of what begins and of an activation.
 fn first_prototypes(out: &mut List<u8>, t: &[u8], file: &NodeFile) -> Result<(), Memory>
-    ensures { OnOk result (out.new ≡ out.old ++ (codes "\n" ++ (declared (init_head t.now) ++ declared (activate_head t.now file.now)))) }
+    ensures { OnOk result (out.new ≡ out.old ++ (codes "\n" ++ (as_prototype (init_head t.now) ++ as_prototype (activate_head t.now file.now)))) }
 {
     out.extend(b"\n")?;
     init_prototype(out, t)?;

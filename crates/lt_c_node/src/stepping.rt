@@ -4,7 +4,7 @@ ghost use Rattle.std.specs.Prelude.{◌≡◌, ◌++◌, ◌<◌, ◌^◌, lengt
 ghost use Rattle.lt_c.specs.Tree.{Statement, slot, output, assign, both, c_var};
 ghost use Rattle.lt_c.specs.Text.{statement_text};
 ghost use Rattle.lt_c.specs.Views.{place_in, statement_of};
-ghost use Rattle.lt_c_step.specs.Part.{place_of, feeding, telling, showing};
+ghost use Rattle.lt_c_step.specs.Part.{source_variable, feeding, telling, showing};
 ghost use Rattle.lt_c_node.specs.Words.{spelling, indent};
 ghost use Rattle.lt_c_node.specs.Types.{has_items};
 ghost use Rattle.lt_c_node.specs.Steps.{fed_text, equations_text, shown_text, kept_text, shown_one, execute_text};
@@ -21,7 +21,7 @@ use std::alloc::Global;
 
 // The variable from which an input comes.
 fn place_of(source: Source) -> Variable
-    ensures { place_in result ≡ place_of source }
+    ensures { place_in result ≡ source_variable source }
 {
     match source {
         Source::Given(x) => Variable::Input(x),
@@ -31,7 +31,7 @@ fn place_of(source: Source) -> Variable
 
 // An input is fed before others.
 fn fed_before(alloc: Global, x: u32, source: Source, rest: Action) -> Result<Action, Memory>
-    ensures { IfOk result (λ s. (run : Statement) → statement_of run s ≡ both (assign (slot x) (c_var (place_of source))) (statement_of run rest)) }
+    ensures { IfOk result (λ s. (run : Statement) → statement_of run s ≡ both (assign (slot x) (c_var (source_variable source))) (statement_of run rest)) }
 {
     then(alloc, copied(Variable::Slot(x), place_of(source)), rest)
 }

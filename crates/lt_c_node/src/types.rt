@@ -3,7 +3,7 @@
 ghost use Rattle.std.specs.Prelude.{◌≡◌, ◌++◌, OnOk, codes};
 ghost use Rattle.std.specs.List.{flat_map};
 ghost use Rattle.lt_c_node.specs.Words.{texts_from};
-ghost use Rattle.lt_c_node.specs.Types.{deed_type_text, input_member_text, inputs_struct_text, inputs_type_text, flag_member_text, output_member_text, outputs_struct_text, outputs_type_text, mark_text, meant_text, carried_text, message_struct_text, sent_type_text, got_type_text, types_text};
+ghost use Rattle.lt_c_node.specs.Types.{deed_type_text, input_member_text, inputs_struct_text, inputs_type_text, flag_member_text, output_member_text, outputs_struct_text, outputs_type_text, mark_text, meant_text, carried_text, message_struct_text, sent_type_text, got_type_text, file_types_text};
 
 use crate::file::{Carried, NodeFile, Peer, Regime};
 use crate::words::{four, has_inputs, has_items, three, two, type_of, type_word, type_word_at};
@@ -240,7 +240,7 @@ fn got_types(
 
 /// Appends all types of a file.
 pub(crate) fn declared_types(out: &mut List<u8>, t: &[u8], file: &NodeFile) -> Result<(), Memory>
-    ensures { OnOk result (out.new ≡ out.old ++ types_text t.now file.now) }
+    ensures { OnOk result (out.new ≡ out.old ++ file_types_text t.now file.now) }
 {
     deed_type(out, t)?;
     inputs_type(out, t, &file.part.decls, &file.part.sources)?;

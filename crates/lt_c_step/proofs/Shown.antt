@@ -27,13 +27,13 @@ use Rattle.lt_step.specs.Run.{at_instant, slots_after, instants}
 use Rattle.lt_step.proofs.Solved.{solves}
 use Rattle.lt_c.specs.Tree.{slot}
 use Rattle.lt_c.specs.Meaning.{Store}
-use Rattle.lt_c_step.specs.Laws.{Matches, at_row, store_after, stores, value_as, shown, shown_stream, StepShowsStreams}
-use Rattle.lt_c.specs.Literals.{number}
+use Rattle.lt_c_step.specs.Laws.{Matches, store_when_read, store_after, stores, value_as, shown, shown_stream, StepShowsStreams}
+use Rattle.lt_c.specs.Literals.{c_number}
 use Rattle.lt_c_step.proofs.Statements.{Told, guard_same}
 use Rattle.lt_c_step.proofs.Steps.{defined, fine_at, row_matches, store_matches, wide}
 
 -- the value that a value's number stands for
-back : (v : Value) (t : Ty) → ty_of v ≡ t → value_as (Some t) (number v) ≡ v
+back : (v : Value) (t : Ty) → ty_of v ≡ t → value_as (Some t) (c_number v) ≡ v
 back (Int z) IntTy h = refl
 back (Int z) BoolTy h = absurd (cc)
 back (Truth b) IntTy h = absurd (cc)
@@ -61,7 +61,7 @@ shown_cell ds y l env m k t d =
     go true e =
         let u = ty_there ds y l in
         let w = value_there (env y) u.0 (d y u.0 l u.1 e) in
-        let n : m (slot y) ≡ number w.0 = k y w.0 w.1 in
+        let n : m (slot y) ≡ c_number w.0 = k y w.0 w.1 in
         (λ i. Here (value_as (u.1 i) (n i))) ∙ ap Here (back w.0 u.0 w.2) ∙ ap here (sym w.1)
 
 map_back : {A B : Type 0} (g : A → B) (xs : List A) (x : A) → map g (xs ++ x ∷ []) ≡ map g xs ++ g x ∷ []
@@ -86,7 +86,7 @@ module _ (f : Function) (good : GoodFunction f) (flat : FlatFunction f) (typed :
   cells_shown m (row ∷ rows) fits y l =
       let slots = slots_after code (rows_of rows) in
       let env = at_instant code (map Some row) slots in
-      let store = at_row code row (store_after code m rows) in
+      let store = store_when_read code row (store_after code m rows) in
       let one = shown_cell f.decls y l env store
       (row_matches f good flat typed clocked order is row slots (store_after code m rows) (store_matches f good flat typed clocked order is m rows fits.1))
       (fine_at f good flat typed clocked order is row rows fits y)

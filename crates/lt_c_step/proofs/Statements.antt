@@ -11,10 +11,10 @@ use Rattle.lt_norm.specs.Flat.{Direct}
 use Rattle.lt_step.specs.Code.{LetForm, KeepForm}
 use Rattle.lt_step.specs.Run.{operand_value, slot_updated, after_let, after_lets, after_keep, after_keeps, first_slots}
 use Rattle.lt_c.specs.Tree.{slot, Statement, assign}
-use Rattle.lt_c.specs.Meaning.{Store, truth_of, of_truth, is_as, holds, stored, after}
+use Rattle.lt_c.specs.Meaning.{Store, c_truth_of, of_truth, is_as, holds, stored, store_left}
 use Rattle.lt_c.specs.Meaning as c
 use Rattle.lt_c_step.specs.Translate.{of_expression, under, of_let, of_keep, of_lets, of_keeps, of_firsts}
-use Rattle.lt_c.specs.Literals.{of_value, number}
+use Rattle.lt_c.specs.Literals.{of_value, c_number}
 use Rattle.lt_c_step.specs.Laws.{Matches}
 use Rattle.lt_c.proofs.Literal.{literal_number}
 use Rattle.lt_c_step.proofs.Values.{value_agrees}
@@ -22,10 +22,10 @@ use Rattle.lt_c_step.proofs.Values.{value_agrees}
 -- ---- conditions
 
 asks : (env : Environment) (m : Store) → Matches env m → (x : ℕ) (b : Bool) → (o : Option Value) → env x ≡ o → is_truth o b ≡ true → is_as (m (slot x)) b ≡ true
-asks env m k x true (Some (Truth true)) e h = ap truth_of (k x (Truth true) e)
+asks env m k x true (Some (Truth true)) e h = ap c_truth_of (k x (Truth true) e)
 asks env m k x true (Some (Truth false)) e h = absurd (cc)
 asks env m k x false (Some (Truth true)) e h = absurd (cc)
-asks env m k x false (Some (Truth false)) e h = ap (λ z. not (truth_of z)) (k x (Truth false) e)
+asks env m k x false (Some (Truth false)) e h = ap (λ z. not (c_truth_of z)) (k x (Truth false) e)
 asks env m k x b (Some (Int n)) e h = absurd (cc)
 asks env m k x b None e h = absurd (cc)
 
@@ -67,10 +67,10 @@ guard_same env m k ((c, b) ∷ ck) t = go (guard_same env m k ck t.0) (present e
 -- ---- one variable is written
 
 -- a slot that gets a value, and a store in which the variable gets its number
-pub matches_updated : (env : Environment) (m : Store) → Matches env m → (s : ℕ) (o : Option Value) (z : ℤ) → ((v : Value) → o ≡ Some v → z ≡ number v) → Matches (slot_updated env s o) (stored m (slot s) z)
+pub matches_updated : (env : Environment) (m : Store) → Matches env m → (s : ℕ) (o : Option Value) (z : ℤ) → ((v : Value) → o ≡ Some v → z ≡ c_number v) → Matches (slot_updated env s o) (stored m (slot s) z)
 matches_updated env m k s o z f x v h = go (nat_eq x s) refl
   where
-    go : (b : Bool) → nat_eq x s ≡ b → stored m (slot s) z (slot x) ≡ number v
+    go : (b : Bool) → nat_eq x s ≡ b → stored m (slot s) z (slot x) ≡ c_number v
     go true e =
         ap (λ (b : Bool). if b then z else m (slot x)) e
         ∙ f v (sym (ap (λ (b : Bool). if b then o else env x) e) ∙ h)
@@ -82,7 +82,7 @@ matches_updated env m k s o z f x v h = go (nat_eq x s) refl
 pub matches_dropped : (env : Environment) (m : Store) → Matches env m → (s : ℕ) → Matches (slot_updated env s None) m
 matches_dropped env m k s x v h = go (nat_eq x s) refl
   where
-    go : (b : Bool) → nat_eq x s ≡ b → m (slot x) ≡ number v
+    go : (b : Bool) → nat_eq x s ≡ b → m (slot x) ≡ c_number v
     go true e = let n : None ≡ Some v = sym (ap (λ (b : Bool). if b then None else env x) e) ∙ h in absurd (cc)
     go false e = k x v (sym (ap (λ (b : Bool). if b then None else env x) e) ∙ h)
 
@@ -103,7 +103,7 @@ matches_stays env m k s x v h = k x v (sym (same x) ∙ h)
 -- ---- a statement under a guard
 
 -- what a statement under a guard leaves, by whether its conditions hold
-pub under_leaves : (ck : ClockPairs) (s : Statement) (m : Store) → after (under ck s) m ≡ (if holds m ck then after s m else m)
+pub under_leaves : (ck : ClockPairs) (s : Statement) (m : Store) → store_left (under ck s) m ≡ (if holds m ck then store_left s m else m)
 under_leaves [] s m = refl
 under_leaves (p ∷ ck) s m = refl
 
@@ -114,7 +114,7 @@ module _ (env : Environment) (m : Store) (k : Matches env m) where
   let_by l d false true a b f = matches_lost env m k l.slot (c.value m (of_expression l.operand))
   let_by l d false false a b f = matches_dropped env m k l.slot
 
-  pub let_matches : (l : LetForm) → Direct l.operand → Matches (after_let l env) (after (of_let l) m)
+  pub let_matches : (l : LetForm) → Direct l.operand → Matches (after_let l env) (store_left (of_let l) m)
   let_matches l d =
       subst (Matches (after_let l env)) (sym (under_leaves l.guard (assign (slot l.slot) (of_expression l.operand)) m))
       (let_by l d (present env l.guard) (holds m l.guard) refl refl (guard_holds env m k l.guard))
@@ -125,32 +125,32 @@ module _ (env : Environment) (m : Store) (k : Matches env m) where
   keep_by l d false true a b f = let h : true ≡ false = f in absurd (cc)
   keep_by l d false false a b f = matches_stays env m k l.slot
 
-  pub keep_matches : (l : KeepForm) → Direct l.operand → Told env l.guard → Matches (after_keep l env) (after (of_keep l) m)
+  pub keep_matches : (l : KeepForm) → Direct l.operand → Told env l.guard → Matches (after_keep l env) (store_left (of_keep l) m)
   keep_matches l d t =
       subst (Matches (after_keep l env)) (sym (under_leaves l.guard (assign (slot l.slot) (of_expression l.operand)) m))
       (keep_by l d (present env l.guard) (holds m l.guard) refl refl (guard_same env m k l.guard t))
 
 -- ---- lists of them
 
-pub lets_match : (ls : List LetForm) (env : Environment) (m : Store) → Matches env m → AllByRecursion (λ l. Direct l.operand) ls → Matches (after_lets ls env) (after (of_lets ls) m)
+pub lets_match : (ls : List LetForm) (env : Environment) (m : Store) → Matches env m → AllByRecursion (λ l. Direct l.operand) ls → Matches (after_lets ls env) (store_left (of_lets ls) m)
 lets_match [] env m k d = k
-lets_match (l ∷ ls) env m k d = lets_match ls (after_let l env) (after (of_let l) m) (let_matches env m k l d.0) d.1
+lets_match (l ∷ ls) env m k d = lets_match ls (after_let l env) (store_left (of_let l) m) (let_matches env m k l d.0) d.1
 
 -- each guard is told in the slots that its keep finds
 abbrev pub AllTold : List KeepForm → Environment → Type 0
 AllTold [] env = Unit {0}
 AllTold (k ∷ ks) env = Told env k.guard × AllTold ks (after_keep k env)
 
-pub keeps_match : (ks : List KeepForm) (env : Environment) (m : Store) → Matches env m → AllByRecursion (λ k. Direct k.operand) ks → AllTold ks env → Matches (after_keeps ks env) (after (of_keeps ks) m)
+pub keeps_match : (ks : List KeepForm) (env : Environment) (m : Store) → Matches env m → AllByRecursion (λ k. Direct k.operand) ks → AllTold ks env → Matches (after_keeps ks env) (store_left (of_keeps ks) m)
 keeps_match [] env m k d t = k
-keeps_match (l ∷ ls) env m k d t = keeps_match ls (after_keep l env) (after (of_keep l) m) (keep_matches env m k l d.0 t.0) d.1 t.1
+keeps_match (l ∷ ls) env m k d t = keeps_match ls (after_keep l env) (store_left (of_keep l) m) (keep_matches env m k l d.0 t.0) d.1 t.1
 
 abbrev the : Value → Option Value → Value
 the d None = d
 the d (Some v) = v
 
-pub firsts_match : (ks : List KeepForm) (env : Environment) (m : Store) → Matches env m → Matches (first_slots ks env) (after (of_firsts ks) m)
+pub firsts_match : (ks : List KeepForm) (env : Environment) (m : Store) → Matches env m → Matches (first_slots ks env) (store_left (of_firsts ks) m)
 firsts_match [] env m k = k
 firsts_match (l ∷ ls) env m k =
     firsts_match ls (slot_updated env l.slot (Some l.first)) (stored m (slot l.slot) (c.value m (of_value l.first)))
-    (matches_updated env m k l.slot (Some l.first) (c.value m (of_value l.first)) (λ v h. literal_number m l.first ∙ ap number (ap (the l.first) h)))
+    (matches_updated env m k l.slot (Some l.first) (c.value m (of_value l.first)) (λ v h. literal_number m l.first ∙ ap c_number (ap (the l.first) h)))

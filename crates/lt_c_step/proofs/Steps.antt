@@ -34,8 +34,8 @@ use Rattle.lt_step.proofs.Slotted.{good_code}
 use Rattle.lt_step.proofs.Solved.{Wide, solves}
 use Rattle.lt_c.specs.Tree.{slot}
 use Rattle.lt_c.specs.Meaning.{Store}
-use Rattle.lt_c_step.specs.Laws.{Matches, with_inputs, at_row, store_after}
-use Rattle.lt_c.specs.Literals.{number}
+use Rattle.lt_c_step.specs.Laws.{Matches, with_inputs, store_when_read, store_after}
+use Rattle.lt_c.specs.Literals.{c_number}
 use Rattle.lt_c_step.proofs.Statements.{Told, AllTold, lets_match, keeps_match, firsts_match}
 
 -- ---- what follows of the types and clocks
@@ -146,9 +146,9 @@ abbrev the : Value → Option Value → Value
 the d None = d
 the d (Some v) = v
 
-entry_number : (row : List Value) (x : ℕ) (v : Value) → entry (map Some row) x ≡ Some v → number (slice_index_or row x (Truth false)) ≡ number v
+entry_number : (row : List Value) (x : ℕ) (v : Value) → entry (map Some row) x ≡ Some v → c_number (slice_index_or row x (Truth false)) ≡ c_number v
 entry_number [] x v h = absurd (cc)
-entry_number (w ∷ row) zero v h = ap number (ap (the w) h)
+entry_number (w ∷ row) zero v h = ap c_number (ap (the w) h)
 entry_number (w ∷ row) (suc x) v h = entry_number row x v h
 
 inputs_match : (row : List Value) (env : Environment) (m : Store) → Matches env m → Matches (with_row (map Some row) env) (with_inputs row m)
@@ -157,12 +157,12 @@ inputs_match row env m k x v h = go (nat_lt x (length row)) refl
     same : length (map Some row) ≡ length row
     same = length-map row Some
 
-    go : (b : Bool) → nat_lt x (length row) ≡ b → with_inputs row m (slot x) ≡ number v
+    go : (b : Bool) → nat_lt x (length row) ≡ b → with_inputs row m (slot x) ≡ c_number v
     go true e =
-        ap (λ (b : Bool). if b then number (slice_index_or row x (Truth false)) else m (slot x)) e
+        ap (λ (b : Bool). if b then c_number (slice_index_or row x (Truth false)) else m (slot x)) e
         ∙ entry_number row x v (sym (ap (λ (b : Bool). if b then entry (map Some row) x else env x) (ap (nat_lt x) same ∙ e)) ∙ h)
     go false e =
-        ap (λ (b : Bool). if b then number (slice_index_or row x (Truth false)) else m (slot x)) e
+        ap (λ (b : Bool). if b then c_number (slice_index_or row x (Truth false)) else m (slot x)) e
         ∙ k x v (sym (ap (λ (b : Bool). if b then entry (map Some row) x else env x) (ap (nat_lt x) same ∙ e)) ∙ h)
 
 -- ---- instants
@@ -206,7 +206,7 @@ module _ (f : Function) (good : GoodFunction f) (flat : FlatFunction f) (typed :
   own_keeps = keeps_direct code.slots code.keeps (recursion_from_All (GoodKeep code.slots) code.keeps (good_code f good flat order).keeps)
 
   -- when the outputs are read
-  pub row_matches : (row : List Value) (env : Environment) (m : Store) → Matches env m → Matches (at_instant code (map Some row) env) (at_row code row m)
+  pub row_matches : (row : List Value) (env : Environment) (m : Store) → Matches env m → Matches (at_instant code (map Some row) env) (store_when_read code row m)
   row_matches row env m k = lets_match code.lets (with_row (map Some row) env) (with_inputs row m) (inputs_match row env m k) own_lets
 
   -- after the instants of these rows
@@ -214,7 +214,7 @@ module _ (f : Function) (good : GoodFunction f) (flat : FlatFunction f) (typed :
   store_matches m [] fits = firsts_match code.keeps (λ _. None) m (λ x v h. absurd (cc))
   store_matches m (row ∷ rows) fits =
       let env = slots_after code (rows_of rows) in
-      keeps_match code.keeps (at_instant code (map Some row) env) (at_row code row (store_after code m rows))
+      keeps_match code.keeps (at_instant code (map Some row) env) (store_when_read code row (store_after code m rows))
       (row_matches row env (store_after code m rows) (store_matches m rows fits.1))
       own_keeps
       (all_told f good flat (in_order f.eqs order) (length f.decls) (omega arith) (at_instant code (map Some row) env) (fine_at row rows fits))

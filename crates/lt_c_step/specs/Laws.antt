@@ -14,36 +14,36 @@ use Rattle.lt_base.specs.Behaviour.{RowsFit}
 use Rattle.lt_step.specs.Code.{StepCode}
 use Rattle.lt_step.specs.Compile.{CodeOf}
 use Rattle.lt_c.specs.Tree.{slot}
-use Rattle.lt_c.specs.Meaning.{Store, truth_of, holds, after}
-use Rattle.lt_c.specs.Literals.{number}
+use Rattle.lt_c.specs.Meaning.{Store, c_truth_of, holds, store_left}
+use Rattle.lt_c.specs.Literals.{c_number}
 use Rattle.lt_c_step.specs.Translate.{of_lets, of_keeps, of_firsts}
 
 -- wherever the slots have a value, the store has it
 abbrev pub Matches : Environment → Store → Type 0
-Matches env m = (x : ℕ) (v : Value) → env x ≡ Some v → m (slot x) ≡ number v
+Matches env m = (x : ℕ) (v : Value) → env x ≡ Some v → m (slot x) ≡ c_number v
 
 -- the inputs' numbers in the first variables
 abbrev pub with_inputs : List Value → Store → Store
-with_inputs row m (slot x) = if nat_lt x (length row) then number (slice_index_or row x (Truth false)) else m (slot x)
+with_inputs row m (slot x) = if nat_lt x (length row) then c_number (slice_index_or row x (Truth false)) else m (slot x)
 with_inputs row m p = m p
 
 -- the store at an instant, when the outputs are read
-abbrev pub at_row : StepCode → List Value → Store → Store
-at_row c row m = after (of_lets c.lets) (with_inputs row m)
+abbrev pub store_when_read : StepCode → List Value → Store → Store
+store_when_read c row m = store_left (of_lets c.lets) (with_inputs row m)
 
 -- the store after the instants of these rows, newest first, from what the file begins with
 abbrev pub store_after : StepCode → Store → List (List Value) → Store
-store_after c m [] = after (of_firsts c.keeps) m
-store_after c m (row ∷ rows) = after (of_keeps c.keeps) (at_row c row (store_after c m rows))
+store_after c m [] = store_left (of_firsts c.keeps) m
+store_after c m (row ∷ rows) = store_left (of_keeps c.keeps) (store_when_read c row (store_after c m rows))
 
 -- the stores at the instants of these rows, newest first, when the outputs are read
 abbrev pub stores : StepCode → Store → List (List Value) → List Store
 stores c m [] = []
-stores c m (row ∷ rows) = at_row c row (store_after c m rows) ∷ stores c m rows
+stores c m (row ∷ rows) = store_when_read c row (store_after c m rows) ∷ stores c m rows
 
 -- the value of a type that a number stands for
 abbrev pub value_as : Option Ty → ℤ → Value
-value_as (Some BoolTy) z = Truth (truth_of z)
+value_as (Some BoolTy) z = Truth (c_truth_of z)
 value_as (Some IntTy) z = Int z
 value_as None z = Int z
 

@@ -11,36 +11,36 @@ use Rattle.lt_c_step.specs.declared.sources.Output.{Output}
 use Rattle.lt_step.specs.Code.{StepCode}
 use Rattle.lt_step.specs.Run.{at_instant, slots_after}
 use Rattle.lt_step.specs.Compile.{CodeOf}
-use Rattle.lt_c.specs.Tree.{Place, slot, payload, input, output, has, o_and, Tree, c_truth, c_var, c_not, c_join, Statement, assign, both, nothing}
-use Rattle.lt_c.specs.Meaning.{Store, truth_of, holds, after, WritesStep}
+use Rattle.lt_c.specs.Tree.{CVariable, slot, payload, input, output, has, o_and, Tree, c_truth, c_var, c_not, c_join, Statement, assign, both, nothing}
+use Rattle.lt_c.specs.Meaning.{Store, c_truth_of, holds, store_left, WritesStep}
 use Rattle.lt_c_step.specs.Translate.{of_lets, of_keeps}
 use Rattle.lt_c_step.specs.Laws.{Matches, shown}
-use Rattle.lt_c.specs.Literals.{number}
+use Rattle.lt_c.specs.Literals.{c_number}
 
 -- the variable from which an input of a part comes
-abbrev pub place_of : Source → Place
-place_of (Given i) = input i
-place_of (Arrived j k) = payload j k
+abbrev pub source_variable : Source → CVariable
+source_variable (Given i) = input i
+source_variable (Arrived j k) = payload j k
 
 -- the inputs from number x on are fed
 abbrev pub feeding : ℕ → List Source → Statement
 feeding x [] = nothing
-feeding x (s ∷ ss) = both (assign (slot x) (c_var (place_of s))) (feeding (suc x) ss)
+feeding x (s ∷ ss) = both (assign (slot x) (c_var (source_variable s))) (feeding (suc x) ss)
 
 -- a condition, and whether all conditions of a clock hold
 abbrev pub of_condition : ℕ → Bool → Tree
 of_condition c true = c_var (slot c)
 of_condition c false = c_not (c_var (slot c))
 
-abbrev pub of_clock : ClockPairs → Tree
-of_clock [] = c_truth true
-of_clock ((c, b) ∷ []) = of_condition c b
-of_clock ((c, b) ∷ p ∷ ck) = c_join o_and (of_clock (p ∷ ck)) (of_condition c b)
+abbrev pub clock_tree : ClockPairs → Tree
+clock_tree [] = c_truth true
+clock_tree ((c, b) ∷ []) = of_condition c b
+clock_tree ((c, b) ∷ p ∷ ck) = c_join o_and (clock_tree (p ∷ ck)) (of_condition c b)
 
 -- whether an output has a value is told where it need not have one
 abbrev pub telling : ℕ → ClockPairs → Statement
 telling y [] = nothing
-telling y (p ∷ ck) = assign (has y) (of_clock (p ∷ ck))
+telling y (p ∷ ck) = assign (has y) (clock_tree (p ∷ ck))
 
 -- the outputs show their slots
 abbrev pub showing : List Output → Statement
@@ -59,17 +59,17 @@ abbrev pub Offers : Store → List Source → List Value → Type 0
 Offers m [] [] = Unit {0}
 Offers m [] (v ∷ vs) = ⊥
 Offers m (s ∷ ss) [] = ⊥
-Offers m (s ∷ ss) (v ∷ vs) = (m (place_of s) ≡ number v) × Offers m ss vs
+Offers m (s ∷ ss) (v ∷ vs) = (m (source_variable s) ≡ c_number v) × Offers m ss vs
 
 -- the clock has conditions
-abbrev pub IsTimed : ClockPairs → Type 0
-IsTimed [] = ⊥
-IsTimed (p ∷ ck) = Unit {0}
+abbrev pub HasConditions : ClockPairs → Type 0
+HasConditions [] = ⊥
+HasConditions (p ∷ ck) = Unit {0}
 
 -- the output has the number of its slot in another store, and is told to have a value where its clock's conditions hold there
 pub record ShowsSlot (new old : Store) (o : Output) : Type 0 where
   pub value_is : new (output o.output_number) ≡ old (slot o.from_slot)
-  pub told : IsTimed o.guard → truth_of (new (has o.output_number)) ≡ holds old o.guard
+  pub told : HasConditions o.guard → c_truth_of (new (has o.output_number)) ≡ holds old o.guard
 
 -- outputs that differ in their numbers
 abbrev pub Differ : List Output → Type 0
@@ -78,15 +78,15 @@ Differ (o ∷ os) = AllByRecursion (λ p. nat_eq o.output_number p.output_number
 
 -- one execution: a store that has the slots after some instants, and offers the values of a row, has the slots after one more; before the
 -- outputs are read a variable shows its cell, and each output is what its slot was then
-pub record Executes (f : Function) (c : StepCode) (ss : List Source) (os : List Output) (rows : List (List Value)) (row : List Value) (m : Store) : Type 0 where
-  pub matches : Matches (slots_after c (map (map Some) (row ∷ rows))) (after (part_step ss os c) m)
-  pub shows : (y : ℕ) → y < length f.decls → shown f.decls y (after (before_outputs ss c) m) ≡ cell (at_instant c (map Some row) (slots_after c (map (map Some) rows))) (clock_of f.decls y) y
-  pub gives : AllByRecursion (ShowsSlot (after (part_step ss os c) m) (after (before_outputs ss c) m)) os
+pub record ExecutesPart (f : Function) (c : StepCode) (ss : List Source) (os : List Output) (rows : List (List Value)) (row : List Value) (m : Store) : Type 0 where
+  pub matches : Matches (slots_after c (map (map Some) (row ∷ rows))) (store_left (part_step ss os c) m)
+  pub shows : (y : ℕ) → y < length f.decls → shown f.decls y (store_left (before_outputs ss c) m) ≡ cell (at_instant c (map Some row) (slots_after c (map (map Some) rows))) (clock_of f.decls y) y
+  pub gives : AllByRecursion (ShowsSlot (store_left (part_step ss os c) m) (store_left (before_outputs ss c) m)) os
 
 abbrev pub PartsExecute : Type 0
 PartsExecute =
     (f : Function) (c : StepCode) → CodeOf f c → (ss : List Source) (os : List Output) → Differ os → (rows : List (List Value)) (row : List Value) → AllFit (input_types f) (map (map Some) (row ∷ rows)) → (m : Store)
-    → Matches (slots_after c (map (map Some) rows)) m → Offers m ss row → Executes f c ss os rows row m
+    → Matches (slots_after c (map (map Some) rows)) m → Offers m ss row → ExecutesPart f c ss os rows row m
 
 -- and it writes nothing but slots and outputs
 abbrev pub PartsWriteSlots : Type 0

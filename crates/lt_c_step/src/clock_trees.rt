@@ -2,7 +2,7 @@
 
 ghost use Rattle.std.specs.Prelude.{◌≡◌, IfOk, reverse};
 ghost use Rattle.lt_c.specs.Views.{tree_of};
-ghost use Rattle.lt_c_step.specs.Part.{of_condition, of_clock};
+ghost use Rattle.lt_c_step.specs.Part.{of_condition, clock_tree};
 ghost use Rattle.lt_c_step.specs.Written.{next_clock};
 
 use lt_base::{Clock, Memory};
@@ -38,7 +38,7 @@ fn next_condition(
 }
 
 fn joined(alloc: Global, steps: &[(u32, bool)]) -> Result<Expression, Memory>
-    ensures { IfOk result (λ e. tree_of e ≡ of_clock (reverse steps.now)) }
+    ensures { IfOk result (λ e. tree_of e ≡ clock_tree (reverse steps.now)) }
 {
     let mut all = Expression::Truth(true);
     'steps: for (i, pair) in steps.iter().enumerate() {
@@ -53,7 +53,7 @@ fn joined(alloc: Global, steps: &[(u32, bool)]) -> Result<Expression, Memory>
 ///
 /// When memory is short.
 pub fn clock_expression(alloc: Global, clock: &Clock) -> Result<Expression, Memory>
-    ensures { IfOk result (λ e. tree_of e ≡ of_clock clock.now) }
+    ensures { IfOk result (λ e. tree_of e ≡ clock_tree clock.now) }
 {
     joined(alloc, clock.steps.as_slice())
 }

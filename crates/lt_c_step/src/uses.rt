@@ -2,7 +2,7 @@
 
 ghost use Rattle.std.specs.Prelude.{◌≡◌};
 ghost use Rattle.lt_c.specs.Literals.{of_value};
-ghost use Rattle.lt_c.specs.Uses.{calling, calls_in, statement_calls};
+ghost use Rattle.lt_c.specs.Uses.{calling, calls_of_tree, statement_calls};
 ghost use Rattle.lt_step.specs.Operand.{expression};
 ghost use Rattle.lt_c_step.specs.Translate.{of_imported, of_expression, of_lets, of_keeps};
 ghost use Rattle.lt_c_step.specs.Written.{unary_calls, binary_calls};
@@ -12,7 +12,7 @@ use lt_c::{Calls, Function, calling, calls_and, negating, no_calls};
 use lt_step::{Keep, Let, Operand};
 
 fn literal_calls(v: Value) -> Calls
-    ensures { result ≡ calls_in (of_value v) }
+    ensures { result ≡ calls_of_tree (of_value v) }
 {
     match v {
         Value::Int(_) | Value::Bool(_) => no_calls(),
@@ -56,7 +56,7 @@ fn imported_calls(op: Imp) -> Calls
 /// The calls in an operand.
 #[tactic(auto, using(crate::proofs::Calling::binary_calls_are, crate::proofs::Calling::unary_calls_are))]
 pub fn operand_calls(e: &Operand) -> Calls
-    ensures { result ≡ calls_in (of_expression (expression e.now)) }
+    ensures { result ≡ calls_of_tree (of_expression (expression e.now)) }
 {
     match e {
         Operand::Lit(v) => literal_calls(*v),
@@ -84,13 +84,13 @@ pub fn operand_calls(e: &Operand) -> Calls
 
 // The calls in a let, and in a keep.
 fn let_calls(l: &Let) -> Calls
-    ensures { result ≡ calls_in (of_expression l.now.operand) }
+    ensures { result ≡ calls_of_tree (of_expression l.now.operand) }
 {
     operand_calls(&l.operand)
 }
 
 fn keep_calls(k: &Keep) -> Calls
-    ensures { result ≡ calls_in (of_expression k.now.operand) }
+    ensures { result ≡ calls_of_tree (of_expression k.now.operand) }
 {
     operand_calls(&k.operand)
 }

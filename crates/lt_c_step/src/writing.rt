@@ -3,7 +3,7 @@
 ghost use Rattle.std.specs.Prelude.{◌≡◌, ◌++◌, ◌<◌, OnOk, codes, reverse};
 ghost use Rattle.lt_step.specs.Operand.{expression};
 ghost use Rattle.lt_c.specs.Tree.{assign, slot as place};
-ghost use Rattle.lt_c.specs.Text.{spelled, text, condition_text, conditions_text, statement_text};
+ghost use Rattle.lt_c.specs.Text.{spelled, tree_text, condition_text, conditions_text, statement_text};
 ghost use Rattle.lt_c_step.specs.Written.{before_one, before_two, between, before_imported, and_before, conditions_so_far};
 ghost use Rattle.lt_c_step.specs.Translate.{of_expression, of_let, of_keep, of_lets, of_keeps, of_firsts, under};
 ghost use Rattle.lt_c.specs.Literals.{of_value};
@@ -77,7 +77,7 @@ fn chosen_by(out: &mut List<u8>, decls: &[Decl], c: u32) -> Result<(), Memory>
 
 // Appends a literal.
 fn literal(out: &mut List<u8>, decls: &[Decl], v: Value) -> Result<(), Memory>
-    ensures { OnOk result (out.new ≡ out.old ++ text (spelled decls.now) (of_value v)) }
+    ensures { OnOk result (out.new ≡ out.old ++ tree_text (spelled decls.now) (of_value v)) }
 {
     let _names = decls;
     value(out, v)
@@ -90,7 +90,7 @@ fn literal(out: &mut List<u8>, decls: &[Decl], v: Value) -> Result<(), Memory>
 /// When memory is short. What was appended till then stays: so it is with all writers of this crate.
 #[cycle(expression)]
 pub fn expression(out: &mut List<u8>, decls: &[Decl], e: &Operand) -> Result<(), Memory>
-    ensures { OnOk result (out.new ≡ out.old ++ text (spelled decls.now) (of_expression (expression e.now))) }
+    ensures { OnOk result (out.new ≡ out.old ++ tree_text (spelled decls.now) (of_expression (expression e.now))) }
 {
     match e {
         Operand::Lit(v) => literal(out, decls, *v),
@@ -128,7 +128,7 @@ pub fn expression(out: &mut List<u8>, decls: &[Decl], e: &Operand) -> Result<(),
 // Appends a text, and behind it an operand.
 #[cycle(expression)]
 fn shown_after(out: &mut List<u8>, decls: &[Decl], before: &[u8], e: &Operand) -> Result<(), Memory>
-    ensures { OnOk result (out.new ≡ out.old ++ (before.now ++ text (spelled decls.now) (of_expression (expression e.now)))) }
+    ensures { OnOk result (out.new ≡ out.old ++ (before.now ++ tree_text (spelled decls.now) (of_expression (expression e.now)))) }
 {
     out.extend(before)?;
     expression(out, decls, e)

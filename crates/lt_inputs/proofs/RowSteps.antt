@@ -4,7 +4,7 @@ use Rattle.lt_base.specs.declared.function.Decl.{Decl}
 use Rattle.lt_base.specs.declared.value.Value.{Value}
 use Rattle.lt_base.specs.Digits.{number_of, up_to}
 use Rattle.lt_inputs.specs.Fields.{field_value}
-use Rattle.lt_inputs.specs.Inputs.{is_text, is_this_number, with_value, values_of, or_no_value, instant_and_values, row_of}
+use Rattle.lt_inputs.specs.Inputs.{is_text, is_this_number, with_value, field_values, or_no_value, instant_and_values, row_of}
 use Rattle.lt_inputs.specs.declared.fault.InputKind.{InputKind}
 use Rattle.lt_inputs.specs.declared.fault.InputKind.TheVariants.{NotCsv, Instant, TooMany}
 use Rattle.lt_inputs.proofs.TextLemmas.{reads-text}
@@ -51,11 +51,11 @@ pub front-more : (acc : List Value) (v : Value) (o : Option (List Value)) → fr
 front-more acc v None = refl
 front-more acc v (Some vs) = ap Some (sym (append_assoc acc (v ∷ []) vs))
 
-pub values-next : (d : Decl) (ds : List Decl) (f : List ℕ) (fs : List (List ℕ)) → values_of (d ∷ ds) (f ∷ fs) ≡ with_value (field_value d.ty f) (values_of ds fs)
+pub values-next : (d : Decl) (ds : List Decl) (f : List ℕ) (fs : List (List ℕ)) → field_values (d ∷ ds) (f ∷ fs) ≡ with_value (field_value d.ty f) (field_values ds fs)
 values-next d ds f fs = refl
 
 pub read-by_cases : (ins : List Decl) (k : ℕ) (fields : List (List ℕ)) → 0 < length fields
-    → instant_and_values ins k fields ≡ (if is_this_number k (number_of (get_or fields 0 [])) then or_no_value (values_of ins (drop 1 fields)) else Err Instant)
+    → instant_and_values ins k fields ≡ (if is_this_number k (number_of (get_or fields 0 [])) then or_no_value (field_values ins (drop 1 fields)) else Err Instant)
 read-by_cases ins k [] h = absurd (omega arith)
 read-by_cases ins k (f ∷ fs) h = refl
 

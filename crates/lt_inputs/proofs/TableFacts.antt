@@ -16,7 +16,7 @@ use Rattle.lt_base.specs.Behaviour.{RowsFit}
 use Rattle.lt_base.specs.Digits.{number_of}
 use Rattle.lt_inputs.specs.Fields.{field_value, int_of, bool_of}
 use Rattle.lt_base.specs.Limits.{most_rows}
-use Rattle.lt_inputs.specs.Inputs.{inputs_in, inputs_of, input_table_of, input_rows_of, input_rows_from, row_of, then_rows, with_value, values_of, or_no_value, instant_and_values, is_this_number, is_text, same_fields, header_of, at_header}
+use Rattle.lt_inputs.specs.Inputs.{inputs_in, inputs_of, input_table_of, input_rows_of, input_rows_from, row_of, then_rows, with_value, field_values, or_no_value, instant_and_values, is_this_number, is_text, same_fields, header_of, at_header}
 use Rattle.lt_inputs.specs.Told.{ToldWanted}
 use Rattle.lt_inputs.specs.declared.fault.InputFault.{InputFault}
 use Rattle.lt_inputs.specs.declared.fault.InputKind.{InputKind}
@@ -43,14 +43,14 @@ Fitting ds vs = RowFits (map (λ d. d.ty) ds) (map Some vs) × (length vs ≡ le
 some-values : {us vs : List Value} → Some us ≡ Some vs → us ≡ vs
 some-values e = cc
 
-values-fit : (ds : List Decl) (fields : List (List ℕ)) (vs : List Value) → values_of ds fields ≡ Some vs → Fitting ds vs
+values-fit : (ds : List Decl) (fields : List (List ℕ)) (vs : List Value) → field_values ds fields ≡ Some vs → Fitting ds vs
 values-fit [] [] vs e = subst (Fitting []) (some-values e) (tt, refl)
 values-fit [] (f ∷ fs) vs e = cc
 values-fit (d ∷ ds) [] vs e = cc
-values-fit (d ∷ ds) (f ∷ fs) vs e = by (field_value d.ty f) refl (values_of ds fs) refl e (λ us. values-fit ds fs us)
+values-fit (d ∷ ds) (f ∷ fs) vs e = by (field_value d.ty f) refl (field_values ds fs) refl e (λ us. values-fit ds fs us)
   where
-    by : (o : Option Value) → field_value d.ty f ≡ o → (p : Option (List Value)) → values_of ds fs ≡ p → with_value o p ≡ Some vs
-        → ((us : List Value) → values_of ds fs ≡ Some us → Fitting ds us) → Fitting (d ∷ ds) vs
+    by : (o : Option Value) → field_value d.ty f ≡ o → (p : Option (List Value)) → field_values ds fs ≡ p → with_value o p ≡ Some vs
+        → ((us : List Value) → field_values ds fs ≡ Some us → Fitting ds us) → Fitting (d ∷ ds) vs
     by None is p more g rest = cc
     by (Some v) is None more g rest = cc
     by (Some v) is (Some us) more g rest =
@@ -61,9 +61,9 @@ values-fit (d ∷ ds) (f ∷ fs) vs e = by (field_value d.ty f) refl (values_of 
 
 read-values : (ins : List Decl) (k : ℕ) (fields : List (List ℕ)) (vs : List Value) → instant_and_values ins k fields ≡ Ok vs → Fitting ins vs
 read-values ins k [] vs e = cc
-read-values ins k (f ∷ fs) vs e = by (is_this_number k (number_of f)) (values_of ins fs) refl e
+read-values ins k (f ∷ fs) vs e = by (is_this_number k (number_of f)) (field_values ins fs) refl e
   where
-    by : (b : Bool) (p : Option (List Value)) → values_of ins fs ≡ p → (if b then or_no_value p else Err Instant) ≡ Ok vs → Fitting ins vs
+    by : (b : Bool) (p : Option (List Value)) → field_values ins fs ≡ p → (if b then or_no_value p else Err Instant) ≡ Ok vs → Fitting ins vs
     by false p is g = cc
     by true None is g = cc
     by true (Some us) is g = let h : us ≡ vs = cc in values-fit ins fs vs (is ∙ ap Some h)

@@ -11,7 +11,7 @@ use Rattle.lt_base.specs.declared.value.Value.{Value}
 use Rattle.lt_base.specs.declared.value.Value.TheVariants.{Int, Bool as Truth}
 use Rattle.lt_base.specs.Digits.{is_digit, all_digits, read_on, number_of, up_to}
 use Rattle.lt_inputs.specs.Fields.{int_of, bool_of, field_value}
-use Rattle.lt_inputs.specs.Inputs.{is_text, is_this_number, with_value, values_of, or_no_value, instant_and_values}
+use Rattle.lt_inputs.specs.Inputs.{is_text, is_this_number, with_value, field_values, or_no_value, instant_and_values}
 use Rattle.lt_inputs.specs.declared.fault.InputKind.TheVariants.{Instant}
 
 -- an optional result that exists, of a test
@@ -96,14 +96,14 @@ value-text ty.Bool field v e = let (b, is) = mapped Truth (bool_of field) v e in
 both : (a b : Bool) → a ≡ true → b ≡ true → (a && b) ≡ true
 both a b h g = rw (h, g) refl
 
-values-text : (ds : List Decl) (fields : List (List ℕ)) (vs : List Value) → values_of ds fields ≡ Some vs → is_text fields ≡ true
+values-text : (ds : List Decl) (fields : List (List ℕ)) (vs : List Value) → field_values ds fields ≡ Some vs → is_text fields ≡ true
 values-text [] [] vs e = refl
 values-text [] (f ∷ fs) vs e = cc
 values-text (d ∷ ds) [] vs e = refl
-values-text (d ∷ ds) (f ∷ fs) vs e = by (field_value d.ty f) refl (values_of ds fs) refl e (λ us. values-text ds fs us)
+values-text (d ∷ ds) (f ∷ fs) vs e = by (field_value d.ty f) refl (field_values ds fs) refl e (λ us. values-text ds fs us)
   where
-    by : (o : Option Value) → field_value d.ty f ≡ o → (p : Option (List Value)) → values_of ds fs ≡ p → with_value o p ≡ Some vs
-        → ((us : List Value) → values_of ds fs ≡ Some us → is_text fs ≡ true) → is_text (f ∷ fs) ≡ true
+    by : (o : Option Value) → field_value d.ty f ≡ o → (p : Option (List Value)) → field_values ds fs ≡ p → with_value o p ≡ Some vs
+        → ((us : List Value) → field_values ds fs ≡ Some us → is_text fs ≡ true) → is_text (f ∷ fs) ≡ true
     by None is p more g rest = cc
     by (Some v) is None more g rest = cc
     by (Some v) is (Some us) more g rest = both (is_utf8 f) (is_text fs) (value-text d.ty f v is) (rest us more)
@@ -111,14 +111,14 @@ values-text (d ∷ ds) (f ∷ fs) vs e = by (field_value d.ty f) refl (values_of
 -- a record that reads as an instant and values is text
 pub reads-text : (ds : List Decl) (k : ℕ) (fields : List (List ℕ)) (vs : List Value) → instant_and_values ds k fields ≡ Ok vs → is_text fields ≡ true
 reads-text ds k [] vs e = refl
-reads-text ds k (f ∷ fs) vs e = by (number_of f) refl (values_of ds fs) refl e
+reads-text ds k (f ∷ fs) vs e = by (number_of f) refl (field_values ds fs) refl e
   where
-    values : (b : Bool) (p : Option (List Value)) → values_of ds fs ≡ p → (if b then or_no_value p else Err Instant) ≡ Ok vs → is_text fs ≡ true
+    values : (b : Bool) (p : Option (List Value)) → field_values ds fs ≡ p → (if b then or_no_value p else Err Instant) ≡ Ok vs → is_text fs ≡ true
     values false p is g = cc
     values true None is g = cc
     values true (Some us) is g = values-text ds fs us is
 
-    by : (o : Option ℕ) → number_of f ≡ o → (p : Option (List Value)) → values_of ds fs ≡ p
+    by : (o : Option ℕ) → number_of f ≡ o → (p : Option (List Value)) → field_values ds fs ≡ p
         → (if is_this_number k o then or_no_value p else Err Instant) ≡ Ok vs → is_text (f ∷ fs) ≡ true
     by None is p more g = cc
     by (Some n) is p more g = both (is_utf8 f) (is_text fs) (ascii-text f (number-ascii f n is)) (values (is_this_number k (Some n)) p more g)

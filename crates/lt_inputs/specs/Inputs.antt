@@ -28,11 +28,11 @@ with_value None others = None
 with_value (Some v) others = option_map (λ vs. v ∷ vs) others
 
 -- one value for each input, of the input's type
-abbrev pub values_of : List Decl → List (List ℕ) → Option (List Value)
-values_of [] [] = Some []
-values_of [] (field ∷ fields) = None
-values_of (d ∷ ds) [] = None
-values_of (d ∷ ds) (field ∷ fields) = with_value (field_value d.ty field) (values_of ds fields)
+abbrev pub field_values : List Decl → List (List ℕ) → Option (List Value)
+field_values [] [] = Some []
+field_values [] (field ∷ fields) = None
+field_values (d ∷ ds) [] = None
+field_values (d ∷ ds) (field ∷ fields) = with_value (field_value d.ty field) (field_values ds fields)
 
 -- the number exists and is this one
 abbrev pub is_this_number : ℕ → Option ℕ → Bool
@@ -48,7 +48,7 @@ or_no_value (Some vs) = Ok vs
 abbrev pub instant_and_values : List Decl → ℕ → List (List ℕ) → Result (List Value) InputKind
 instant_and_values ins k [] = Err NotCsv
 instant_and_values ins k (instant ∷ fields) =
-    if is_this_number k (number_of instant) then or_no_value (values_of ins fields) else Err Instant
+    if is_this_number k (number_of instant) then or_no_value (field_values ins fields) else Err Instant
 
 -- the row of number n, counted from 1: too many rows, then no record of text as long as the header, then the
 -- instant, then the values

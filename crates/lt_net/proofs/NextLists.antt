@@ -20,7 +20,7 @@ use Rattle.lt_net.specs.Net.{TimedBenchState, Lists, reached_state}
 use Rattle.lt_net.specs.Stands.{NetStands}
 use Rattle.lt_net.specs.Event.{ListsGoOn, Happens, FabricHolds, HasKinds, SameStatic, InputsGo}
 use Rattle.lt_net.specs.Given.{IsRowFor}
-use Rattle.lt_net.specs.Loop.{Kept, ReplayIsGiven, row_for}
+use Rattle.lt_net.specs.Loop.{KeptOfLists, ReplayIsGiven, row_for}
 use Rattle.lt_net.proofs.ReplayStep.{keeps_on, deed_more, static_of}
 use Rattle.lt_machine.specs.declared.machine.Machine.{Ghosts as Machines}
 use Rattle.lt_arch.specs.declared.controller.Controller.{Ghosts as Controls}
@@ -57,7 +57,7 @@ module _ {C M : Type 0} (net : TimedBenchState C M) (ls : Lists) (row : Option (
   next_lists (End at) h = (record { events = ls.events ++ End at ∷ []; inputs = ls.inputs; got = ls.got }, record { events = refl; inputs = λ i. refl; got = λ c. refl })
 
 module _ {C M : Type 0} (ctl : Controls C) (mch : Machines M) (inputs : List (List Value)) (read : List Event) (net next_net : TimedBenchState C M) (old new : FabricState)
-    (given : ReplayIsGiven net inputs) (kept : Kept ctl mch inputs read net old) (e : Event) (there : IsPlacedIn net.shape e) where
+    (given : ReplayIsGiven net inputs) (kept : KeptOfLists ctl mch inputs read net old) (e : Event) (there : IsPlacedIn net.shape e) where
   module _ (row : Option (List Value)) (row_is : row ≡ row_for net inputs e) where
     has_row : (n at : ℕ) → e ≡ Act n at → deed_at net.shape net.rows (reached_state net kept.0) n ≡ Execute → row ≢ None
     has_row n at is d none =
@@ -76,7 +76,7 @@ module _ {C M : Type 0} (ctl : Controls C) (mch : Machines M) (inputs : List (Li
         sym (get_or_from_slice_get inputs (length ((kept.0).inputs n)) r [] (ap (slice_get inputs) (sym count) ∙ sym (row_is ∙ ap (row_for net inputs) value_of) ∙ is))
 
     pub one_more : Happens (NetStands ctl mch net) (NetStands ctl mch next_net) net e row old new → FabricHolds next_net new → HasKinds next_net new → SameStatic net next_net → KeepsFabric old new →
-        Kept ctl mch inputs (read ++ e ∷ []) next_net new
+        KeptOfLists ctl mch inputs (read ++ e ∷ []) next_net new
     one_more happens holds kinds fixed keeps =
         let ls = kept.0 in
         let go = next_lists net ls row happens.payload e has_row in (

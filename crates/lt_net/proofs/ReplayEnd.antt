@@ -16,7 +16,7 @@ use Rattle.lt_net.specs.Net.{TimedBenchState, reached_state}
 use Rattle.lt_net_node.specs.Local.{local_stream}
 use Rattle.lt_net.specs.Event.{SameStatic}
 use Rattle.lt_net.specs.Stands.{NetStands}
-use Rattle.lt_net.specs.Loop.{Kept, ReplayIsGiven, ReplayIsClosed}
+use Rattle.lt_net.specs.Loop.{KeptOfLists, ReplayIsGiven, ReplayIsClosed}
 use Rattle.lt_net.specs.Replay.{Closes}
 use Rattle.lt_net_bench.proofs.LocalFronts.{local_stream_same}
 use Rattle.lt_net.proofs.OutputFronts.{cells_are_fronts, same_rows_of}
@@ -52,7 +52,7 @@ module _ (s : Shape) (t : Timing) (rows : ℕ) where
   offence_past events free = first_none (at_start t.protocol) 1 events free ∙ ap (missing_end (reached s t rows events)) (omega arith)
 
 module _ {C M : Type 0} (ctl : Controls C) (mch : Machines M) (inputs : List (List Value)) (read : List Event) (start net : TimedBenchState C M) (fabric : FabricState)
-    (kept : Kept ctl mch inputs read net fabric) (given : ReplayIsGiven net inputs) (fixed : SameStatic start net) where
+    (kept : KeptOfLists ctl mch inputs read net fabric) (given : ReplayIsGiven net inputs) (fixed : SameStatic start net) where
   s : NetStands ctl mch net kept.0
   s = kept.1.stands_for
 

@@ -7,7 +7,7 @@ use Rattle.lt_arch.specs.Readers.{node_count, chan_count}
 use Rattle.lt_io.specs.FabricState.{FabricState, KeepsFabric}
 use Rattle.lt_net.specs.NetModel.{NetState}
 use Rattle.lt_net.specs.Event.{SameStatic}
-use Rattle.lt_net.specs.Loop.{Kept, ReplayIsGiven}
+use Rattle.lt_net.specs.Loop.{KeptOfLists, ReplayIsGiven}
 use Rattle.lt_net.specs.Ticks.{event_cost}
 use Rattle.lt_machine.specs.declared.machine.Machine.{Ghosts as Machines}
 use Rattle.lt_arch.specs.declared.controller.Controller.{Ghosts as Controls}
@@ -17,7 +17,7 @@ use Rattle.lt_net_start.specs.Reads.{CanRead}
 pub record Plays {C M : Type 0} (ctl : Controls C) (mch : Machines M) (inputs : List (List Value)) (before : List Event) (steps : ℕ) (net : NetState C M) (fabric : FabricState) : Type 0 where
   pub running : net.stopped ≡ None
   pub given : ReplayIsGiven net.bench inputs
-  pub kept : Kept ctl mch inputs before net.bench fabric
+  pub kept : KeptOfLists ctl mch inputs before net.bench fabric
   pub few_nodes : node_count net.bench.shape < 2 ^ 32
   pub few_channels : chan_count net.bench.shape < 2 ^ 32
   pub costs : (d most : ℕ) → node_count net.bench.shape + chan_count net.bench.shape ≤ 2 ^ d → All (λ k. k ≤ most) (map mch.size net.bench.machines) → steps ≤ length before * event_cost net.bench.shape d most

@@ -8,8 +8,8 @@ use Rattle.lt_past.specs.declared.words.Sign.TheVariants as word
 use Rattle.lt_past.specs.declared.fault.ObserverKind.{ObserverKind}
 use Rattle.lt_past.specs.Tokens.{Token, name, sign, Begins as Next, observer_front}
 use Rattle.lt_past.specs.Grammar as form
-use Rattle.lt_past.specs.Grammar.{ObserverForm, tokens, names, meaning}
-use Rattle.lt_past.specs.Naming.{output_of, is_at, is_named, AreOutputs}
+use Rattle.lt_past.specs.Grammar.{ObserverForm, formula_tokens, names, formula_meaning}
+use Rattle.lt_past.specs.Naming.{output_of, is_output_at, is_named, AreOutputs}
 use Rattle.lt_past.specs.Faults.{names_in, IsBadName}
 use Rattle.lt_past.specs.Marking.{IsMarkedTo}
 use Rattle.lt_past.proofs.Loop.{cuts_more}
@@ -21,12 +21,12 @@ names_append [] us = refl
 names_append (name x ∷ ts) us = ap (λ z. x ∷ z) (names_append ts us)
 names_append (sign s ∷ ts) us = names_append ts us
 
-pub names_tokens : (a : ObserverForm) (ts : List Token) → names_in (tokens a ts) ≡ names a ++ names_in ts
+pub names_tokens : (a : ObserverForm) (ts : List Token) → names_in (formula_tokens a ts) ≡ names a ++ names_in ts
 names_tokens (form.truth b) ts = refl
 names_tokens (form.named x) ts = refl
 names_tokens (form.paren a) ts = names_tokens a (sign word.Close ∷ ts)
 names_tokens (form.prefixed p a) ts = names_tokens a ts
-names_tokens (form.joined o a b) ts = names_tokens a (sign (word.Between o) ∷ tokens b ts) ∙ ap (λ z. names a ++ z) (names_tokens b ts) ∙ sym (append_assoc (names a) (names b) (names_in ts))
+names_tokens (form.joined o a b) ts = names_tokens a (sign (word.Between o) ∷ formula_tokens b ts) ∙ ap (λ z. names a ++ z) (names_tokens b ts) ∙ sym (append_assoc (names a) (names b) (names_in ts))
 
 module _ (main : Function) where
   pub outputs_append : (xs ys : List (List ℕ)) → AreOutputs main xs → AreOutputs main ys → AreOutputs main (xs ++ ys)
@@ -41,13 +41,13 @@ module _ (main : Function) where
   outputs_rest [] ys g = g
   outputs_rest (x ∷ xs) ys g = outputs_rest xs ys g.1
 
-  named_snoc : (xs : List (List ℕ)) (x : List ℕ) (place : ℕ) → is_named main (xs ++ x ∷ []) place ≡ (if is_named main xs place then true else is_at place (output_of main x))
-  named_snoc [] x place = by (is_at place (output_of main x))
+  named_snoc : (xs : List (List ℕ)) (x : List ℕ) (place : ℕ) → is_named main (xs ++ x ∷ []) place ≡ (if is_named main xs place then true else is_output_at place (output_of main x))
+  named_snoc [] x place = by (is_output_at place (output_of main x))
     where
       by : (b : Bool) → (if b then true else false) ≡ b
       by true = refl
       by false = refl
-  named_snoc (y ∷ xs) x place = by (is_at place (output_of main y)) (is_named main (xs ++ x ∷ []) place) (is_named main xs place) (is_at place (output_of main x)) (named_snoc xs x place)
+  named_snoc (y ∷ xs) x place = by (is_output_at place (output_of main y)) (is_named main (xs ++ x ∷ []) place) (is_named main xs place) (is_output_at place (output_of main x)) (named_snoc xs x place)
     where
       by : (a b c d : Bool) → b ≡ (if c then true else d) → (if a then true else b) ≡ (if (if a then true else c) then true else d)
       by true b c d e = refl
@@ -71,17 +71,17 @@ module _ (main : Function) where
         plain true o v e = e
         plain false o v e = e
 
-        at_place : (p : ℕ) → get_or (slice_set vs place true) p false ≡ (if (if is_named main (names_in g.tokens) p then true else is_at p (output_of main x)) then true else get_or olds p false)
+        at_place : (p : ℕ) → get_or (slice_set vs place true) p false ≡ (if (if is_named main (names_in g.tokens) p then true else is_output_at p (output_of main x)) then true else get_or olds p false)
         at_place p =
-            elim (nat_eq p place) as (λ t. nat_eq p place ≡ t → get_or (slice_set vs place true) p false ≡ (if (if is_named main (names_in g.tokens) p then true else is_at p (output_of main x)) then true else get_or olds p false)) [
+            elim (nat_eq p place) as (λ t. nat_eq p place ≡ t → get_or (slice_set vs place true) p false ≡ (if (if is_named main (names_in g.tokens) p then true else is_output_at p (output_of main x)) then true else get_or olds p false)) [
               | true ↦ λ same.
                   let e : p ≡ place = grind (arith, same) in
-                  let here : is_at p (output_of main x) ≡ true = ap (is_at p) is ∙ same in
+                  let here : is_output_at p (output_of main x) ≡ true = ap (is_output_at p) is ∙ same in
                   (ap (λ q. get_or (slice_set vs place true) q false) e ∙ get_or-set_same vs place true false low)
                   ∙ split (is_named main (names_in g.tokens) p) (get_or olds p false)
                   ∙ ap (λ b. if (if is_named main (names_in g.tokens) p then true else b) then true else get_or olds p false) (sym here)
               | false ↦ λ other.
-                  let here : is_at p (output_of main x) ≡ false = ap (is_at p) is ∙ other in
+                  let here : is_output_at p (output_of main x) ≡ false = ap (is_output_at p) is ∙ other in
                   let kept : get_or (slice_set vs place true) p false ≡ get_or vs p false = get_or-set_other vs place p true false (λ e. grind (arith, e, other)) in
                   plain (is_named main (names_in g.tokens) p) (get_or olds p false) (get_or (slice_set vs place true) p false) (kept ∙ g.marks p)
                   ∙ ap (λ b. if (if is_named main (names_in g.tokens) p then true else b) then true else get_or olds p false) (sym here)

@@ -10,9 +10,9 @@ use Rattle.lt_past.specs.declared.fault.ObserverKind.{ObserverKind}
 use Rattle.lt_past.specs.declared.fault.ObserverKind.TheVariants as kind
 use Rattle.lt_past.specs.Tokens.{Token, name, sign, Over, Begins as Next, ObserverCuts, observer_front}
 use Rattle.lt_past.specs.Grammar as form
-use Rattle.lt_past.specs.Grammar.{ObserverForm, names, meaning}
+use Rattle.lt_past.specs.Grammar.{ObserverForm, names, formula_meaning}
 use Rattle.lt_past.specs.Formula.{Formula, SignalsBelow}
-use Rattle.lt_past.specs.Naming.{output_of, is_at, is_named, numbers_below, named_outs, output_place, output_number, AreOutputs}
+use Rattle.lt_past.specs.Naming.{output_of, is_output_at, is_named, numbers_below, named_outs, output_place, output_number, AreOutputs}
 use Rattle.lt_past.specs.Observer.{Observing, Increases, IsObserver}
 use Rattle.lt_past.specs.Spelled.{WritesObserver, SpellsObserver}
 use Rattle.lt_past.specs.Faults.{names_in, ObserverBegins, ObserverOffends, IsBadName, IsObserverFault, IsObserverOf}
@@ -61,7 +61,7 @@ module _ (main : Function) where
 
   -- a name that stands there names an output
   low : (place : ℕ) (x : List ℕ) (xs : List (List ℕ)) → output_of main x ≡ Ok place → is_named main (x ∷ xs) place ≡ true
-  low place x xs e = let h : is_at place (output_of main x) ≡ true = ap (is_at place) e ∙ self place in ap (λ b. if b then true else is_named main xs place) h
+  low place x xs e = let h : is_output_at place (output_of main x) ≡ true = ap (is_output_at place) e ∙ self place in ap (λ b. if b then true else is_named main xs place) h
     where
       self : (m : ℕ) → nat_eq m m ≡ true
       self m = grind arith
@@ -72,7 +72,7 @@ module _ (main : Function) where
 
   named_left : (xs ys : List (List ℕ)) → Among xs (xs ++ ys)
   named_left [] ys place h = cc
-  named_left (x ∷ xs) ys place h = by (is_at place (output_of main x)) h (λ k. named_left xs ys place k)
+  named_left (x ∷ xs) ys place h = by (is_output_at place (output_of main x)) h (λ k. named_left xs ys place k)
     where
       by : (b : Bool) → (if b then true else is_named main xs place) ≡ true → (is_named main xs place ≡ true → is_named main (xs ++ ys) place ≡ true) → (if b then true else is_named main (xs ++ ys) place) ≡ true
       by true h k = refl
@@ -80,7 +80,7 @@ module _ (main : Function) where
 
   named_right : (xs ys : List (List ℕ)) → Among ys (xs ++ ys)
   named_right [] ys place h = h
-  named_right (x ∷ xs) ys place h = by (is_at place (output_of main x)) (named_right xs ys place h)
+  named_right (x ∷ xs) ys place h = by (is_output_at place (output_of main x)) (named_right xs ys place h)
     where
       by : (b : Bool) → is_named main (xs ++ ys) place ≡ true → (if b then true else is_named main (xs ++ ys) place) ≡ true
       by true k = refl
@@ -88,7 +88,7 @@ module _ (main : Function) where
 
   -- each signal has a place
   module _ (outs : List ℕ) (all : List (List ℕ)) (has : (place : ℕ) → is_named main all place ≡ true → Has outs place) where
-    placed : (a : ObserverForm) → AreOutputs main (names a) → Among (names a) all → SignalsBelow (length outs) (meaning (output_number main outs) a)
+    placed : (a : ObserverForm) → AreOutputs main (names a) → Among (names a) all → SignalsBelow (length outs) (formula_meaning (output_number main outs) a)
     placed (form.truth b) g m = tt
     placed (form.named x) g m =
         let place = g.0.0 in
@@ -111,7 +111,7 @@ module _ (main : Function) where
     named_low [] place h = absurd (cc)
     named_low (x ∷ xs) place h = by (output_of main x) refl h (λ k. named_low xs place k)
       where
-        by : (r : Result ℕ ObserverKind) → output_of main x ≡ r → (if is_at place r then true else is_named main xs place) ≡ true → (is_named main xs place ≡ true → place < n) → place < n
+        by : (r : Result ℕ ObserverKind) → output_of main x ≡ r → (if is_output_at place r then true else is_named main xs place) ≡ true → (is_named main xs place ≡ true → place < n) → place < n
         by (Err k) e h rest = rest h
         by (Ok found) e h rest =
             elim (nat_eq place found) as (λ b. nat_eq place found ≡ b → (if b then true else is_named main xs place) ≡ true → place < n) [
@@ -125,8 +125,8 @@ module _ (main : Function) where
         let all = names is.form in
         let outs = named_outs main all in
         let has : (place : ℕ) → is_named main all place ≡ true → Has outs place = λ place h. chosen_has (is_named main all) n place (named_low all place h) h in
-        let p : SignalsBelow (length outs) (meaning (output_number main outs) is.form) = placed outs all has is.form is.good (λ place h. h) in
-        let e : meaning (output_number main outs) is.form ≡ o.formula = ap (λ z. meaning (output_number main z) is.form) (sym is.outs_are) ∙ sym is.formula_is in
+        let p : SignalsBelow (length outs) (formula_meaning (output_number main outs) is.form) = placed outs all has is.form is.good (λ place h. h) in
+        let e : formula_meaning (output_number main outs) is.form ≡ o.formula = ap (λ z. formula_meaning (output_number main z) is.form) (sym is.outs_are) ∙ sym is.formula_is in
         record {
           ordered = subst Increases (sym is.outs_are) (chosen_increase (is_named main all) n);
           placed = subst (λ z. SignalsBelow (length z) o.formula) (sym is.outs_are) (subst (SignalsBelow (length outs)) e p);
@@ -168,8 +168,8 @@ module _ (main : Function) where
       let outs : o.outs ≡ p.outs = a.outs_are ∙ ap (named_outs main) ns ∙ sym b.outs_are in
       let ra = writes_read (output_number main o.outs) limit a.spelled.tokens a.form one a.spelled.written in
       let rb = writes_read (output_number main o.outs) limit a.spelled.tokens b.form one wb in
-      let m : meaning (output_number main o.outs) a.form ≡ meaning (output_number main o.outs) b.form = cc in
-      let f : o.formula ≡ p.formula = a.formula_is ∙ m ∙ ap (λ z. meaning (output_number main z) b.form) outs ∙ sym b.formula_is in
+      let m : formula_meaning (output_number main o.outs) a.form ≡ formula_meaning (output_number main o.outs) b.form = cc in
+      let f : o.formula ≡ p.formula = a.formula_is ∙ m ∙ ap (λ z. formula_meaning (output_number main z) b.form) outs ∙ sym b.formula_is in
       λ i. record { outs = outs i; formula = f i }
 
   -- what offends at the end is no observer, and what offends at a token begins none

@@ -9,7 +9,7 @@ use Rattle.lt_past.specs.Formula.{Formula}
 use Rattle.lt_past.specs.Tokens.{Token, name, sign}
 use Rattle.lt_past.specs.Levels.{observer_level, observer_left_level, observer_right_level}
 use Rattle.lt_past.specs.Grammar as form
-use Rattle.lt_past.specs.Grammar.{ObserverForm, ObserverFormIsAt, tokens, height, meaning}
+use Rattle.lt_past.specs.Grammar.{ObserverForm, ObserverFormIsAt, formula_tokens, formula_height, formula_meaning}
 use Rattle.lt_past.specs.Machine.{ObserverOperand, ObserverFrame, opened, prefixed, joined, ObserverState, Top, observer_hole, observer_ends, observer_complete, observer_close, observer_need, fitting, observer_joining, shutting, observer_step, end_of, ending}
 use Rattle.lt_past.proofs.Zipper.{height_pos, table, not_completed, operand}
 
@@ -68,22 +68,22 @@ module _ (limit : ℕ) (number : List ℕ → ℕ) where
   finishes f fs a (sign word.Close ∷ ts) h = ap (λ t. onward (shutting t) (λ s'. read limit number s' ts)) (ended 1 f fs a h)
 
   -- the form is read, where what ends it follows
-  pub runs : (a : ObserverForm) (l : ℕ) → ObserverFormIsAt l a → (fs : List ObserverFrame) (ts : List Token) → observer_hole fs ≤ l → stop ts ≤ l → observer_need fs ≤ limit → length fs + height a ≤ limit → from limit number fs None (tokens a ts) ≡ from limit number fs (Some (operand number a)) ts
+  pub runs : (a : ObserverForm) (l : ℕ) → ObserverFormIsAt l a → (fs : List ObserverFrame) (ts : List Token) → observer_hole fs ≤ l → stop ts ≤ l → observer_need fs ≤ limit → length fs + formula_height a ≤ limit → from limit number fs None (formula_tokens a ts) ≡ from limit number fs (Some (operand number a)) ts
   runs (form.truth b) l at fs ts hl st nd hh = refl
   runs (form.named x) l at fs ts hl st nd hh = refl
   runs (form.paren a) l at fs ts hl st nd hh =
       let h : observer_need (opened ∷ fs) ≤ limit = omega (arith, height_pos a) in
-      fits (opened ∷ fs) (tokens a (sign word.Close ∷ ts)) h ∙ runs a 1 at.1 (opened ∷ fs) (sign word.Close ∷ ts) (omega arith) (omega arith) h (omega arith)
+      fits (opened ∷ fs) (formula_tokens a (sign word.Close ∷ ts)) h ∙ runs a 1 at.1 (opened ∷ fs) (sign word.Close ∷ ts) (omega arith) (omega arith) h (omega arith)
   runs (form.prefixed p a) l at fs ts hl st nd hh =
       let f = prefixed p in
       let h : observer_need (f ∷ fs) ≤ limit = omega (arith, height_pos a) in
-      fits (f ∷ fs) (tokens a ts) h ∙ runs a 5 at.1 (f ∷ fs) ts (omega arith) (omega arith) h (omega arith) ∙ finishes f fs (operand number a) ts (omega arith)
+      fits (f ∷ fs) (formula_tokens a ts) h ∙ runs a 5 at.1 (f ∷ fs) ts (omega arith) (omega arith) h (omega arith) ∙ finishes f fs (operand number a) ts (omega arith)
   runs (form.joined o a b) l at fs ts hl st nd hh =
       let k = table o in
       let f = joined o (operand number a) in
       let h : observer_need (f ∷ fs) ≤ limit = omega arith in
       let hole_low : observer_hole fs ≤ observer_level o = omega arith in
-      let w = tokens b ts in
+      let w = formula_tokens b ts in
       runs a (observer_left_level o) at.1 fs (sign (word.Between o) ∷ w) (omega (arith, k.lefts)) (omega arith) nd (omega arith)
       ∙ ap (λ t. onward (observer_joining limit o t) (λ s'. read limit number s' w)) (kept_below o fs (operand number a) hole_low)
       ∙ fits (f ∷ fs) w h

@@ -7,7 +7,7 @@ use Rattle.lt_past.specs.declared.fault.ObserverKind.TheVariants.{Unexpected, To
 use Rattle.lt_past.specs.Tokens.{Token, name, sign}
 use Rattle.lt_past.specs.Levels.{observer_level, observer_left_level}
 use Rattle.lt_past.specs.Grammar as form
-use Rattle.lt_past.specs.Grammar.{ObserverForm, ObserverFormIsAt, tokens, height}
+use Rattle.lt_past.specs.Grammar.{ObserverForm, ObserverFormIsAt, formula_tokens, formula_height}
 use Rattle.lt_past.specs.Machine.{ObserverOperand, ObserverFrame, ObserverState, Top, observer_paren_of, observer_part_level, observer_hole, observer_ends, observer_complete, observer_close, observer_need, fitting, observer_joining, shut_on, shutting, observer_step}
 use Rattle.lt_past.proofs.Zipper.{height_pos, table, may_join, at_lower, hole_le, Begun, z_paren, z_prefix, z_infix, all_leads, held, IsBegun, closing, operand, frame, stack, whole_form, completes, room_for}
 
@@ -28,7 +28,7 @@ module _ (number : List ℕ → ℕ) (limit : ℕ) where
     pub five : 5 ≤ level
     pub stands : observer_hole (st zs) ≤ level
     pub at : ObserverFormIsAt level a
-    pub room : length (st zs) + height a ≤ limit
+    pub room : length (st zs) + formula_height a ≤ limit
 
   abbrev pub Fit : List Begun → Option ObserverForm → Type 0
   Fit zs None = observer_need (st zs) ≤ limit
@@ -60,11 +60,11 @@ module _ (number : List ℕ → ℕ) (limit : ℕ) where
     pub is : observer_close l (st zs) (op b) ≡ record { below = st begun; operand = op form }
     pub good : AreBegun begun
     pub at : ObserverFormIsAt l form
-    pub room : length (st begun) + height form ≤ limit
+    pub room : length (st begun) + formula_height form ≤ limit
     pub stops : top_ends begun < l
-    pub text : (r : List Token) → all_leads zs (tokens b r) ≡ all_leads begun (tokens form r)
+    pub text : (r : List Token) → all_leads zs (formula_tokens b r) ≡ all_leads begun (formula_tokens form r)
 
-  pub closed : (l : ℕ) → 1 ≤ l → (zs : List Begun) (m : ℕ) (b : ObserverForm) → AreBegun zs → ObserverFormIsAt m b → observer_hole (st zs) ≤ m → l ≤ m → length (st zs) + height b ≤ limit → Closed l zs b
+  pub closed : (l : ℕ) → 1 ≤ l → (zs : List Begun) (m : ℕ) (b : ObserverForm) → AreBegun zs → ObserverFormIsAt m b → observer_hole (st zs) ≤ m → l ≤ m → length (st zs) + formula_height b ≤ limit → Closed l zs b
   closed l pos [] m b g at hm lm rm = record { begun = []; form = b; is = refl; good = tt; at = at_lower b l m lm at; room = rm; stops = omega arith; text = λ r. refl }
   closed l pos (z ∷ zs) m b g at hm lm rm =
       let f = frame number z in
@@ -116,7 +116,7 @@ module _ (number : List ℕ → ℕ) (limit : ℕ) where
       ] refl
 
   -- a whole operand that is low enough
-  holds : (zs : List Begun) (a : ObserverForm) (s : ObserverState) (text : List Token → List Token) → stack number zs ≡ s.frames → whole_form number (Some a) ≡ s.whole → AreBegun number limit zs → ObserverFormIsAt 6 a → length (stack number zs) + height a ≤ limit → ((r : List Token) → text r ≡ all_leads zs (tokens a r)) → Good number limit s text
+  holds : (zs : List Begun) (a : ObserverForm) (s : ObserverState) (text : List Token → List Token) → stack number zs ≡ s.frames → whole_form number (Some a) ≡ s.whole → AreBegun number limit zs → ObserverFormIsAt 6 a → length (stack number zs) + formula_height a ≤ limit → ((r : List Token) → text r ≡ all_leads zs (formula_tokens a r)) → Good number limit s text
   holds zs a s text fs w g at rm e = record {
     begun = zs;
     holding = Some a;
@@ -128,7 +128,7 @@ module _ (number : List ℕ → ℕ) (limit : ℕ) where
   }
 
   -- a word behind an operand whose forms are completed
-  joins : (o : Infix) (zs : List Begun) (b : ObserverForm) (text : List Token → List Token) → AreBegun number limit zs → ObserverFormIsAt (observer_left_level o) b → top_ends number limit zs < observer_left_level o → ((r : List Token) → text r ≡ all_leads zs (tokens b (sign (word.Between o) ∷ r))) → StepIs (fitting limit (stack number (z_infix o b ∷ zs))) text
+  joins : (o : Infix) (zs : List Begun) (b : ObserverForm) (text : List Token → List Token) → AreBegun number limit zs → ObserverFormIsAt (observer_left_level o) b → top_ends number limit zs < observer_left_level o → ((r : List Token) → text r ≡ all_leads zs (formula_tokens b (sign (word.Between o) ∷ r))) → StepIs (fitting limit (stack number (z_infix o b ∷ zs))) text
   joins o zs b text g at stops e = begins (z_infix o b) zs text g (by zs stops, at) e
     where
       by : (zs : List Begun) → top_ends number limit zs < observer_left_level o → observer_hole (stack number zs) ≤ observer_level o
@@ -138,7 +138,7 @@ module _ (number : List ℕ → ℕ) (limit : ℕ) where
       by (z_infix j a ∷ zs) h = may_join j o h
 
   -- ) behind an operand whose forms are completed
-  shuts : (zs : List Begun) (b : ObserverForm) (text : List Token → List Token) → AreBegun number limit zs → ObserverFormIsAt 1 b → length (stack number zs) + height b ≤ limit → ((r : List Token) → text r ≡ all_leads zs (tokens b (sign word.Close ∷ r))) → StepIs (shut_on (stack number zs) (operand number b)) text
+  shuts : (zs : List Begun) (b : ObserverForm) (text : List Token → List Token) → AreBegun number limit zs → ObserverFormIsAt 1 b → length (stack number zs) + formula_height b ≤ limit → ((r : List Token) → text r ≡ all_leads zs (formula_tokens b (sign word.Close ∷ r))) → StepIs (shut_on (stack number zs) (operand number b)) text
   shuts [] b text g at rm e = tt
   shuts (z_paren ∷ zs) b text g at rm e = holds zs (form.paren b) (record { frames = stack number zs; whole = Some (observer_paren_of (operand number b)) }) text refl refl g.0 (omega arith, at) (omega arith) e
   shuts (z_prefix p ∷ zs) b text g at rm e = tt
@@ -158,9 +158,9 @@ module _ (number : List ℕ → ℕ) (limit : ℕ) where
   step_good zs (Some a) (sign (word.Between o)) g f =
       let t = table o in
       let c = closed number limit (observer_left_level o) (omega (arith, t.left_low)) zs f.level a g f.at f.stands (omega (arith, t.left_high, f.five)) f.room in
-      let text : List Token → List Token = λ r. all_leads zs (tokens a (sign (word.Between o) ∷ r)) in
+      let text : List Token → List Token = λ r. all_leads zs (formula_tokens a (sign (word.Between o) ∷ r)) in
       subst (λ z. StepIs (observer_joining limit o z) text) (sym c.is) (joins o c.begun c.form text c.good c.at c.stops (λ r. c.text (sign (word.Between o) ∷ r)))
   step_good zs (Some a) (sign word.Close) g f =
       let c = closed number limit 1 (omega arith) zs f.level a g f.at f.stands (omega (arith, f.five)) f.room in
-      let text : List Token → List Token = λ r. all_leads zs (tokens a (sign word.Close ∷ r)) in
+      let text : List Token → List Token = λ r. all_leads zs (formula_tokens a (sign word.Close ∷ r)) in
       subst (λ z. StepIs (shutting z) text) (sym c.is) (shuts c.begun c.form text c.good c.at c.room (λ r. c.text (sign word.Close ∷ r)))

@@ -5,7 +5,7 @@ use Rattle.lt_past.specs.declared.words.Sign.TheVariants as word
 use Rattle.lt_past.specs.Tokens.{Token, name, sign}
 use Rattle.lt_past.specs.Levels.{observer_level, observer_right_level}
 use Rattle.lt_past.specs.Grammar as form
-use Rattle.lt_past.specs.Grammar.{ObserverForm, ObserverFormIsAt, tokens, height}
+use Rattle.lt_past.specs.Grammar.{ObserverForm, ObserverFormIsAt, formula_tokens, formula_height}
 use Rattle.lt_past.specs.Machine.{ObserverState, observer_hole}
 use Rattle.lt_past.specs.Faults.{ObserverBegins}
 use Rattle.lt_past.proofs.Zipper.{table, at_lower, hole_le, Begun, z_paren, z_prefix, z_infix, all_leads, held, closing, stack, completes, room_for}
@@ -19,11 +19,11 @@ record Finished (limit : ℕ) (zs : List Begun) (b : ObserverForm) : Type 0 wher
   more : List Token → List Token
   whole : ObserverForm
   at : ObserverFormIsAt 1 whole
-  room : height whole ≤ limit
-  text : (r : List Token) → all_leads zs (tokens b (more r)) ≡ tokens whole r
+  room : formula_height whole ≤ limit
+  text : (r : List Token) → all_leads zs (formula_tokens b (more r)) ≡ formula_tokens whole r
 
 module _ (number : List ℕ → ℕ) (limit : ℕ) where
-  finished : (zs : List Begun) (m : ℕ) (b : ObserverForm) → AreBegun number limit zs → ObserverFormIsAt m b → observer_hole (stack number zs) ≤ m → length (stack number zs) + height b ≤ limit → Finished limit zs b
+  finished : (zs : List Begun) (m : ℕ) (b : ObserverForm) → AreBegun number limit zs → ObserverFormIsAt m b → observer_hole (stack number zs) ≤ m → length (stack number zs) + formula_height b ≤ limit → Finished limit zs b
   finished [] m b g at hm rm = record { more = λ r. r; whole = b; at = at_lower b 1 m hm at; room = omega arith; text = λ r. refl }
   finished (z_paren ∷ zs) m b g at hm rm =
       let d = finished zs 6 (form.paren b) g.0 (omega arith, at_lower b 1 m hm at) (omega (arith, hole_le (stack number zs))) (omega arith) in
@@ -44,8 +44,8 @@ module _ (number : List ℕ → ℕ) (limit : ℕ) where
     more : List Token
     whole : ObserverForm
     at : ObserverFormIsAt 1 whole
-    room : height whole ≤ limit
-    text : all_leads zs (held h more) ≡ tokens whole []
+    room : formula_height whole ≤ limit
+    text : all_leads zs (held h more) ≡ formula_tokens whole []
 
   ending : (zs : List Begun) (h : Option ObserverForm) → AreBegun number limit zs → Fit number limit zs h → Ending zs h
   ending zs None g f =

@@ -5,7 +5,7 @@ use Rattle.lt_past.specs.declared.fault.ObserverKind.{ObserverKind}
 use Rattle.lt_past.specs.declared.fault.ObserverKind.TheVariants.{BadByte, Unexpected, TooDeep, UnknownName, NotBool, NotBase}
 use Rattle.lt_past.specs.Formula.{Formula}
 use Rattle.lt_past.specs.Tokens.{Token, name, sign, Begins as Next}
-use Rattle.lt_past.specs.Grammar.{ObserverForm, tokens, height, meaning}
+use Rattle.lt_past.specs.Grammar.{ObserverForm, formula_tokens, formula_height, formula_meaning}
 use Rattle.lt_past.specs.Machine.{ObserverFrame, ObserverState, ObserverOperand, opened, prefixed, joined, observer_close, observer_need, fitting, shut, observer_step, observer_on, observer_run, observer_start, end_of, ending, end_on}
 use Rattle.lt_past.specs.Levels.{observer_left_level}
 use Rattle.lt_past.specs.Spelled.{WritesObserver}
@@ -82,7 +82,7 @@ module _ (number : List ℕ → ℕ) where
         ] (step_grows s0 t) e
 
   -- an observer is read, with its formula
-  pub writes_read : (limit : ℕ) (ts : List Token) (f : ObserverForm) → 1 ≤ limit → WritesObserver limit ts f → read limit number observer_start ts ≡ Ok (Some (meaning number f))
+  pub writes_read : (limit : ℕ) (ts : List Token) (f : ObserverForm) → 1 ≤ limit → WritesObserver limit ts f → read limit number observer_start ts ≡ Ok (Some (formula_meaning number f))
   writes_read limit ts f one w = ap (read limit number observer_start) w.spelled ∙ runs limit number f 1 w.at [] [] (omega arith) (omega arith) (omega arith) (omega (arith, w.low))
 
   -- and is not stopped at one of its tokens
@@ -168,7 +168,7 @@ module _ (number : List ℕ → ℕ) where
     pub record Written (p : List Token) (F : Formula) : Type 0 where
       pub form : ObserverForm
       pub writes : WritesObserver limit p form
-      pub meant : F ≡ meaning number form
+      pub meant : F ≡ formula_meaning number form
 
     -- it may
     pub some_at : (p : List Token) (s : ObserverState) (F : Formula) → observer_run limit number observer_start p ≡ Ok s → end_of s.frames s.whole ≡ Some F → Written p F
@@ -190,10 +190,10 @@ module _ (number : List ℕ → ℕ) where
             let c = closed number limit 1 (omega arith) zs f.level a g f.at f.stands (omega (arith, f.five)) f.room in
             let e' : end_on (stack number c.begun) (operand number c.form) ≡ Some F = ap ending (sym c.is) ∙ e in
             let nil : c.begun ≡ [] = last zs a a c e' in
-            let m : F ≡ meaning number c.form = some_is (subst (λ us. end_on (stack number us) (operand number c.form) ≡ Some F) nil e') in
+            let m : F ≡ formula_meaning number c.form = some_is (subst (λ us. end_on (stack number us) (operand number c.form) ≡ Some F) nil e') in
             record {
               form = c.form;
-              writes = record { at = c.at; low = let k : 0 + height c.form ≤ limit = subst (λ us. length (stack number us) + height c.form ≤ limit) nil c.room in omega (arith, k); spelled = sym (append-nil p) ∙ w [] ∙ c.text [] ∙ ap (λ us. all_leads us (tokens c.form [])) nil };
+              writes = record { at = c.at; low = let k : 0 + formula_height c.form ≤ limit = subst (λ us. length (stack number us) + formula_height c.form ≤ limit) nil c.room in omega (arith, k); spelled = sym (append-nil p) ∙ w [] ∙ c.text [] ∙ ap (λ us. all_leads us (formula_tokens c.form [])) nil };
               meant = m;
             }
           where

@@ -7,10 +7,10 @@ use Rattle.lt_past.specs.declared.words.Sign.TheVariants as word
 use Rattle.lt_past.specs.Tokens.{Token, sign}
 use Rattle.lt_past.specs.Levels.{observer_level, observer_left_level, observer_right_level}
 use Rattle.lt_past.specs.Grammar as form
-use Rattle.lt_past.specs.Grammar.{ObserverForm, ObserverFormIsAt, tokens, height, meaning}
+use Rattle.lt_past.specs.Grammar.{ObserverForm, ObserverFormIsAt, formula_tokens, formula_height, formula_meaning}
 use Rattle.lt_past.specs.Machine.{ObserverOperand, ObserverFrame, opened, prefixed, joined, observer_part_level, observer_hole, observer_ends, observer_complete, observer_least_height}
 
-pub height_pos : (a : ObserverForm) → 1 ≤ height a
+pub height_pos : (a : ObserverForm) → 1 ≤ formula_height a
 height_pos (form.truth b) = omega arith
 height_pos (form.named x) = omega arith
 height_pos (form.paren a) = omega arith
@@ -81,7 +81,7 @@ pub data Begun : Type 0 where
 abbrev pub leads : Begun → List Token → List Token
 leads z_paren r = sign word.Open ∷ r
 leads (z_prefix p) r = sign (word.Before p) ∷ r
-leads (z_infix o a) r = tokens a (sign (word.Between o) ∷ r)
+leads (z_infix o a) r = formula_tokens a (sign (word.Between o) ∷ r)
 
 abbrev pub all_leads : List Begun → List Token → List Token
 all_leads [] r = r
@@ -89,7 +89,7 @@ all_leads (z ∷ zs) r = all_leads zs (leads z r)
 
 abbrev pub held : Option ObserverForm → List Token → List Token
 held None r = r
-held (Some a) r = tokens a r
+held (Some a) r = formula_tokens a r
 
 -- a form that is begun where the grammar asks for level l
 abbrev pub IsBegun : ℕ → Begun → Type 0
@@ -105,7 +105,7 @@ closing (z_infix o a) b = form.joined o a b
 
 module _ (number : List ℕ → ℕ) where
   abbrev pub operand : ObserverForm → ObserverOperand
-  operand a = record { formula = meaning number a; height = height a }
+  operand a = record { formula = formula_meaning number a; height = formula_height a }
 
   abbrev pub frame : Begun → ObserverFrame
   frame z_paren = opened
@@ -124,7 +124,7 @@ module _ (number : List ℕ → ℕ) where
     pub is : observer_complete (frame z) (operand b) ≡ operand (closing z b)
     pub at : ObserverFormIsAt (observer_ends (frame z)) (closing z b)
     pub below : l ≤ observer_ends (frame z)
-    pub text : (r : List Token) → leads z (tokens b r) ≡ tokens (closing z b) r
+    pub text : (r : List Token) → leads z (formula_tokens b r) ≡ formula_tokens (closing z b) r
 
   le_refl : (n : ℕ) → n ≤ n
   le_refl n = omega arith
@@ -134,7 +134,7 @@ module _ (number : List ℕ → ℕ) where
   completes (z_prefix p) l b g at h = record { is = refl; at = (omega arith, at); below = g; text = λ r. refl }
   completes (z_infix o a) l b g at h = record { is = refl; at = (le_refl (observer_level o), g.1, at); below = g.0; text = λ r. refl }
 
-  pub room_for : (limit : ℕ) (z : Begun) (n : ℕ) (b : ObserverForm) → n + observer_least_height (frame z) ≤ limit → n + 1 + height b ≤ limit → 1 ≤ observer_ends (frame z) → n + height (closing z b) ≤ limit
+  pub room_for : (limit : ℕ) (z : Begun) (n : ℕ) (b : ObserverForm) → n + observer_least_height (frame z) ≤ limit → n + 1 + formula_height b ≤ limit → 1 ≤ observer_ends (frame z) → n + formula_height (closing z b) ≤ limit
   room_for limit z_paren n b h k e = absurd (omega (arith, e))
   room_for limit (z_prefix p) n b h k e = omega arith
   room_for limit (z_infix o a) n b h k e = omega arith

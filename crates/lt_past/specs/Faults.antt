@@ -7,7 +7,7 @@ use Rattle.lt_past.specs.declared.fault.ObserverKind.{ObserverKind}
 use Rattle.lt_past.specs.declared.fault.ObserverKind.TheVariants as kind
 use Rattle.lt_past.specs.Observer.{Observing}
 use Rattle.lt_past.specs.Tokens.{Token, name, sign, ObserverFront, Over, Begins as Next, BadByte, ObserverCuts, observer_front}
-use Rattle.lt_past.specs.Grammar.{ObserverForm, names, meaning}
+use Rattle.lt_past.specs.Grammar.{ObserverForm, names, formula_meaning}
 use Rattle.lt_past.specs.Spelled.{WritesObserver, SpellsObserver}
 use Rattle.lt_past.specs.Naming.{output_of, named_outs, output_number, AreOutputs}
 
@@ -18,7 +18,7 @@ pub record IsObserverOf (limit : ℕ) (main : Function) (bytes : List ℕ) (o : 
   pub spelled : SpellsObserver limit bytes form
   pub good : AreOutputs main (names form)
   pub outs_are : o.outs ≡ named_outs main (names form)
-  pub formula_is : o.formula ≡ meaning (output_number main o.outs) form
+  pub formula_is : o.formula ≡ formula_meaning (output_number main o.outs) form
 
 -- these tokens begin an observer
 abbrev pub ObserverBegins : ℕ → List Token → Type 0

@@ -24,19 +24,19 @@ ObserverFormIsAt l (prefixed p a) = (l ≤ 5) × ObserverFormIsAt 5 a
 ObserverFormIsAt l (joined o a b) = (l ≤ observer_level o) × ObserverFormIsAt (observer_left_level o) a × ObserverFormIsAt (observer_right_level o) b
 
 -- the tokens of a form, and then ts
-abbrev pub tokens : ObserverForm → List Token → List Token
-tokens (truth b) ts = sign (Truth b) ∷ ts
-tokens (named x) ts = name x ∷ ts
-tokens (paren a) ts = sign Open ∷ tokens a (sign Close ∷ ts)
-tokens (prefixed p a) ts = sign (Before p) ∷ tokens a ts
-tokens (joined o a b) ts = tokens a (sign (Between o) ∷ tokens b ts)
+abbrev pub formula_tokens : ObserverForm → List Token → List Token
+formula_tokens (truth b) ts = sign (Truth b) ∷ ts
+formula_tokens (named x) ts = name x ∷ ts
+formula_tokens (paren a) ts = sign Open ∷ formula_tokens a (sign Close ∷ ts)
+formula_tokens (prefixed p a) ts = sign (Before p) ∷ formula_tokens a ts
+formula_tokens (joined o a b) ts = formula_tokens a (sign (Between o) ∷ formula_tokens b ts)
 
-abbrev pub height : ObserverForm → ℕ
-height (truth b) = 1
-height (named x) = 1
-height (paren a) = height a + 1
-height (prefixed p a) = height a + 1
-height (joined o a b) = max (height a) (height b) + 1
+abbrev pub formula_height : ObserverForm → ℕ
+formula_height (truth b) = 1
+formula_height (named x) = 1
+formula_height (paren a) = formula_height a + 1
+formula_height (prefixed p a) = formula_height a + 1
+formula_height (joined o a b) = max (formula_height a) (formula_height b) + 1
 
 -- the names in it, in the order of the text
 abbrev pub names : ObserverForm → List (List ℕ)
@@ -47,9 +47,9 @@ names (prefixed p a) = names a
 names (joined o a b) = names a ++ names b
 
 -- its formula, where each name has a number
-abbrev pub meaning : (List ℕ → ℕ) → ObserverForm → Formula
-meaning number (truth b) = constant b
-meaning number (named x) = signal (number x)
-meaning number (paren a) = meaning number a
-meaning number (prefixed p a) = unary p (meaning number a)
-meaning number (joined o a b) = binary o (meaning number a) (meaning number b)
+abbrev pub formula_meaning : (List ℕ → ℕ) → ObserverForm → Formula
+formula_meaning number (truth b) = constant b
+formula_meaning number (named x) = signal (number x)
+formula_meaning number (paren a) = formula_meaning number a
+formula_meaning number (prefixed p a) = unary p (formula_meaning number a)
+formula_meaning number (joined o a b) = binary o (formula_meaning number a) (formula_meaning number b)

@@ -36,14 +36,14 @@ abbrev pub output_of : Function → List ℕ → Result ℕ ObserverKind
 output_of main x = of_place main (position (is_called main x) main.outs)
 
 -- it is the output at this place
-abbrev pub is_at : ℕ → Result ℕ ObserverKind → Bool
-is_at place (Ok found) = nat_eq place found
-is_at place (Err k) = false
+abbrev pub is_output_at : ℕ → Result ℕ ObserverKind → Bool
+is_output_at place (Ok found) = nat_eq place found
+is_output_at place (Err k) = false
 
 -- one of the names is that of the output at this place
 abbrev pub is_named : Function → List (List ℕ) → ℕ → Bool
 is_named main [] place = false
-is_named main (x ∷ xs) place = if is_at place (output_of main x) then true else is_named main xs place
+is_named main (x ∷ xs) place = if is_output_at place (output_of main x) then true else is_named main xs place
 
 -- the numbers below n, in order
 abbrev pub numbers_below : ℕ → List ℕ

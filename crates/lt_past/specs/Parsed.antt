@@ -12,7 +12,7 @@ use Rattle.lt_past.specs.declared.parser.Parser.{Parser}
 use Rattle.lt_past.specs.declared.parser.Frame.{Frame}
 use Rattle.lt_past.specs.declared.parser.Frame.TheVariants as frame
 use Rattle.lt_past.specs.Formula.{Formula}
-use Rattle.lt_past.specs.Grammar.{ObserverForm, meaning}
+use Rattle.lt_past.specs.Grammar.{ObserverForm, formula_meaning}
 use Rattle.lt_past.specs.Spelled.{SpellsObserver}
 use Rattle.lt_past.specs.Faults.{IsSyntaxFault}
 use Rattle.lt_past.specs.Views.{formula_of}
@@ -69,7 +69,7 @@ ObserverEndsAt at (Err or.Memory) r = Unit {0}
 pub record IsFormulaOf (limit : ℕ) (number : List ℕ → ℕ) (bytes : List ℕ) (f : Formula) : Type 0 where
   pub form : ObserverForm
   pub spelled : SpellsObserver limit bytes form
-  pub meant : f ≡ meaning number form
+  pub meant : f ≡ formula_meaning number form
 
 -- it, or the first offending place
 abbrev pub Parses : ℕ → (List ℕ → ℕ) → List ℕ → Result Obs (Or ObserverFault) → Type 0

@@ -11,7 +11,7 @@ use Rattle.lt_norm.specs.Flat.{Originated}
 use Rattle.lt_place_reads.specs.Origins.{IsMain, HasOrigins, variable_count, name_in, name_of}
 use Rattle.lt_arch.specs.declared.named.NamedNode.{NamedNode}
 use Rattle.lt_place.specs.declared.seats.Seat.{Seat}
-use Rattle.lt_place.specs.Nodes.{Listing, listings_on, listings_from, IsKnown, EachKnown}
+use Rattle.lt_place.specs.Nodes.{Listing, listings_on, listings_from, IsNameOfMain, EachKnown}
 use Rattle.lt_place.specs.Seats.{at_name, KnowsMain, EachIn, IsFirstOut, seat_of, seats_of}
 use Rattle.lt_place.proofs.Lists.{name_get}
 
@@ -140,7 +140,7 @@ module _ {S : Type 0} (f : Originated) (m : Named ℕ S) (k : KnowsMain f (varia
       let r = k.sound l.0 s.0 s.1 in
       ((s.0, r.0, r.1), each_known ls h.1)
 
-  pub not_known : (name : List ℕ) → at_name m name ≡ None → IsKnown f name → ⊥
+  pub not_known : (name : List ℕ) → at_name m name ≡ None → IsNameOfMain f name → ⊥
   not_known name e w =
       let t = k.complete w.0 w.1.declared w.1 in
       let s : is_some (at_name m name) ≡ true = subst (λ n. is_some (at_name m n) ≡ true) w.2 t in

@@ -11,7 +11,7 @@ use Rattle.lt_place_reads.specs.Reads.{unless_base}
 use Rattle.lt_arch.specs.declared.placement.Placement.{Placement}
 use Rattle.lt_place.specs.declared.fault.PlaceFault.{PlaceFault}
 use Rattle.lt_place.specs.declared.fault.PlaceFault.TheVariants.{Unplaced, PlacedTwice, UnknownName, DirectCross, SlowCross, ClockElsewhere}
-use Rattle.lt_place.specs.Nodes.{Listing, listings, IsKnown, EachKnown}
+use Rattle.lt_place.specs.Nodes.{Listing, listings, IsNameOfMain, EachKnown}
 use Rattle.lt_place.specs.Legal.{Legal}
 use Rattle.lt_place.specs.Faults.{IsLowest, IsUnplaced, IsPlacedTwice, AllOnce, IsFirstUnknown, IsClear, IsReached, IsFirstPlaceFault, judged_variables, IsClockElsewhere, IsDirectCross, IsSlowCross}
 
@@ -20,7 +20,7 @@ same_lowest P m n a b = let p = a.lowest n b.holds in let q = b.lowest m a.holds
 
 -- ---- names
 
-known_at : (f : Originated) (xs : List Listing) (y : Listing) (ys : List Listing) → EachKnown f (xs ++ y ∷ ys) → IsKnown f y.0
+known_at : (f : Originated) (xs : List Listing) (y : Listing) (ys : List Listing) → EachKnown f (xs ++ y ∷ ys) → IsNameOfMain f y.0
 known_at f [] y ys k = k.0
 known_at f (x ∷ xs) y ys k = known_at f xs y ys k.1
 
@@ -32,10 +32,10 @@ tail_of : List Listing → List Listing
 tail_of [] = []
 tail_of (x ∷ xs) = xs
 
-same_unknown_by : (f : Originated) (xs : List Listing) (m : List ℕ) (j : ℕ) (ys xs' : List Listing) (n : List ℕ) (k : ℕ) (ys' : List Listing) → xs ++ (m, j) ∷ ys ≡ xs' ++ (n, k) ∷ ys' → EachKnown f xs → EachKnown f xs' → (IsKnown f m → ⊥) → (IsKnown f n → ⊥) → m ≡ n
+same_unknown_by : (f : Originated) (xs : List Listing) (m : List ℕ) (j : ℕ) (ys xs' : List Listing) (n : List ℕ) (k : ℕ) (ys' : List Listing) → xs ++ (m, j) ∷ ys ≡ xs' ++ (n, k) ∷ ys' → EachKnown f xs → EachKnown f xs' → (IsNameOfMain f m → ⊥) → (IsNameOfMain f n → ⊥) → m ≡ n
 same_unknown_by f [] m j ys [] n k ys' e a b u v = let h : (m, j) ≡ (n, k) = cc in ap (λ (l : Listing). l.0) h
-same_unknown_by f [] m j ys (x ∷ xs') n k ys' e a b u v = let h : (m, j) ≡ x = cc in absurd (u (subst (λ (l : Listing). IsKnown f l.0) (sym h) b.0))
-same_unknown_by f (x ∷ xs) m j ys [] n k ys' e a b u v = let h : x ≡ (n, k) = cc in absurd (v (subst (λ (l : Listing). IsKnown f l.0) h a.0))
+same_unknown_by f [] m j ys (x ∷ xs') n k ys' e a b u v = let h : (m, j) ≡ x = cc in absurd (u (subst (λ (l : Listing). IsNameOfMain f l.0) (sym h) b.0))
+same_unknown_by f (x ∷ xs) m j ys [] n k ys' e a b u v = let h : x ≡ (n, k) = cc in absurd (v (subst (λ (l : Listing). IsNameOfMain f l.0) h a.0))
 same_unknown_by f (x ∷ xs) m j ys (x' ∷ xs') n k ys' e a b u v = let h : xs ++ (m, j) ∷ ys ≡ xs' ++ (n, k) ∷ ys' = cc in same_unknown_by f xs m j ys xs' n k ys' h a.1 b.1 u v
 
 same_unknown : (f : Originated) (p : Placement) (m n : List ℕ) → IsFirstUnknown f p m → IsFirstUnknown f p n → m ≡ n

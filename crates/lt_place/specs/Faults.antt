@@ -9,7 +9,7 @@ use Rattle.lt_place_reads.specs.Reads.{clock_reads, plain_reads, slow_reads}
 use Rattle.lt_arch.specs.declared.placement.Placement.{Placement}
 use Rattle.lt_place.specs.declared.fault.PlaceFault.{PlaceFault}
 use Rattle.lt_place.specs.declared.fault.PlaceFault.TheVariants.{Unplaced, PlacedTwice, UnknownName, DirectCross, SlowCross, ClockElsewhere}
-use Rattle.lt_place.specs.Nodes.{Listing, listings, puts, node_of, IsKnown, EachKnown}
+use Rattle.lt_place.specs.Nodes.{Listing, listings, puts, node_of, IsNameOfMain, EachKnown}
 
 -- the number has the property, and no lower one has it
 pub record IsLowest (P : ℕ → Type 0) (n : ℕ) : Type 0 where
@@ -41,7 +41,7 @@ pub record IsFirstUnknown (f : Originated) (p : Placement) (name : List ℕ) : T
   pub after : List Listing
   pub listed : listings p ≡ before ++ (name, node) ∷ after
   pub known : EachKnown f before
-  pub unknown : IsKnown f name → ⊥
+  pub unknown : IsNameOfMain f name → ⊥
 
 -- ---- reads and clocks
 

@@ -53,10 +53,10 @@ abbrev pub node_of : Originated → Placement → ℕ → ℕ
 node_of f p x = slice_index (nodes_of f p) x
 
 -- a variable of `main` has this name
-abbrev pub IsKnown : Originated → List ℕ → Type 0
-IsKnown f name = (x : ℕ) × IsMain f x × (name_of f x ≡ name)
+abbrev pub IsNameOfMain : Originated → List ℕ → Type 0
+IsNameOfMain f name = (x : ℕ) × IsMain f x × (name_of f x ≡ name)
 
 -- each of these names is that of a variable of `main`
 abbrev pub EachKnown : Originated → List Listing → Type 0
 EachKnown f [] = Unit {0}
-EachKnown f (l ∷ ls) = IsKnown f l.0 × EachKnown f ls
+EachKnown f (l ∷ ls) = IsNameOfMain f l.0 × EachKnown f ls

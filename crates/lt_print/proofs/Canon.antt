@@ -13,7 +13,7 @@ use Rattle.lt_syntax.specs.declared.tree.NodeText.{NodeText}
 use Rattle.lt_syntax.specs.Tree.{Tm}
 use Rattle.lt_syntax.specs.Grammar.{tokens, height}
 use Rattle.lt_syntax.specs.Program.{Group, Node, each, separated_by, clause, group, local, locals, equation, node, NotEmpty, Each}
-use Rattle.lt_print.specs.Canonical.{placed, text, when_text, clocks_text, decl_text, decls_text, local_lines, locals_text, equation_lines, node_text, canonical}
+use Rattle.lt_print.specs.Canonical.{placed, text, when_text, clocks_text, decl_text, decls_text, local_lines, locals_text, equation_lines, node_layout, canonical}
 use Rattle.lt_base.specs.TypeText.{ty_text}
 use Rattle.lt_print.proofs.Written.{IsIdent, Good}
 use Rattle.lt_print.proofs.Lexed.{Stops, ident_front, span_stops, halts_word, open_front, close_front, semicolon_front, colon_front}
@@ -142,7 +142,7 @@ reads_equations (e ∷ es) g r ts rest c =
           (10 ∷ (equation_lines es ++ r), semicolon_front _, newline ts' (some_equation es ts) (equation_lines es ++ r) rest (reads_equations es g.1 r ts rest c)))),
     )
 
-reads_node : (n : NodeText) → GoodNode n → (r : List ℕ) (ts : List Token) (rest : List ℕ) → Cuts (10 ∷ r) ts rest → Cuts (node_text n ++ r) (node (printed n) ts) rest
+reads_node : (n : NodeText) → GoodNode n → (r : List ℕ) (ts : List Token) (rest : List ℕ) → Cuts (10 ∷ r) ts rest → Cuts (node_layout n ++ r) (node (printed n) ts) rest
 reads_node n g r ts rest c =
     let es = map (λ e. (e.0, placed 1 e.1)) n.eqs in
     let t5 = token.Tel ∷ ts in

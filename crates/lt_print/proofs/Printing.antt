@@ -8,7 +8,7 @@ use Rattle.lt_syntax.specs.declared.tree.DeclText.{DeclText}
 use Rattle.lt_syntax.specs.declared.tree.NodeText.{NodeText}
 use Rattle.lt_syntax.specs.Tree as tree
 use Rattle.lt_syntax.specs.Tree.{Tm, tms}
-use Rattle.lt_print.specs.Canonical.{value_form, led, arrow_left, bare, all_bare, placed, when_text, text, texts, clocks_text, decl_text, decls_text, local_lines, equation_lines, node_text, canonical}
+use Rattle.lt_print.specs.Canonical.{value_form, led, arrow_left, bare, all_bare, placed, when_text, text, texts, clocks_text, decl_text, decls_text, local_lines, equation_lines, node_layout, canonical}
 use Rattle.lt_print.specs.Printed.{is_literal, head_text, body_text, local_line, equation_line}
 use Rattle.lt_syntax.specs.Views.{tm_of}
 
@@ -62,9 +62,9 @@ equations_snoc (d ∷ es) e =
     ∙ ap (λ z. codes "  " ++ (d.0 ++ (codes " = " ++ z))) (sym (append_assoc t (u ++ equation_lines es) (equation_line e)))
     ∙ ap (λ z. codes "  " ++ z) (sym (append_assoc d.0 (codes " = " ++ (t ++ (u ++ equation_lines es))) (equation_line e)))
 
-pub canonical_snoc : (ns : List NodeText) (n : NodeText) → canonical (ns ++ n ∷ []) ≡ canonical ns ++ node_text n
-canonical_snoc [] n = append-nil (node_text n)
-canonical_snoc (m ∷ ns) n = ap (λ z. node_text m ++ z) (canonical_snoc ns n) ∙ sym (append_assoc (node_text m) (canonical ns) (node_text n))
+pub canonical_snoc : (ns : List NodeText) (n : NodeText) → canonical (ns ++ n ∷ []) ≡ canonical ns ++ node_layout n
+canonical_snoc [] n = append-nil (node_layout n)
+canonical_snoc (m ∷ ns) n = ap (λ z. node_layout m ++ z) (canonical_snoc ns n) ∙ sym (append_assoc (node_layout m) (canonical ns) (node_layout n))
 
 pub decls_more : (y : DeclText) (ys : List DeclText) (x : DeclText) → decls_text (y ∷ (ys ++ x ∷ [])) ≡ decls_text (y ∷ ys) ++ (codes "; " ++ decl_text x)
 decls_more y [] x = refl
@@ -85,7 +85,7 @@ arguments_more y (z ∷ ys) x =
     ∙ sym (append_assoc (printed_argument y) (codes ", " ++ printed_arguments (z ∷ ys)) (codes ", " ++ printed_argument x))
 
 -- a node in its pieces
-pub node_pieces : (n : NodeText) (o h x d y e : List ℕ) → h ≡ o ++ head_text n → x ≡ h ++ codes ") returns (" → d ≡ x ++ decls_text n.outs → y ≡ d ++ codes ")\n" → e ≡ y ++ body_text n → e ≡ o ++ node_text n
+pub node_pieces : (n : NodeText) (o h x d y e : List ℕ) → h ≡ o ++ head_text n → x ≡ h ++ codes ") returns (" → d ≡ x ++ decls_text n.outs → y ≡ d ++ codes ")\n" → e ≡ y ++ body_text n → e ≡ o ++ node_layout n
 node_pieces n o h x d y e p q r s t =
     let k = body_text n in
     let w = codes ")\n" ++ k in

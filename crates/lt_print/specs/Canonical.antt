@@ -156,12 +156,12 @@ abbrev pub equation_lines : List (List ℕ × Tm) → List ℕ
 equation_lines [] = []
 equation_lines (e ∷ es) = codes "  " ++ (e.0 ++ (codes " = " ++ (text (placed 1 e.1) ++ (codes ";\n" ++ equation_lines es))))
 
-abbrev pub node_text : NodeText → List ℕ
-node_text n =
+abbrev pub node_layout : NodeText → List ℕ
+node_layout n =
     codes "node " ++ (n.name ++ (codes "(" ++ (decls_text n.ins ++ (codes ") returns (" ++ (decls_text n.outs ++ (codes ")\n"
     ++ (locals_text n.locals ++ (codes "let\n" ++ (equation_lines n.eqs ++ codes "tel\n")))))))))
 
 -- the canonical text of a tree
 abbrev pub canonical : List NodeText → List ℕ
 canonical [] = []
-canonical (n ∷ ns) = node_text n ++ canonical ns
+canonical (n ∷ ns) = node_layout n ++ canonical ns

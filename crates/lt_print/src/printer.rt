@@ -1,7 +1,7 @@
 // The canonical text of a tree.
 ghost use Rattle.std.specs.Prelude.{◌≡◌, ◌++◌, OnOk, IfOk, codes, map};
 ghost use Rattle.lt_tokens.specs.declared.token.Infix.TheVariants as meet;
-ghost use Rattle.lt_print.specs.Canonical.{value_form, led, arrow_left, level_of, bare, all_bare, placed, operator, truth_text, when_text, text, texts, clocks_text, decl_text, decls_text, local_lines, locals_text, equation_lines, node_text, canonical};
+ghost use Rattle.lt_print.specs.Canonical.{value_form, led, arrow_left, level_of, bare, all_bare, placed, operator, truth_text, when_text, text, texts, clocks_text, decl_text, decls_text, local_lines, locals_text, equation_lines, node_layout, canonical};
 ghost use Rattle.lt_base.specs.Limits.{greatest_height};
 ghost use Rattle.lt_base.specs.TypeText.{ty_text};
 ghost use Rattle.lt_print.specs.Printed.{is_number_term, is_literal, looks_led, head_text, body_text, comma_before, semicolon_before, local_line, equation_line};
@@ -340,7 +340,7 @@ fn body(out: &mut List<u8>, n: &NodeText) -> Result<(), Memory>
 }
 
 fn node(out: &mut List<u8>, n: &NodeText) -> Result<(), Memory>
-    ensures { OnOk result (out.new ≡ out.old ++ node_text n.now) }
+    ensures { OnOk result (out.new ≡ out.old ++ node_layout n.now) }
 {
     head(out, n)?;
     out.extend(b") returns (")?;

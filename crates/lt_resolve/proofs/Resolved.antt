@@ -22,7 +22,7 @@ use Rattle.lt_resolve.specs.declared.fault.NameKind.TheVariants as kind
 use Rattle.lt_resolve.specs.Names.{Name, among, if_among, repeated_name}
 use Rattle.lt_resolve.specs.Scopes.{declarations, variables, functions}
 use Rattle.lt_resolve.specs.Named.{IsNamed, AreNamed, IsDeclared, IsNamedEquation, IsFunction, Along, Named}
-use Rattle.lt_resolve.specs.Uses.{Site, delays, argument_delays, sites_in, argument_sites, equation_sites, sites_from, edge, edges}
+use Rattle.lt_resolve.specs.Uses.{Site, term_delays, argument_delays, sites_in, argument_sites, equation_sites, sites_from, edge, edges}
 use Rattle.lt_resolve.specs.Faults.{first_in, twice_in, sites, answered, unless, size, NoNameFault}
 use Rattle.lt_resolve.specs.Resolves.{IsSmallFunction, IsResolved}
 use Rattle.lt_resolve.proofs.Distinct.{none_left, none_right, at_among}
@@ -146,7 +146,7 @@ module _ (vars funcs : List Name) where
   weightless g = 0
 
   mutual
-    delays_named : (a : Tm) (e : Expression) → IsNamed vars funcs a e → cost 1 weightless e ≡ delays a
+    delays_named : (a : Tm) (e : Expression) → IsNamed vars funcs a e → cost 1 weightless e ≡ term_delays a
     delays_named (Lit v) (literal w) h = refl
     delays_named (Var x) (variable y) h = refl
     delays_named (Unary o a) (unary p e) h = delays_named a e h.1
@@ -166,14 +166,14 @@ module _ (vars funcs : List Name) where
     delays_args (Cons a args) (argument e es) h = λ i. delays_named a e h.0 i + delays_args args es h.1 i
     delays_args _ _ h = absurd h
 
-  delays_equations : (qs : List (Name × Tm)) (es : List (ℕ × Expression)) → Along (IsNamedEquation vars funcs) qs es → sum_by (λ e. cost 1 (λ _. 0) e.1) es ≡ sum_by (λ q. delays q.1) qs
+  delays_equations : (qs : List (Name × Tm)) (es : List (ℕ × Expression)) → Along (IsNamedEquation vars funcs) qs es → sum_by (λ e. cost 1 (λ _. 0) e.1) es ≡ sum_by (λ q. term_delays q.1) qs
   delays_equations [] [] h = refl
   delays_equations [] (e ∷ es) h = absurd h
   delays_equations (q ∷ qs) [] h = absurd h
   delays_equations (q ∷ qs) (e ∷ es) h =
       sum_by-cons (λ (e : ℕ × Expression). cost 1 (λ _. 0) e.1) e es
       ∙ (λ i. delays_named q.1 e.1 h.0.1 i + delays_equations qs es h.1 i)
-      ∙ sym (sum_by-cons (λ (q : Name × Tm). delays q.1) q qs)
+      ∙ sym (sum_by-cons (λ (q : Name × Tm). term_delays q.1) q qs)
 
 is_small : (funcs : List Name) (n : NodeText) (f : Function) → IsFunction funcs n f → size n ≤ 4096 → length n.ins ≤ 64 → length n.outs ≤ 64 → IsSmallFunction f
 is_small funcs n f h a b c = record {

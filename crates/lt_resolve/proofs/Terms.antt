@@ -19,7 +19,7 @@ use Rattle.lt_resolve.specs.declared.expression.Callee.TheVariants.{Function, Op
 use Rattle.lt_resolve.specs.Named.{operator_of, IsNamed, AreNamed, Along}
 use Rattle.lt_resolve.specs.Known.{IsCallable, IsOperation, StandsFor, IsCalled, IsTranslated, AreTranslated}
 use Rattle.lt_resolve.specs.Names.{Name, number_of_name, first_some}
-use Rattle.lt_resolve.specs.Uses.{unknown, unknown_argument, term_count, delays, argument_delays}
+use Rattle.lt_resolve.specs.Uses.{unknown, unknown_argument, term_count, term_delays, argument_delays}
 
 -- what is unknown in arguments
 pub unknown_arguments : (vars funcs : List Name) (args : List Term) → first_some (λ a. unknown vars funcs (tm_of a)) args ≡ unknown_argument vars funcs (tms (map tm_of args))
@@ -27,9 +27,9 @@ unknown_arguments vars funcs [] = refl
 unknown_arguments vars funcs (a ∷ args) = ap (option_or (unknown vars funcs (tm_of a))) (unknown_arguments vars funcs args)
 
 -- the delays in arguments
-pub argument_delays_are : (args : List Term) → argument_delays (tms (map tm_of args)) ≡ sum_by (λ a. delays (tm_of a)) args
+pub argument_delays_are : (args : List Term) → argument_delays (tms (map tm_of args)) ≡ sum_by (λ a. term_delays (tm_of a)) args
 argument_delays_are [] = refl
-argument_delays_are (a ∷ args) = ap (λ n. delays (tm_of a) + n) (argument_delays_are args) ∙ sym (sum_by-cons (λ a. delays (tm_of a)) a args)
+argument_delays_are (a ∷ args) = ap (λ n. term_delays (tm_of a) + n) (argument_delays_are args) ∙ sym (sum_by-cons (λ a. term_delays (tm_of a)) a args)
 
 -- the shape of a call
 pub tm_of-Call : (f : Name) (args : Vec Term Global) → tm_of (term.Call f args) ≡ Call f (tms (map tm_of args.items))

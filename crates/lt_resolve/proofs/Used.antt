@@ -6,7 +6,7 @@ use Rattle.std.proofs.lemmas.List.Sums.{sum_by-append, sum_by-cons}
 use Rattle.lt_syntax.specs.declared.tree.NodeText.{NodeText}
 use Rattle.lt_syntax.specs.Tree.{Tm}
 use Rattle.lt_resolve.specs.Names.{Name}
-use Rattle.lt_resolve.specs.Uses.{Site, sites_in, equation_sites, sites_from, delays, all_delays}
+use Rattle.lt_resolve.specs.Uses.{Site, sites_in, equation_sites, sites_from, term_delays, all_delays}
 
 module _ (funcs : List Name) where
   at_equation : (i : ℕ) (items : List (Name × Tm)) (k : ℕ) (q : Name × Tm) → k < length items → q ≡ get_or items k q → equation_sites funcs i (drop k items) ≡ sites_in funcs i q.1 ++ equation_sites funcs i (drop (k + 1) items)
@@ -32,9 +32,9 @@ module _ (funcs : List Name) where
       ap (λ z. z ++ later) p ∙ append_assoc mid (equation_sites funcs i n.eqs) later ∙ ap (λ z. mid ++ z) (sym (at_function t i n l e)) ∙ h
 
 -- the delays of one more equation
-pub more_delays : (items : List (Name × Tm)) (k : ℕ) (q : Name × Tm) (sum d new : ℕ) → k < length items → q ≡ get_or items k q → sum ≡ all_delays (take k items) → d ≡ min (delays q.1) (2 ^ 64 - 1) → new ≡ min (sum + d) (2 ^ 64 - 1) → new ≡ all_delays (take (k + 1) items)
+pub more_delays : (items : List (Name × Tm)) (k : ℕ) (q : Name × Tm) (sum d new : ℕ) → k < length items → q ≡ get_or items k q → sum ≡ all_delays (take k items) → d ≡ min (term_delays q.1) (2 ^ 64 - 1) → new ≡ min (sum + d) (2 ^ 64 - 1) → new ≡ all_delays (take (k + 1) items)
 more_delays items k q sum d new l e h g p =
-    let f : Name × Tm → ℕ = λ q. delays q.1 in
+    let f : Name × Tm → ℕ = λ q. term_delays q.1 in
     let more : take (k + 1) items ≡ take k items ++ q ∷ [] = take_more items k q l ∙ ap (λ z. take k items ++ z ∷ []) (sym e) in
     let both : sum_by f (take (k + 1) items) ≡ sum_by f (take k items) + sum_by f (q ∷ []) = ap (sum_by f) more ∙ sum_by-append f (take k items) (q ∷ []) in
     let one : sum_by f (q ∷ []) ≡ f q + sum_by f [] = sum_by-cons f q [] in

@@ -13,7 +13,7 @@ use Rattle.lt_resolve.specs.declared.fault.NameFault.{NameFault}
 use Rattle.lt_resolve.specs.Names.{Name, if_missing, if_among, repeated_name, first_some}
 use Rattle.lt_resolve.specs.Scopes.{declarations, declared_names, variables, left_names, functions}
 use Rattle.lt_resolve.specs.Named.{main}
-use Rattle.lt_resolve.specs.Uses.{unknown, Site, sites_from, edges, delays}
+use Rattle.lt_resolve.specs.Uses.{unknown, Site, sites_from, edges, term_delays}
 
 -- a function's number, and a name that stands in it
 abbrev pub Occurrence : Type 0
@@ -113,7 +113,7 @@ above limit n word = if nat_lt limit n then Some word else None
 
 -- a function's variables and delays
 abbrev pub size : NodeText → ℕ
-size n = length (declarations n) + sum_by (λ q. delays q.1) n.eqs
+size n = length (declarations n) + sum_by (λ q. term_delays q.1) n.eqs
 
 -- the limit on functions
 abbrev pub functions_limit : List NodeText → Option Occurrence

@@ -81,23 +81,23 @@ edges (s ∷ ss) = edge s.caller s.callee ++ edges ss
 
 -- the delays in a term: one for each `fby` behind a literal and each `->`, two for each other `fby`
 abbrev mutual
-  pub delays : Tm → ℕ
-  delays (Lit v) = 0
-  delays (Var x) = 0
-  delays (Unary o a) = delays a
-  delays (Binary o a b) = delays a + delays b
-  delays (Choice c a b) = delays c + delays a + delays b
-  delays (Sampled a c t) = delays a
-  delays (Merged c a b) = delays a + delays b
-  delays (Delayed v a) = 1 + delays a
-  delays (Followed a b) = 2 + delays a + delays b
-  delays (Arrow a b) = 1 + delays a + delays b
-  delays (Call f args) = argument_delays args
+  pub term_delays : Tm → ℕ
+  term_delays (Lit v) = 0
+  term_delays (Var x) = 0
+  term_delays (Unary o a) = term_delays a
+  term_delays (Binary o a b) = term_delays a + term_delays b
+  term_delays (Choice c a b) = term_delays c + term_delays a + term_delays b
+  term_delays (Sampled a c t) = term_delays a
+  term_delays (Merged c a b) = term_delays a + term_delays b
+  term_delays (Delayed v a) = 1 + term_delays a
+  term_delays (Followed a b) = 2 + term_delays a + term_delays b
+  term_delays (Arrow a b) = 1 + term_delays a + term_delays b
+  term_delays (Call f args) = argument_delays args
 
   pub argument_delays : Tms → ℕ
   argument_delays Nil = 0
-  argument_delays (Cons a args) = delays a + argument_delays args
+  argument_delays (Cons a args) = term_delays a + argument_delays args
 
 -- the delays in all right sides, cut at the greatest number of 64 bits
 abbrev pub all_delays : List (Name × Tm) → ℕ
-all_delays eqs = min (sum_by (λ q. delays q.1) eqs) (2 ^ 64 - 1)
+all_delays eqs = min (sum_by (λ q. term_delays q.1) eqs) (2 ^ 64 - 1)

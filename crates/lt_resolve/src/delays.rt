@@ -2,7 +2,7 @@
 ghost use Rattle.std.specs.Prelude.{◌≡◌, ◌^◌, ◌-◌, min, map};
 ghost use Rattle.lt_syntax.specs.Tree.{tms};
 ghost use Rattle.lt_syntax.specs.Views.{tm_of};
-ghost use Rattle.lt_resolve.specs.Uses.{delays, argument_delays};
+ghost use Rattle.lt_resolve.specs.Uses.{term_delays, argument_delays};
 
 use lt_syntax::Term;
 
@@ -10,7 +10,7 @@ use lt_syntax::Term;
 /// and a `->` once.
 #[cycle(delays)]
 pub fn delays(term: &Term) -> u64
-    ensures { result ≡ min (delays (tm_of term.now)) (2 ^ 64 - 1) }
+    ensures { result ≡ min (term_delays (tm_of term.now)) (2 ^ 64 - 1) }
 {
     match term {
         Term::Lit(_) => 0,

@@ -6,10 +6,10 @@ use Rattle.lt_arch.specs.declared.pace.Pace.{Pace}
 use Rattle.lt_place.specs.declared.layout.Layout.{Layout}
 use Rattle.lt_c_node.specs.declared.file.NodeFile.{NodeFile}
 use Rattle.lt_c_node.specs.NodeText.{node_text}
-use Rattle.lt_c_node.specs.NodeOf.{IsFileOf, IsEmitted}
+use Rattle.lt_c_node.specs.NodeOf.{IsFileOfNode, IsEmitted}
 use Rattle.lt_c_node.proofs.building.emit_node.Goals as goal
 
-emitted : (r : Result (List ℕ) Memory) (l : Layout) (s : Shape) (t : Timing) (pace : Pace) (n : ℕ) (f : NodeFile) → IsFileOf l s t pace n f → IfOk r (λ text. text ≡ node_text f) → IfOk r (IsEmitted l s t pace n)
+emitted : (r : Result (List ℕ) Memory) (l : Layout) (s : Shape) (t : Timing) (pace : Pace) (n : ℕ) (f : NodeFile) → IsFileOfNode l s t pace n f → IfOk r (λ text. text ≡ node_text f) → IfOk r (IsEmitted l s t pace n)
 emitted (Err x) l s t pace n f g h = tt
 emitted (Ok text) l s t pace n f g h = record { file = f; is_file = g; is_text = h }
 

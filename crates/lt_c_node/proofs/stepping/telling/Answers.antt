@@ -2,11 +2,11 @@ use Rattle.std.proofs.Common.{◌≡◌, ◌≢◌, [], ◌∷◌, ℕ, sym, ap,
 use Rattle.lt_base.specs.Meaning.{ClockPairs}
 use Rattle.lt_c.specs.Tree.{Tree, nothing, has, assign}
 use Rattle.lt_c.specs.Views.{tree_of}
-use Rattle.lt_c_step.specs.Part.{of_clock, telling}
+use Rattle.lt_c_step.specs.Part.{clock_tree, telling}
 use Rattle.lt_c_step.proofs.Pieces.{not_none}
 use Rattle.lt_c_node.proofs.stepping.telling.Goals as goal
 
-told : (y : ℕ) (ck : ClockPairs) (e : Tree) → ck ≢ [] → e ≡ of_clock ck → assign (has y) e ≡ telling y ck
+told : (y : ℕ) (ck : ClockPairs) (e : Tree) → ck ≢ [] → e ≡ clock_tree ck → assign (has y) e ≡ telling y ck
 told y [] e h g = absurd (h refl)
 told y (p ∷ ck) e h g = ap (assign (has y)) g
 
