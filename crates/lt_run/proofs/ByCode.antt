@@ -20,10 +20,9 @@ use Rattle.lt_answer.proofs.Stages.{opens_none, runs_short}
 use Rattle.lt_load.specs.Plan.{LoadedPlan}
 use Rattle.lt_run.specs.declared.fault.RunFault.{RunFault}
 use Rattle.lt_run.specs.declared.printed.Printed.{Printed}
-use Rattle.lt_run.specs.declared.printout.Printout.{Printout}
 use Rattle.lt_run.specs.Kinds.{EventsBy, HasStepsBy, executed_by}
-use Rattle.lt_run.specs.Printed.{HasPrintout, ReplayShows, ShowsAt}
-use Rattle.lt_run.specs.Coded.{CodeShows, HasPrinted, StepsCode}
+use Rattle.lt_run.specs.Printed.{HasPrinted, ReplayShows}
+use Rattle.lt_run.specs.Coded.{CodeShows, HasCodePrinted, StepsCode}
 use Rattle.lt_run.proofs.Replays.{answered_fault, answered_value}
 use Rattle.lt_machine.specs.declared.machine.Machine.{Ghosts as Machines}
 use Rattle.lt_machine.specs.declared.step_machine.StepMachine.{StepMachine}
@@ -42,57 +41,38 @@ module _ {G : Type 0} (mch : Machines (StepMachine G)) (run : RunCode mch) where
   steps_code (Leader leader) l s t inputs events got machines has = record { count = has.count; code = λ n m at. run.code m (part_of l n).flat.func _ (has.stand n m at); made = λ n m at. sym (run.made m) ∙ has.steps n m at }
 
   module _ (p : WholeProgram) (l : Layout) (s : Shape) (t : Timing) (pace : Pace) (inputs : List (List Value)) (fabric : FabricState) where
-    abbrev made_by_code : (events : EventsBy pace) (names : List (List ℕ)) (machines : List (StepMachine G)) (cells : List (List Cell)) (horizon : ℕ) → Type 0
-    made_by_code events names machines cells horizon =
-        (shown : ShowsAt p l s t pace inputs fabric events names cells horizon) × HasStepsBy mch pace l s t inputs events shown.got machines
-
-    -- the same names, cells and machines show it
-    code_shows : (x : Printout (StepMachine G)) (y : Printed G) → y.names ≡ x.names → y.cells ≡ x.cells → y.horizon ≡ x.horizon → y.machines ≡ x.machines
-        → (events : EventsBy pace) → ReplayShows mch p l s t pace inputs fabric events x → CodeShows mch p l s t pace inputs fabric events y
-    code_shows x y names cells horizon machines events has =
-        let here : made_by_code events x.names x.machines x.cells x.horizon = (has.shows, has.steps) in
-        let with_names = subst (λ (ns : List (List ℕ)). made_by_code events ns x.machines x.cells x.horizon) (sym names) here in
-        let with_machines = subst (λ (ms : List (StepMachine G)). made_by_code events y.names ms x.cells x.horizon) (sym machines) with_names in
-        let with_cells = subst (λ (cs : List (List Cell)). made_by_code events y.names y.machines cs x.horizon) (sym cells) with_machines in
-        let there = subst (λ (h : ℕ). made_by_code events y.names y.machines y.cells h) (sym horizon) with_cells in
-        record { shows = there.0; steps = there.1; steps_code = steps_code pace l s t inputs events there.0.got y.machines there.1 }
+    code_shows : (x : Printed (StepMachine G)) (events : EventsBy pace) → ReplayShows mch p l s t pace inputs fabric events x → CodeShows mch p l s t pace inputs fabric events x
+    code_shows x events has = record { shows = has.shows; steps = has.steps; steps_code = steps_code pace l s t inputs events has.shows.got x.machines has.steps }
 
   module _ (k : LoadedPlan) (name : List ℕ) (files files' : FilesState) (fabric fabric' : FabricState) where
-    abbrev any_end : EventsBy k.pace → Printout (StepMachine G) → Type 0
+    abbrev any_end : EventsBy k.pace → Printed (StepMachine G) → Type 0
     any_end = ReplayShows mch k.checked.program k.layout k.shape k.timing k.pace k.inputs.rows fabric'
 
-    abbrev code_end : EventsBy k.pace → Printed G → Type 0
+    abbrev code_end : EventsBy k.pace → Printed (StepMachine G) → Type 0
     code_end = CodeShows mch k.checked.program k.layout k.shape k.timing k.pace k.inputs.rows fabric'
 
-    -- what was replayed by machines of step code
-    pub printed_code : (x : Printout (StepMachine G)) (y : Printed G) → y.names ≡ x.names → y.cells ≡ x.cells → y.horizon ≡ x.horizon → y.machines ≡ x.machines → y.layout ≡ x.layout
-        → HasPrintout mch k name files files' fabric fabric' (Ok x) → HasPrinted mch k name files files' fabric fabric' (Ok y)
-    printed_code x y names cells horizon machines layout has =
-        let too : (events : EventsBy k.pace) → any_end events x → code_end events y = code_shows k.checked.program k.layout k.shape k.timing k.pace k.inputs.rows fabric' x y names cells horizon machines in
+    -- what was replayed by machines of step code, or refused
+    pub printed_code : (r : Result (Printed (StepMachine G)) (Or RunFault)) → HasPrinted mch k name files files' fabric fabric' r → HasCodePrinted mch k name files files' fabric fabric' r
+    printed_code (Ok x) has =
+        let too : (events : EventsBy k.pace) → any_end events x → code_end events x = code_shows k.checked.program k.layout k.shape k.timing k.pace k.inputs.rows fabric' x in
         record {
-          answered = answered_value k.pace any_end code_end k.shape k.timing (length k.inputs.rows) (files.named name) (world files fabric) (world files' fabric') x y too has.answered;
+          answered = answered_value k.pace any_end code_end k.shape k.timing (length k.inputs.rows) (files.named name) (world files fabric) (world files' fabric') x x too has.answered;
           ended = (has.ended.0, too has.ended.0 has.ended.1);
-          near = λ told. tt;
-          opens = record { calls = has.opens.calls; done = has.opens.done };
-          layout = layout ∙ has.layout;
-        }
-
-    -- a refusal
-    pub refused_code : (e : Or RunFault) (r : Result (Printed G) (Or RunFault)) → IsErrAnd r (λ f. f ≡ e) → HasPrintout mch k name files files' fabric fabric' (Err e) → HasPrinted mch k name files files' fabric fabric' r
-    refused_code e (Ok x) is has = absurd is
-    refused_code e (Err f) is has =
-        let told : HasPrinted mch k name files files' fabric fabric' (Err e) = record {
-          answered = answered_fault k.pace any_end code_end k.shape k.timing (length k.inputs.rows) (files.named name) (world files fabric) (world files' fabric') e has.answered;
-          ended = tt;
           near = has.near;
-          opens = record { calls = has.opens.calls; done = tt };
-          layout = tt;
-        } in
-        subst (λ (g : Or RunFault). HasPrinted mch k name files files' fabric fabric' (Err g)) (sym is) told
+          opens = has.opens;
+          layout = has.layout;
+        }
+    printed_code (Err e) has = record {
+      answered = answered_fault k.pace any_end code_end k.shape k.timing (length k.inputs.rows) (files.named name) (world files fabric) (world files' fabric') e has.answered;
+      ended = tt;
+      near = has.near;
+      opens = has.opens;
+      layout = tt;
+    }
 
 -- no memory was found for the machines
-pub not_coded : {G : Type 0} (mch : Machines (StepMachine G)) (k : LoadedPlan) (name : List ℕ) (files : FilesState) (fabric : FabricState) (r : Result (Printed G) (Or RunFault))
-    → IsErrAnd r (λ f. f ≡ Memory) → HasPrinted mch k name files files fabric fabric r
+pub not_coded : {G : Type 0} (mch : Machines (StepMachine G)) (k : LoadedPlan) (name : List ℕ) (files : FilesState) (fabric : FabricState) (r : Result (Printed (StepMachine G)) (Or RunFault))
+    → IsErrAnd r (λ f. f ≡ Memory) → HasCodePrinted mch k name files files fabric fabric r
 not_coded mch k name files fabric (Ok x) is = absurd is
 not_coded mch k name files fabric (Err f) is =
-    subst (λ (g : Or RunFault). HasPrinted mch k name files files fabric fabric (Err g)) (sym is) (record { answered = runs_short (world files fabric); ended = tt; near = λ told. tt; opens = record { calls = opens_none fabric; done = tt }; layout = tt })
+    subst (λ (g : Or RunFault). HasCodePrinted mch k name files files fabric fabric (Err g)) (sym is) (record { answered = runs_short (world files fabric); ended = tt; near = λ told. tt; opens = record { calls = opens_none fabric; done = tt }; layout = tt })

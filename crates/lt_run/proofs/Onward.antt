@@ -33,7 +33,7 @@ use Rattle.lt_run.specs.Errands.{run_errands}
 use Rattle.lt_run.specs.Fault.{run_blame}
 use Rattle.lt_run.specs.Kinds.{EventsBy}
 use Rattle.lt_load.specs.Near.{IsNearCommand}
-use Rattle.lt_run.specs.Coded.{CodeShows, HasPrinted}
+use Rattle.lt_run.specs.Coded.{CodeShows, HasCodePrinted}
 use Rattle.lt_run.specs.Printed.{ShowsAt, run_loaded_verdict}
 use Rattle.lt_run.specs.Run.{AsCommand, KeepsShape, HasOutputs, IsLaidOutBy, OutputsShow, along_loaded, run_along_verdict, run_command_fault, placed_run_verdict, ordered_verdict}
 use Rattle.lt_run.proofs.Replays.{answered_value, answered_fault}
@@ -49,7 +49,7 @@ same_blame s run.Read = refl
 same_blame s run.Link = refl
 
 -- the outputs of what a replay answers show the same
-outputs_show : {G : Type 0} (mch : Machines (StepMachine G)) (p : WholeProgram) (l : Layout) (s : Shape) (t : Timing) (pace : Pace) (inputs : List (List Value)) (fabric : FabricState) (printed : Printed G) (outputs : Outputs)
+outputs_show : {G : Type 0} (mch : Machines (StepMachine G)) (p : WholeProgram) (l : Layout) (s : Shape) (t : Timing) (pace : Pace) (inputs : List (List Value)) (fabric : FabricState) (printed : Printed (StepMachine G)) (outputs : Outputs)
     → outputs.names ≡ printed.names → outputs.cells ≡ printed.cells → (events : EventsBy pace) → CodeShows mch p l s t pace inputs fabric events printed → OutputsShow p l s t pace inputs fabric events outputs
 outputs_show mch p l s t pace inputs fabric printed outputs names cells events shown = record {
   horizon = printed.horizon;
@@ -62,7 +62,7 @@ module _ {G : Type 0} (mch : Machines (StepMachine G)) (k : LoadedPlan) (name : 
   abbrev file : Option (List ℕ)
   file = files.named name
 
-  abbrev printed_end : EventsBy k.pace → Printed G → Type 0
+  abbrev printed_end : EventsBy k.pace → Printed (StepMachine G) → Type 0
   printed_end = CodeShows mch k.checked.program k.layout k.shape k.timing k.pace k.inputs.rows fabric'
 
   abbrev outputs_end : EventsBy k.pace → Outputs → Type 0
@@ -72,7 +72,7 @@ module _ {G : Type 0} (mch : Machines (StepMachine G)) (k : LoadedPlan) (name : 
   Outs r = HasOutputs k name files files' fabric fabric' r
 
   -- the outputs of what a replay answers
-  pub outputs_of : (printed : Printed G) (outputs : Outputs) → outputs.names ≡ printed.names → outputs.cells ≡ printed.cells → HasPrinted mch k name files files' fabric fabric' (Ok printed) → Outs (Ok outputs)
+  pub outputs_of : (printed : Printed (StepMachine G)) (outputs : Outputs) → outputs.names ≡ printed.names → outputs.cells ≡ printed.cells → HasCodePrinted mch k name files files' fabric fabric' (Ok printed) → Outs (Ok outputs)
   outputs_of printed outputs names cells has = record {
     answered =
         answered_value k.pace printed_end outputs_end k.shape k.timing (length k.inputs.rows) file (world files fabric) (world files' fabric') printed outputs
@@ -82,7 +82,7 @@ module _ {G : Type 0} (mch : Machines (StepMachine G)) (k : LoadedPlan) (name : 
   }
 
   -- its refusal
-  pub not_printed : (e : Or RunFault) (r : Result Outputs (Or RunFault)) → IsErrAnd r (λ f. f ≡ e) → HasPrinted mch k name files files' fabric fabric' (Err e) → Outs r
+  pub not_printed : (e : Or RunFault) (r : Result Outputs (Or RunFault)) → IsErrAnd r (λ f. f ≡ e) → HasCodePrinted mch k name files files' fabric fabric' (Err e) → Outs r
   not_printed e (Ok x) is has = absurd is
   not_printed e (Err f) is has =
       let told : Outs (Err e) = record {

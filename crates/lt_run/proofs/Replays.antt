@@ -30,10 +30,10 @@ use Rattle.lt_load.specs.Plan.{LoadedPlan, IsLoaded}
 use Rattle.lt_evaluate.specs.Main.{output_names}
 use Rattle.lt_run.specs.declared.fault.RunFault.{RunFault}
 use Rattle.lt_run.specs.declared.fault.RunFault.TheVariants.{Read}
-use Rattle.lt_run.specs.declared.printout.Printout.{Printout}
+use Rattle.lt_run.specs.declared.printed.Printed.{Printed}
 use Rattle.lt_run.specs.Fault.{run_blame}
 use Rattle.lt_run.specs.Kinds.{EventsBy, RunEndsBy, HasStepsBy, IsRunBy, ExactBy, CrossesBy, fault_by, run_file_verdict, got_by, verdict_by}
-use Rattle.lt_run.specs.Printed.{HasPrintout, HasTaken, IsReplayBy, ReplayShows, ShowsAt}
+use Rattle.lt_run.specs.Printed.{HasPrinted, HasTaken, IsReplayBy, ReplayShows, ShowsAt}
 use Rattle.lt_run.proofs.Prefixes.{columns, shows}
 use Rattle.lt_machine.specs.declared.machine.Machine.{Ghosts as Machines}
 
@@ -92,17 +92,17 @@ module _ {M : Type 0} (mch : Machines M) (k : LoadedPlan) (name : List ℕ) (fil
   abbrev Takes : Result (Replayed M) (Or RunFault) → Type 0
   Takes r = HasTaken mch k.pace k.layout k.shape k.timing k.inputs.rows name files files' fabric fabric' r
 
-  abbrev Prints : Result (Printout M) (Or RunFault) → Type 0
-  Prints r = HasPrintout mch k name files files' fabric fabric' r
+  abbrev Prints : Result (Printed M) (Or RunFault) → Type 0
+  Prints r = HasPrinted mch k name files files' fabric fabric' r
 
   abbrev taken_end : EventsBy k.pace → Replayed M → Type 0
   taken_end = IsReplayBy mch k.pace k.layout k.shape k.timing k.inputs.rows fabric'
 
-  abbrev printed_end : EventsBy k.pace → Printout M → Type 0
+  abbrev printed_end : EventsBy k.pace → Printed M → Type 0
   printed_end = ReplayShows mch k.checked.program k.layout k.shape k.timing k.pace k.inputs.rows fabric'
 
   -- it was refused
-  pub not_replayed : (e : Or RunFault) (r : Result (Printout M) (Or RunFault)) → IsErrAnd r (λ f. f ≡ e) → Takes (Err e) → Prints r
+  pub not_replayed : (e : Or RunFault) (r : Result (Printed M) (Or RunFault)) → IsErrAnd r (λ f. f ≡ e) → Takes (Err e) → Prints r
   not_replayed e (Ok x) is takes = absurd is
   not_replayed e (Err f) is takes =
       let told : Prints (Err e) = record {
@@ -115,7 +115,7 @@ module _ {M : Type 0} (mch : Machines M) (k : LoadedPlan) (name : List ℕ) (fil
       subst (λ (g : Or RunFault). Prints (Err g)) (sym is) told
 
   -- no memory was found for the names
-  pub not_named : (x : Replayed M) (r : Result (Printout M) (Or RunFault)) → IsErrAnd r (λ f. f ≡ Memory) → Takes (Ok x) → Prints r
+  pub not_named : (x : Replayed M) (r : Result (Printed M) (Or RunFault)) → IsErrAnd r (λ f. f ≡ Memory) → Takes (Ok x) → Prints r
   not_named x (Ok y) is takes = absurd is
   not_named x (Err f) is takes =
       let told : Prints (Err Memory) = record {
@@ -128,7 +128,7 @@ module _ {M : Type 0} (mch : Machines M) (k : LoadedPlan) (name : List ℕ) (fil
       subst (λ (g : Or RunFault). Prints (Err g)) (sym is) told
 
   -- it is shown by name
-  pub named : (x : Replayed M) (y : Printout M) → ((events : EventsBy k.pace) → taken_end events x → printed_end events y) → y.layout ≡ x.layout → Takes (Ok x) → Prints (Ok y)
+  pub named : (x : Replayed M) (y : Printed M) → ((events : EventsBy k.pace) → taken_end events x → printed_end events y) → y.layout ≡ x.layout → Takes (Ok x) → Prints (Ok y)
   named x y too same takes = record {
     answered = answered_value k.pace taken_end printed_end k.shape k.timing (length k.inputs.rows) (files.named name) (world files fabric) (world files' fabric') x y too takes.answered;
     ended = (takes.ended.0, too takes.ended.0 takes.ended.1);
@@ -146,16 +146,16 @@ pub with_setup : (k : LoadedPlan) (s : NetPlan) → s ≡ setup_in k → record 
 with_setup k s is = ap (λ (z : NetPlan). record { checked = k.checked; layout = z.layout; shape = z.shape; timing = z.timing; inputs = k.inputs; pace = k.pace }) is
 
 -- no memory was found for a setup
-pub not_set_up : {M : Type 0} (mch : Machines M) (k : LoadedPlan) (name : List ℕ) (files : FilesState) (fabric : FabricState) (r : Result (Printout M) (Or RunFault))
-    → IsErrAnd r (λ f. f ≡ Memory) → HasPrintout mch k name files files fabric fabric r
+pub not_set_up : {M : Type 0} (mch : Machines M) (k : LoadedPlan) (name : List ℕ) (files : FilesState) (fabric : FabricState) (r : Result (Printed M) (Or RunFault))
+    → IsErrAnd r (λ f. f ≡ Memory) → HasPrinted mch k name files files fabric fabric r
 not_set_up mch k name files fabric (Ok x) is = absurd is
 not_set_up mch k name files fabric (Err f) is =
-    subst (λ (g : Or RunFault). HasPrintout mch k name files files fabric fabric (Err g)) (sym is) (record { answered = runs_short (world files fabric); ended = tt; near = λ told. tt; opens = record { calls = opens_none fabric; done = tt }; layout = tt })
+    subst (λ (g : Or RunFault). HasPrinted mch k name files files fabric fabric (Err g)) (sym is) (record { answered = runs_short (world files fabric); ended = tt; near = λ told. tt; opens = record { calls = opens_none fabric; done = tt }; layout = tt })
 
 -- the same of an equal plan
-pub prints_at : {M : Type 0} (mch : Machines M) (k l : LoadedPlan) → k ≡ l → (name : List ℕ) (files files' : FilesState) (fabric fabric' : FabricState) (r : Result (Printout M) (Or RunFault))
-    → HasPrintout mch k name files files' fabric fabric' r → HasPrintout mch l name files files' fabric fabric' r
-prints_at mch k l is name files files' fabric fabric' r has = subst (λ (m : LoadedPlan). HasPrintout mch m name files files' fabric fabric' r) is has
+pub prints_at : {M : Type 0} (mch : Machines M) (k l : LoadedPlan) → k ≡ l → (name : List ℕ) (files files' : FilesState) (fabric fabric' : FabricState) (r : Result (Printed M) (Or RunFault))
+    → HasPrinted mch k name files files' fabric fabric' r → HasPrinted mch l name files files' fabric fabric' r
+prints_at mch k l is name files files' fabric fabric' r has = subst (λ (m : LoadedPlan). HasPrinted mch m name files files' fabric fabric' r) is has
 
 -- machines that are ready for an equal plan
 pub ready_at : {M : Type 0} (mch : Machines M) (k l : LoadedPlan) → k ≡ l → (machines : List M) → AreReady mch k.layout (length k.inputs.rows) machines → AreReady mch l.layout (length l.inputs.rows) machines
@@ -182,7 +182,7 @@ module _ {M : Type 0} (mch : Machines M) (k : LoadedPlan) (good : GoodProgram k.
       (shown : ShowsAt k.checked.program k.layout k.shape k.timing k.pace k.inputs.rows fabric events names cells horizon)
       × HasStepsBy mch k.pace k.layout k.shape k.timing k.inputs.rows events shown.got machines
 
-  pub shows_too : (x : Replayed M) (y : Printout M) → y.names ≡ output_names k.checked.program → y.cells ≡ x.cells → y.horizon ≡ x.horizon → y.machines ≡ x.machines → (events : EventsBy k.pace) → IsReplayBy mch k.pace k.layout k.shape k.timing k.inputs.rows fabric events x
+  pub shows_too : (x : Replayed M) (y : Printed M) → y.names ≡ output_names k.checked.program → y.cells ≡ x.cells → y.horizon ≡ x.horizon → y.machines ≡ x.machines → (events : EventsBy k.pace) → IsReplayBy mch k.pace k.layout k.shape k.timing k.inputs.rows fabric events x
       → ReplayShows mch k.checked.program k.layout k.shape k.timing k.pace k.inputs.rows fabric events y
   shows_too x y names cells horizon machines events r =
       let here : outputs_shown events y.names x.machines x.cells x.horizon = (

@@ -21,7 +21,7 @@ use Rattle.lt_run.specs.declared.fault.RunFault.{RunFault}
 use Rattle.lt_run.specs.declared.printed.Printed.{Printed}
 use Rattle.lt_run.specs.Fault.{run_blame, IsNearRun}
 use Rattle.lt_run.specs.Kinds.{EventsBy, HasStepsBy, executed_by}
-use Rattle.lt_run.specs.Printed.{ShowsAt, run_loaded_verdict}
+use Rattle.lt_run.specs.Printed.{HasPrintedBy, ShowsAt}
 
 -- there is a machine for each node of a layout, which steps the code of the node's part
 pub record StepsCode {G : Type 0} (l : Layout) (executed : ℕ → ℕ) (machines : List (StepMachine G)) : Type 0 where
@@ -31,7 +31,7 @@ pub record StepsCode {G : Type 0} (l : Layout) (executed : ℕ → ℕ) (machine
   pub made : (n : ℕ) (m : StepMachine G) → slice_get machines n ≡ Some m → m.made ≡ executed n
 
 -- what a replay by step code answers shows a run along these events
-pub record CodeShows {G : Type 0} (mch : Machines (StepMachine G)) (p : WholeProgram) (l : Layout) (s : Shape) (t : Timing) (pace : Pace) (inputs : List (List Value)) (fabric : FabricState) (events : EventsBy pace) (printed : Printed G) : Type 0 where
+pub record CodeShows {G : Type 0} (mch : Machines (StepMachine G)) (p : WholeProgram) (l : Layout) (s : Shape) (t : Timing) (pace : Pace) (inputs : List (List Value)) (fabric : FabricState) (events : EventsBy pace) (printed : Printed (StepMachine G)) : Type 0 where
   pub shows : ShowsAt p l s t pace inputs fabric events printed.names printed.cells printed.horizon
   -- its machines made the steps
   pub steps : HasStepsBy mch pace l s t inputs events shows.got printed.machines
@@ -39,17 +39,10 @@ pub record CodeShows {G : Type 0} (mch : Machines (StepMachine G)) (p : WholePro
   pub steps_code : StepsCode l (executed_by pace s t (length inputs) events) printed.machines
 
 -- a replay of a loaded program along the file of this name, by step code
-pub record HasPrinted {G : Type 0} (mch : Machines (StepMachine G)) (k : LoadedPlan) (name : List ℕ) (files files' : FilesState) (fabric fabric' : FabricState) (result : Result (Printed G) (Or RunFault)) : Type 0 where
-  pub answered : Answered run_blame (schedule_errand name) (run_loaded_verdict k (CodeShows mch k.checked.program k.layout k.shape k.timing k.pace k.inputs.rows fabric') (files.named name)) (world files fabric) (world files' fabric') result
-  -- whether or not the files tell their bytes
-  pub ended : IfOk result (λ printed. (events : EventsBy k.pace) × CodeShows mch k.checked.program k.layout k.shape k.timing k.pace k.inputs.rows fabric' events printed)
-  -- a refused file was read to at most a piece past the row that is refused
-  pub near : IsTrue files.told → IfErr result (IsNearRun (files.named name) files'.place)
-  -- the fabric was opened at most once, and once where the file was taken
-  pub opens : OpensOnce fabric fabric' result
-  -- the layout of what was loaded is given back
-  pub layout : IfOk result (λ printed. printed.layout ≡ k.layout)
+abbrev pub HasCodePrinted : {G : Type 0} (mch : Machines (StepMachine G)) (k : LoadedPlan) (name : List ℕ) (files files' : FilesState) (fabric fabric' : FabricState) → Result (Printed (StepMachine G)) (Or RunFault) → Type 0
+HasCodePrinted mch k name files files' fabric fabric' result =
+    HasPrintedBy k (CodeShows mch k.checked.program k.layout k.shape k.timing k.pace k.inputs.rows fabric') name files files' fabric fabric' result
 
 -- what was loaded is replayed by step code along the file of this name. What the objects hold is read off them by these two functions
-abbrev pub ReplaysCode : {F W G : Type 0} (files : F → FilesState) (fabric : W → FabricState) (mch : Machines (StepMachine G)) → LoadedPlan → (schedule : List ℕ) (before after : F) (old new : W) → Result (Printed G) (Or RunFault) → Type 0
-ReplaysCode files fabric mch k schedule before after old new result = HasPrinted mch k schedule (files before) (files after) (fabric old) (fabric new) result
+abbrev pub ReplaysCode : {F W G : Type 0} (files : F → FilesState) (fabric : W → FabricState) (mch : Machines (StepMachine G)) → LoadedPlan → (schedule : List ℕ) (before after : F) (old new : W) → Result (Printed (StepMachine G)) (Or RunFault) → Type 0
+ReplaysCode files fabric mch k schedule before after old new result = HasCodePrinted mch k schedule (files before) (files after) (fabric old) (fabric new) result

@@ -27,7 +27,7 @@ use Rattle.lt_load_fit.specs.Main.{main_in}
 use Rattle.lt_load.specs.Plan.{LoadedPlan}
 use Rattle.lt_evaluate.specs.Main.{output_names, output_streams}
 use Rattle.lt_run.specs.declared.fault.RunFault.{RunFault}
-use Rattle.lt_run.specs.declared.printout.Printout.{Printout}
+use Rattle.lt_run.specs.declared.printed.Printed.{Printed}
 use Rattle.lt_run.specs.Fault.{run_blame, IsNearRun}
 use Rattle.lt_run.specs.Kinds.{EventsBy, executed_by, IsRunBy, ExactBy, CrossesBy, got_by, HasStepsBy, run_file_verdict}
 use Rattle.lt_machine.specs.declared.machine.Machine.{Ghosts as Machines}
@@ -72,9 +72,9 @@ pub record IsReplayBy {M : Type 0} (mch : Machines M) (pace : Pace) (l : Layout)
   pub steps : HasStepsBy mch pace l s t inputs events (got_by pace l s t inputs fabric events taken.cells taken.horizon run) taken.machines
 
 -- so does what a replay answers, and its machines made the steps
-pub record ReplayShows {M : Type 0} (mch : Machines M) (p : WholeProgram) (l : Layout) (s : Shape) (t : Timing) (pace : Pace) (inputs : List (List Value)) (fabric : FabricState) (events : EventsBy pace) (printout : Printout M) : Type 0 where
-  pub shows : ShowsAt p l s t pace inputs fabric events printout.names printout.cells printout.horizon
-  pub steps : HasStepsBy mch pace l s t inputs events shows.got printout.machines
+pub record ReplayShows {M : Type 0} (mch : Machines M) (p : WholeProgram) (l : Layout) (s : Shape) (t : Timing) (pace : Pace) (inputs : List (List Value)) (fabric : FabricState) (events : EventsBy pace) (printed : Printed M) : Type 0 where
+  pub shows : ShowsAt p l s t pace inputs fabric events printed.names printed.cells printed.horizon
+  pub steps : HasStepsBy mch pace l s t inputs events shows.got printed.machines
 
 -- what is right of a schedule file along which a loaded program is run
 abbrev pub run_loaded_verdict : {T : Type 0} (k : LoadedPlan) (end : EventsBy k.pace → T → Type 0) → (schedule : Option (List ℕ)) → Verdict T RunFault
@@ -94,17 +94,22 @@ pub record HasTaken {M : Type 0} (mch : Machines M) (pace : Pace) (l : Layout) (
   -- the layout is given back
   pub layout : IfOk result (λ taken. taken.layout ≡ l)
 
--- a replay of a loaded program along the file of this name, by machines of any kind
-pub record HasPrintout {M : Type 0} (mch : Machines M) (k : LoadedPlan) (name : List ℕ) (files files' : FilesState) (fabric fabric' : FabricState) (result : Result (Printout M) (Or RunFault)) : Type 0 where
-  pub answered : Answered run_blame (schedule_errand name) (run_loaded_verdict k (ReplayShows mch k.checked.program k.layout k.shape k.timing k.pace k.inputs.rows fabric') (files.named name)) (world files fabric) (world files' fabric') result
+-- a replay of a loaded program along the file of this name, of which this holds at the end of the file's events
+pub record HasPrintedBy {M : Type 0} (k : LoadedPlan) (end : EventsBy k.pace → Printed M → Type 0) (name : List ℕ) (files files' : FilesState) (fabric fabric' : FabricState) (result : Result (Printed M) (Or RunFault)) : Type 0 where
+  pub answered : Answered run_blame (schedule_errand name) (run_loaded_verdict k end (files.named name)) (world files fabric) (world files' fabric') result
   -- whether or not the files tell their bytes
-  pub ended : IfOk result (λ printout. (events : EventsBy k.pace) × ReplayShows mch k.checked.program k.layout k.shape k.timing k.pace k.inputs.rows fabric' events printout)
+  pub ended : IfOk result (λ printed. (events : EventsBy k.pace) × end events printed)
   -- a refused file was read to at most a piece past the row that is refused
   pub near : IsTrue files.told → IfErr result (IsNearRun (files.named name) files'.place)
   -- the fabric was opened at most once, and once where the file was taken
   pub opens : OpensOnce fabric fabric' result
   -- the layout of what was loaded is given back
-  pub layout : IfOk result (λ printout. printout.layout ≡ k.layout)
+  pub layout : IfOk result (λ printed. printed.layout ≡ k.layout)
+
+-- by machines of any kind
+abbrev pub HasPrinted : {M : Type 0} (mch : Machines M) (k : LoadedPlan) (name : List ℕ) (files files' : FilesState) (fabric fabric' : FabricState) → Result (Printed M) (Or RunFault) → Type 0
+HasPrinted mch k name files files' fabric fabric' result =
+    HasPrintedBy k (ReplayShows mch k.checked.program k.layout k.shape k.timing k.pace k.inputs.rows fabric') name files files' fabric fabric' result
 
 -- a program with its nodes, their channels and bounds of time, and rows of inputs
 abbrev pub set_up : CheckedText → Pace → NetPlan → InputTable → LoadedPlan
@@ -118,5 +123,5 @@ TakesSchedule files fabric mch pace setup inputs schedule before after old new r
     HasTaken mch pace setup.layout setup.shape setup.timing inputs.rows schedule (files before) (files after) (fabric old) (fabric new) result
 
 -- what was loaded is replayed along the file of this name
-abbrev pub ReplaysLoaded : {F W M : Type 0} (files : F → FilesState) (fabric : W → FabricState) (mch : Machines M) → LoadedPlan → (schedule : List ℕ) (before after : F) (old new : W) → Result (Printout M) (Or RunFault) → Type 0
-ReplaysLoaded files fabric mch k schedule before after old new result = HasPrintout mch k schedule (files before) (files after) (fabric old) (fabric new) result
+abbrev pub ReplaysLoaded : {F W M : Type 0} (files : F → FilesState) (fabric : W → FabricState) (mch : Machines M) → LoadedPlan → (schedule : List ℕ) (before after : F) (old new : W) → Result (Printed M) (Or RunFault) → Type 0
+ReplaysLoaded files fabric mch k schedule before after old new result = HasPrinted mch k schedule (files before) (files after) (fabric old) (fabric new) result

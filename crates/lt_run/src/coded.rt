@@ -34,15 +34,14 @@ pub fn replay_code<F: Files, W: Fabric, G: Operators + Copy>(
     schedule: &str,
     fabric: &mut W,
     operators: G,
-) -> Result<Printed<G>, Or<RunFault>>
+) -> Result<Printed<StepMachine<G>>, Or<RunFault>>
     requires count { MayFail (F.state files.old).faults }
     requires link_count { MayFail (W.state fabric.old).faults }
     requires empty { (W.state fabric.old).kinds ≡ [] }
     ensures { ReplaysCode F.state W.state ⟦<StepMachine<G> as Machine>⟧ loaded.now schedule.now files.old files.new fabric.old fabric.new result }
 {
     let machines = code_machines(alloc, loaded, operators)?;
-    let printout = replay(alloc, loaded, files, schedule, fabric, machines)?;
-    Ok(Printed::of_code(printout))
+    replay(alloc, loaded, files, schedule, fabric, machines)
 }
 
 /// What `replay_code` does, of a loaded program that is given away: nothing of it is copied.
@@ -53,7 +52,7 @@ pub fn replay_whole<F: Files, W: Fabric, G: Operators + Copy>(
     schedule: &str,
     fabric: &mut W,
     operators: G,
-) -> Result<Printed<G>, Or<RunFault>>
+) -> Result<Printed<StepMachine<G>>, Or<RunFault>>
     requires count { MayFail (F.state files.old).faults }
     requires link_count { MayFail (W.state fabric.old).faults }
     requires empty { (W.state fabric.old).kinds ≡ [] }
@@ -76,13 +75,12 @@ fn replay_machines<F: Files, W: Fabric, G: Operators>(
     schedule: &str,
     fabric: &mut W,
     machines: Vec<StepMachine<G>>,
-) -> Result<Printed<G>, Or<RunFault>>
+) -> Result<Printed<StepMachine<G>>, Or<RunFault>>
     requires machines { AreReady ⟦<StepMachine<G> as Machine>⟧ loaded.layout (length loaded.inputs.rows) machines.items }
     requires count { MayFail (F.state files.old).faults }
     requires link_count { MayFail (W.state fabric.old).faults }
     requires empty { (W.state fabric.old).kinds ≡ [] }
     ensures { ReplaysCode F.state W.state ⟦<StepMachine<G> as Machine>⟧ loaded schedule.now files.old files.new fabric.old fabric.new result }
 {
-    let played = replay_given(alloc, loaded, files, schedule, fabric, machines)?;
-    Ok(Printed::of_code(played))
+    replay_given(alloc, loaded, files, schedule, fabric, machines)
 }

@@ -4,13 +4,11 @@
 mod coded;
 mod fault;
 mod printed;
-mod printout;
 mod replaying;
 mod running;
 
 pub use coded::{replay_code, replay_whole};
 pub use fault::RunFault;
 pub use printed::Printed;
-pub use printout::Printout;
 pub use replaying::replay;
 pub use running::{run, run_loaded};

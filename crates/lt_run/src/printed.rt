@@ -1,43 +1,50 @@
-// What a replay of a loaded program by step code answers.
-ghost use Rattle.std.specs.Prelude.{◌≡◌, length};
+// What a replay of a loaded program answers.
+ghost use Rattle.std.specs.Prelude.{◌≡◌, IfOk, length, map};
+ghost use Rattle.lt_evaluate.specs.Main.{written_name};
 
-use crate::Printout;
-use lt_base::{Cell, List, Name};
-use lt_evaluate::Outputs;
-use lt_machine::StepMachine;
+use lt_base::{Cell, Func, List, Memory, Name};
+use lt_evaluate::{Outputs, output_names};
+use lt_net::Replayed;
 use lt_place::Layout;
+use std::alloc::Global;
 use std::mem::forget;
 
 /// The outputs by name, each with a cell for each instant that its node executed, the horizon of the schedule in ticks, and the
-/// machine of each node, which made a step of its part's code for each of these instants; and the layout of the nodes.
+/// machine of each node, which made a step for each of these instants; and the layout of the nodes.
 #[derive(Drop)]
-pub struct Printed<G> {
+pub struct Printed<M> {
     pub names: List<Name>,
     pub cells: List<List<Cell>>,
     pub horizon: u64,
-    pub machines: List<StepMachine<G>>,
+    pub machines: List<M>,
     pub layout: Layout,
     ghost paired: { length names ≡ length cells },
 }
 
-impl<G: Drop> Printed<G> {
-    /// What was replayed by machines of step code.
-    pub(crate) fn of_code(printout: Printout<StepMachine<G>>) -> Printed<G>
-        ensures names { result.names ≡ printout.names }
-        ensures cells { result.cells ≡ printout.cells }
-        ensures horizon { result.horizon ≡ printout.horizon }
-        ensures machines { result.machines ≡ printout.machines }
-        ensures layout { result.layout ≡ printout.layout }
-    {
-        Printed {
-            names: printout.names,
-            cells: printout.cells,
-            horizon: printout.horizon,
-            machines: printout.machines,
-            layout: printout.layout,
-        }
-    }
+/// The outputs of a function by name, with what a replay gave.
+pub(crate) fn name_outputs<M: Drop>(
+    alloc: Global,
+    main: &Func,
+    replayed: Replayed<M>,
+) -> Result<Printed<M>, Memory>
+    requires width { length replayed.cells ≡ length main.now.outs }
+    ensures names { IfOk result (λ printed. printed.names ≡ map (written_name main.now) main.now.outs) }
+    ensures cells { IfOk result (λ printed. printed.cells ≡ replayed.cells) }
+    ensures horizon { IfOk result (λ printed. printed.horizon ≡ replayed.horizon) }
+    ensures machines { IfOk result (λ printed. printed.machines ≡ replayed.machines) }
+    ensures layout { IfOk result (λ printed. printed.layout ≡ replayed.layout) }
+{
+    let names = output_names(alloc, main)?;
+    Ok(Printed {
+        names,
+        cells: replayed.cells,
+        horizon: replayed.horizon,
+        machines: replayed.machines,
+        layout: replayed.layout,
+    })
+}
 
+impl<M: Drop> Printed<M> {
     /// The outputs alone.
     pub fn outputs(self) -> Outputs
         ensures names { result.names ≡ self.names }

@@ -16,8 +16,8 @@ ghost use Rattle.lt_load.specs.Plan.{IsLoaded};
 ghost use Rattle.lt_run.specs.Printed.{ReplaysLoaded, TakesSchedule, set_up};
 
 use crate::fault::{of_lossy, of_play};
-use crate::printout::name_outputs;
-use crate::{Printout, RunFault};
+use crate::printed::name_outputs;
+use crate::{Printed, RunFault};
 use lt_base::{Inputs, Or};
 use lt_config::Pace;
 use lt_front::Checked;
@@ -42,7 +42,7 @@ pub fn replay<F: Files, W: Fabric, M: Machine>(
     schedule: &str,
     fabric: &mut W,
     machines: Vec<M>,
-) -> Result<Printout<M>, Or<RunFault>>
+) -> Result<Printed<M>, Or<RunFault>>
     requires count { MayFail (F.state files.old).faults }
     requires link_count { MayFail (W.state fabric.old).faults }
     requires empty { (W.state fabric.old).kinds ≡ [] }
@@ -74,7 +74,7 @@ fn replay_setup<F: Files, W: Fabric, M: Machine>(
     schedule: &str,
     fabric: &mut W,
     machines: Vec<M>,
-) -> Result<Printout<M>, Or<RunFault>>
+) -> Result<Printed<M>, Or<RunFault>>
     requires loaded { IsLoaded (set_up checked.now pace setup inputs.now) }
     requires count { MayFail (F.state files.old).faults }
     requires link_count { MayFail (W.state fabric.old).faults }
@@ -208,7 +208,7 @@ pub(crate) fn replay_given<F: Files, W: Fabric, M: Machine>(
     schedule: &str,
     fabric: &mut W,
     machines: Vec<M>,
-) -> Result<Printout<M>, Or<RunFault>>
+) -> Result<Printed<M>, Or<RunFault>>
     requires count { MayFail (F.state files.old).faults }
     requires link_count { MayFail (W.state fabric.old).faults }
     requires empty { (W.state fabric.old).kinds ≡ [] }
@@ -229,10 +229,10 @@ pub(crate) fn replay_given<F: Files, W: Fabric, M: Machine>(
         shape,
         timing,
     };
-    let printout = replay_setup(
+    let printed = replay_setup(
         alloc, &checked, pace, setup, &inputs, files, schedule, fabric, machines,
     );
     // The call is nearly over: to take a large tree and its program apart would be a fifth of its time.
     forget(checked);
-    printout
+    printed
 }

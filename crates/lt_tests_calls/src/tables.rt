@@ -8,7 +8,7 @@ use lt_compile::table_nodes;
 use lt_io::{Fabric, Files, MemFabric};
 use lt_load::{Loaded, load};
 use lt_machine::TableMachine;
-use lt_run::{Printout, RunFault, replay};
+use lt_run::{Printed, RunFault, replay};
 use std::alloc::Global;
 use std::process::Abort;
 
@@ -26,7 +26,7 @@ const COUNTED: Texts = Texts {
 };
 
 // The cells of all outputs, one output behind the other, each with an absence at its end.
-fn cells_of(alloc: Global, printed: &Printout<TableMachine>) -> Result<Vec<Cell>, Memory> {
+fn cells_of(alloc: Global, printed: &Printed<TableMachine>) -> Result<Vec<Cell>, Memory> {
     let mut cells = Vec::new(alloc);
     for column in printed.cells.as_slice() {
         add_column(column.as_slice(), &mut cells)?;
@@ -41,7 +41,7 @@ fn add_column(column: &[Cell], cells: &mut Vec<Cell>) -> Result<(), Memory> {
 }
 
 // The cells of all outputs, and the horizon.
-fn text_of(alloc: Global, printed: &Printout<TableMachine>) -> Result<String, Memory> {
+fn text_of(alloc: Global, printed: &Printed<TableMachine>) -> Result<String, Memory> {
     let cells = cells_of(alloc, printed)?;
     let mut text = String::new(alloc);
     let horizon = printed.horizon;
@@ -55,7 +55,7 @@ fn replay_tables<F: Files, W: Fabric>(
     loaded: &Loaded,
     files: &mut F,
     fabric: &mut W,
-) -> Result<Printout<TableMachine>, Or<RunFault>>
+) -> Result<Printed<TableMachine>, Or<RunFault>>
     requires count { MayFail (F.state files.old).faults }
     requires link_count { MayFail (W.state fabric.old).faults }
     requires empty { (W.state fabric.old).kinds ≡ [] }

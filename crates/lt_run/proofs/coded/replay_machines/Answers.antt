@@ -1,13 +1,8 @@
 use Rattle.std.proofs.Common.{refl}
 use Rattle.lt_machine.specs.contracts.step_machine.StepMachineMachine.TheImpl.{ghosts}
-use Rattle.lt_run.proofs.ByCode.{printed_code, refused_code}
+use Rattle.lt_run.proofs.ByCode.{printed_code}
 use Rattle.lt_run.proofs.coded.replay_machines.Goals as goal
-
-pub returns-in_err-played : goal.returns-in_err-played
-returns-in_err-played g c =
-    refused_code (ghosts g.row.G g.G.Operators g.G.Operators-dict g.G.Operators-dict) (record { code = λ m f rows stood. stood.code_of; made = λ m. refl }) c.args.loaded c.args.schedule.now _ _ _ _ _ _ c.from_residual.ensures.1 c.in_err-played.ensures
 
 pub returns : goal.returns
 returns g c =
-    let told = c.of_code.ensures in
-    printed_code (ghosts g.row.G g.G.Operators g.G.Operators-dict g.G.Operators-dict) (record { code = λ m f rows stood. stood.code_of; made = λ m. refl }) c.args.loaded c.args.schedule.now _ _ _ _ c.in_ok-played.played _ told.names told.cells told.horizon told.machines told.layout c.in_ok-played.ensures
+    printed_code (ghosts g.row.G g.G.Operators g.G.Operators-dict g.G.Operators-dict) (record { code = λ m f rows stood. stood.code_of; made = λ m. refl }) c.args.loaded c.args.schedule.now _ _ _ _ c.replay_given.result c.replay_given.ensures
