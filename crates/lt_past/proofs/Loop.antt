@@ -86,7 +86,7 @@ module _ (limit : ℕ) (one : 1 ≤ limit) (number : List ℕ → ℕ) (bytes : 
     over_some : (F : Formula) → observer_front (skip rest) ≡ Over → end_of s.frames s.whole ≡ Some F → IsFormulaOf limit number bytes F
     over_some F e h =
         let w = some_at number limit one g.tokens s F g.ran h in
-        record { form = w.form; spelled = record { tokens = g.tokens; rest = rest; cut = g.cut; ended = e; written = w.writes }; meant = w.meant }
+        record { form = w.form; spelled = record { formula_tokens = g.tokens; rest = rest; cut = g.cut; ended = e; written = w.writes }; meant = w.meant }
 
     -- the end of the text
     pub over : (at : ℕ) (r : Result Obs (Or ObserverFault)) → observer_front (skip rest) ≡ Over → at + length (skip rest) ≡ length bytes → ObserverEndsAt at r (end_of s.frames s.whole) → Parses limit number bytes r

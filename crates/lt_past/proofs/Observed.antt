@@ -138,8 +138,8 @@ module _ (main : Function) where
       let s = read.spelled in
       let m = marked.marked in
       let over : FrontEnds (observer_front (skip s.rest)) = subst FrontEnds (sym s.ended) tt in
-      let c = cuts_one m.tokens s.tokens bytes marked.rest s.rest m.cut marked.ends s.cut over in
-      let e : names_in m.tokens ≡ names read.form = ap names_in c.0 ∙ spelled_names limit s.tokens read.form s.written in
+      let c = cuts_one m.tokens s.formula_tokens bytes marked.rest s.rest m.cut marked.ends s.cut over in
+      let e : names_in m.tokens ≡ names read.form = ap names_in c.0 ∙ spelled_names limit s.formula_tokens read.form s.written in
       let test : (p : ℕ) → get_or vs p false ≡ is_named main (names read.form) p = λ p.
       m.marks p ∙ ap (λ b. if is_named main (names_in m.tokens) p then true else b) (none p) ∙ plain (is_named main (names_in m.tokens) p) ∙ ap (λ xs. is_named main xs p) e in
       record {
@@ -162,12 +162,12 @@ module _ (main : Function) where
   pub one_observer : (limit : ℕ) → 1 ≤ limit → (bytes : List ℕ) (o p : Observing) → IsObserverOf limit main bytes o → IsObserverOf limit main bytes p → o ≡ p
   one_observer limit one bytes o p a b =
       let over : (s : SpellsObserver limit bytes a.form) → FrontEnds (observer_front (skip s.rest)) = λ s. subst FrontEnds (sym s.ended) tt in
-      let c = cuts_one a.spelled.tokens b.spelled.tokens bytes a.spelled.rest b.spelled.rest a.spelled.cut (over a.spelled) b.spelled.cut (subst FrontEnds (sym b.spelled.ended) tt) in
-      let wb : WritesObserver limit a.spelled.tokens b.form = subst (λ z. WritesObserver limit z b.form) (sym c.0) b.spelled.written in
-      let ns : names a.form ≡ names b.form = sym (spelled_names limit a.spelled.tokens a.form a.spelled.written) ∙ spelled_names limit a.spelled.tokens b.form wb in
+      let c = cuts_one a.spelled.formula_tokens b.spelled.formula_tokens bytes a.spelled.rest b.spelled.rest a.spelled.cut (over a.spelled) b.spelled.cut (subst FrontEnds (sym b.spelled.ended) tt) in
+      let wb : WritesObserver limit a.spelled.formula_tokens b.form = subst (λ z. WritesObserver limit z b.form) (sym c.0) b.spelled.written in
+      let ns : names a.form ≡ names b.form = sym (spelled_names limit a.spelled.formula_tokens a.form a.spelled.written) ∙ spelled_names limit a.spelled.formula_tokens b.form wb in
       let outs : o.outs ≡ p.outs = a.outs_are ∙ ap (named_outs main) ns ∙ sym b.outs_are in
-      let ra = writes_read (output_number main o.outs) limit a.spelled.tokens a.form one a.spelled.written in
-      let rb = writes_read (output_number main o.outs) limit a.spelled.tokens b.form one wb in
+      let ra = writes_read (output_number main o.outs) limit a.spelled.formula_tokens a.form one a.spelled.written in
+      let rb = writes_read (output_number main o.outs) limit a.spelled.formula_tokens b.form one wb in
       let m : formula_meaning (output_number main o.outs) a.form ≡ formula_meaning (output_number main o.outs) b.form = cc in
       let f : o.formula ≡ p.formula = a.formula_is ∙ m ∙ ap (λ z. formula_meaning (output_number main z) b.form) outs ∙ sym b.formula_is in
       λ i. record { outs = outs i; formula = f i }
@@ -199,13 +199,13 @@ module _ (main : Function) where
   pub not_both : (limit : ℕ) (bytes : List ℕ) (o : Observing) (e : ObserverFault) → IsObserverOf limit main bytes o → IsObserverFault limit main bytes e → ⊥
   not_both limit bytes o e is (inl a) =
       let s = is.spelled in
-      let d = cuts_split a.tokens s.tokens bytes a.rest s.rest a.cut s.cut s.ended in
+      let d = cuts_split a.tokens s.formula_tokens bytes a.rest s.rest a.cut s.cut s.ended in
       excludes limit e.kind a.tokens d.0 a.rest s.rest is.form a.offends d.2 s.ended (subst (λ z. WritesObserver limit z is.form) d.1 s.written)
   not_both limit bytes o e is (inr a) =
       let s = is.spelled in
       let b = a.bad in
-      let d = cuts_split b.tokens s.tokens bytes b.rest s.rest b.cut s.cut s.ended in
-      let good : AreOutputs main (names_in s.tokens) = subst (AreOutputs main) (sym (spelled_names limit s.tokens is.form s.written)) is.good in
+      let d = cuts_split b.tokens s.formula_tokens bytes b.rest s.rest b.cut s.cut s.ended in
+      let good : AreOutputs main (names_in s.formula_tokens) = subst (AreOutputs main) (sym (spelled_names limit s.formula_tokens is.form s.written)) is.good in
       let both : AreOutputs main (names_in b.tokens ++ names_in d.0) = subst (AreOutputs main) (ap names_in d.1 ∙ names_append b.tokens d.0) good in
       wrong d.0 d.2 (outputs_rest main (names_in b.tokens) (names_in d.0) both)
     where

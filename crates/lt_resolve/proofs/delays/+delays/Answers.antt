@@ -5,7 +5,7 @@ use Rattle.lt_syntax.specs.Views.{tm_of}
 use Rattle.lt_resolve.specs.Uses.{term_delays}
 use Rattle.lt_resolve.proofs.Terms.{argument_delays_are}
 use Rattle.lt_resolve.proofs.Forms.{bin_is, if_is, fby_is, follow_is, arrow_is}
-use Rattle.lt_resolve.proofs.delays.+term_delays.Goals as goal
+use Rattle.lt_resolve.proofs.delays.+delays.Goals as goal
 
 -- the sum of two quantities that are cut at the greatest number, cut again
 sum_is : (a b x y r n : ℕ) → x ≡ min a (2 ^ 64 - 1) → y ≡ min b (2 ^ 64 - 1) → r ≡ min (x + y) (2 ^ 64 - 1) → a + b ≡ n → r ≡ min n (2 ^ 64 - 1)
