@@ -1,0 +1,10 @@
+pub mod Picked
+pub mod Coded
+pub mod Commented
+pub mod Spelling
+pub mod Printed
+pub mod Whole
+pub mod TypedFiles
+pub mod BoolFiles
+pub mod BoolRuns
+pub mod Declared

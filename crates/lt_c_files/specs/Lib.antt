@@ -1,0 +1,4 @@
+pub mod FileNodes
+pub mod Bodies
+pub mod FileRuns
+pub mod DeclaredTypes

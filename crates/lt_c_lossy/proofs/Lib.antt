@@ -1,0 +1,15 @@
+pub mod Whole
+pub mod Crossings
+pub mod Filled
+pub mod Standing
+pub mod Begun
+pub mod Brought
+pub mod Fresh
+pub mod Acted
+pub mod Handed
+pub mod Shown
+pub mod PostsKept
+pub mod FilesPrinted
+pub mod Running
+pub mod Replayed
+pub mod FilesRun

@@ -1,0 +1,9 @@
+pub mod Crossed
+pub mod Losing
+pub mod LosingStands
+pub mod LosingRuns
+pub mod LosingWholeRuns
+pub mod LosingLaws
+pub mod LosingFiles
+pub mod LosingReplays
+pub mod LosingFileRuns
