@@ -1,0 +1,4 @@
+mod Spelled
+pub mod Checks
+pub mod Flat
+pub mod Seats

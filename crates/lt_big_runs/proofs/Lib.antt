@@ -1,0 +1,5 @@
+mod Passes
+mod Loaded
+mod Ring
+mod Times
+mod Never
