@@ -1,0 +1,5 @@
+pub mod Pieces
+pub mod Shares
+pub mod Fitting
+pub mod Going
+pub mod Plain

@@ -1,0 +1,11 @@
+pub mod Template
+pub mod Escaping
+pub mod Chart
+pub mod Heading
+pub mod Marks
+pub mod Tints
+pub mod Axis
+pub mod Arrows
+pub mod Red
+pub mod Legend
+pub mod PictureText

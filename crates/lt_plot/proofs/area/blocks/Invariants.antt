@@ -1,0 +1,7 @@
+use Rattle.std.proofs.Common.{◌≡◌, ◌++◌}
+use Rattle.lt_plot.specs.Pieces.{pieces_from}
+use Rattle.lt_plot.specs.Lines.{instant_block}
+use Rattle.lt_plot.proofs.area.blocks.Given as goal
+
+abbrev pub invariant-loop-place : goal.invariant-loop-place
+invariant-loop-place l = l.out ≡ l.initial.out ++ pieces_from (instant_block l.chart l.band l.cells) l.start l.place

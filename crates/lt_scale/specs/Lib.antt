@@ -1,0 +1,5 @@
+pub mod Chart
+pub mod Scale
+pub mod Band
+pub mod Cells
+pub mod Room
