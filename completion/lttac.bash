@@ -6,13 +6,29 @@ _lttac_nodes() {
 }
 
 _lttac() {
-    local current=${COMP_WORDS[COMP_CWORD]} suffix
+    local current=${COMP_WORDS[COMP_CWORD]} suffix word third=toml words=()
     COMPREPLY=()
-    case $COMP_CWORD in
-        1) mapfile -t COMPREPLY < <(compgen -W emit -- "$current"); return ;;
-        2) suffix=lus ;;
-        3) suffix=toml ;;
-        4) mapfile -t COMPREPLY < <(compgen -W "$(_lttac_nodes "${COMP_WORDS[3]}")" -- "$current"); return ;;
+    for word in "${COMP_WORDS[@]:1:COMP_CWORD-1}"; do
+        [[ $word == --header ]] || words+=("$word")
+    done
+    if [[ $current == -* && ${words[0]} == emit ]]; then
+        mapfile -t COMPREPLY < <(compgen -W --header -- "$current"); return
+    fi
+    if [[ ${words[0]} == schedule ]]; then
+        third=csv
+        if [[ $current == -* ]]; then
+            mapfile -t COMPREPLY < <(compgen -W '--seed --horizon --jitter' -- "$current"); return
+        fi
+        if [[ ${#words[@]} == 3 ]]; then
+            compopt -o filenames 2> /dev/null
+            mapfile -t COMPREPLY < <(compgen -f -X '!*.toml' -- "$current"; compgen -d -- "$current"); return
+        fi
+    fi
+    case ${#words[@]} in
+        0) mapfile -t COMPREPLY < <(compgen -W 'emit schedule' -- "$current"); return ;;
+        1) suffix=lus ;;
+        2) suffix=$third ;;
+        3) mapfile -t COMPREPLY < <(compgen -W "$(_lttac_nodes "${words[2]}")" -- "$current"); return ;;
         *) return ;;
     esac
     compopt -o filenames 2> /dev/null

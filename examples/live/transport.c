@@ -18,12 +18,13 @@
 #include "node.h"
 
 enum { DATA = 0, ACK = 1 };
-enum { HEAD = 3, HELD = 8, LIMIT = 60 };   /* words before a message's own; messages held for a channel; seconds to live at most */
-static const char *const kinds[2] = { "data", "ack" };
+enum { HEAD = 4, HELD = 8, LIMIT = 60 };   /* words before a message's own; messages held for a channel; seconds to live at most */
+static const char *const kinds[2] = { "data", "ack" }, *const losses[2] = { "losedata", "loseack" };
 
-/* A channel to this node: what was received and is not due yet; and the number of the last message each way. */
-struct held { int64_t due; int64_t word[NODE_WORDS]; };
-struct channel { int64_t sent, received; size_t first, count; struct held held[HELD]; };
+/* A channel to this node: what was received and is not due yet; the number of the last message each way; and how many in a row were lost
+   of those that this node sent. */
+struct held { int64_t due; bool lost; int64_t word[NODE_WORDS]; };
+struct channel { int64_t sent, received, lost; size_t first, count; struct held held[HELD]; };
 static struct channel channels[2][NODE_PEERS];
 
 static int64_t start, tick, horizon;          /* start and tick in nanoseconds, the horizon in ticks */
@@ -31,12 +32,12 @@ static int64_t least, most;                   /* of a period, in ticks */
 static int64_t delay_least, delay_most;       /* of a message's delay, in ticks */
 static const char *fault;                     /* what goes wrong at this node, if something is to */
 static int64_t fault_at, late_by;             /* at which message or activation; by how many ticks */
-static int64_t messages, activations;
+static int64_t messages, lost, activations;
 static int port, hole;                        /* the port of the first node; the socket */
 static uint64_t seed;
 static bool broken;                           /* a message is missing: the node stops */
 static FILE *record;
-static size_t executed;
+static size_t executed, sendings;
 
 void fail(const char *what)
 {
@@ -77,11 +78,21 @@ static bool struck(const char *name, int64_t count, int64_t now, const char *at)
     return true;
 }
 
-/* Sends one datagram: kind, number, when it is due, and the words, each in eight bytes with the highest first. */
+/* Whether the link loses a message, where it may and is to: one in four, and no more in a row than the setup says. Such a message comes
+   with a mark, and is thrown away when it is due, as one that fails its checksum. */
+static bool loses(struct channel *c)
+{
+    if (node_losses < 0 || strcmp(fault, "drop") != 0) { return false; }
+    c->lost = c->lost < node_losses && draw(0, 3) == 0 ? c->lost + 1 : 0;
+    lost += c->lost > 0 ? 1 : 0;
+    return c->lost > 0;
+}
+
+/* Sends one datagram: kind, number, when it is due, whether it is lost, and the words, each in eight bytes with the highest first. */
 static void send_to(int kind, size_t peer, int64_t now, const int64_t *words, size_t count)
 {
     struct sockaddr_in to = { .sin_family = AF_INET, .sin_port = htons((uint16_t)((size_t)port + peer)) };
-    int64_t all[HEAD + NODE_WORDS] = { kind, ++channels[kind][peer].sent, now + tick * draw(delay_least, delay_most) };
+    int64_t all[HEAD + NODE_WORDS] = { kind, ++channels[kind][peer].sent, now + tick * draw(delay_least, delay_most), loses(&channels[kind][peer]) ? 1 : 0 };
     unsigned char bytes[sizeof all];
     char place[160];
     size_t size = 0;
@@ -89,7 +100,7 @@ static void send_to(int kind, size_t peer, int64_t now, const int64_t *words, si
     memcpy(all + HEAD, words, count * sizeof words[0]);
     snprintf(place, sizeof place, "%s>%s", node_peers[node_self].name, node_peers[peer].name);
     messages += 1;
-    if (struck("drop", messages, now, place)) { return; }
+    if (node_losses < 0 && struck("drop", messages, now, place)) { return; }
     if (struck("late", messages, now, place)) { all[2] = now + tick * late_by; }
     for (size_t i = 0; i < HEAD + count; i++) {
         for (int shift = 56; shift >= 0; shift -= 8) { bytes[size++] = (unsigned char)((uint64_t)all[i] >> shift); }
@@ -137,6 +148,7 @@ static void receive(void)
         c->received = all[1];
         struct held *h = &c->held[(c->first + c->count++) % HELD];
         h->due = all[2];
+        h->lost = all[3] != 0;
         memcpy(h->word, all + HEAD, sizeof h->word);
     }
 }
@@ -158,7 +170,7 @@ static struct channel *earliest(int *kind, size_t *peer)
     return best;
 }
 
-/* Hands over all messages that are due. */
+/* Hands over all messages that are due, and throws away those that are lost. */
 static bool deliver(void)
 {
     int kind = 0;
@@ -166,11 +178,14 @@ static bool deliver(void)
     int64_t now = clock_now();
     for (struct channel *c = earliest(&kind, &peer); c != NULL && c->held[c->first].due <= now; c = earliest(&kind, &peer)) {
         const struct peer *from = &node_peers[peer];
-        if (!note(&now, kinds[kind], from->name, node_peers[node_self].name)) { return false; }
-        if (kind == DATA) {
-            from->deliver(c->held[c->first].word);
+        const struct held *h = &c->held[c->first];
+        if (!note(&now, h->lost ? losses[kind] : kinds[kind], from->name, node_peers[node_self].name)) { return false; }
+        if (h->lost) {
+            /* it does not come */
+        } else if (kind == DATA) {
+            from->deliver(h->word);
         } else {
-            from->acknowledge(c->held[c->first].word[0] != 0);
+            from->acknowledge(h->word[0]);
         }
         c->first = (c->first + 1) % HELD;
         c->count -= 1;
@@ -186,11 +201,12 @@ static bool goes_on(void)
         node_init();
         memset(channels, 0, sizeof channels);
         executed = 0;
+        sendings = 0;
     }
     return true;
 }
 
-/* One activation, which is noted at its beginning; what it gives is sent after it. */
+/* One activation, which is noted at its beginning; what it gives is sent after it, and where links lose messages all that was sent last. */
 static bool activate(int64_t *now)
 {
     int64_t words[NODE_WORDS];
@@ -198,12 +214,14 @@ static bool activate(int64_t *now)
     activations += 1;
     int deed = node_activate(executed < rows(), inputs_of(executed), outputs_of(executed));
     executed += deed == DEED_EXECUTE ? 1u : 0u;
+    sendings += deed == DEED_SEND ? 1u : 0u;
+    bool answers = node_losses < 0 ? deed == DEED_EXECUTE : executed > 0, sends = node_losses < 0 ? deed == DEED_SEND : sendings > 0;
     for (size_t p = 0; p < node_peer_count; p++) {
-        if (deed == DEED_EXECUTE && node_peers[p].answered) {
-            words[0] = node_acknowledgement() ? 1 : 0;
+        if (answers && node_peers[p].answered) {
+            words[0] = node_acknowledgement();
             send_to(ACK, p, *now, words, 1);
         }
-        if (deed == DEED_SEND && node_peers[p].message != NULL) { send_to(DATA, p, *now, words, node_peers[p].message(words)); }
+        if (sends && node_peers[p].message != NULL) { send_to(DATA, p, *now, words, node_peers[p].message(words)); }
     }
     return true;
 }
@@ -264,6 +282,7 @@ int main(int argc, char **argv)
     node_init();
     live();
     (void)fclose(record);
+    if (lost > 0) { fprintf(stderr, "%s: %" PRId64 " of its %" PRId64 " messages were lost\n", node_peers[node_self].name, lost, messages); }
     print_outputs(executed);
     return 0;
 }

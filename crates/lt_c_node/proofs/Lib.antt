@@ -1,3 +1,5 @@
+pub mod Telling
+pub mod Agreeing
 pub mod Growing
 pub mod Typing
 pub mod Placed

@@ -53,10 +53,14 @@ pointing_text f = text_if (has_inputs f.part.sources) (codes "    in = inputs;\n
 abbrev pub placing_text : NodeFile → List ℕ
 placing_text f = codes "    more = has_inputs;\n" ++ pointing_text f
 
--- what it tells
+-- what it tells: by its number a deed under its name
+abbrev pub deed_case_text : (t number name : List ℕ) → List ℕ
+deed_case_text t number name = (codes "    if (did == INT64_C(" ++ (number ++ codes ")) {\n        deed = ")) ++ (t ++ (name ++ codes ";\n    }\n"))
+
 abbrev pub deed_text : (t : List ℕ) → List ℕ
 deed_text t =
-    (codes "    return (did == INT64_C(1)) ? " ++ (t ++ codes "_did_execute : ((did == INT64_C(2)) ? ")) ++ ((t ++ codes "_did_send : ") ++ (t ++ codes "_did_nothing);\n"))
+    (codes "    " ++ (t ++ (codes "_deed deed = " ++ t)))
+    ++ (codes "_did_nothing;\n" ++ (deed_case_text t (codes "1") (codes "_did_execute") ++ (deed_case_text t (codes "2") (codes "_did_send") ++ codes "    return deed;\n")))
 
 abbrev pub activate_text : (t : List ℕ) → NodeFile → List ℕ
 activate_text t f =

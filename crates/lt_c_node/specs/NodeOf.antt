@@ -35,7 +35,7 @@ use Rattle.lt_c_node.specs.declared.file.Correspondence.{Correspondence}
 use Rattle.lt_c_node.specs.declared.file.NodeFile.{NodeFile}
 use Rattle.lt_c_node.specs.Words.{made_from}
 use Rattle.lt_c_node.specs.Acts.{peer_numbers}
-use Rattle.lt_c_node.specs.NodeText.{node_text}
+use Rattle.lt_c_node.specs.NodeText.{emitted_text}
 
 -- ---- the step
 
@@ -143,8 +143,8 @@ pub record IsFileOfNode (l : Layout) (s : Shape) (t : Timing) (pace : Pace) (n :
   pub links : AreLinksOf l s.channels n f.links
   pub regime : f.regime ≡ regime_of pace t n
 
--- the text is that of such a file
-pub record IsEmitted (l : Layout) (s : Shape) (t : Timing) (pace : Pace) (n : ℕ) (text : List ℕ) : Type 0 where
+-- the text is that of such a file, or of its header
+pub record IsEmitted (l : Layout) (s : Shape) (t : Timing) (pace : Pace) (n : ℕ) (header : Bool) (text : List ℕ) : Type 0 where
   pub file : NodeFile
   pub is_file : IsFileOfNode l s t pace n file
-  pub is_text : text ≡ node_text file
+  pub is_text : text ≡ emitted_text header file

@@ -4,19 +4,20 @@ use Rattle.lt_base.specs.declared.function.Decl.{Decl}
 use Rattle.lt_step.specs.Code.{KeepForm, LetForm}
 use Rattle.lt_c.specs.Tree.{Statement, slot, output, assign, both, c_var}
 use Rattle.lt_c.specs.Text.{spelled, statement_text}
-use Rattle.lt_c_step.specs.Translate.{of_lets, of_keeps}
+use Rattle.lt_c_step.specs.Translate.{of_keeps}
 use Rattle.lt_c_step.specs.Part.{feeding, telling, showing}
 use Rattle.lt_c_step.specs.declared.sources.Output.{Output}
 use Rattle.lt_c_node.specs.declared.file.NodeFile.{NodeFile}
 use Rattle.lt_c_node.specs.Words.{text_if, spelling, indent}
 use Rattle.lt_c_node.specs.Types.{has_items}
+use Rattle.lt_c_node.specs.Equations.{told_lets}
 
 -- what the instant is fed with; its equations; its outputs; what delays keep. Before each stands a comment, where there is something in it
 abbrev pub fed_text : NodeFile → List ℕ
 fed_text f = text_if (has_items f.part.sources) (codes "    /* what the instant is fed with */\n") ++ statement_text (spelling f) indent (feeding 0 f.part.sources)
 
 abbrev pub equations_text : List Decl → List LetForm → List ℕ
-equations_text ds lets = text_if (has_items lets) (codes "    /* the equations */\n") ++ statement_text (spelled ds) indent (of_lets lets)
+equations_text ds lets = text_if (has_items lets) (codes "    /* the equations */\n") ++ statement_text (spelled ds) indent (told_lets ds lets)
 
 abbrev pub shown_text : NodeFile → List ℕ
 shown_text f = text_if (has_items f.part.outputs) (codes "    /* the outputs */\n") ++ statement_text (spelling f) indent (showing f.part.outputs)

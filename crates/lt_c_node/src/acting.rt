@@ -7,12 +7,12 @@ ghost use Rattle.lt_c.specs.Uses.{calls_and};
 ghost use Rattle.lt_c_node.specs.Words.{made_from};
 ghost use Rattle.lt_c_node.specs.Types.{has_inputs, has_items};
 ghost use Rattle.lt_c_node.specs.Heads.{activate_head};
-ghost use Rattle.lt_c_node.specs.Acts.{peer_numbers, post_of, posts_of, acting, activation, file_calls, pointing_text, placing_text, deed_text, activate_text};
+ghost use Rattle.lt_c_node.specs.Acts.{peer_numbers, post_of, posts_of, acting, activation, file_calls, pointing_text, placing_text, deed_case_text, deed_text, activate_text};
 
 use crate::file::{Carried, NodeFile, Peer, Regime};
 use crate::heads::activate_head;
 use crate::statements::statement;
-use crate::words::{has_inputs, has_items, one_if, three, two};
+use crate::words::{four, has_inputs, has_items, one_if, three};
 use lt_base::{List, Memory};
 use lt_c::{Action, Calls, action_calls, calls_and};
 use lt_c_control::{Post, counting, losing, pressure};
@@ -121,18 +121,28 @@ fn placing(out: &mut List<u8>, file: &NodeFile) -> Result<(), Memory>
     placing_pointers(out, file)
 }
 
+// Appends that the deed of this number is told under this name.
+fn deed_case(out: &mut List<u8>, t: &[u8], number: &[u8], name: &[u8]) -> Result<(), Memory>
+    ensures { OnOk result (out.new ≡ out.old ++ deed_case_text t.now number.now name.now) }
+{
+    three(
+        out,
+        b"    if (did == INT64_C(",
+        number,
+        b")) {\n        deed = ",
+    )?;
+    three(out, t, name, b";\n    }\n")
+}
+
 // Appends what an activation tells.
 fn deed(out: &mut List<u8>, t: &[u8]) -> Result<(), Memory>
     ensures { OnOk result (out.new ≡ out.old ++ deed_text t.now) }
 {
-    three(
-        out,
-        b"    return (did == INT64_C(1)) ? ",
-        t,
-        b"_did_execute : ((did == INT64_C(2)) ? ",
-    )?;
-    two(out, t, b"_did_send : ")?;
-    two(out, t, b"_did_nothing);\n")
+    four(out, b"    ", t, b"_deed deed = ", t)?;
+    out.extend(b"_did_nothing;\n")?;
+    deed_case(out, t, b"1", b"_did_execute")?;
+    deed_case(out, t, b"2", b"_did_send")?;
+    out.extend(b"    return deed;\n")
 }
 
 /// Appends the function of an activation, whose statement is given.

@@ -6,9 +6,11 @@ ghost use Rattle.lt_norm.specs.Flat.{Originated};
 ghost use Rattle.lt_place.specs.Layout.{IsPlaced};
 ghost use Rattle.lt_place.specs.Sizes.{HasCodeRoom, IsCompilable};
 ghost use Rattle.lt_step.specs.Compile.{CodeOf};
+ghost use Rattle.lt_c_node.specs.NodeText.{emitted_text};
 ghost use Rattle.lt_c_node.specs.NodeOf.{IsFeedOf, sources_of, protocol_regime, regime_of, IsPartCodeOf, IsFileOfNode, IsEmitted};
 
 use crate::file::{NodeFile, PartCode, Regime};
+use crate::interface::write_header;
 use crate::linking::links_of;
 use crate::part::{outputs_of, part_of, sources_of};
 use crate::writer::write_node;
@@ -120,7 +122,18 @@ pub fn node_of(
     })
 }
 
-/// The C file of a node of a placed program, by what `lt_compile::place_program` gives.
+// The header of a file, or all of it.
+fn print(alloc: Global, file: &NodeFile, header: bool) -> Result<List<u8>, Memory>
+    ensures { IfOk result (λ text. text ≡ emitted_text header file.now) }
+{
+    if header {
+        write_header(alloc, file)
+    } else {
+        write_node(alloc, file)
+    }
+}
+
+/// The C file of a node of a placed program, or its header alone, by what `lt_compile::place_program` gives.
 ///
 /// # Errors
 ///
@@ -132,13 +145,14 @@ pub fn emit_node(
     timing: &Timing,
     pace: Pace,
     node: usize,
+    header: bool,
 ) -> Result<List<u8>, Memory>
     requires placed { (f : Originated) × IsPlaced f layout.now × HasCodeRoom f.func }
     requires node { node < length layout.now.nodes }
     requires timed { length timing.now.nodes ≡ length layout.now.names }
     requires few { length layout.now.names < 2 ^ 32 }
-    ensures { IfOk result (IsEmitted layout.now shape.now timing.now pace node) }
+    ensures { IfOk result (IsEmitted layout.now shape.now timing.now pace node header) }
 {
     let file = node_of(alloc, layout, shape, timing, pace, node)?;
-    write_node(alloc, &file)
+    print(alloc, &file, header)
 }

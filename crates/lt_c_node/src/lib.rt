@@ -4,8 +4,10 @@
 mod acting;
 mod building;
 mod code;
+mod equations;
 mod file;
 mod heads;
+mod interface;
 mod keeping;
 pub mod laws;
 mod linking;
@@ -20,4 +22,5 @@ mod writer;
 
 pub use building::{emit_node, node_of};
 pub use file::{Carried, Correspondence, NodeFile, PartCode, Peer, Regime};
+pub use interface::write_header;
 pub use writer::write_node;

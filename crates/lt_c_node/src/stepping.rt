@@ -10,12 +10,13 @@ ghost use Rattle.lt_c_node.specs.Types.{has_items};
 ghost use Rattle.lt_c_node.specs.Steps.{fed_text, equations_text, shown_text, kept_text, shown_one, execute_text};
 
 use crate::code::{keeps_of, lets_of};
+use crate::equations::told_lets;
 use crate::file::NodeFile;
 use crate::statements::{copied, statement, then};
 use crate::words::{has_items, one_if};
 use lt_base::{Clock, Decl, List, Memory};
 use lt_c::{Action, Variable};
-use lt_c_step::{Output, Source, clock_expression, keeps, lets};
+use lt_c_step::{Output, Source, clock_expression, keeps};
 use lt_step::{Keep, Let};
 use std::alloc::Global;
 
@@ -102,12 +103,12 @@ fn fed(alloc: Global, out: &mut List<u8>, file: &NodeFile) -> Result<(), Memory>
     feeds(alloc, out, file)
 }
 
-// Appends its equations.
+// Appends its equations, each with its statement.
 fn equations(out: &mut List<u8>, decls: &[Decl], items: &[Let]) -> Result<(), Memory>
     ensures { OnOk result (out.new ≡ out.old ++ equations_text decls.now items.now) }
 {
     one_if(out, has_items(items), b"    /* the equations */\n")?;
-    lets(out, decls, items)
+    told_lets(out, decls, items)
 }
 
 // Appends its outputs, in their statements.

@@ -8,12 +8,11 @@ ghost use Rattle.lt_c_node.specs.NodeText.{opening_text, declarations_text, func
 
 use crate::acting::{activate, activation, file_calls};
 use crate::file::NodeFile;
-use crate::heads::prototypes;
+use crate::interface::interface;
 use crate::keeping::variables;
 use crate::starting::init;
 use crate::stepping::execute;
 use crate::transport::transport_functions;
-use crate::types::declared_types;
 use crate::words::{three, title};
 use lt_base::{List, Memory};
 use lt_c::{Action, head, node_name};
@@ -33,8 +32,7 @@ fn opening(out: &mut List<u8>, file: &NodeFile) -> Result<(), Memory>
 fn declarations(out: &mut List<u8>, t: &[u8], file: &NodeFile) -> Result<(), Memory>
     ensures { OnOk result (out.new ≡ out.old ++ declarations_text t.now file.now) }
 {
-    declared_types(out, t, file)?;
-    prototypes(out, t, file)?;
+    interface(out, t, file)?;
     variables(out, t, file)
 }
 

@@ -1,5 +1,5 @@
 -- The C of a node of a placed program, by the node's name.
-use Rattle.std.specs.Prelude.{◌≡◌, ◌↔◌, ℕ, List, Option, Some, None, Result, Ok, Err, bytes_eq, position}
+use Rattle.std.specs.Prelude.{◌≡◌, ◌↔◌, ℕ, Bool, List, Option, Some, None, Result, Ok, Err, bytes_eq, position}
 use Rattle.lt_base.specs.declared.memory.Or.{Or}
 use Rattle.lt_base.specs.declared.memory.Or.TheVariants.{Fault, Memory}
 use Rattle.lt_io.specs.FilesState.{FilesState}
@@ -21,14 +21,14 @@ use Rattle.lt_emit.specs.Loading.{load_site_verdict}
 abbrev pub site_node : Site → (name : List ℕ) → Option ℕ
 site_node s name = position (λ node. bytes_eq node name) s.layout.names
 
--- the C of the node of this name at a site, or that there is no such node
-abbrev pub emitted_node_verdict : (name : List ℕ) → Site → Verdict (List ℕ) EmitFault
-emitted_node_verdict name s (Ok text) = (n : ℕ) × (site_node s name ≡ Some n) × IsEmitted s.layout s.shape s.timing s.pace n text
-emitted_node_verdict name s (Err e) = (site_node s name ≡ None) × (e ≡ NoNode name)
+-- the C of the node of this name at a site, or its header alone; or that there is no such node
+abbrev pub emitted_node_verdict : (header : Bool) (name : List ℕ) → Site → Verdict (List ℕ) EmitFault
+emitted_node_verdict header name s (Ok text) = (n : ℕ) × (site_node s name ≡ Some n) × IsEmitted s.layout s.shape s.timing s.pace n header text
+emitted_node_verdict header name s (Err e) = (site_node s name ≡ None) × (e ≡ NoNode name)
 
 -- the program, the setup, the placement, the timing and the window, as in a check, and then the name of the node
-unfoldable pub emit_verdict : (named : List ℕ → Option (List ℕ)) (program config node : List ℕ) → Verdict (List ℕ) EmitFault
-emit_verdict named program config node = AndThen (Raised (λ f. Command f) (load_site_verdict named program config)) (λ s. emitted_node_verdict node s)
+unfoldable pub emit_verdict : (named : List ℕ → Option (List ℕ)) (header : Bool) (program config node : List ℕ) → Verdict (List ℕ) EmitFault
+emit_verdict named header program config node = AndThen (Raised (λ f. Command f) (load_site_verdict named program config)) (λ s. emitted_node_verdict header node s)
 
 -- whose fault it is
 abbrev pub emit_blame : EmitFault → Blame
@@ -36,20 +36,20 @@ emit_blame (Command f) = command_blame f
 emit_blame (NoNode name) = Content
 
 -- the C of the node of this name is emitted
-abbrev pub EmitsNode : (program config node : List ℕ) (old new : FilesState) → Result (List ℕ) (Or EmitFault) → Type 0
-EmitsNode program config node old new result = AnsweredOnFiles emit_blame (check_errands program (Some config)) (emit_verdict old.named program config node) old new result
+abbrev pub EmitsNode : (header : Bool) (program config node : List ℕ) (old new : FilesState) → Result (List ℕ) (Or EmitFault) → Type 0
+EmitsNode header program config node old new result = AnsweredOnFiles emit_blame (check_errands program (Some config)) (emit_verdict old.named header program config node) old new result
 
 -- the same behind what was loaded
-abbrev pub EmitsAt : (node : List ℕ) → Result Site (Or CommandFault) → Result (List ℕ) (Or EmitFault) → Type 0
-EmitsAt node (Ok s) result = Settles (emitted_node_verdict node s) result
-EmitsAt node (Err (Fault f)) result = result ≡ Err (Fault (Command f))
-EmitsAt node (Err Memory) result = result ≡ Err Memory
+abbrev pub EmitsAt : (header : Bool) (node : List ℕ) → Result Site (Or CommandFault) → Result (List ℕ) (Or EmitFault) → Type 0
+EmitsAt header node (Ok s) result = Settles (emitted_node_verdict header node s) result
+EmitsAt header node (Err (Fault f)) result = result ≡ Err (Fault (Command f))
+EmitsAt header node (Err Memory) result = result ≡ Err Memory
 
 -- that there is no node of this name; memory may be wanting for the copy of the name
 abbrev pub IsNoNodeFault : (name : List ℕ) → Or EmitFault → Type 0
 IsNoNodeFault name (Fault e) = e ≡ NoNode name
 IsNoNodeFault name Memory = Unit {0}
 
--- the files of a program and of its setup are refused exactly as in a check of both, whichever node is asked for
+-- the files of a program and of its setup are refused exactly as in a check of both, whichever node is asked for, and whether or not the header alone is
 abbrev pub SameRefusals : Type 0
-SameRefusals = (named : List ℕ → Option (List ℕ)) (program config node : List ℕ) (e : CommandFault) → emit_verdict named program config node (Err (Command e)) ↔ check_verdict named program (Some config) (Err e)
+SameRefusals = (named : List ℕ → Option (List ℕ)) (header : Bool) (program config node : List ℕ) (e : CommandFault) → emit_verdict named header program config node (Err (Command e)) ↔ check_verdict named program (Some config) (Err e)

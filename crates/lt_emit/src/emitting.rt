@@ -16,34 +16,36 @@ use lt_io::Files;
 use lt_load::CommandFault;
 use std::alloc::Global;
 
-/// The C of the node of this name, for the program of a file where it runs by the setup of another. The program is read before the
+/// The C of the node of this name, or its header alone, for the program of a file where it runs by the setup of another. The program is read before the
 /// setup, and all of it is refused that a check of both refuses, before the name is looked for.
 pub fn emit<F: Files>(
     alloc: Global,
     files: &mut F,
+    header: bool,
     program: &str,
     config: &str,
     node: &str,
 ) -> Result<List<u8>, Or<EmitFault>>
     requires { MayFail (F.state files.old).faults }
-    ensures { EmitsNode program.now config.now node.now (F.state files.old) (F.state files.new) result }
+    ensures { EmitsNode header program.now config.now node.now (F.state files.old) (F.state files.new) result }
 {
     let site = load_site(alloc, files, program, config);
-    emit_at(alloc, site, node)
+    emit_at(alloc, site, header, node)
 }
 
 // The C of the node of this name, where a program was loaded at its site.
 fn emit_at(
     alloc: Global,
     site: Result<Site, Or<CommandFault>>,
+    header: bool,
     node: &str,
 ) -> Result<List<u8>, Or<EmitFault>>
     requires { IfOk site IsCoded }
-    ensures { EmitsAt node.now site result }
+    ensures { EmitsAt header node.now site result }
 {
     match site {
         Ok(site) => {
-            let text = emit_named(alloc, &site, node);
+            let text = emit_named(alloc, &site, header, node);
             drop(site);
             text
         }
@@ -53,23 +55,36 @@ fn emit_at(
 }
 
 // The C of the node of this name at a site.
-fn emit_named(alloc: Global, site: &Site, node: &str) -> Result<List<u8>, Or<EmitFault>>
+fn emit_named(
+    alloc: Global,
+    site: &Site,
+    header: bool,
+    node: &str,
+) -> Result<List<u8>, Or<EmitFault>>
     requires { IsCoded site.now }
-    ensures { Settles (emitted_node_verdict node.now site.now) result }
+    ensures { Settles (emitted_node_verdict header node.now site.now) result }
 {
     match number_of(&site.layout.names, node) {
-        Some(n) => Ok(emit_number(alloc, site, n)?),
+        Some(n) => Ok(emit_number(alloc, site, n, header)?),
         None => Err(no_node(alloc, node)),
     }
 }
 
 // The C of the node of this number at a site.
-fn emit_number(alloc: Global, site: &Site, n: usize) -> Result<List<u8>, Memory>
+fn emit_number(alloc: Global, site: &Site, n: usize, header: bool) -> Result<List<u8>, Memory>
     requires coded { IsCoded site.now }
     requires within { n < length site.now.layout.names }
-    ensures { IfOk result (IsEmitted site.now.layout site.now.shape site.now.timing site.now.pace n) }
+    ensures { IfOk result (IsEmitted site.now.layout site.now.shape site.now.timing site.now.pace n header) }
 {
-    emit_node(alloc, &site.layout, &site.shape, &site.timing, site.pace, n)
+    emit_node(
+        alloc,
+        &site.layout,
+        &site.shape,
+        &site.timing,
+        site.pace,
+        n,
+        header,
+    )
 }
 
 // That the setup has no node of this name.
