@@ -1,3 +1,5 @@
 pub mod Obeying
+pub mod Scheduling
+pub mod ScheduleRead
 pub mod LttacAsking
 pub mod LttacPerformed

@@ -4,20 +4,21 @@ use Rattle.std.specs.Prelude.{codes, if◌then◌else◌}
 use Rattle.lt_io.specs.FabricState.{FabricState}
 use Rattle.lt_answer.specs.World.{Reading}
 use Rattle.lt_answer.proofs.Decided.{HasOneKind}
-use Rattle.lt_words.specs.Lttac.{LttacSaid, emit, lttac_command_of}
+use Rattle.lt_words.specs.Lttac.{LttacSaid, emit, schedule, lttac_command_of}
 use Rattle.lt_load_fit.specs.declared.fault.CommandFault.TheVariants.{Read}
 use Rattle.lt_emit.specs.declared.fault.EmitFault.{EmitFault}
 use Rattle.lt_emit.specs.declared.fault.EmitFault.TheVariants as fault
 use Rattle.lt_emit.proofs.OneEmit.{emit_decided, same_node}
+use Rattle.lt_scheduling.proofs.OneSchedule.{schedule_decided}
 use Rattle.lt_text_answers.specs.declared.refusal.Refusal.{Refusal}
-use Rattle.lt_text_answers.specs.declared.refusal.Refusal.TheVariants.{LttacWords}
+use Rattle.lt_text_answers.specs.declared.refusal.Refusal.TheVariants.{LttacWords, Command}
 use Rattle.lt_text_answers.specs.declared.status.Status.{Status}
 use Rattle.lt_text_answers.specs.declared.status.Status.TheVariants as status
 use Rattle.lt_text_answers.specs.Blamed.{blame_of}
 use Rattle.lt_text_answers.specs.Texts.{status_of, out_text, err_text, refusal_line, refusal_status, no_node_line}
 use Rattle.lt_text_answers.proofs.Refusals.{blamed_reads, fault_not_words}
 use Rattle.lt_cli.specs.Answers.{answer_verdict}
-use Rattle.lt_cli.specs.Clauses.{IsExactFor, IsMissingFor, IsCallFailed, IsOutsideCaused}
+use Rattle.lt_cli.specs.Clauses.{IsExact, IsExactFor, IsMissingFor, IsCallFailed, IsOutsideCaused}
 use Rattle.lt_cli.specs.Objects.{Objects, IsQuiet}
 use Rattle.lt_cli.specs.Ran.{Ran}
 use Rattle.lt_cli.specs.Taken.{TookLine}
@@ -27,13 +28,20 @@ use Rattle.lt_cli.proofs.Exact.{exact_for}
 use Rattle.lt_cli.proofs.Failed.{call_failed}
 use Rattle.lt_cli.proofs.Gave.{Gave, gave}
 use Rattle.lt_cli_c.specs.Emit.{emit_refusal, emit_verdict}
+use Rattle.lt_cli_c.specs.Schedule.{schedule_verdict}
+use Rattle.lt_cli_c.specs.ScheduleShown.{IsScheduleShown}
+use Rattle.lt_cli_c.proofs.ScheduleRead.{schedule_shown as shown_by}
 use Rattle.lt_cli_c.specs.LttacAsked.{LttacAsked, lttac_asked_verdict, lttac_verdict, lttac_words_verdict}
 use Rattle.lt_cli_c.specs.LttacClauses.{IsNodeExact, LttacPerforms}
 
 -- all right refusals have one status
-decided : (named : List ℕ → Option (List ℕ)) (program config node : List ℕ) → HasOneKind (λ e. refusal_status (emit_refusal e)) (emit_verdict named program config node)
-decided named program config node =
-    emit_decided named program config node (λ e. refusal_status (emit_refusal e)) (λ e f same. ap (λ (b : Bool). if b then status.Limit else status.Program) same) (λ f g main main'. refl) (λ f g names names' mixed mixed'. refl)
+decided : (named : List ℕ → Option (List ℕ)) (header : Bool) (program config node : List ℕ) → HasOneKind (λ e. refusal_status (emit_refusal e)) (emit_verdict named header program config node)
+decided named header program config node =
+    emit_decided named program config header node (λ e. refusal_status (emit_refusal e)) (λ e f same. ap (λ (b : Bool). if b then status.Limit else status.Program) same) (λ f g main main'. refl) (λ f g names names' mixed mixed'. refl)
+
+schedule_kinds : (named : List ℕ → Option (List ℕ)) (program inputs config : List ℕ) (seed horizon : ℕ) (jitter : Option ℕ) → HasOneKind (λ e. refusal_status (Command e)) (schedule_verdict named program inputs config seed horizon jitter)
+schedule_kinds named program inputs config seed horizon jitter =
+    schedule_decided (λ e. refusal_status (Command e)) (λ e f same. ap (λ (b : Bool). if b then status.Limit else status.Program) same) (λ f g main main'. refl) (λ f g names names' mixed mixed'. refl) named program inputs config seed horizon jitter
 
 -- only a missing file blames the files
 only_read : (e : EmitFault) → blame_of (emit_refusal e) ≡ Reading → e ≡ fault.Command Read
@@ -41,22 +49,22 @@ only_read (fault.Command f) is = ap (λ g. fault.Command g) (blamed_reads f is)
 only_read (fault.NoNode name) is = cc
 
 -- only the node's name has the status of wrong words
-only_node : (named : List ℕ → Option (List ℕ)) (program config node : List ℕ) (f : EmitFault) → emit_verdict named program config node (Err f) → refusal_status (emit_refusal f) ≡ status.Words → f ≡ fault.NoNode node
-only_node named program config node (fault.Command f) right is = absurd (fault_not_words f is)
-only_node named program config node (fault.NoNode name) right is = same_node named program config node name right
+only_node : (named : List ℕ → Option (List ℕ)) (header : Bool) (program config node : List ℕ) (f : EmitFault) → emit_verdict named header program config node (Err f) → refusal_status (emit_refusal f) ≡ status.Words → f ≡ fault.NoNode node
+only_node named header program config node (fault.Command f) right is = absurd (fault_not_words f is)
+only_node named header program config node (fault.NoNode name) right is = same_node named header program config node name right
 
-node_exact : (named : List ℕ → Option (List ℕ)) (program config node : List ℕ) (old new : Objects) (ends : Status) → IsExactFor emit_refusal (λ text. text) (emit_verdict named program config node) old new ends
-    → IsNodeExact named program config node old new ends
-node_exact named program config node old new ends x =
+node_exact : (named : List ℕ → Option (List ℕ)) (header : Bool) (program config node : List ℕ) (old new : Objects) (ends : Status) → IsExactFor emit_refusal (λ text. text) (emit_verdict named header program config node) old new ends
+    → IsNodeExact named header program config node old new ends
+node_exact named header program config node old new ends x =
     let wrong = x.refused status.Words (λ is. cc) in
     record {
       exact = (
-        (λ at. let f = wrong.0 at in subst (λ (e : EmitFault). emit_verdict named program config node (Err e)) (only_node named program config node f.0 f.1 f.2) f.1),
+        (λ at. let f = wrong.0 at in subst (λ (e : EmitFault). emit_verdict named header program config node (Err e)) (only_node named header program config node f.0 f.1 f.2) f.1),
         (λ right. wrong.1 (fault.NoNode node, right, refl)),
       );
       line = λ at.
           let f = x.line (λ is. let both : status.Words ≡ status.Ok = sym at ∙ is in cc) in
-          subst (λ (e : EmitFault). TookLine (refusal_line (emit_refusal e)) old new) (only_node named program config node f.0 f.1 (f.2 ∙ at)) f.3;
+          subst (λ (e : EmitFault). TookLine (refusal_line (emit_refusal e)) old new) (only_node named header program config node f.0 f.1 (f.2 ∙ at)) f.3;
     }
 
 module _ (asked : List (List ℕ)) (old new : Objects) (ends : Status) (did : LttacAsked asked old new ends) (still : new.fabric ≡ old.fabric) where
@@ -91,10 +99,22 @@ module _ (asked : List (List ℕ)) (old new : Objects) (ends : Status) (did : Lt
   unfolding lttac_words_verdict
   said_ran said is = subst (λ (s : Option LttacSaid). Ran (lttac_asked_verdict old.files.named s) old new ends) is did.does.ran
 
-  emitted_exact : (program config node : List ℕ) → lttac_command_of asked ≡ Some (emit program config node) → IsTrue old.files.told → IsQuiet old new → ends ≢ status.Memory
-      → IsExactFor emit_refusal (λ text. text) (emit_verdict old.files.named program config node) old new ends
-  emitted_exact program config node is tells quiet enough =
-      exact_for emit_refusal (λ text. text) (emit_verdict old.files.named program config node) (decided old.files.named program config node) old new ends (said_gave (emit program config node) is (whole tells quiet enough))
+  emitted_exact : (header : Bool) (program config node : List ℕ) → lttac_command_of asked ≡ Some (emit header program config node) → IsTrue old.files.told → IsQuiet old new → ends ≢ status.Memory
+      → IsExactFor emit_refusal (λ text. text) (emit_verdict old.files.named header program config node) old new ends
+  emitted_exact header program config node is tells quiet enough =
+      exact_for emit_refusal (λ text. text) (emit_verdict old.files.named header program config node) (decided old.files.named header program config node) old new ends (said_gave (emit header program config node) is (whole tells quiet enough))
+
+  scheduled_exact : (program inputs config : List ℕ) (seed horizon : ℕ) (jitter : Option ℕ) → lttac_command_of asked ≡ Some (schedule program inputs config seed horizon jitter) → IsTrue old.files.told → IsQuiet old new → ends ≢ status.Memory
+      → IsExact (λ text. text) (schedule_verdict old.files.named program inputs config seed horizon jitter) old new ends
+  scheduled_exact program inputs config seed horizon jitter is tells quiet enough =
+      exact_for (λ f. Command f) (λ text. text) (schedule_verdict old.files.named program inputs config seed horizon jitter) (schedule_kinds old.files.named program inputs config seed horizon jitter) old new ends
+      (said_gave (schedule program inputs config seed horizon jitter) is (whole tells quiet enough))
+
+  shown_schedule : (program inputs config : List ℕ) (seed horizon : ℕ) (jitter : Option ℕ) → lttac_command_of asked ≡ Some (schedule program inputs config seed horizon jitter) → IsTrue old.files.told → IsQuiet old new → ends ≡ status.Ok
+      → IsScheduleShown old.files.named program inputs config seed horizon jitter old new
+  shown_schedule program inputs config seed horizon jitter is tells quiet at =
+      let told = (scheduled_exact program inputs config seed horizon jitter is tells quiet (λ none. let wrong : status.Ok ≡ status.Memory = sym at ∙ none in cc)).text at in
+      shown_by old.files.named program inputs config seed horizon jitter old new told.0 told.2 told.1
 
   steady : new.fabric.faults ≡ old.fabric.faults
   steady = ap (λ (w : FabricState). w.faults) still
@@ -109,15 +129,20 @@ module _ (asked : List (List ℕ)) (old new : Objects) (ends : Status) (did : Lt
     usage = λ none told quiet enough. usage_line (whole told quiet enough) none;
     visits = did.does.visits;
     emitted = emitted_exact;
-    no_node = λ program config node is told quiet enough. node_exact old.files.named program config node old new ends (emitted_exact program config node is told quiet enough);
+    no_node = λ header program config node is told quiet enough. node_exact old.files.named header program config node old new ends (emitted_exact header program config node is told quiet enough);
+    scheduled = scheduled_exact;
+    schedule_shown = shown_schedule;
     outside = λ at. read_failed (outside_caused (lttac_words_verdict old.files.named asked) old new ends did.does.ran at);
     failed = λ rose. call_failed old new (lttac_words_verdict old.files.named asked) ends did.does.ran (inl rose);
     write = λ at. write_caused (lttac_words_verdict old.files.named asked) old new ends did.does.ran at;
     out_steady = did.does.ran.keeps.out.steady;
     err_steady = did.does.ran.keeps.err.steady;
     accepted = λ said is sound unrefused. accepted_ends (lttac_verdict old.files.named said) old new ends (tells sound.files) sound (said_ran said is) unrefused;
-    emit_missing = λ program config node is sound enough.
-        missing_for emit_refusal (fault.Command Read) refl only_read (λ text. text) (emit_verdict old.files.named program config node) (decided old.files.named program config node) old new steady ends (tells sound) sound enough
-        (said_ran (emit program config node) is);
+    emit_missing = λ header program config node is sound enough.
+        missing_for emit_refusal (fault.Command Read) refl only_read (λ text. text) (emit_verdict old.files.named header program config node) (decided old.files.named header program config node) old new steady ends (tells sound) sound enough
+        (said_ran (emit header program config node) is);
+    schedule_missing = λ program inputs config seed horizon jitter is sound enough.
+        missing_for (λ f. Command f) Read refl blamed_reads (λ text. text) (schedule_verdict old.files.named program inputs config seed horizon jitter) (schedule_kinds old.files.named program inputs config seed horizon jitter) old new steady ends
+        (tells sound) sound enough (said_ran (schedule program inputs config seed horizon jitter) is);
     ran = did.does.ran;
   }

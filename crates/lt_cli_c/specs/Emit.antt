@@ -1,5 +1,5 @@
 -- `emit`: the C of a node of a placed program.
-use Rattle.std.specs.Prelude.{ℕ, List, Option, Some, Result, Ok, Err}
+use Rattle.std.specs.Prelude.{ℕ, Bool, List, Option, Some, Result, Ok, Err}
 use Rattle.lt_base.specs.declared.memory.Or.{Or}
 use Rattle.lt_base.specs.declared.memory.Or.TheVariants.{Fault, Memory}
 use Rattle.lt_io.specs.FilesState.{FilesState}
@@ -24,6 +24,6 @@ emit_reply (Ok text) = Ok text
 emit_reply (Err (Fault f)) = Err (Fault (emit_refusal f))
 emit_reply (Err Memory) = Err Memory
 
--- the program is read, and then the setup: the C of the node, or the first refusal
-abbrev pub AnswersEmit : (program config node : List ℕ) (old new : FilesState) → Result (List ℕ) (Or Refusal) → Type 0
-AnswersEmit program config node old new result = AnsweredOnFiles blame_of (check_errands program (Some config)) (answer_verdict emit_refusal (λ text. text) (emit_verdict old.named program config node)) old new result
+-- the program is read, and then the setup: the C of the node, or its header alone, or the first refusal
+abbrev pub AnswersEmit : (header : Bool) (program config node : List ℕ) (old new : FilesState) → Result (List ℕ) (Or Refusal) → Type 0
+AnswersEmit header program config node old new result = AnsweredOnFiles blame_of (check_errands program (Some config)) (answer_verdict emit_refusal (λ text. text) (emit_verdict old.named header program config node)) old new result

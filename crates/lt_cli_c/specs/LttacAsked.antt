@@ -5,19 +5,20 @@ use Rattle.lt_io.specs.FilesState.{FilesState}
 use Rattle.lt_io.specs.SinkState.{SinkState}
 use Rattle.lt_io.specs.Visits.{Errand}
 use Rattle.lt_words.specs.declared.lttac.LttacCommand.{LttacCommand}
-use Rattle.lt_words.specs.Lttac.{LttacSaid, emit, lttac_said_of, lttac_command_of}
+use Rattle.lt_words.specs.Lttac.{LttacSaid, emit, schedule, lttac_said_of, lttac_command_of}
 use Rattle.lt_answer.specs.Answered.{Verdict}
 use Rattle.lt_answer.specs.World.{alone}
-use Rattle.lt_load.specs.Errands.{check_errands}
+use Rattle.lt_load.specs.Errands.{check_errands, load_errands}
 use Rattle.lt_text_answers.specs.declared.refusal.Refusal.{Refusal}
 use Rattle.lt_text_answers.specs.declared.refusal.Refusal.TheVariants.{LttacWords}
 use Rattle.lt_text_answers.specs.declared.status.Status.{Status}
 use Rattle.lt_text_answers.specs.declared.status.Status.TheVariants as status
-use Rattle.lt_cli.specs.Answers.{answer_verdict}
+use Rattle.lt_cli.specs.Answers.{answer_verdict, text_verdict}
 use Rattle.lt_cli.specs.Objects.{Objects}
 use Rattle.lt_cli.specs.Obeys.{Visits}
 use Rattle.lt_cli.specs.Ran.{Ran}
 use Rattle.lt_cli_c.specs.Emit.{emit_refusal, emit_verdict}
+use Rattle.lt_cli_c.specs.Schedule.{schedule_verdict}
 
 -- ---- objects
 
@@ -33,11 +34,13 @@ BetweenFiles files out err does old new ends = does (without_fabric (files old.0
 
 -- a command on these files
 abbrev pub lttac_verdict : (named : List ℕ → Option (List ℕ)) → LttacSaid → Verdict (List ℕ) Refusal
-lttac_verdict named (emit program config node) = answer_verdict emit_refusal (λ text. text) (emit_verdict named program config node)
+lttac_verdict named (emit header program config node) = answer_verdict emit_refusal (λ text. text) (emit_verdict named header program config node)
+lttac_verdict named (schedule program inputs config seed horizon jitter) = text_verdict (λ text. text) (schedule_verdict named program inputs config seed horizon jitter)
 
 -- the files of a command, in their order, and how far each may be read
 abbrev pub lttac_said_errands : LttacSaid → List Errand
-lttac_said_errands (emit program config node) = check_errands program (Some config)
+lttac_said_errands (emit header program config node) = check_errands program (Some config)
+lttac_said_errands (schedule program inputs config seed horizon jitter) = load_errands program inputs (Some config)
 
 -- words that say no command have none
 abbrev pub lttac_errands : Option LttacSaid → List Errand

@@ -1,5 +1,5 @@
 -- What holds of a call of `lttac`, fact by fact.
-use Rattle.std.specs.Prelude.{◌≡◌, ◌≢◌, ◌<◌, ◌⊎◌, ◌↔◌, ℕ, IsTrue, List, [], Option, Some, None, Result, Err, IfOk, IfErr, String, Vec, codes, drop, map, string_bytes}
+use Rattle.std.specs.Prelude.{◌≡◌, ◌≢◌, ◌<◌, ◌⊎◌, ◌↔◌, ℕ, Bool, IsTrue, List, [], Option, Some, None, Result, Err, IfOk, IfErr, String, Vec, codes, drop, map, string_bytes}
 use Rattle.std.specs.declared.io.Error.{Error}
 use Rattle.std.specs.declared.io.ErrorKind.TheVariants.{OutOfMemory}
 use Rattle.std.specs.declared.alloc.Global.{Global}
@@ -8,17 +8,19 @@ use Rattle.lt_io.specs.FilesState.{FilesState}
 use Rattle.lt_io.specs.SinkState.{SinkState}
 use Rattle.lt_load_fit.specs.declared.fault.CommandFault.TheVariants.{Read}
 use Rattle.lt_emit.specs.declared.fault.EmitFault.TheVariants as fault
-use Rattle.lt_words.specs.Lttac.{LttacSaid, emit, lttac_command_of}
+use Rattle.lt_words.specs.Lttac.{LttacSaid, emit, schedule, lttac_command_of}
 use Rattle.lt_text_answers.specs.declared.refusal.Refusal.TheVariants.{LttacWords}
 use Rattle.lt_text_answers.specs.declared.status.Status.{Status}
 use Rattle.lt_text_answers.specs.declared.status.Status.TheVariants as status
 use Rattle.lt_text_answers.specs.Texts.{refusal_line, no_node_line}
-use Rattle.lt_cli.specs.Clauses.{IsExactFor, IsMissingFor, IsCallFailed, IsOfFailure, IsWriteCaused, IsAccepted, EndsWellOrShort}
+use Rattle.lt_cli.specs.Clauses.{IsExact, IsExactFor, IsMissingExact, IsMissingFor, IsCallFailed, IsOfFailure, IsWriteCaused, IsAccepted, EndsWellOrShort}
 use Rattle.lt_cli.specs.Objects.{Objects, IsQuiet, AreSound}
 use Rattle.lt_cli.specs.Obeys.{Visits}
 use Rattle.lt_cli.specs.Ran.{Ran}
 use Rattle.lt_cli.specs.Taken.{TookLine}
 use Rattle.lt_cli_c.specs.Emit.{emit_refusal, emit_verdict}
+use Rattle.lt_cli_c.specs.Schedule.{schedule_verdict}
+use Rattle.lt_cli_c.specs.ScheduleShown.{IsScheduleShown}
 use Rattle.lt_cli_c.specs.LttacAsked.{BetweenFiles, EndsUnsaid, lttac_errands, lttac_verdict, lttac_words_verdict}
 
 -- where the words say this command, the files tell their bytes, no count of faults rises and memory is found, this is so
@@ -29,10 +31,14 @@ LttacAsks asked said old new ends F = lttac_command_of asked ≡ Some said → I
 abbrev pub LttacAsksSound : (asked : List (List ℕ)) → LttacSaid → Objects → (ends : Status) → Type 0 → Type 0
 LttacAsksSound asked said old ends F = lttac_command_of asked ≡ Some said → IsTrue old.files.sound → ends ≢ status.Memory → F
 
+-- and where it ends well
+abbrev pub LttacEndsWell : (asked : List (List ℕ)) → LttacSaid → (old new : Objects) → (ends : Status) → Type 0 → Type 0
+LttacEndsWell asked said old new ends F = lttac_command_of asked ≡ Some said → IsTrue old.files.told → IsQuiet old new → ends ≡ status.Ok → F
+
 -- the status says that the words are wrong exactly where their node is none of the setup's, and nothing else is refused; the line has
 -- the node's name
-pub record IsNodeExact (named : List ℕ → Option (List ℕ)) (program config node : List ℕ) (old new : Objects) (ends : Status) : Type 0 where
-  pub exact : (ends ≡ status.Words) ↔ emit_verdict named program config node (Err (fault.NoNode node))
+pub record IsNodeExact (named : List ℕ → Option (List ℕ)) (header : Bool) (program config node : List ℕ) (old new : Objects) (ends : Status) : Type 0 where
+  pub exact : (ends ≡ status.Words) ↔ emit_verdict named header program config node (Err (fault.NoNode node))
   pub line : ends ≡ status.Words → TookLine (no_node_line node) old new
 
 -- what holds of a call of `lttac` that is asked for this by its words
@@ -45,10 +51,15 @@ pub record LttacPerforms (asked : List (List ℕ)) (old new : Objects) (ends : S
   -- its limit and what shows that it is passed
   pub visits : Visits (lttac_errands (lttac_command_of asked)) old new ends
   -- where the files tell their bytes, no count rose and memory was found: each status exactly where it is right, with its text or its line
-  pub emitted : (program config node : List ℕ) → LttacAsks asked (emit program config node) old new ends
-      (IsExactFor emit_refusal (λ text. text) (emit_verdict old.files.named program config node) old new ends)
-  pub no_node : (program config node : List ℕ) → LttacAsks asked (emit program config node) old new ends
-      (IsNodeExact old.files.named program config node old new ends)
+  pub emitted : (header : Bool) (program config node : List ℕ) → LttacAsks asked (emit header program config node) old new ends
+      (IsExactFor emit_refusal (λ text. text) (emit_verdict old.files.named header program config node) old new ends)
+  pub no_node : (header : Bool) (program config node : List ℕ) → LttacAsks asked (emit header program config node) old new ends
+      (IsNodeExact old.files.named header program config node old new ends)
+  pub scheduled : (program inputs config : List ℕ) (seed horizon : ℕ) (jitter : Option ℕ) → LttacAsks asked (schedule program inputs config seed horizon jitter) old new ends
+      (IsExact (λ text. text) (schedule_verdict old.files.named program inputs config seed horizon jitter) old new ends)
+  -- a schedule keeps to the setup's bounds, and the text that was printed reads as its events, so a run along it is not refused
+  pub schedule_shown : (program inputs config : List ℕ) (seed horizon : ℕ) (jitter : Option ℕ) → LttacEndsWell asked (schedule program inputs config seed horizon jitter) old new ends
+      (IsScheduleShown old.files.named program inputs config seed horizon jitter old new)
   -- what a status says of the outside
   pub outside : ends ≡ status.Outside → IsCallFailed (codes "fault: read") old.files.faults new.files.faults old new
   pub failed : old.files.faults < new.files.faults → IsOfFailure ends
@@ -59,8 +70,10 @@ pub record LttacPerforms (asked : List (List ℕ)) (old new : Objects) (ends : S
   -- where all of them are sound a command ends well that nothing refuses, unless memory is wanting
   pub accepted : (said : LttacSaid) → lttac_command_of asked ≡ Some said → AreSound old → IsAccepted (lttac_verdict old.files.named said) → EndsWellOrShort ends
   -- over sound files a call on them fails exactly where the first file in order that is refused is missing
-  pub emit_missing : (program config node : List ℕ) → LttacAsksSound asked (emit program config node) old ends
-      (IsMissingFor (fault.Command Read) (emit_verdict old.files.named program config node) old new)
+  pub emit_missing : (header : Bool) (program config node : List ℕ) → LttacAsksSound asked (emit header program config node) old ends
+      (IsMissingFor (fault.Command Read) (emit_verdict old.files.named header program config node) old new)
+  pub schedule_missing : (program inputs config : List ℕ) (seed horizon : ℕ) (jitter : Option ℕ) → LttacAsksSound asked (schedule program inputs config seed horizon jitter) old ends
+      (IsMissingExact (schedule_verdict old.files.named program inputs config seed horizon jitter) old new)
   -- all of it: what was to be printed, how far it was, and whose count rose
   pub ran : Ran (lttac_words_verdict old.files.named asked) old new ends
 

@@ -1,11 +1,11 @@
 // The top call of the second program.
-ghost use Rattle.std.specs.Prelude.{◌≡◌};
 ghost use Rattle.lt_io.specs.Counts.{MayFail};
-ghost use Rattle.lt_words.specs.Lttac.{emit as emit_said, lttac_said_of};
+ghost use Rattle.lt_words.specs.Lttac.{HasLttacRanges};
 ghost use Rattle.lt_cli_c.specs.LttacClauses.{LttacPerformsOn};
 ghost use Rattle.lt_cli_c.specs.LttacAsked.{LttacAskedOn, LttacObeysOn};
 
 use crate::commands::emit::emit;
+use crate::commands::schedule::schedule;
 use lt_cli::{finish, refuse};
 use lt_io::{Files, Sink};
 use lt_text_answers::{Refusal, Status};
@@ -58,22 +58,29 @@ fn obey<F: Files, O: Sink, E: Sink>(
     requires files { MayFail (F.state files.old).faults }
     requires out { MayFail (O.state out.old).faults }
     requires err { MayFail (E.state err.old).faults }
+    requires ranges { HasLttacRanges command }
     ensures { LttacObeysOn F.state O.state E.state command.entry (files.old, out.old, err.old) (files.new, out.new, err.new) result }
-{
-    let (program, config, node) = emit_words(command);
-    let answer = emit(alloc, files, program, config, node);
-    finish(alloc, out, err, answer)
-}
-
-// The words of the one command that there is.
-fn emit_words(command: LttacCommand<'_>) -> (&str, &str, &str)
-    ensures { lttac_said_of command.entry ≡ emit_said result.0.now result.1.now result.2.now }
 {
     match command {
         LttacCommand::Emit {
+            header,
             program,
             config,
             node,
-        } => (program, config, node),
+        } => {
+            let answer = emit(alloc, files, header, program, config, node);
+            finish(alloc, out, err, answer)
+        }
+        LttacCommand::Schedule {
+            program,
+            inputs,
+            config,
+            seed,
+            horizon,
+            jitter,
+        } => {
+            let answer = schedule(alloc, files, program, inputs, config, seed, horizon, jitter);
+            finish(alloc, out, err, answer)
+        }
     }
 }

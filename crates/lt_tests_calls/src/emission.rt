@@ -4,13 +4,21 @@ use crate::script::holds;
 
 const WORDS: &str = "\
 > lttac emit p c
-1 words: usage: lttac emit P C NODE/
+1 words: usage: lttac emit [--header] P C NODE | schedule P I C --seed N --horizon H [--jitter J]/
 > lttac emit p c all all
-1 words: usage: lttac emit P C NODE/
+1 words: usage: lttac emit [--header] P C NODE | schedule P I C --seed N --horizon H [--jitter J]/
 > lttac check p c
-1 words: usage: lttac emit P C NODE/
+1 words: usage: lttac emit [--header] P C NODE | schedule P I C --seed N --horizon H [--jitter J]/
 > lttac emit --help
-1 words: usage: lttac emit P C NODE/
+1 words: usage: lttac emit [--header] P C NODE | schedule P I C --seed N --horizon H [--jitter J]/
+> lttac emit --header p c
+1 words: usage: lttac emit [--header] P C NODE | schedule P I C --seed N --horizon H [--jitter J]/
+> lttac emit --headers p c all
+1 words: usage: lttac emit [--header] P C NODE | schedule P I C --seed N --horizon H [--jitter J]/
+> lttac emit --header --header p c all
+1 words: usage: lttac emit [--header] P C NODE | schedule P I C --seed N --horizon H [--jitter J]/
+> lttac emit --header=true p c all
+1 words: usage: lttac emit [--header] P C NODE | schedule P I C --seed N --horizon H [--jitter J]/
 ";
 
 const OUTSIDE: &str = "\
@@ -22,6 +30,8 @@ x out 1 1
 x files 1 6
 6 fault: read/
 > lttac emit q c all
+6 fault: read/
+> lttac emit --header q c all
 6 fault: read/
 > lttac emit p q all
 6 fault: read/
@@ -35,6 +45,10 @@ const REFUSED: &str = "\
 > lttac emit p c nobody
 1 words: no node nobody/
 > lttac emit p c al
+1 words: no node al/
+> lttac emit --header p c al
+1 words: no node al/
+> lttac emit p c --header al
 1 words: no node al/
 p node main(x: int) returns (u: int; v: int) let u = x + (0 fby v); v = 10 + (0 fby u)
 > lttac emit p c nobody
@@ -60,9 +74,33 @@ c protocol = 'backpressure'/period = [9, 11]/delay = [1, 4]/[nodes]/a = ['x', 'u
 1 words: no node nobody/
 ";
 
+const SCHEDULES: &str = "\
+- where a leads, with periods of 9 to 11 ticks, and with a jitter of 0 of 10 ticks
+p node main(x: int) returns (u: int; v: int) let u = x + (0 fby v); v = 10 + (0 fby u); tel
+i instant,x/0,1/1,1/
+c protocol = 'leader'/leader = 'a'/period = [9, 11]/delay = [1, 4]/send = 5/execute = 3/[nodes]/a = ['x', 'u']/b = ['v']/
+> lttac schedule p i c --seed 1 --horizon 70
+0 time,event,place/5,act,a/7,act,b/14,act,a/18,act,b/23,act,a/29,act,b/32,act,a/38,act,b/41,act,a/48,act,b/50,act,a/53,data,a>b/58,act,b/61,act,a/62,data,b>a/68,act,b/70,act,a/70,end,/
+> lttac schedule p i c --seed 1 --horizon 30 --jitter 0
+0 time,event,place/8,act,b/9,act,a/18,act,b/19,act,a/28,act,b/29,act,a/30,end,/
+- as `sim` draws it, of no choice but the first activations
+c protocol = 'backpressure'/period = [3, 3]/delay = [0, 0]/[nodes]/a = ['x', 'u']/b = ['v']/
+> lttac schedule p i c --seed 0 --horizon 7
+0 time,event,place/0,act,b/0,ack,b>a/3,act,a/3,act,b/3,ack,a>b/6,act,a/6,act,b/6,data,a>b/6,data,b>a/7,end,/
+> lttac schedule p i c --seed 0 --horizon 7 --jitter 1001
+1 words: usage: lttac emit [--header] P C NODE | schedule P I C --seed N --horizon H [--jitter J]/
+> lttac schedule p i c --seed 0
+1 words: usage: lttac emit [--header] P C NODE | schedule P I C --seed N --horizon H [--jitter J]/
+- links that lose messages
+c protocol = 'lossy'/losses = 1/period = [9, 11]/delay = [1, 4]/[nodes]/a = ['x', 'u']/b = ['v']/
+> lttac schedule p i c --seed 1 --horizon 100
+3 config 5 OutOfRange: losses/
+";
+
 #[test]
 fn emission(rt: HostRuntime) {
     holds(&rt, rt.alloc(), WORDS);
     holds(&rt, rt.alloc(), OUTSIDE);
     holds(&rt, rt.alloc(), REFUSED);
+    holds(&rt, rt.alloc(), SCHEDULES);
 }

@@ -125,7 +125,9 @@ fn append_refusal(alloc: Global, line: &mut List<u8>, refusal: &Refusal) -> Resu
                 b"words: usage: ltta check P [C] | meaning P I | run P I S [C] | plan C [--horizon H] | sim P I C --seed N --horizon H | big N | watch P I S O [C] | audit P I S C | trace P I S C [--node NAME] [--from T] [--to T]",
             )
         }
-        Refusal::LttacWords => line.extend(b"words: usage: lttac emit P C NODE"),
+        Refusal::LttacWords => line.extend(
+            b"words: usage: lttac emit [--header] P C NODE | schedule P I C --seed N --horizon H [--jitter J]",
+        ),
         Refusal::NoNode(name) => append_no_node(line, name),
         Refusal::Command(fault) => append_fault(alloc, line, fault),
         Refusal::Observer(fault) => append_observer(line, *fault),

@@ -3,6 +3,7 @@ use Rattle.std.specs.Prelude.{ℕ, ◌-◌, ◌^◌, true, [], Some, codes}
 use Rattle.clap.specs.Words.{App, Rule, Text, new_app, new_rule, with_rule, with_subcommand}
 use Rattle.lt_base.specs.Limits.{greatest_time, most_rows}
 use Rattle.clap.specs.declared.builder.value_parser.ValueParser.TheVariants as parser
+use Rattle.clap.specs.declared.builder.action.ArgAction.TheVariants.{SetTrue}
 
 -- the greatest seed of a drawn schedule
 abbrev pub greatest_seed : ℕ
@@ -31,6 +32,10 @@ counted_rule id most = record (text_rule id) { parser = Some (parser.Unsigned 1 
 -- an option whose value is a text
 abbrev pub name_rule : (id : Text) → Rule
 name_rule id = record (new_rule id) { long = Some id }
+
+-- an option without a value: it is there or not
+abbrev pub flag_rule : (id : Text) → Rule
+flag_rule id = record (new_rule id) { long = Some id; action = Some SetTrue }
 
 abbrev pub check_app : App
 check_app = with_rule (with_rule (new_app (codes "check")) (text_rule (codes "program"))) (optional_rule (codes "config"))

@@ -5,7 +5,7 @@ use Rattle.lt_base.specs.declared.memory.Memory.{Memory}
 use Rattle.lt_words.specs.declared.command.Command.{Command}
 use Rattle.lt_words.specs.declared.lttac.LttacCommand.{LttacCommand}
 use Rattle.lt_words.specs.Commands.{program_app}
-use Rattle.lt_words.specs.Lttac.{lttac_app, lttac_said, lttac_said_of}
+use Rattle.lt_words.specs.Lttac.{lttac_app, lttac_said, lttac_said_of, HasLttacRanges}
 use Rattle.lt_words.specs.Reading.{said, said_of}
 use Rattle.lt_words.specs.Ranges.{HasRanges}
 
@@ -19,6 +19,6 @@ TellsCommand app of saying Ranges words (Err e) = Unit {0}
 abbrev pub ToldCommand : List Text → Result (Option Command) Memory → Type 0
 ToldCommand words r = TellsCommand program_app said_of said HasRanges words r
 
--- a command of `lttac`, which has no numbers
+-- a command of `lttac`
 abbrev pub ToldLttac : List Text → Result (Option LttacCommand) Memory → Type 0
-ToldLttac words r = TellsCommand lttac_app lttac_said_of lttac_said (λ c. Unit {0}) words r
+ToldLttac words r = TellsCommand lttac_app lttac_said_of lttac_said HasLttacRanges words r

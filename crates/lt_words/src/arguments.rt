@@ -2,10 +2,10 @@
 ghost use Rattle.std.specs.Prelude.{◌≡◌, false, IfOk};
 ghost use Rattle.clap.specs.Words.{App, rule_of, with_rule, with_subcommand};
 ghost use Rattle.lt_words.specs.Local.{HasNoGlobals, IsMadeAs, MakesCommand};
-ghost use Rattle.lt_words.specs.Commands.{text_rule, optional_rule, number_rule, needed_number_rule, counted_rule, name_rule};
+ghost use Rattle.lt_words.specs.Commands.{text_rule, optional_rule, number_rule, needed_number_rule, counted_rule, name_rule, flag_rule};
 
 use clap::builder::ValueParser;
-use clap::{Arg, Command};
+use clap::{Arg, ArgAction, Command};
 use lt_base::Memory;
 use std::alloc::Global;
 
@@ -57,6 +57,14 @@ pub fn name<'a>(alloc: Global, id: &'a str) -> Arg<'a>
     ensures local { result.global ≡ false }
 {
     Arg::new(alloc, id).long(id)
+}
+
+/// An option `--ID` without a value.
+pub fn flag<'a>(alloc: Global, id: &'a str) -> Arg<'a>
+    ensures rule { rule_of result ≡ flag_rule id.entry.now }
+    ensures local { result.global ≡ false }
+{
+    name(alloc, id).action(ArgAction::SetTrue)
 }
 
 /// The command with one more argument.

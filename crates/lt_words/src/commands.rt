@@ -4,15 +4,19 @@ ghost use Rattle.clap.specs.Words.{App, new_app};
 ghost use Rattle.lt_words.specs.Local.{IsMadeAs, MakesCommand};
 ghost use Rattle.lt_words.specs.Commands.{check_app, meaning_app, run_app, plan_app, fed_app, scheduled_app, placed_app, sim_app, big_app, replayed_app, watch_app, audit_app, trace_app};
 ghost use Rattle.lt_words.specs.Commands.{with_programs, with_drawings, with_views, bare_app, program_app};
-ghost use Rattle.lt_words.specs.Lttac.{emit_app, lttac_app};
+ghost use Rattle.lt_words.specs.Lttac.{emit_app, schedule_app, lttac_app};
 
 use crate::arguments::{
-    count_argument, name, needed_number, number, optional_text, text, with_argument, with_command,
+    count_argument, flag, name, needed_number, number, optional_text, text, with_argument,
+    with_command,
 };
 use clap::Command;
 use lt_base::Memory;
 use lt_base::limits::{GREATEST_TIME, MOST_ROWS};
 use std::alloc::Global;
+
+/// The greatest jitter, which leaves the whole of an interval.
+pub(crate) const WHOLE_JITTER: u64 = 1_000;
 
 // A command of this name that takes nothing yet.
 fn plain<'a>(alloc: Global, name: &'a str) -> Result<Command<'a>, Memory>
@@ -41,7 +45,8 @@ fn emit<'a>(alloc: Global) -> Result<Command<'a>, Memory>
 {
     let command = with_argument(plain(alloc, "emit"), text(alloc, "program"));
     let command = with_argument(command, text(alloc, "config"));
-    with_argument(command, text(alloc, "node"))
+    let command = with_argument(command, text(alloc, "node"));
+    with_argument(command, flag(alloc, "header"))
 }
 
 // A command of this name on a program, its inputs and a schedule.
@@ -88,6 +93,17 @@ fn sim<'a>(alloc: Global) -> Result<Command<'a>, Memory>
         needed_number(alloc, "seed", u64::MAX),
     );
     with_argument(command, needed_number(alloc, "horizon", GREATEST_TIME))
+}
+
+fn schedule<'a>(alloc: Global) -> Result<Command<'a>, Memory>
+    ensures { MakesCommand schedule_app result }
+{
+    let command = with_argument(
+        command_on_setup(alloc, "schedule"),
+        needed_number(alloc, "seed", u64::MAX),
+    );
+    let command = with_argument(command, needed_number(alloc, "horizon", GREATEST_TIME));
+    with_argument(command, number(alloc, "jitter", WHOLE_JITTER))
 }
 
 fn big<'a>(alloc: Global) -> Result<Command<'a>, Memory>
@@ -182,7 +198,8 @@ fn with_views<'a>(
 pub fn second_program<'a>(alloc: Global) -> Result<Command<'a>, Memory>
     ensures { MakesCommand lttac_app result }
 {
-    with_command(bare(alloc, "lttac"), emit(alloc))
+    let command = with_command(bare(alloc, "lttac"), emit(alloc));
+    with_command(command, schedule(alloc))
 }
 
 /// The command of `ltta`, with those below it.

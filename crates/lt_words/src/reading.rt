@@ -33,7 +33,7 @@ pub(crate) fn text_or_empty<'a>(matches: &ArgMatches<'a>, id: &str) -> &'a str
     }
 }
 
-fn number_at(matches: &ArgMatches<'_>, id: &str, most: u64) -> Option<u64>
+pub(crate) fn number_at(matches: &ArgMatches<'_>, id: &str, most: u64) -> Option<u64>
     requires digit { 9 ≤ most }
     ensures value { result ≡ option_map (number_text most) (first_of id.now (rows_of (found_of matches.now))) }
     ensures bounded { IfSome result (λ n. n ≤ most) }

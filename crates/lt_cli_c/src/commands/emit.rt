@@ -9,18 +9,19 @@ use lt_io::Files;
 use lt_text_answers::Refusal;
 use std::alloc::Global;
 
-/// The C of the node of this name.
+/// The C of the node of this name, or its header alone.
 pub(crate) fn emit<F: Files>(
     alloc: Global,
     files: &mut F,
+    header: bool,
     program: &str,
     config: &str,
     node: &str,
 ) -> Result<List<u8>, Or<Refusal>>
     requires { MayFail (F.state files.old).faults }
-    ensures { AnswersEmit program.now config.now node.now (F.state files.old) (F.state files.new) result }
+    ensures { AnswersEmit header program.now config.now node.now (F.state files.old) (F.state files.new) result }
 {
-    let emitted = lt_emit::emit(alloc, files, program, config, node);
+    let emitted = lt_emit::emit(alloc, files, header, program, config, node);
     emit_reply(emitted)
 }
 

@@ -1,0 +1,5 @@
+pub mod Drawn
+pub mod Paced
+pub mod AsSim
+pub mod OneSchedule
+pub mod Loaded
