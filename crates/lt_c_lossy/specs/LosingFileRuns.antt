@@ -14,6 +14,7 @@ use Rattle.lt_c.specs.Meaning.{Store}
 use Rattle.lt_c_node.specs.Acts.{posts_of}
 use Rattle.lt_c_node.specs.NodeOf.{IsEmitted}
 use Rattle.lt_c_files.specs.FileNodes.{code_of_file}
+use Rattle.lt_c_files.specs.FileRuns.{EmittedFilesRunWhole}
 use Rattle.lt_c_lossy.specs.LosingRuns.{LosingDeployment, losing_run}
 use Rattle.lt_c_lossy.specs.LosingWholeRuns.{ShowsWholeLosing}
 
@@ -39,3 +40,8 @@ LosingFilesRunWhole =
     (f : Originated) (losses : ℕ) (d : LosingDeployment) (texts : ℕ → List ℕ) → RunsLosingTexts f losses d texts → (memory : ℕ → Store) (events : List LossyEvent) →
     AllByRecursion (IsLossyEventOf d.base.shape) events → IsLossyOffenceFree d.base.shape d.base.timing losses (length d.base.inputs) events →
     ShowsWholeLosing f.func losses d events (losing_run d memory events)
+
+-- so it is of emitted files under all four protocols: over links that lose nothing, under back-pressure, the time-based protocol or a leader, and
+-- over links that lose messages
+abbrev pub ProtocolsRunWhole : Type 0
+ProtocolsRunWhole = EmittedFilesRunWhole × LosingFilesRunWhole

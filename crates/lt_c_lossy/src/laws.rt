@@ -3,7 +3,7 @@ ghost use Rattle.lt_c_lossy.specs.LosingLaws.{LosingStarts, LosingDelivers, Losi
 ghost use Rattle.lt_c_lossy.specs.LosingWholeRuns.{LossyRunIsWhole};
 ghost use Rattle.lt_c_lossy.specs.LosingFiles.{FilesKeepCrossings, LosingFilesPrint};
 ghost use Rattle.lt_c_lossy.specs.LosingReplays.{LosingShowsRun};
-ghost use Rattle.lt_c_lossy.specs.LosingFileRuns.{LosingFilesRunWhole};
+ghost use Rattle.lt_c_lossy.specs.LosingFileRuns.{LosingFilesRunWhole, ProtocolsRunWhole};
 
 /// What init leaves stands for a node before the first event.
 pub fn losing_starts()
@@ -60,3 +60,12 @@ pub fn losing_shows_run()
 pub fn losing_files_run_whole()
     ensures { LosingFilesRunWhole }
 {}
+
+/// Under all four protocols nodes that run the files emitted for them show, of each output, the beginning of its stream in the whole program,
+/// as far as the protocol's bound while inputs last.
+pub fn protocols_run_whole()
+    ensures { ProtocolsRunWhole }
+{
+    lt_c_files::laws::emitted_files_run_whole();
+    losing_files_run_whole();
+}
