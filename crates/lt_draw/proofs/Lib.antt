@@ -2,4 +2,3 @@ pub mod Pieces
 pub mod Shares
 pub mod Fitting
 pub mod Going
-pub mod Plain

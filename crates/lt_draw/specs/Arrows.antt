@@ -8,7 +8,8 @@ use Rattle.lt_draw.specs.declared.picture.Fate.TheVariants.{Delivered, Lost, Pen
 use Rattle.lt_draw.specs.declared.chart.Chart.{Chart}
 use Rattle.lt_draw.specs.Chart.{x_at, y_at, is_within, part_way}
 use Rattle.lt_draw.specs.Marks.{row_name}
-use Rattle.lt_draw.specs.Template.{template_text, escaped_text, each_text, piece_if}
+use Rattle.lt_svg.specs.Pieces.{filled_template, escaped}
+use Rattle.lt_draw.specs.Template.{each_text, piece_if}
 
 -- where an arrow to a node ends: so far before its line, on the side from which it comes
 unfoldable pub tip : Chart → (from to before : ℕ) → ℕ
@@ -23,7 +24,7 @@ distance Pending head = 0
 -- a line between two places by two times, cut off at the window's edges, up to its class
 unfoldable pub drawn_way : Chart → (start end sent come : ℕ) → List ℕ
 drawn_way c start end sent come =
-    template_text (codes "<path d=\"M% %L% %\" class=\"")
+    filled_template (codes "<path d=\"M% %L% %\" class=\"")
     (x_at c sent ∷ part_way start end (c.from - sent) (come - sent) ∷ x_at c come ∷ part_way end start (come - c.to) (come - sent) ∷ [])
 
 unfoldable pub ink_class : Ink → List ℕ
@@ -61,8 +62,8 @@ stroke Pending is_thin = codes " w"
 
 -- what an arrow says
 unfoldable pub event_words : Fate → List ℕ
-event_words (Delivered e) = template_text (codes "event %: ") (e ∷ [])
-event_words (Lost e) = template_text (codes "event %: ") (e ∷ [])
+event_words (Delivered e) = filled_template (codes "event %: ") (e ∷ [])
+event_words (Lost e) = filled_template (codes "event %: ") (e ∷ [])
 event_words Pending = []
 
 unfoldable pub fate_words : Fate → List ℕ
@@ -71,15 +72,15 @@ fate_words (Lost e) = codes ", sent at %, lost at %</title>"
 fate_words Pending = codes ", sent at %, due by %</title>"
 
 unfoldable pub ends_words : (names : List (List ℕ)) → (from to : ℕ) → List ℕ
-ends_words names from to = escaped_text (row_name names from) ++ (codes "&gt;" ++ escaped_text (row_name names to))
+ends_words names from to = escaped (row_name names from) ++ (codes "&gt;" ++ escaped (row_name names to))
 
 unfoldable pub arrow_words : (names : List (List ℕ)) → Arrow → List ℕ
 arrow_words names a =
-    event_words a.fate ++ (kind_word a.ink ++ (ends_words names a.from a.to ++ template_text (fate_words a.fate) (a.sent ∷ a.come ∷ [])))
+    event_words a.fate ++ (kind_word a.ink ++ (ends_words names a.from a.to ++ filled_template (fate_words a.fate) (a.sent ∷ a.come ∷ [])))
 
 -- the cross at which a lost message ends
 unfoldable pub drawn_cross : Chart → Arrow → List ℕ
-drawn_cross c a = template_text (codes "<path d=\"M% %m-3 -3l7 7m0 -7l-7 7\" class=\"lo\"/>") (x_at c a.come ∷ tip c a.from a.to 13 ∷ [])
+drawn_cross c a = filled_template (codes "<path d=\"M% %m-3 -3l7 7m0 -7l-7 7\" class=\"lo\"/>") (x_at c a.come ∷ tip c a.from a.to 13 ∷ [])
 
 abbrev pub loss_by : Fate → Chart → Arrow → List ℕ
 loss_by (Delivered e) c a = []

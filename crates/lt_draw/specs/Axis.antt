@@ -2,13 +2,14 @@
 use Rattle.std.specs.Prelude.{ℕ, zero, suc, ◌+◌, ◌-◌, ◌*◌, ◌/◌, ◌++◌, nat_le, max, List, [], ◌∷◌, length, take, drop, codes, if◌then◌else◌}
 use Rattle.lt_draw.specs.declared.chart.Chart.{Chart}
 use Rattle.lt_draw.specs.Chart.{x_at, y_at, bottom, nice_step}
-use Rattle.lt_draw.specs.Template.{template_text, escaped_text, piece_if}
+use Rattle.lt_svg.specs.Pieces.{filled_template, escaped}
+use Rattle.lt_draw.specs.Template.{piece_if}
 
 -- a tick with its time and a line over all rows
 unfoldable pub drawn_tick : Chart → (time : ℕ) → List ℕ
 drawn_tick c t =
     piece_if (nat_le c.from t)
-    (template_text (codes "<path d=\"M% %V%\" class=\"gr\"/><path d=\"M% %v5\" class=\"nl\"/><text x=\"%\" y=\"%\" class=\"ts m s\">%</text>\n")
+    (filled_template (codes "<path d=\"M% %V%\" class=\"gr\"/><path d=\"M% %v5\" class=\"nl\"/><text x=\"%\" y=\"%\" class=\"ts m s\">%</text>\n")
     (x_at c t ∷ c.top ∷ bottom c ∷ x_at c t ∷ (bottom c + 6) ∷ x_at c t ∷ (bottom c + 23) ∷ t ∷ []))
 
 -- the ticks at so many multiples of a step, from the k-th on
@@ -25,21 +26,21 @@ drawn_ticks c step =
 unfoldable pub drawn_axis : Chart → List ℕ
 drawn_axis c =
     drawn_ticks c (nice_step c.room c.breadth (c.to - c.from))
-    ++ template_text (codes "<path d=\"M% %H%\" class=\"nl\"/><text x=\"12\" y=\"%\" class=\"ts s\">tick</text>\n") (c.left ∷ (bottom c + 6) ∷ (c.left + c.breadth) ∷ (bottom c + 23) ∷ [])
+    ++ filled_template (codes "<path d=\"M% %H%\" class=\"nl\"/><text x=\"12\" y=\"%\" class=\"ts s\">tick</text>\n") (c.left ∷ (bottom c + 6) ∷ (c.left + c.breadth) ∷ (bottom c + 23) ∷ [])
 
 -- a name of more than 16 characters without its middle
 unfoldable pub short_name : List ℕ → List ℕ
-short_name n = if nat_le (length n) 16 then escaped_text n else escaped_text (take 10 n) ++ (codes ".." ++ escaped_text (drop (length n - 4) n))
+short_name n = if nat_le (length n) 16 then escaped n else escaped (take 10 n) ++ (codes ".." ++ escaped (drop (length n - 4) n))
 
 -- the line of a node, with its whole name to be read aloud, and its name beside it
 unfoldable pub node_rail : Chart → (node : ℕ) → List ℕ
-node_rail c k = template_text (codes "<path d=\"M% %H%\" class=\"nl\"/><g><title>") (c.left ∷ y_at c k ∷ (c.left + c.breadth) ∷ [])
+node_rail c k = filled_template (codes "<path d=\"M% %H%\" class=\"nl\"/><g><title>") (c.left ∷ y_at c k ∷ (c.left + c.breadth) ∷ [])
 
 unfoldable pub node_track : Chart → (node : ℕ) → (name : List ℕ) → List ℕ
-node_track c k name = node_rail c k ++ (escaped_text name ++ codes "</title>")
+node_track c k name = node_rail c k ++ (escaped name ++ codes "</title>")
 
 unfoldable pub label_opening : Chart → (node : ℕ) → List ℕ
-label_opening c k = template_text (codes "<text x=\"%\" y=\"%\" class=\"tx e\">") ((c.left - 14) ∷ (y_at c k + 4) ∷ [])
+label_opening c k = filled_template (codes "<text x=\"%\" y=\"%\" class=\"tx e\">") ((c.left - 14) ∷ (y_at c k + 4) ∷ [])
 
 unfoldable pub node_label : Chart → (node : ℕ) → (name : List ℕ) → List ℕ
 node_label c k name = label_opening c k ++ (short_name name ++ codes "</text></g>\n")

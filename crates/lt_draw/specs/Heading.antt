@@ -5,7 +5,7 @@ use Rattle.lt_draw.specs.declared.picture.Offence.{Offence}
 use Rattle.lt_draw.specs.declared.picture.Ring.{Ring}
 use Rattle.lt_draw.specs.declared.chart.Chart.{Chart}
 use Rattle.lt_draw.specs.Chart.{bounded_width, per_line, line_count, digit_count, widest, gutter, row_height, node_count_of}
-use Rattle.lt_draw.specs.Template.{template_text, escaped_text}
+use Rattle.lt_svg.specs.Pieces.{filled_template, escaped}
 
 -- the red lines: the line of a refusal, or what is said of a message too few or too many
 abbrev pub ring_line : Option Ring → List ℕ
@@ -45,7 +45,7 @@ chart_of p =
 
 -- a line of text, which begins with its class
 unfoldable pub drawn_line : (y : ℕ) (class text : List ℕ) → List ℕ
-drawn_line y class text = template_text (codes "<text x=\"12\" y=\"%\" class=\"") (y ∷ []) ++ (class ++ (escaped_text text ++ codes "</text>\n"))
+drawn_line y class text = filled_template (codes "<text x=\"12\" y=\"%\" class=\"") (y ∷ []) ++ (class ++ (escaped text ++ codes "</text>\n"))
 
 -- the next so many lines of a text
 abbrev pub lines_below : (count per y : ℕ) (class text : List ℕ) → List ℕ
@@ -61,17 +61,17 @@ drawn_lines per first class text = lines_below 40 per (24 + 16 * first) class te
 -- the opening tag of a picture of this size
 unfoldable pub drawn_frame : (width height : ℕ) → List ℕ
 drawn_frame width height =
-    template_text (codes "<svg xmlns=\"http://www.w3.org/2000/svg\" width=\"%\" height=\"%\" viewBox=\"0 0 % %\" role=\"img\" aria-labelledby=\"t d\">\n")
+    filled_template (codes "<svg xmlns=\"http://www.w3.org/2000/svg\" width=\"%\" height=\"%\" viewBox=\"0 0 % %\" role=\"img\" aria-labelledby=\"t d\">\n")
     (width ∷ height ∷ width ∷ height ∷ [])
 
 -- the title that is read aloud: with the red lines, where there are any
 unfoldable pub red_title : List ℕ → List ℕ
-red_title text = if length text == 0 then [] else codes ": " ++ (escaped_text text ++ [])
+red_title text = if length text == 0 then [] else codes ": " ++ (escaped text ++ [])
 
 unfoldable pub drawn_titles : (title red facts : List ℕ) → List ℕ
 drawn_titles title red facts =
-    (codes "<title id=\"t\">" ++ (escaped_text title ++ []))
-    ++ (red_title red ++ (codes "</title>\n<desc id=\"d\">" ++ (escaped_text facts ++ codes "</desc>\n")))
+    (codes "<title id=\"t\">" ++ (escaped title ++ []))
+    ++ (red_title red ++ (codes "</title>\n<desc id=\"d\">" ++ (escaped facts ++ codes "</desc>\n")))
 
 -- the style, light and dark, and the heads of arrows
 unfoldable pub style_text : List ℕ
@@ -86,7 +86,7 @@ drawn_opening p height = drawn_frame (bounded_width p.width) height ++ drawn_tit
 
 -- the ground of a picture
 unfoldable pub drawn_paper : Picture → (height : ℕ) → List ℕ
-drawn_paper p height = template_text (codes "<rect width=\"%\" height=\"%\" class=\"bg\"/>\n") (bounded_width p.width ∷ height ∷ [])
+drawn_paper p height = filled_template (codes "<rect width=\"%\" height=\"%\" class=\"bg\"/>\n") (bounded_width p.width ∷ height ∷ [])
 
 -- what stands before all that is drawn
 unfoldable pub drawn_head : Picture → (height : ℕ) → List ℕ

@@ -12,7 +12,7 @@ use Rattle.lt_draw.specs.declared.legend.Entry.{Entry}
 use Rattle.lt_draw.specs.declared.legend.Entry.TheVariants.{Executes, Sends, Nothing, Message, WithoutValues, Again, Acknowledgement, Lost, Pending, Tint, Ruled}
 use Rattle.lt_draw.specs.Chart.{bounded_width, bottom}
 use Rattle.lt_draw.specs.Arrows.{is_same_ink}
-use Rattle.lt_draw.specs.Template.{template_text}
+use Rattle.lt_svg.specs.Pieces.{filled_template}
 
 -- what explains an entry
 unfoldable pub entry_text : Entry → List ℕ
@@ -75,7 +75,7 @@ columns w = max ((bounded_width w - 24) / 180) 1
 
 -- an entry at a place; all past the hundredth would stand at one
 unfoldable pub drawn_entry : (columns top place : ℕ) → Entry → List ℕ
-drawn_entry n top place e = template_text (codes "<g transform=\"translate(% %)\">") ((12 + 180 * (min place 100 % n)) ∷ (top + 20 * (min place 100 / n)) ∷ []) ++ entry_text e
+drawn_entry n top place e = filled_template (codes "<g transform=\"translate(% %)\">") ((12 + 180 * (min place 100 % n)) ∷ (top + 20 * (min place 100 / n)) ∷ []) ++ entry_text e
 
 -- the entries from a place on
 abbrev pub entries_from : (columns top place : ℕ) → List Entry → List ℕ

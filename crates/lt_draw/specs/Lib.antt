@@ -1,5 +1,4 @@
 pub mod Template
-pub mod Escaping
 pub mod Chart
 pub mod Heading
 pub mod Marks

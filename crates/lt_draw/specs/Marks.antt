@@ -8,7 +8,8 @@ use Rattle.lt_draw.specs.declared.marks.Size.{Size}
 use Rattle.lt_draw.specs.declared.marks.Size.TheVariants.{Full, Dots, Small}
 use Rattle.lt_draw.specs.declared.marks.Style.{Style}
 use Rattle.lt_draw.specs.Chart.{x_at, y_at, is_within, nice_step}
-use Rattle.lt_draw.specs.Template.{template_text, escaped_text, each_text, piece_if}
+use Rattle.lt_svg.specs.Pieces.{filled_template, escaped}
+use Rattle.lt_draw.specs.Template.{each_text, piece_if}
 
 -- the name of a node, and of another number nothing
 abbrev pub row_name : List (List ℕ) → (node : ℕ) → List ℕ
@@ -47,11 +48,11 @@ abbrev pub half_width : (instant : ℕ) → ℕ
 half_width k = if nat_lt k 10 then 8 else if nat_lt k 100 then 9 else if nat_lt k 1000 then 12 else if nat_lt k 10000 then 15 else 21
 
 unfoldable pub drawn_pill : (instant : ℕ) → List ℕ
-drawn_pill k = template_text (codes "<rect x=\"-%\" y=\"-8\" width=\"%\" height=\"16\" rx=\"8\" class=\"ex\"/><text y=\"3\" class=\"exn m n\">%</text>") (half_width k ∷ (2 * half_width k) ∷ k ∷ [])
+drawn_pill k = filled_template (codes "<rect x=\"-%\" y=\"-8\" width=\"%\" height=\"16\" rx=\"8\" class=\"ex\"/><text y=\"3\" class=\"exn m n\">%</text>") (half_width k ∷ (2 * half_width k) ∷ k ∷ [])
 
 -- the number above a dot
 unfoldable pub drawn_number : Style → (instant : ℕ) → List ℕ
-drawn_number s k = piece_if (k % max s.every 1 == 0) (template_text (codes "<text y=\"-7\" class=\"tx m n hl\">%</text>") (k ∷ []))
+drawn_number s k = piece_if (k % max s.every 1 == 0) (filled_template (codes "<text y=\"-7\" class=\"tx m n hl\">%</text>") (k ∷ []))
 
 abbrev pub instant_of_size : Size → Style → (instant : ℕ) → List ℕ
 instant_of_size Full s k = drawn_pill k
@@ -76,13 +77,13 @@ drawn_idleness Small = codes "<path d=\"M0 -2v4\" class=\"no\"/>"
 
 -- what a mark says, and its shape
 unfoldable pub execution_words : (instant : ℕ) → List ℕ
-execution_words k = template_text (codes " executes instant %</title>") (k ∷ [])
+execution_words k = filled_template (codes " executes instant %</title>") (k ∷ [])
 
 unfoldable pub drawn_execution : Style → (instant : ℕ) → List ℕ
 drawn_execution s k = execution_words k ++ drawn_instant s k
 
 unfoldable pub sending_words : (message : ℕ) → List ℕ
-sending_words k = template_text (codes " sends message %</title>") (k ∷ [])
+sending_words k = filled_template (codes " sends message %</title>") (k ∷ [])
 
 unfoldable pub drawn_sent : Size → (message : ℕ) → List ℕ
 drawn_sent size k = sending_words k ++ drawn_sending size
@@ -97,10 +98,10 @@ drawn_sign s (Sends k) = drawn_sent s.size k
 
 -- the mark of an activation: at its time, on the line of its node
 unfoldable pub mark_opening : Chart → Mark → List ℕ
-mark_opening c m = template_text (codes "<g transform=\"translate(% %)\"><title>event % at %: ") (x_at c m.time ∷ y_at c m.node ∷ m.event ∷ m.time ∷ [])
+mark_opening c m = filled_template (codes "<g transform=\"translate(% %)\"><title>event % at %: ") (x_at c m.time ∷ y_at c m.node ∷ m.event ∷ m.time ∷ [])
 
 unfoldable pub drawn_name : (names : List (List ℕ)) → (node : ℕ) → List ℕ
-drawn_name names node = escaped_text (row_name names node)
+drawn_name names node = escaped (row_name names node)
 
 unfoldable pub drawn_mark : Chart → Style → (names : List (List ℕ)) → Mark → List ℕ
 drawn_mark c s names m = mark_opening c m ++ (drawn_name names m.node ++ (drawn_sign s m.sign ++ codes "</g>\n"))

@@ -7,7 +7,7 @@ use Rattle.lt_draw.specs.declared.picture.Wrong.TheVariants.{Moment, Absent, Soo
 use Rattle.lt_draw.specs.declared.chart.Chart.{Chart}
 use Rattle.lt_draw.specs.Chart.{x_at, y_at, bottom}
 use Rattle.lt_draw.specs.Arrows.{tip, drawn_way}
-use Rattle.lt_draw.specs.Template.{template_text, escaped_text}
+use Rattle.lt_svg.specs.Pieces.{filled_template, escaped}
 
 -- words beside a place, on the side with more room
 abbrev pub note_template : Chart → (x : ℕ) → List ℕ
@@ -15,8 +15,8 @@ note_template c x = if nat_le x (c.left + c.breadth / 2) then codes "<text x=\"%
 
 unfoldable pub drawn_note : Chart → (x y : ℕ) → (words : List ℕ) → List ℕ
 drawn_note c x y words =
-    template_text (note_template c x) (x ∷ y ∷ [])
-    ++ ([] ++ (escaped_text words ++ codes "</text>\n"))
+    filled_template (note_template c x) (x ∷ y ∷ [])
+    ++ ([] ++ (escaped words ++ codes "</text>\n"))
 
 -- where the words on a node stand: above its line
 unfoldable pub over : Chart → (node : ℕ) → ℕ
@@ -24,7 +24,7 @@ over c node = y_at c node - 13
 
 -- a dashed ring where the activation of a node was due
 unfoldable pub absence_mark : Chart → (node due : ℕ) → List ℕ
-absence_mark c node due = template_text (codes "<circle cx=\"%\" cy=\"%\" r=\"8\" class=\"bad\" stroke-dasharray=\"3 3\"/>") (x_at c due ∷ y_at c node ∷ [])
+absence_mark c node due = filled_template (codes "<circle cx=\"%\" cy=\"%\" r=\"8\" class=\"bad\" stroke-dasharray=\"3 3\"/>") (x_at c due ∷ y_at c node ∷ [])
 
 unfoldable pub drawn_absence : Chart → (node due : ℕ) → (words : List ℕ) → List ℕ
 drawn_absence c node due words = absence_mark c node due ++ drawn_note c (x_at c due) (over c node) words
@@ -32,7 +32,7 @@ drawn_absence c node due words = absence_mark c node due ++ drawn_note c (x_at c
 -- a cross where a node is activated, and a line from its last activation to the least time of the next
 unfoldable pub haste_mark : Chart → (node last least time : ℕ) → List ℕ
 haste_mark c node last least time =
-    template_text (codes "<path d=\"M% %H%m0 -7v14\" class=\"bad bd\"/><path d=\"M% %m-6 -6l12 12m0 -12l-12 12\" class=\"bad\"/>")
+    filled_template (codes "<path d=\"M% %H%m0 -7v14\" class=\"bad bd\"/><path d=\"M% %m-6 -6l12 12m0 -12l-12 12\" class=\"bad\"/>")
     (x_at c last ∷ y_at c node ∷ x_at c least ∷ x_at c time ∷ y_at c node ∷ [])
 
 unfoldable pub drawn_haste : Chart → (node last least time : ℕ) → (words : List ℕ) → List ℕ
@@ -55,7 +55,7 @@ drawn_untimely c from to sent come words = untimely_mark c from to sent come ++ 
 
 -- the red arrow of one that is lost, up to a cross
 unfoldable pub gone_cross : Chart → (from to time : ℕ) → List ℕ
-gone_cross c from to time = template_text (codes "bad bd\"/><path d=\"M% %m-5 -5l10 10m0 -10l-10 10\" class=\"bad\"/>") (x_at c time ∷ tip c from to 13 ∷ [])
+gone_cross c from to time = filled_template (codes "bad bd\"/><path d=\"M% %m-5 -5l10 10m0 -10l-10 10\" class=\"bad\"/>") (x_at c time ∷ tip c from to 13 ∷ [])
 
 unfoldable pub gone_mark : Chart → (from to sent time : ℕ) → List ℕ
 gone_mark c from to sent time = drawn_course c from to 13 sent time ++ gone_cross c from to time
@@ -66,7 +66,7 @@ drawn_gone c from to sent time words = gone_mark c from to sent time ++ drawn_no
 -- the stub of one that nobody sent
 unfoldable pub unsent_mark : Chart → (from to time : ℕ) → List ℕ
 unsent_mark c from to time =
-    template_text (codes "<path d=\"M% %L% %\" class=\"bad bd\" marker-end=\"url(#hbad)\"/>") ((x_at c time - 24) ∷ tip c from to 30 ∷ x_at c time ∷ tip c from to 2 ∷ [])
+    filled_template (codes "<path d=\"M% %L% %\" class=\"bad bd\" marker-end=\"url(#hbad)\"/>") ((x_at c time - 24) ∷ tip c from to 30 ∷ x_at c time ∷ tip c from to 2 ∷ [])
 
 unfoldable pub drawn_unsent : Chart → (from to time : ℕ) → (words : List ℕ) → List ℕ
 drawn_unsent c from to time words = unsent_mark c from to time ++ drawn_note c (x_at c time) (beyond c from to) words
@@ -82,12 +82,12 @@ drawn_wrong c time words (Unsent from to) = drawn_unsent c from to time words
 -- red ground from a time on, with a line at it
 unfoldable pub drawn_band : Chart → (time : ℕ) → List ℕ
 drawn_band c time =
-    template_text (codes "<rect x=\"%\" y=\"%\" width=\"%\" height=\"%\" class=\"badz\"/><path d=\"M% %V%\" class=\"bad v\"/>\n")
+    filled_template (codes "<rect x=\"%\" y=\"%\" width=\"%\" height=\"%\" class=\"badz\"/><path d=\"M% %V%\" class=\"bad v\"/>\n")
     (x_at c time ∷ c.top ∷ (c.left + c.breadth - x_at c time) ∷ (bottom c - c.top) ∷ x_at c time ∷ (c.top - 4) ∷ (bottom c + 6) ∷ [])
 
 -- a group opens under a title
 unfoldable pub group_title : (title : List ℕ) → List ℕ
-group_title title = codes "<g><title>" ++ (escaped_text title ++ codes "</title>")
+group_title title = codes "<g><title>" ++ (escaped title ++ codes "</title>")
 
 -- where an event that is refused stands out, and its row
 unfoldable pub drawn_row : Chart → Offence → List ℕ
@@ -106,7 +106,7 @@ drawn_offence c o = group_title o.refusal ++ (drawn_refusal c o ++ codes "</g>\n
 -- a ring round an execution with a message too few or too many, under the line that tells of it
 unfoldable pub ring_mark : Chart → (event node time : ℕ) → List ℕ
 ring_mark c event node time =
-    template_text (codes "<circle cx=\"%\" cy=\"%\" r=\"11\" class=\"bad\"/><path d=\"M% %V%\" class=\"bad bd\"/><text x=\"%\" y=\"%\" dx=\"5\" class=\"badt s b\">event % at %</text></g>\n")
+    filled_template (codes "<circle cx=\"%\" cy=\"%\" r=\"11\" class=\"bad\"/><path d=\"M% %V%\" class=\"bad bd\"/><text x=\"%\" y=\"%\" dx=\"5\" class=\"badt s b\">event % at %</text></g>\n")
     (x_at c time ∷ y_at c node ∷ x_at c time ∷ (c.top - 4) ∷ (y_at c node - 11) ∷ x_at c time ∷ (c.top - 4) ∷ event ∷ time ∷ [])
 
 unfoldable pub drawn_ring : Chart → Ring → List ℕ

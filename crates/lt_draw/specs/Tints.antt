@@ -5,7 +5,8 @@ use Rattle.lt_draw.specs.declared.picture.Sign.{Sign}
 use Rattle.lt_draw.specs.declared.picture.Sign.TheVariants.{Nothing, Executes, Sends}
 use Rattle.lt_draw.specs.declared.chart.Chart.{Chart}
 use Rattle.lt_draw.specs.Chart.{x_at, row_top}
-use Rattle.lt_draw.specs.Template.{template_text, each_text, piece_if}
+use Rattle.lt_svg.specs.Pieces.{filled_template}
+use Rattle.lt_draw.specs.Template.{each_text, piece_if}
 
 abbrev pub is_execution : Sign → Bool
 is_execution Nothing = false
@@ -25,7 +26,7 @@ ends_at node later end = no_later end (find (λ n. (n.node == node) && is_execut
 unfoldable pub drawn_tint : Chart → (node instant from to : ℕ) → List ℕ
 drawn_tint c node k from to =
     piece_if (nat_lt (x_at c from) (x_at c to))
-    (template_text (codes "<rect x=\"%\" y=\"%\" width=\"%\" height=\"%\" class=\"i%\"/>\n") (x_at c from ∷ row_top c node ∷ (x_at c to - x_at c from) ∷ (c.row - 1) ∷ (k % 3) ∷ []))
+    (filled_template (codes "<rect x=\"%\" y=\"%\" width=\"%\" height=\"%\" class=\"i%\"/>\n") (x_at c from ∷ row_top c node ∷ (x_at c to - x_at c from) ∷ (c.row - 1) ∷ (k % 3) ∷ []))
 
 abbrev pub tint_by : Sign → Chart → Mark → (later : List Mark) → (end : ℕ) → List ℕ
 tint_by Nothing c m later end = []

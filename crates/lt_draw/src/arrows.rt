@@ -7,8 +7,8 @@ use crate::chart::{Chart, is_within, x_at, y_at};
 use crate::marks::row_name;
 use crate::picture::{Arrow, Fate, Ink};
 use crate::scale::part_way;
-use crate::template::{escape, fill};
 use lt_base::{List, Memory, Name};
+use lt_svg::{escape, fill};
 
 /// Where an arrow to a node ends: so far before its line, on the side from which it comes.
 #[tactic(auto, unfolding(crate::specs::Arrows::tip))]

@@ -4,8 +4,8 @@ ghost use Rattle.lt_draw.specs.Axis.{drawn_tick, ticks_from, drawn_ticks, drawn_
 
 use crate::chart::{Chart, bottom, right, x_at, y_at};
 use crate::scale::nice_step;
-use crate::template::{escape, fill};
 use lt_base::{List, Memory, Name};
+use lt_svg::{escape, fill};
 
 // A tick with its time, and a line over all rows.
 #[tactic(auto, unfolding(crate::specs::Axis::drawn_tick))]

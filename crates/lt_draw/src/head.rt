@@ -4,8 +4,8 @@ ghost use Rattle.lt_draw.specs.Heading.{drawn_frame, red_title, drawn_titles, st
 
 use crate::picture::Picture;
 use crate::sizes::{bounded_width, line_count, per_line, warning};
-use crate::template::{enclosed, fill};
 use lt_base::{List, Memory};
+use lt_svg::{enclosed, fill};
 
 #[tactic(auto, unfolding(crate::specs::Heading::drawn_frame))]
 fn write_frame(out: &mut List<u8>, width: u64, height: u64) -> Result<(), Memory>

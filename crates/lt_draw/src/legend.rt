@@ -6,8 +6,8 @@ use crate::arrows::is_same_ink;
 use crate::chart::{Chart, bottom};
 use crate::picture::{Arrow, Fate, Ink, Picture};
 use crate::sizes::bounded_width;
-use crate::template::fill;
 use lt_base::{List, Memory};
+use lt_svg::fill;
 use std::alloc::Global;
 
 /// What the legend explains.

@@ -6,14 +6,12 @@ mod axis;
 mod chart;
 mod closeness;
 mod head;
-pub mod laws;
 mod legend;
 mod marks;
 mod picture;
 mod red;
 mod scale;
 mod sizes;
-mod template;
 mod tints;
 mod writer;
 

@@ -5,8 +5,8 @@ ghost use Rattle.lt_draw.specs.Marks.{row_name, mark_size, arrow_end, half_width
 
 use crate::chart::{Chart, is_within, x_at, y_at};
 use crate::picture::{Mark, Sign};
-use crate::template::{escape, fill};
 use lt_base::{List, Memory, Name};
+use lt_svg::{escape, fill};
 
 /// How large marks are.
 #[derive(Clone, Copy)]

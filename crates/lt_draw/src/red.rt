@@ -5,8 +5,8 @@ ghost use Rattle.lt_draw.specs.Red.{note_template, drawn_note, over, absence_mar
 use crate::arrows::{tip, write_way};
 use crate::chart::{Chart, bottom, right, x_at, y_at};
 use crate::picture::{Offence, Ring, Wrong};
-use crate::template::{enclosed, fill};
 use lt_base::{List, Memory};
+use lt_svg::{enclosed, fill};
 
 fn note_template(chart: &Chart, x: u64) -> &'static [u8]
     ensures { result.now ≡ note_template chart.now x }

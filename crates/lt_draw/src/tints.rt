@@ -5,8 +5,8 @@ ghost use Rattle.lt_draw.specs.Tints.{is_execution, no_later, ends_at, drawn_tin
 use crate::chart::{Chart, row_top, x_at};
 use crate::marks::marks_behind;
 use crate::picture::{Mark, Sign};
-use crate::template::fill;
 use lt_base::{List, Memory};
+use lt_svg::fill;
 
 fn is_execution(sign: Sign) -> bool
     ensures { result ≡ is_execution sign }

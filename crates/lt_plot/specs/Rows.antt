@@ -50,7 +50,7 @@ solid_end c r = min (max r.printed (window_start c.first r.cells)) (window_end c
 unfoldable pub plot_marks : Chart → Band → Row → (start solid end : ℕ) → List ℕ
 plot_marks c b r start solid end = pieces_from (instant_mark c b r.cells start solid) start (end - start)
 
--- the whole program's stream: solid and filled_template as far as the run printed it, and the rest pale
+-- the whole program's stream: solid and filled as far as the run printed it, and the rest pale
 abbrev pub plot_stream : Chart → Band → Row → (start solid end : ℕ) → List ℕ
 plot_stream c b r start solid end =
     plot_area c b r.cells start solid ++ (plot_line c b r.cells start solid (codes "ln") ++ (plot_line c b r.cells solid end (codes "lp") ++ plot_marks c b r start solid end))

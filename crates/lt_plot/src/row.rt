@@ -109,7 +109,7 @@ fn solid_end(chart: &Chart, row: &Row) -> usize
     min(printed, end_of(chart.first, chart.count, cells))
 }
 
-// The stream: solid and filled_template up to an instant, and pale behind it.
+// The stream: solid and filled up to an instant, and pale behind it.
 #[tactic(auto, unfolding(crate::specs::Rows::plot_marks))]
 fn stream(
     out: &mut List<u8>,

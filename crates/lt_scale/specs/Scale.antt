@@ -52,7 +52,7 @@ range_scale r = if is_zero_near r then scale_over_range (range_with_zero r) true
 unfoldable pub cells_scale : (truth : Bool) → List Cell → Scale
 cells_scale truth cells = if truth then record { truth = true; low = 0; high = 1; zero = true } else range_scale (cells_range cells)
 
--- the level from which the area below a line is filled_template
+-- the level from which the area below a line is filled
 unfoldable pub scale_floor : Scale → ℕ
 scale_floor s = if s.truth then 0 else zero_level
 

@@ -133,7 +133,7 @@ pub fn scale_of(truth: bool, cells: &[Cell]) -> Scale
     }
 }
 
-/// The level from which the area below a line is filled_template.
+/// The level from which the area below a line is filled.
 #[tactic(auto, unfolding(crate::specs::Scale::scale_floor))]
 pub fn floor(scale: Scale) -> u64
     ensures { result ≡ scale_floor scale }
