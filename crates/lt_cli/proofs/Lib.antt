@@ -11,6 +11,7 @@ pub mod Causes
 pub mod Failed
 pub mod Shown
 pub mod Watched
+pub mod DrawnRuns
 pub mod DrawnRead
 pub mod Audited
 pub mod Performed

@@ -8,5 +8,5 @@ mod top;
 
 pub use lt_text_answers::{Refusal, Status};
 pub use printer::Printer;
-pub use process::program;
+pub use process::{behind_first, program};
 pub use top::{finish, ltta, refuse};

@@ -34,8 +34,8 @@ pub fn program<F: Files, W: Fabric, O: Sink, E: Sink>(
     }
 }
 
-// The words behind the first.
-fn behind_first(words: &[String]) -> &[String]
+/// The words behind the first.
+pub fn behind_first(words: &[String]) -> &[String]
     ensures { result.now ≡ drop 1 words.now }
 {
     if words.is_empty() {

@@ -1,9 +1,9 @@
 // The top call on a line of words.
-ghost use Rattle.std.specs.Prelude.{◌≡◌, drop};
 ghost use Rattle.lt_io.specs.Counts.{MayFail};
 ghost use Rattle.lt_cli_c.specs.LttacClauses.{LttacPerformsLine};
 
 use crate::top::lttac;
+use lt_cli::behind_first;
 use lt_io::{Files, Sink};
 use lt_text_answers::Status;
 use std::alloc::Global;
@@ -29,14 +29,4 @@ pub fn lttac_program<F: Files, O: Sink, E: Sink>(
         Err(error) if error.kind() == ErrorKind::OutOfMemory => Status::Memory,
         Err(_) => lttac(alloc, &[], files, out, err),
     }
-}
-
-// The words behind the first.
-fn behind_first(words: &[String]) -> &[String]
-    ensures { result.now ≡ drop 1 words.now }
-{
-    if words.is_empty() {
-        return words;
-    }
-    &words[1..]
 }
