@@ -17,9 +17,17 @@ text_rule id = record (new_rule id) { required = true }
 abbrev pub optional_rule : (id : Text) → Rule
 optional_rule id = new_rule id
 
--- an option whose value is a whole number up to a bound
+-- two texts that are left out together
+abbrev pub both_rule : (id : Text) → Rule
+both_rule id = record (new_rule id) { range = Some (record { start_inclusive = 2; end_inclusive = 2 }) }
+
+-- an option whose value is a whole number within these bounds
+abbrev pub ranged_rule : (id : Text) → (least most : ℕ) → Rule
+ranged_rule id least most = record (new_rule id) { long = Some id; parser = Some (parser.Unsigned least most) }
+
+-- one up to a bound
 abbrev pub number_rule : (id : Text) → (most : ℕ) → Rule
-number_rule id most = record (new_rule id) { long = Some id; parser = Some (parser.Unsigned 0 most) }
+number_rule id most = ranged_rule id 0 most
 
 -- one that is needed
 abbrev pub needed_number_rule : (id : Text) → (most : ℕ) → Rule

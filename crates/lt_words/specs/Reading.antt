@@ -1,7 +1,7 @@
 -- What the words say.
-use Rattle.std.specs.Prelude.{ℕ, List, [], ◌∷◌, Option, None, option_map, unwrap_or, codes, if◌then◌else◌}
+use Rattle.std.specs.Prelude.{ℕ, List, [], ◌∷◌, Option, Some, None, option_and_then, option_map, unwrap_or, codes, if◌then◌else◌}
 use Rattle.std.specs.Str.{bytes_eq}
-use Rattle.clap.specs.Words.{Row, Text, first_of, subcommand_of, fault_of}
+use Rattle.clap.specs.Words.{Row, Text, all_of, first_of, subcommand_of, fault_of}
 use Rattle.lt_words.specs.declared.command.Command.{Command}
 use Rattle.lt_words.specs.declared.command.Command.TheVariants.{Check, Meaning, Run, Plan, Sim, Big, Watch, Audit, Trace}
 use Rattle.lt_words.specs.Numbers.{number_text}
@@ -35,7 +35,17 @@ said_of (Trace program inputs schedule config node from to) = trace program.now 
 abbrev pub text_at : (id : Text) → List Row → Text
 text_at id rows = unwrap_or (first_of id rows) []
 
--- one up to a bound
+-- the first two of some values, where there are two
+abbrev pub both_of : List Text → Option (Text × Text)
+both_of [] = None
+both_of (one ∷ []) = None
+both_of (one ∷ two ∷ more) = Some (one, two)
+
+-- the two values of an argument that takes two
+abbrev pub both_at : (id : Text) → List Row → Option (Text × Text)
+both_at id rows = option_and_then both_of (all_of id rows)
+
+-- the value of an argument that is a number up to a bound
 abbrev pub number_at : (id : Text) → (most : ℕ) → List Row → Option ℕ
 number_at id most rows = option_map (number_text most) (first_of id rows)
 

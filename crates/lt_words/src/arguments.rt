@@ -2,7 +2,7 @@
 ghost use Rattle.std.specs.Prelude.{◌≡◌, false, IfOk};
 ghost use Rattle.clap.specs.Words.{App, rule_of, with_rule, with_subcommand};
 ghost use Rattle.lt_words.specs.Local.{HasNoGlobals, IsMadeAs, MakesCommand};
-ghost use Rattle.lt_words.specs.Commands.{text_rule, optional_rule, number_rule, needed_number_rule, counted_rule, name_rule, flag_rule};
+ghost use Rattle.lt_words.specs.Commands.{text_rule, optional_rule, both_rule, ranged_rule, number_rule, needed_number_rule, counted_rule, name_rule, flag_rule};
 
 use clap::builder::ValueParser;
 use clap::{Arg, ArgAction, Command};
@@ -25,14 +25,30 @@ pub fn optional_text<'a>(alloc: Global, id: &'a str) -> Arg<'a>
     Arg::new(alloc, id)
 }
 
+/// Two texts that are left out together.
+pub fn both_texts<'a>(alloc: Global, id: &'a str) -> Arg<'a>
+    ensures rule { rule_of result ≡ both_rule id.entry.now }
+    ensures local { result.global ≡ false }
+{
+    Arg::new(alloc, id).num_args(2_usize)
+}
+
+/// An option `--ID` whose value is a whole number within these bounds.
+pub fn ranged_number<'a>(alloc: Global, id: &'a str, least: u64, most: u64) -> Arg<'a>
+    ensures rule { rule_of result ≡ ranged_rule id.entry.now least most }
+    ensures local { result.global ≡ false }
+{
+    Arg::new(alloc, id)
+        .long(id)
+        .value_parser(ValueParser::Unsigned(least, most))
+}
+
 /// An option `--ID` whose value is a whole number up to a bound.
 pub fn number<'a>(alloc: Global, id: &'a str, most: u64) -> Arg<'a>
     ensures rule { rule_of result ≡ number_rule id.entry.now most }
     ensures local { result.global ≡ false }
 {
-    Arg::new(alloc, id)
-        .long(id)
-        .value_parser(ValueParser::Unsigned(0, most))
+    ranged_number(alloc, id, 0, most)
 }
 
 /// An option `--ID` whose value is a whole number up to a bound, and that is needed.

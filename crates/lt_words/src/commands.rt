@@ -4,11 +4,11 @@ ghost use Rattle.clap.specs.Words.{App, new_app};
 ghost use Rattle.lt_words.specs.Local.{IsMadeAs, MakesCommand};
 ghost use Rattle.lt_words.specs.Commands.{check_app, meaning_app, run_app, plan_app, fed_app, scheduled_app, placed_app, sim_app, big_app, replayed_app, watch_app, audit_app, trace_app};
 ghost use Rattle.lt_words.specs.Commands.{with_programs, with_drawings, with_views, bare_app, program_app};
-ghost use Rattle.lt_words.specs.Lttac.{emit_app, schedule_app, lttac_app};
+ghost use Rattle.lt_words.specs.Lttac.{emit_app, schedule_app, draw_app, plot_app, with_window, lttac_app};
 
 use crate::arguments::{
-    count_argument, flag, name, needed_number, number, optional_text, text, with_argument,
-    with_command,
+    both_texts, count_argument, flag, name, needed_number, number, optional_text, ranged_number,
+    text, with_argument, with_command,
 };
 use clap::Command;
 use lt_base::Memory;
@@ -17,6 +17,15 @@ use std::alloc::Global;
 
 /// The greatest jitter, which leaves the whole of an interval.
 pub(crate) const WHOLE_JITTER: u64 = 1_000;
+
+// The least width of a picture.
+const LEAST_WIDTH: u64 = 400;
+
+/// The greatest width of a picture.
+pub(crate) const MOST_WIDTH: u64 = 10_000;
+
+/// The last instant that a picture of outputs can begin or end at.
+pub(crate) const LAST_INSTANT: u64 = u32::MAX as u64;
 
 // A command of this name that takes nothing yet.
 fn plain<'a>(alloc: Global, name: &'a str) -> Result<Command<'a>, Memory>
@@ -146,6 +155,38 @@ fn trace<'a>(alloc: Global) -> Result<Command<'a>, Memory>
     with_argument(command, number(alloc, "to", GREATEST_TIME))
 }
 
+// The command with options for the first and the last of what is drawn, up to a bound, and for the width.
+fn with_window<'a>(
+    alloc: Global,
+    command: Result<Command<'a>, Memory>,
+    most: u64,
+) -> Result<Command<'a>, Memory>
+    ensures { (app : App) → MakesCommand app command.entry → MakesCommand (with_window most app) result }
+{
+    let command = with_argument(command, number(alloc, "from", most));
+    let command = with_argument(command, number(alloc, "to", most));
+    with_argument(
+        command,
+        ranged_number(alloc, "width", LEAST_WIDTH, MOST_WIDTH),
+    )
+}
+
+fn draw<'a>(alloc: Global) -> Result<Command<'a>, Memory>
+    ensures { MakesCommand draw_app result }
+{
+    let command = command_on_file(alloc, "draw", "config");
+    let command = with_argument(command, name(alloc, "node"));
+    with_window(alloc, command, GREATEST_TIME)
+}
+
+fn plot<'a>(alloc: Global) -> Result<Command<'a>, Memory>
+    ensures { MakesCommand plot_app result }
+{
+    let command = with_argument(command_on_inputs(alloc, "plot"), both_texts(alloc, "along"));
+    let command = with_argument(command, name(alloc, "observer"));
+    with_window(alloc, command, LAST_INSTANT)
+}
+
 // A program's command of this name, which needs one below it.
 fn bare<'a>(alloc: Global, name: &'a str) -> Result<Command<'a>, Memory>
     ensures { MakesCommand (bare_app name.entry.now) result }
@@ -199,7 +240,9 @@ pub fn second_program<'a>(alloc: Global) -> Result<Command<'a>, Memory>
     ensures { MakesCommand lttac_app result }
 {
     let command = with_command(bare(alloc, "lttac"), emit(alloc));
-    with_command(command, schedule(alloc))
+    let command = with_command(command, schedule(alloc));
+    let command = with_command(command, draw(alloc));
+    with_command(command, plot(alloc))
 }
 
 /// The command of `ltta`, with those below it.

@@ -20,4 +20,26 @@ pub enum LttacCommand<'a> {
         horizon: u64,
         jitter: Option<u64>,
     },
+    /// Print a picture of a schedule: its activations and messages, those of one node alone where it is named, between two ticks.
+    Draw {
+        program: &'a str,
+        inputs: &'a str,
+        schedule: &'a str,
+        config: &'a str,
+        node: Option<&'a str>,
+        from: Option<u64>,
+        to: Option<u64>,
+        width: Option<u32>,
+    },
+    /// Print a picture of a program's outputs between two instants; with a schedule and a setup also how far a run along it prints them,
+    /// and with an observer where it first fails.
+    Plot {
+        program: &'a str,
+        inputs: &'a str,
+        along: Option<(&'a str, &'a str)>,
+        observer: Option<&'a str>,
+        from: Option<u32>,
+        to: Option<u32>,
+        width: Option<u32>,
+    },
 }

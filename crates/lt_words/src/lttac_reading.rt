@@ -6,8 +6,8 @@ ghost use Rattle.lt_words.specs.Lttac.{lttac_app, lttac_said_of, lttac_said_by, 
 ghost use Rattle.lt_words.specs.Told.{ToldLttac};
 
 use crate::LttacCommand;
-use crate::commands::{WHOLE_JITTER, second_program};
-use crate::reading::{number_at, refuse_words, text_or_empty};
+use crate::commands::{LAST_INSTANT, MOST_WIDTH, WHOLE_JITTER, second_program};
+use crate::reading::{both_at, number_at, refuse_words, small_number_at, text_at, text_or_empty};
 use clap::{ArgMatches, Command};
 use lt_base::Memory;
 use lt_base::limits::GREATEST_TIME;
@@ -21,7 +21,13 @@ fn named_command<'a>(name: &str, matches: &ArgMatches<'a>) -> LttacCommand<'a>
     if name == "emit" {
         return emit(matches);
     }
-    schedule(matches)
+    if name == "schedule" {
+        return schedule(matches);
+    }
+    if name == "draw" {
+        return draw(matches);
+    }
+    plot(matches)
 }
 
 fn schedule<'a>(matches: &ArgMatches<'a>) -> LttacCommand<'a>
@@ -35,6 +41,37 @@ fn schedule<'a>(matches: &ArgMatches<'a>) -> LttacCommand<'a>
         seed: number_at(matches, "seed", u64::MAX).unwrap_or(0),
         horizon: number_at(matches, "horizon", GREATEST_TIME).unwrap_or(0),
         jitter: number_at(matches, "jitter", WHOLE_JITTER),
+    }
+}
+
+fn draw<'a>(matches: &ArgMatches<'a>) -> LttacCommand<'a>
+    ensures said { lttac_said_of result ≡ lttac_said_by (codes "draw") (rows_of (found_of matches.now)) }
+    ensures ranges { HasLttacRanges result }
+{
+    LttacCommand::Draw {
+        program: text_or_empty(matches, "program"),
+        inputs: text_or_empty(matches, "inputs"),
+        schedule: text_or_empty(matches, "schedule"),
+        config: text_or_empty(matches, "config"),
+        node: text_at(matches, "node"),
+        from: number_at(matches, "from", GREATEST_TIME),
+        to: number_at(matches, "to", GREATEST_TIME),
+        width: small_number_at(matches, "width", MOST_WIDTH),
+    }
+}
+
+fn plot<'a>(matches: &ArgMatches<'a>) -> LttacCommand<'a>
+    ensures said { lttac_said_of result ≡ lttac_said_by (codes "plot") (rows_of (found_of matches.now)) }
+    ensures ranges { HasLttacRanges result }
+{
+    LttacCommand::Plot {
+        program: text_or_empty(matches, "program"),
+        inputs: text_or_empty(matches, "inputs"),
+        along: both_at(matches, "along"),
+        observer: text_at(matches, "observer"),
+        from: small_number_at(matches, "from", LAST_INSTANT),
+        to: small_number_at(matches, "to", LAST_INSTANT),
+        width: small_number_at(matches, "width", MOST_WIDTH),
     }
 }
 

@@ -1,11 +1,11 @@
 // What the words say.
-ghost use Rattle.std.specs.Prelude.{◌≡◌, ◌≢◌, ◌≤◌, None, true, Ok, [], map, is_some, option_map, unwrap_or, IfOk, IfSome, OnOk, OnErr, string_bytes, codes};
+ghost use Rattle.std.specs.Prelude.{◌≡◌, ◌≢◌, ◌≤◌, ◌<◌, ◌^◌, None, true, Ok, [], map, is_some, option_map, unwrap_or, IfOk, IfSome, OnOk, OnErr, string_bytes, codes};
 ghost use Rattle.clap.specs.Values.{kind_of};
 ghost use Rattle.clap.specs.Words.{rows_of, first_of, found_of, takes, has_subcommand, subcommand_rows_of};
 ghost use Rattle.lt_words.specs.Local.{IsMadeAs};
 ghost use Rattle.lt_words.specs.Commands.{program_app};
 ghost use Rattle.lt_words.specs.Numbers.{number_text};
-ghost use Rattle.lt_words.specs.Reading.{said_of, said_by, said_besides, command_of};
+ghost use Rattle.lt_words.specs.Reading.{both_at, both_of, said_of, said_by, said_besides, command_of};
 ghost use Rattle.lt_words.specs.Ranges.{HasRanges};
 ghost use Rattle.lt_words.specs.Told.{ToldCommand};
 
@@ -18,7 +18,7 @@ use lt_base::Memory;
 use lt_base::limits::{GREATEST_TIME, MOST_ROWS};
 use std::alloc::Global;
 
-fn text_at<'a>(matches: &ArgMatches<'a>, id: &str) -> Option<&'a str>
+pub(crate) fn text_at<'a>(matches: &ArgMatches<'a>, id: &str) -> Option<&'a str>
     ensures { option_map (λ s. s.now) result ≡ first_of id.now (rows_of (found_of matches.now)) }
 {
     matches.get_str(id)
@@ -41,6 +41,39 @@ pub(crate) fn number_at(matches: &ArgMatches<'_>, id: &str, most: u64) -> Option
     match text_at(matches, id) {
         Some(text) => Some(number_text(text, most)),
         None => None,
+    }
+}
+
+/// The same as a number of 32 bits.
+pub(crate) fn small_number_at(matches: &ArgMatches<'_>, id: &str, most: u64) -> Option<u32>
+    requires digit { 9 ≤ most }
+    requires small { most < 2 ^ 32 }
+    ensures value { result ≡ option_map (number_text most) (first_of id.now (rows_of (found_of matches.now))) }
+    ensures bounded { IfSome result (λ n. n ≤ most) }
+{
+    match text_at(matches, id) {
+        Some(text) => Some(number_text(text, most) as u32),
+        None => None,
+    }
+}
+
+/// The two values of an argument that takes two.
+pub(crate) fn both_at<'a>(matches: &ArgMatches<'a>, id: &str) -> Option<(&'a str, &'a str)>
+    ensures { option_map (λ p. (p.0.now, p.1.now)) result ≡ both_at id.now (rows_of (found_of matches.now)) }
+{
+    match matches.get_strs(id) {
+        Some(texts) => both_of(texts),
+        None => None,
+    }
+}
+
+// The first two of some texts, where there are two.
+fn both_of<'a>(texts: &[&'a str]) -> Option<(&'a str, &'a str)>
+    ensures { option_map (λ p. (p.0.now, p.1.now)) result ≡ both_of (map (λ s. s.now) texts.now) }
+{
+    match texts {
+        [first, second, ..] => Some((first, second)),
+        _ => None,
     }
 }
 
