@@ -37,7 +37,7 @@ use Rattle.lt_text_answers.specs.Texts.{refusal_status, fault_status, program_st
 use Rattle.lt_text_answers.specs.Replies.{watch_refusal}
 
 -- whether a limit is passed is all that the status tells of a program's fault
-tells_limits : (e f : ProgramFault) → is_limit e ≡ is_limit f → program_status e ≡ program_status f
+pub tells_limits : (e f : ProgramFault) → is_limit e ≡ is_limit f → program_status e ≡ program_status f
 tells_limits e f same = ap (λ (b : Bool). if b then status.Limit else status.Program) same
 
 pub check_decided : (named : List ℕ → Option (List ℕ)) (program : List ℕ) (config : Option (List ℕ)) → HasOneKind fault_status (check_verdict named program config)

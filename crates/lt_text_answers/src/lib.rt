@@ -9,7 +9,7 @@ mod status;
 
 pub use refusal::Refusal;
 pub use replies::{
-    audit_text, big_text, check_text, outputs_text, plan_text, setup_check_text, trace_text,
-    watch_text,
+    audit_text, big_text, check_text, command_text, observed_text, outputs_text, plan_text,
+    setup_check_text, trace_text, watch_text,
 };
 pub use status::Status;

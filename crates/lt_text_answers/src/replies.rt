@@ -32,8 +32,8 @@ pub fn trace_text(schedule: Result<List<u8>, Or<CommandFault>>) -> Result<List<u
     command_text(schedule)
 }
 
-// The text that a command's last step answers itself, or the step's fault as a refusal.
-fn command_text(answer: Result<List<u8>, Or<CommandFault>>) -> Result<List<u8>, Or<Refusal>>
+/// The text that a command's last step answers itself, or why the command is refused.
+pub fn command_text(answer: Result<List<u8>, Or<CommandFault>>) -> Result<List<u8>, Or<Refusal>>
     ensures { IsTextOf (λ text. text) answer result }
 {
     match answer {
@@ -110,6 +110,16 @@ pub fn watch_text(
 {
     match watched {
         Ok(watched) => Ok(watched_text(alloc, watched)?),
+        Err(e) => Err(e.map(watch_refusal)),
+    }
+}
+
+/// The text that the last step of a command with an observer answers itself, or why the command or the observer is refused.
+pub fn observed_text(answer: Result<List<u8>, Or<WatchFault>>) -> Result<List<u8>, Or<Refusal>>
+    ensures { IsTextBy watch_refusal (λ text. text) answer result }
+{
+    match answer {
+        Ok(text) => Ok(text),
         Err(e) => Err(e.map(watch_refusal)),
     }
 }
