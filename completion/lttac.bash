@@ -1,36 +1,63 @@
 # Completion of lttac for bash: source this file, or copy it to ~/.local/share/bash-completion/completions/lttac
 
-# The names of the nodes of a setup.
+# The names of the nodes of the first setup among these words.
 _lttac_nodes() {
-    [[ -r $1 ]] && awk '/^[[:space:]]*\[/ { here = /^[[:space:]]*\[nodes\]/ } here && sub(/[[:space:]]*=.*/, "") { gsub(/[[:space:]"]/, ""); print }' "$1"
+    local word
+    for word; do
+        if [[ $word == *.toml && -r $word ]]; then
+            awk '/^[[:space:]]*\[/ { here = /^[[:space:]]*\[nodes\]/ } here && sub(/[[:space:]]*=.*/, "") { gsub(/[[:space:]"]/, ""); print }' "$word"
+            return
+        fi
+    done
 }
 
 _lttac() {
-    local current=${COMP_WORDS[COMP_CWORD]} suffix word third=toml words=()
+    local current=${COMP_WORDS[COMP_CWORD]} before=${COMP_WORDS[COMP_CWORD - 1]}
+    local files='' options='' place=0 at word suffix
     COMPREPLY=()
-    for word in "${COMP_WORDS[@]:1:COMP_CWORD-1}"; do
-        [[ $word == --header ]] || words+=("$word")
-    done
-    if [[ $current == -* && ${words[0]} == emit ]]; then
-        mapfile -t COMPREPLY < <(compgen -W --header -- "$current"); return
+    if ((COMP_CWORD == 1)); then
+        mapfile -t COMPREPLY < <(compgen -W 'emit schedule draw plot' -- "$current")
+        return
     fi
-    if [[ ${words[0]} == schedule ]]; then
-        third=csv
-        if [[ $current == -* ]]; then
-            mapfile -t COMPREPLY < <(compgen -W '--seed --horizon --jitter' -- "$current"); return
-        fi
-        if [[ ${#words[@]} == 3 ]]; then
-            compopt -o filenames 2> /dev/null
-            mapfile -t COMPREPLY < <(compgen -f -X '!*.toml' -- "$current"; compgen -d -- "$current"); return
-        fi
-    fi
-    case ${#words[@]} in
-        0) mapfile -t COMPREPLY < <(compgen -W 'emit schedule' -- "$current"); return ;;
-        1) suffix=lus ;;
-        2) suffix=$third ;;
-        3) mapfile -t COMPREPLY < <(compgen -W "$(_lttac_nodes "${words[2]}")" -- "$current"); return ;;
-        *) return ;;
+    # What each command takes: the endings of its files in order, `node` for the name of a node, and its options.
+    case ${COMP_WORDS[1]} in
+        emit) files='lus toml node' options='--header' ;;
+        schedule) files='lus csv toml' options='--seed --horizon --jitter' ;;
+        draw) files='lus csv csv toml' options='--node --from --to --width' ;;
+        plot) files='lus csv csv toml' options='--observer --from --to --width' ;;
     esac
+    # In `--node=x` bash takes the sign for a word of its own.
+    [[ $before == '=' ]] && before=${COMP_WORDS[COMP_CWORD - 2]}
+    [[ $current == '=' ]] && current=''
+    [[ " --seed --horizon --jitter --from --to --width " == *" $before "* ]] && return
+    if [[ $current == -* ]]; then
+        mapfile -t COMPREPLY < <(compgen -W "$options" -- "$current")
+        return
+    fi
+    # How many files stand before this word.
+    for ((at = 2; at < COMP_CWORD; at++)); do
+        word=${COMP_WORDS[at]}
+        if [[ $word == --header ]]; then
+            continue
+        elif [[ $word == --* ]]; then
+            [[ ${COMP_WORDS[at + 1]} == '=' ]] && ((at++))
+            ((at++))
+        else
+            ((place++))
+        fi
+    done
+    read -ra files <<< "$files"
+    suffix=${files[place]-}
+    [[ $before == --node ]] && suffix=node
+    [[ $before == --observer ]] && suffix=obs
+    if [[ -z $suffix ]]; then
+        mapfile -t COMPREPLY < <(compgen -W "$options" -- "$current")
+        return
+    fi
+    if [[ $suffix == node ]]; then
+        mapfile -t COMPREPLY < <(compgen -W "$(_lttac_nodes "${COMP_WORDS[@]:2}")" -- "$current")
+        return
+    fi
     compopt -o filenames 2> /dev/null
     mapfile -t COMPREPLY < <(compgen -f -X "!*.$suffix" -- "$current"; compgen -d -- "$current")
 }

@@ -3,20 +3,27 @@ use Rattle.std.proofs.Common.{◌≡◌, ◌≢◌, ◌<◌, ℕ, IsTrue, List, 
 use Rattle.std.specs.Prelude.{codes, if◌then◌else◌}
 use Rattle.lt_io.specs.FabricState.{FabricState}
 use Rattle.lt_answer.specs.World.{Reading}
+use Rattle.lt_answer.specs.Answered.{Verdict}
 use Rattle.lt_answer.proofs.Decided.{HasOneKind}
-use Rattle.lt_words.specs.Lttac.{LttacSaid, emit, schedule, lttac_command_of}
+use Rattle.lt_words.specs.Lttac.{LttacSaid, emit, schedule, draw, plot, lttac_command_of}
 use Rattle.lt_load_fit.specs.declared.fault.CommandFault.TheVariants.{Read}
 use Rattle.lt_emit.specs.declared.fault.EmitFault.{EmitFault}
 use Rattle.lt_emit.specs.declared.fault.EmitFault.TheVariants as fault
 use Rattle.lt_emit.proofs.OneEmit.{emit_decided, same_node}
 use Rattle.lt_scheduling.proofs.OneSchedule.{schedule_decided}
+use Rattle.lt_watch.specs.declared.fault.WatchFault.TheVariants as watched
+use Rattle.lt_drawing.specs.declared.view.DrawView.{DrawView}
+use Rattle.lt_drawing.proofs.OneDrawing.{draw_decided}
+use Rattle.lt_plotting.specs.declared.view.PlotView.{PlotView}
+use Rattle.lt_plotting.proofs.OnePlot.{plot_decided}
 use Rattle.lt_text_answers.specs.declared.refusal.Refusal.{Refusal}
 use Rattle.lt_text_answers.specs.declared.refusal.Refusal.TheVariants.{LttacWords, Command}
 use Rattle.lt_text_answers.specs.declared.status.Status.{Status}
 use Rattle.lt_text_answers.specs.declared.status.Status.TheVariants as status
 use Rattle.lt_text_answers.specs.Blamed.{blame_of}
 use Rattle.lt_text_answers.specs.Texts.{status_of, out_text, err_text, refusal_line, refusal_status, no_node_line}
-use Rattle.lt_text_answers.proofs.Refusals.{blamed_reads, fault_not_words}
+use Rattle.lt_text_answers.specs.Replies.{watch_refusal}
+use Rattle.lt_text_answers.proofs.Refusals.{blamed_reads, fault_not_words, watch_reads}
 use Rattle.lt_cli.specs.Answers.{answer_verdict}
 use Rattle.lt_cli.specs.Clauses.{IsExact, IsExactFor, IsMissingFor, IsCallFailed, IsOutsideCaused}
 use Rattle.lt_cli.specs.Objects.{Objects, IsQuiet}
@@ -24,24 +31,36 @@ use Rattle.lt_cli.specs.Ran.{Ran}
 use Rattle.lt_cli.specs.Taken.{TookLine}
 use Rattle.lt_cli.proofs.Accepted.{accepted_ends}
 use Rattle.lt_cli.proofs.Causes.{outside_caused, write_caused, missing_for}
+use Rattle.lt_cli.proofs.Decided.{tells_limits}
 use Rattle.lt_cli.proofs.Exact.{exact_for}
 use Rattle.lt_cli.proofs.Failed.{call_failed}
 use Rattle.lt_cli.proofs.Gave.{Gave, gave}
 use Rattle.lt_cli_c.specs.Emit.{emit_refusal, emit_verdict}
 use Rattle.lt_cli_c.specs.Schedule.{schedule_verdict}
 use Rattle.lt_cli_c.specs.ScheduleShown.{IsScheduleShown}
+use Rattle.lt_cli_c.specs.Draw.{draw_verdict, draw_view}
+use Rattle.lt_cli_c.specs.Plot.{plot_verdict, plot_view}
 use Rattle.lt_cli_c.proofs.ScheduleRead.{schedule_shown as shown_by}
 use Rattle.lt_cli_c.specs.LttacAsked.{LttacAsked, lttac_asked_verdict, lttac_verdict, lttac_words_verdict}
-use Rattle.lt_cli_c.specs.LttacClauses.{IsNodeExact, LttacPerforms}
+use Rattle.lt_cli_c.specs.LttacClauses.{IsNodeExact, LttacAsks, LttacAsksSound, LttacPerforms}
 
 -- all right refusals have one status
-decided : (named : List ℕ → Option (List ℕ)) (header : Bool) (program config node : List ℕ) → HasOneKind (λ e. refusal_status (emit_refusal e)) (emit_verdict named header program config node)
-decided named header program config node =
-    emit_decided named program config header node (λ e. refusal_status (emit_refusal e)) (λ e f same. ap (λ (b : Bool). if b then status.Limit else status.Program) same) (λ f g main main'. refl) (λ f g names names' mixed mixed'. refl)
+
+emit_kinds : (named : List ℕ → Option (List ℕ)) (header : Bool) (program config node : List ℕ) → HasOneKind (λ e. refusal_status (emit_refusal e)) (emit_verdict named header program config node)
+emit_kinds named header program config node =
+    emit_decided named program config header node (λ e. refusal_status (emit_refusal e)) tells_limits (λ f g main main'. refl) (λ f g names names' mixed mixed'. refl)
 
 schedule_kinds : (named : List ℕ → Option (List ℕ)) (program inputs config : List ℕ) (seed horizon : ℕ) (jitter : Option ℕ) → HasOneKind (λ e. refusal_status (Command e)) (schedule_verdict named program inputs config seed horizon jitter)
 schedule_kinds named program inputs config seed horizon jitter =
-    schedule_decided (λ e. refusal_status (Command e)) (λ e f same. ap (λ (b : Bool). if b then status.Limit else status.Program) same) (λ f g main main'. refl) (λ f g names names' mixed mixed'. refl) named program inputs config seed horizon jitter
+    schedule_decided (λ e. refusal_status (Command e)) tells_limits (λ f g main main'. refl) (λ f g names names' mixed mixed'. refl) named program inputs config seed horizon jitter
+
+draw_kinds : (named : List ℕ → Option (List ℕ)) (program inputs events config : List ℕ) (node : Option (List ℕ)) (view : DrawView) → HasOneKind (λ e. refusal_status (Command e)) (draw_verdict named program inputs events config node view)
+draw_kinds named program inputs events config node view =
+    draw_decided (λ e. refusal_status (Command e)) tells_limits (λ f g main main'. refl) (λ f g names names' mixed mixed'. refl) named program inputs events config node view
+
+plot_kinds : (named : List ℕ → Option (List ℕ)) (program inputs : List ℕ) (along : Option (List ℕ × List ℕ)) (observer : Option (List ℕ)) (view : PlotView) → HasOneKind (λ e. refusal_status (watch_refusal e)) (plot_verdict named program inputs along observer view)
+plot_kinds named program inputs along observer view =
+    plot_decided (λ e. refusal_status (watch_refusal e)) tells_limits (λ f g main main'. refl) (λ f g names names' mixed mixed'. refl) (λ e f. refl) named program inputs along observer view
 
 -- only a missing file blames the files
 only_read : (e : EmitFault) → blame_of (emit_refusal e) ≡ Reading → e ≡ fault.Command Read
@@ -99,25 +118,35 @@ module _ (asked : List (List ℕ)) (old new : Objects) (ends : Status) (did : Lt
   unfolding lttac_words_verdict
   said_ran said is = subst (λ (s : Option LttacSaid). Ran (lttac_asked_verdict old.files.named s) old new ends) is did.does.ran
 
-  emitted_exact : (header : Bool) (program config node : List ℕ) → lttac_command_of asked ≡ Some (emit header program config node) → IsTrue old.files.told → IsQuiet old new → ends ≢ status.Memory
-      → IsExactFor emit_refusal (λ text. text) (emit_verdict old.files.named header program config node) old new ends
-  emitted_exact header program config node is tells quiet enough =
-      exact_for emit_refusal (λ text. text) (emit_verdict old.files.named header program config node) (decided old.files.named header program config node) old new ends (said_gave (emit header program config node) is (whole tells quiet enough))
+  steady : new.fabric.faults ≡ old.fabric.faults
+  steady = ap (λ (w : FabricState). w.faults) still
 
-  scheduled_exact : (program inputs config : List ℕ) (seed horizon : ℕ) (jitter : Option ℕ) → lttac_command_of asked ≡ Some (schedule program inputs config seed horizon jitter) → IsTrue old.files.told → IsQuiet old new → ends ≢ status.Memory
-      → IsExact (λ text. text) (schedule_verdict old.files.named program inputs config seed horizon jitter) old new ends
-  scheduled_exact program inputs config seed horizon jitter is tells quiet enough =
-      exact_for (λ f. Command f) (λ text. text) (schedule_verdict old.files.named program inputs config seed horizon jitter) (schedule_kinds old.files.named program inputs config seed horizon jitter) old new ends
-      (said_gave (schedule program inputs config seed horizon jitter) is (whole tells quiet enough))
+  -- a command with this verdict
+  module _ {T E : Type 0} (raise : E → Refusal) (shown : T → List ℕ) (V : Verdict T E) (one : HasOneKind (λ e. refusal_status (raise e)) V) (said : LttacSaid) (same : lttac_verdict old.files.named said ≡ answer_verdict raise shown V) where
+    command_exact : LttacAsks asked said old new ends (IsExactFor raise shown V old new ends)
+    command_exact = λ is tells quiet enough. exact_for raise shown V one old new ends (subst (λ (W : Verdict (List ℕ) Refusal). Gave W old new ends) same (said_gave said is (whole tells quiet enough)))
+
+    command_missing : (missing : E) → refusal_status (raise missing) ≡ status.Outside → ((e : E) → blame_of (raise e) ≡ Reading → e ≡ missing) → (IsTrue old.files.sound → IsTrue old.files.told)
+        → LttacAsksSound asked said old ends (IsMissingFor missing V old new)
+    command_missing missing outside only tells = λ is sound enough.
+        missing_for raise missing outside only shown V one old new steady ends (tells sound) sound enough (subst (λ (W : Verdict (List ℕ) Refusal). Ran W old new ends) same (said_ran said is))
+
+  emitted_exact : (header : Bool) (program config node : List ℕ) → LttacAsks asked (emit header program config node) old new ends
+      (IsExactFor emit_refusal (λ text. text) (emit_verdict old.files.named header program config node) old new ends)
+  emitted_exact header program config node =
+      command_exact emit_refusal (λ text. text) (emit_verdict old.files.named header program config node) (emit_kinds old.files.named header program config node) (emit header program config node) refl
+
+  scheduled_exact : (program inputs config : List ℕ) (seed horizon : ℕ) (jitter : Option ℕ) → LttacAsks asked (schedule program inputs config seed horizon jitter) old new ends
+      (IsExact (λ text. text) (schedule_verdict old.files.named program inputs config seed horizon jitter) old new ends)
+  scheduled_exact program inputs config seed horizon jitter =
+      command_exact (λ f. Command f) (λ text. text) (schedule_verdict old.files.named program inputs config seed horizon jitter) (schedule_kinds old.files.named program inputs config seed horizon jitter)
+      (schedule program inputs config seed horizon jitter) refl
 
   shown_schedule : (program inputs config : List ℕ) (seed horizon : ℕ) (jitter : Option ℕ) → lttac_command_of asked ≡ Some (schedule program inputs config seed horizon jitter) → IsTrue old.files.told → IsQuiet old new → ends ≡ status.Ok
       → IsScheduleShown old.files.named program inputs config seed horizon jitter old new
   shown_schedule program inputs config seed horizon jitter is tells quiet at =
       let told = (scheduled_exact program inputs config seed horizon jitter is tells quiet (λ none. let wrong : status.Ok ≡ status.Memory = sym at ∙ none in cc)).text at in
       shown_by old.files.named program inputs config seed horizon jitter old new told.0 told.2 told.1
-
-  steady : new.fabric.faults ≡ old.fabric.faults
-  steady = ap (λ (w : FabricState). w.faults) still
 
   read_failed : IsOutsideCaused old new → IsCallFailed (codes "fault: read") old.files.faults new.files.faults old new
   read_failed (inl failed) = failed
@@ -138,11 +167,27 @@ module _ (asked : List (List ℕ)) (old new : Objects) (ends : Status) (did : Lt
     out_steady = did.does.ran.keeps.out.steady;
     err_steady = did.does.ran.keeps.err.steady;
     accepted = λ said is sound unrefused. accepted_ends (lttac_verdict old.files.named said) old new ends (tells sound.files) sound (said_ran said is) unrefused;
-    emit_missing = λ header program config node is sound enough.
-        missing_for emit_refusal (fault.Command Read) refl only_read (λ text. text) (emit_verdict old.files.named header program config node) (decided old.files.named header program config node) old new steady ends (tells sound) sound enough
-        (said_ran (emit header program config node) is);
-    schedule_missing = λ program inputs config seed horizon jitter is sound enough.
-        missing_for (λ f. Command f) Read refl blamed_reads (λ text. text) (schedule_verdict old.files.named program inputs config seed horizon jitter) (schedule_kinds old.files.named program inputs config seed horizon jitter) old new steady ends
-        (tells sound) sound enough (said_ran (schedule program inputs config seed horizon jitter) is);
+    drawn = λ program inputs events config node from to width.
+        let view = draw_view from to width in
+        command_exact (λ f. Command f) (λ text. text) (draw_verdict old.files.named program inputs events config node view) (draw_kinds old.files.named program inputs events config node view)
+        (draw program inputs events config node from to width) refl;
+    plotted = λ program inputs along observer from to width.
+        let view = plot_view from to width in
+        command_exact watch_refusal (λ text. text) (plot_verdict old.files.named program inputs along observer view) (plot_kinds old.files.named program inputs along observer view)
+        (plot program inputs along observer from to width) refl;
+    emit_missing = λ header program config node.
+        command_missing emit_refusal (λ text. text) (emit_verdict old.files.named header program config node) (emit_kinds old.files.named header program config node) (emit header program config node) refl
+        (fault.Command Read) refl only_read tells;
+    schedule_missing = λ program inputs config seed horizon jitter.
+        command_missing (λ f. Command f) (λ text. text) (schedule_verdict old.files.named program inputs config seed horizon jitter) (schedule_kinds old.files.named program inputs config seed horizon jitter)
+        (schedule program inputs config seed horizon jitter) refl Read refl blamed_reads tells;
+    draw_missing = λ program inputs events config node from to width.
+        let view = draw_view from to width in
+        command_missing (λ f. Command f) (λ text. text) (draw_verdict old.files.named program inputs events config node view) (draw_kinds old.files.named program inputs events config node view)
+        (draw program inputs events config node from to width) refl Read refl blamed_reads tells;
+    plot_missing = λ program inputs along observer from to width.
+        let view = plot_view from to width in
+        command_missing watch_refusal (λ text. text) (plot_verdict old.files.named program inputs along observer view) (plot_kinds old.files.named program inputs along observer view)
+        (plot program inputs along observer from to width) refl (watched.Command Read) refl watch_reads tells;
     ran = did.does.ran;
   }

@@ -8,11 +8,13 @@ use Rattle.lt_io.specs.FilesState.{FilesState}
 use Rattle.lt_io.specs.SinkState.{SinkState}
 use Rattle.lt_load_fit.specs.declared.fault.CommandFault.TheVariants.{Read}
 use Rattle.lt_emit.specs.declared.fault.EmitFault.TheVariants as fault
-use Rattle.lt_words.specs.Lttac.{LttacSaid, emit, schedule, lttac_command_of}
+use Rattle.lt_watch.specs.declared.fault.WatchFault.TheVariants as watched
+use Rattle.lt_words.specs.Lttac.{LttacSaid, emit, schedule, draw, plot, lttac_command_of}
 use Rattle.lt_text_answers.specs.declared.refusal.Refusal.TheVariants.{LttacWords}
 use Rattle.lt_text_answers.specs.declared.status.Status.{Status}
 use Rattle.lt_text_answers.specs.declared.status.Status.TheVariants as status
 use Rattle.lt_text_answers.specs.Texts.{refusal_line, no_node_line}
+use Rattle.lt_text_answers.specs.Replies.{watch_refusal}
 use Rattle.lt_cli.specs.Clauses.{IsExact, IsExactFor, IsMissingExact, IsMissingFor, IsCallFailed, IsOfFailure, IsWriteCaused, IsAccepted, EndsWellOrShort}
 use Rattle.lt_cli.specs.Objects.{Objects, IsQuiet, AreSound}
 use Rattle.lt_cli.specs.Obeys.{Visits}
@@ -21,6 +23,8 @@ use Rattle.lt_cli.specs.Taken.{TookLine}
 use Rattle.lt_cli_c.specs.Emit.{emit_refusal, emit_verdict}
 use Rattle.lt_cli_c.specs.Schedule.{schedule_verdict}
 use Rattle.lt_cli_c.specs.ScheduleShown.{IsScheduleShown}
+use Rattle.lt_cli_c.specs.Draw.{draw_verdict, draw_view}
+use Rattle.lt_cli_c.specs.Plot.{plot_verdict, plot_view}
 use Rattle.lt_cli_c.specs.LttacAsked.{BetweenFiles, EndsUnsaid, lttac_errands, lttac_verdict, lttac_words_verdict}
 
 -- where the words say this command, the files tell their bytes, no count of faults rises and memory is found, this is so
@@ -57,6 +61,10 @@ pub record LttacPerforms (asked : List (List ℕ)) (old new : Objects) (ends : S
       (IsNodeExact old.files.named header program config node old new ends)
   pub scheduled : (program inputs config : List ℕ) (seed horizon : ℕ) (jitter : Option ℕ) → LttacAsks asked (schedule program inputs config seed horizon jitter) old new ends
       (IsExact (λ text. text) (schedule_verdict old.files.named program inputs config seed horizon jitter) old new ends)
+  pub drawn : (program inputs events config : List ℕ) (node : Option (List ℕ)) (from to width : Option ℕ) → LttacAsks asked (draw program inputs events config node from to width) old new ends
+      (IsExact (λ text. text) (draw_verdict old.files.named program inputs events config node (draw_view from to width)) old new ends)
+  pub plotted : (program inputs : List ℕ) (along : Option (List ℕ × List ℕ)) (observer : Option (List ℕ)) (from to width : Option ℕ) → LttacAsks asked (plot program inputs along observer from to width) old new ends
+      (IsExactFor watch_refusal (λ text. text) (plot_verdict old.files.named program inputs along observer (plot_view from to width)) old new ends)
   -- a schedule keeps to the setup's bounds, and the text that was printed reads as its events, so a run along it is not refused
   pub schedule_shown : (program inputs config : List ℕ) (seed horizon : ℕ) (jitter : Option ℕ) → LttacEndsWell asked (schedule program inputs config seed horizon jitter) old new ends
       (IsScheduleShown old.files.named program inputs config seed horizon jitter old new)
@@ -74,6 +82,10 @@ pub record LttacPerforms (asked : List (List ℕ)) (old new : Objects) (ends : S
       (IsMissingFor (fault.Command Read) (emit_verdict old.files.named header program config node) old new)
   pub schedule_missing : (program inputs config : List ℕ) (seed horizon : ℕ) (jitter : Option ℕ) → LttacAsksSound asked (schedule program inputs config seed horizon jitter) old ends
       (IsMissingExact (schedule_verdict old.files.named program inputs config seed horizon jitter) old new)
+  pub draw_missing : (program inputs events config : List ℕ) (node : Option (List ℕ)) (from to width : Option ℕ) → LttacAsksSound asked (draw program inputs events config node from to width) old ends
+      (IsMissingExact (draw_verdict old.files.named program inputs events config node (draw_view from to width)) old new)
+  pub plot_missing : (program inputs : List ℕ) (along : Option (List ℕ × List ℕ)) (observer : Option (List ℕ)) (from to width : Option ℕ) → LttacAsksSound asked (plot program inputs along observer from to width) old ends
+      (IsMissingFor (watched.Command Read) (plot_verdict old.files.named program inputs along observer (plot_view from to width)) old new)
   -- all of it: what was to be printed, how far it was, and whose count rose
   pub ran : Ran (lttac_words_verdict old.files.named asked) old new ends
 

@@ -1,22 +1,13 @@
 -- `schedule`: a schedule that a seed draws, by the pace of a setup's protocol.
-use Rattle.std.specs.Prelude.{ℕ, List, Option, Some, Result, Ok, Err}
+use Rattle.std.specs.Prelude.{ℕ, List, Option, Some, Result}
 use Rattle.lt_base.specs.declared.memory.Or.{Or}
-use Rattle.lt_base.specs.declared.memory.Or.TheVariants.{Fault, Memory}
 use Rattle.lt_io.specs.FilesState.{FilesState}
 use Rattle.lt_answer.specs.Alone.{AnsweredOnFiles}
-use Rattle.lt_load_fit.specs.declared.fault.CommandFault.{CommandFault}
 use Rattle.lt_load.specs.Errands.{load_errands}
 pub use Rattle.lt_scheduling.specs.Scheduled.{schedule_verdict}
 use Rattle.lt_text_answers.specs.declared.refusal.Refusal.{Refusal}
-use Rattle.lt_text_answers.specs.declared.refusal.Refusal.TheVariants.{Command}
 use Rattle.lt_text_answers.specs.Blamed.{blame_of}
 use Rattle.lt_cli.specs.Answers.{text_verdict}
-
--- what was drawn, or its fault as a refusal
-abbrev pub schedule_reply : Result (List ℕ) (Or CommandFault) → Result (List ℕ) (Or Refusal)
-schedule_reply (Ok text) = Ok text
-schedule_reply (Err (Fault f)) = Err (Fault (Command f))
-schedule_reply (Err Memory) = Err Memory
 
 -- the program, the setup and the inputs are read: the text of the schedule, or the first refusal
 abbrev pub AnswersSchedule : (program inputs config : List ℕ) (seed horizon : ℕ) (jitter : Option ℕ) (old new : FilesState) → Result (List ℕ) (Or Refusal) → Type 0

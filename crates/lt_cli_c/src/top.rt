@@ -1,13 +1,18 @@
 // The top call of the second program.
 ghost use Rattle.lt_io.specs.Counts.{MayFail};
-ghost use Rattle.lt_words.specs.Lttac.{HasLttacRanges};
+ghost use Rattle.lt_words.specs.Lttac.{HasLttacRanges, lttac_said_of};
 ghost use Rattle.lt_cli_c.specs.LttacClauses.{LttacPerformsOn};
-ghost use Rattle.lt_cli_c.specs.LttacAsked.{LttacAskedOn, LttacObeysOn};
+ghost use Rattle.lt_cli_c.specs.LttacAsked.{AnswersLttac, LttacAskedOn, LttacObeysOn};
 
+use crate::commands::draw::draw;
 use crate::commands::emit::emit;
+use crate::commands::plot::plot;
 use crate::commands::schedule::schedule;
+use lt_base::{List, Or};
 use lt_cli::{finish, refuse};
+use lt_drawing::DrawView;
 use lt_io::{Files, Sink};
+use lt_plotting::PlotView;
 use lt_text_answers::{Refusal, Status};
 use lt_words::{LttacCommand, read_lttac_words};
 use std::alloc::Global;
@@ -61,16 +66,27 @@ fn obey<F: Files, O: Sink, E: Sink>(
     requires ranges { HasLttacRanges command }
     ensures { LttacObeysOn F.state O.state E.state command.entry (files.old, out.old, err.old) (files.new, out.new, err.new) result }
 {
+    let answer = answer(alloc, files, command);
+    finish(alloc, out, err, answer)
+}
+
+// What a command answers: its text, or why it is refused.
+fn answer<F: Files>(
+    alloc: Global,
+    files: &mut F,
+    command: LttacCommand<'_>,
+) -> Result<List<u8>, Or<Refusal>>
+    requires files { MayFail (F.state files.old).faults }
+    requires ranges { HasLttacRanges command }
+    ensures { AnswersLttac (lttac_said_of command.entry) (F.state files.old) (F.state files.new) result }
+{
     match command {
         LttacCommand::Emit {
             header,
             program,
             config,
             node,
-        } => {
-            let answer = emit(alloc, files, header, program, config, node);
-            finish(alloc, out, err, answer)
-        }
+        } => emit(alloc, files, header, program, config, node),
         LttacCommand::Schedule {
             program,
             inputs,
@@ -78,9 +94,33 @@ fn obey<F: Files, O: Sink, E: Sink>(
             seed,
             horizon,
             jitter,
+        } => schedule(alloc, files, program, inputs, config, seed, horizon, jitter),
+        LttacCommand::Draw {
+            program,
+            inputs,
+            schedule,
+            config,
+            node,
+            from,
+            to,
+            width,
         } => {
-            let answer = schedule(alloc, files, program, inputs, config, seed, horizon, jitter);
-            finish(alloc, out, err, answer)
+            let view = DrawView { from, to, width };
+            draw(
+                alloc, files, program, inputs, schedule, config, node, view,
+            )
+        }
+        LttacCommand::Plot {
+            program,
+            inputs,
+            along,
+            observer,
+            from,
+            to,
+            width,
+        } => {
+            let view = PlotView { from, to, width };
+            plot(alloc, files, program, inputs, along, observer, view)
         }
     }
 }

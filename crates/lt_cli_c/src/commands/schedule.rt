@@ -1,13 +1,12 @@
 // `schedule`: a schedule that a seed draws, by the pace of a setup's protocol.
-ghost use Rattle.std.specs.Prelude.{◌≡◌, ◌≤◌, IfSome};
+ghost use Rattle.std.specs.Prelude.{◌≤◌, IfSome};
 ghost use Rattle.lt_io.specs.Counts.{MayFail};
 ghost use Rattle.lt_arch.specs.declared.limits.TheConstants.{GREATEST_TIME};
-ghost use Rattle.lt_cli_c.specs.Schedule.{AnswersSchedule, schedule_reply};
+ghost use Rattle.lt_cli_c.specs.Schedule.{AnswersSchedule};
 
 use lt_base::{List, Or};
 use lt_io::Files;
-use lt_load::CommandFault;
-use lt_text_answers::Refusal;
+use lt_text_answers::{Refusal, command_text};
 use std::alloc::Global;
 
 /// The text of the schedule that the seed draws, up to the horizon.
@@ -29,16 +28,5 @@ pub(crate) fn schedule<F: Files>(
     let drawn = lt_scheduling::schedule(
         alloc, files, program, inputs, config, seed, horizon, jitter,
     );
-    schedule_reply(drawn)
-}
-
-// What was drawn, or its fault as a refusal.
-fn schedule_reply(drawn: Result<List<u8>, Or<CommandFault>>) -> Result<List<u8>, Or<Refusal>>
-    ensures { result ≡ schedule_reply drawn }
-{
-    match drawn {
-        Ok(text) => Ok(text),
-        Err(Or::Fault(fault)) => Err(Or::Fault(Refusal::Command(fault))),
-        Err(Or::Memory) => Err(Or::Memory),
-    }
+    command_text(drawn)
 }

@@ -1,0 +1,5 @@
+use Rattle.lt_cli.proofs.Texts.{is_text_of}
+use Rattle.lt_cli_c.proofs.commands.draw.draw.Goals as goal
+
+pub returns : goal.returns
+returns g c = (is_text_of (λ text. text) _ _ _ c.draw-picture.result c.command_text.result c.command_text.ensures c.draw-picture.ensures).answered
