@@ -7,6 +7,7 @@ pub mod Longer
 pub mod DeedSeen
 pub mod NextState
 pub mod FirstFound
+pub mod Seen
 pub mod StandsOn
 pub mod KeptOn
 pub mod Started

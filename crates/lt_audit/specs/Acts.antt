@@ -65,6 +65,7 @@ pub record MemberWakes (old new : MemberState) (heard : Heard) (rows : ℕ) (dee
   pub phase : new.phase ≡ phase_after old.send old.execute old.phase deed
   pub executed : new.executed ≡ (if is_execute deed then old.executed + 1 else old.executed)
   pub within : new.executed ≤ rows
+  pub did : new.did ≡ deed
 
 -- channels whose messages are the same, and in which there is no less room
 pub record SameLines (old new : List LineState) : Type 0 where

@@ -1,5 +1,7 @@
 -- What an auditor holds.
 use Rattle.std.specs.Prelude.{◌≡◌, ℕ, ◌+◌, ◌-◌, ◌*◌, ◌^◌, ◌<◌, ◌≤◌, List, [], ◌∷◌, length, Option, Some, None, All, Bool, slice_index_or, if◌then◌else◌}
+use Rattle.lt_arch.specs.declared.event.Deed.{Deed}
+use Rattle.lt_arch.specs.declared.event.Deed.TheVariants.{Nothing}
 use Rattle.lt_arch.specs.declared.limits.TheConstants.{GREATEST_TIME}
 use Rattle.lt_arch.specs.declared.timing.Protocol.{Protocol}
 use Rattle.lt_arch.specs.declared.timing.Protocol.TheVariants.{BackPressure}
@@ -9,13 +11,14 @@ use Rattle.lt_arch.specs.Readers.{node_count, chan_count, from_of, carries_data}
 use Rattle.lt_arch.specs.Times.{Times, sent_in}
 use Rattle.lt_audit.specs.declared.miss.Miss.{Miss}
 
--- a node: its controller's protocol, countdowns and phase, and how many instants it has executed
+-- a node: its controller's protocol, countdowns and phase, how many instants it has executed, and what it did when it was activated last
 pub record MemberState : Type 0 where
   pub protocol : Protocol
   pub send : ℕ
   pub execute : ℕ
   pub phase : Phase
   pub executed : ℕ
+  pub did : Deed
 
 -- a channel: how many messages it has delivered, the send times of those in transit, and for how many more there is room
 pub record LineState : Type 0 where
@@ -41,7 +44,7 @@ pub record AuditState : Type 0 where
 
 -- past the last node and channel nothing is said
 abbrev pub no_member : MemberState
-no_member = record { protocol = BackPressure; send = 0; execute = 0; phase = Wait; executed = 0 }
+no_member = record { protocol = BackPressure; send = 0; execute = 0; phase = Wait; executed = 0; did = Nothing }
 
 abbrev pub no_line : LineState
 no_line = record { delivered = 0; transit = []; room = 0 }

@@ -1,12 +1,14 @@
 -- The lists of events for which an auditor stands.
 use Rattle.std.specs.Prelude.{◌≡◌, ◌⊎◌, ℕ, ◌-◌, ◌^◌, ◌<◌, min, List, take, length, Option, Some, None, Result, Ok, Err}
 use Rattle.lt_arch.specs.declared.event.Event.{Event}
+use Rattle.lt_arch.specs.declared.event.Event.TheVariants.{Act, Del, End}
 use Rattle.lt_arch.specs.declared.event.Offence as arch
 use Rattle.lt_arch.specs.declared.timing.Protocol.TheVariants.{BackPressure, TimeBased}
 use Rattle.lt_arch.specs.declared.timing.Timing.{Timing}
 use Rattle.lt_arch.specs.declared.shape.Shape.{Shape}
 use Rattle.lt_arch.specs.State.{State, Wait, Ready}
 use Rattle.lt_arch.specs.Readers.{node_count, chan_count, send_of, execute_of}
+use Rattle.lt_arch.specs.Deeds.{deed_at}
 use Rattle.lt_arch.specs.Schedule.{IsOffenceFree, reached}
 use Rattle.lt_arch.specs.Times.{HasTimes}
 use Rattle.lt_audit.specs.declared.fault.AuditFault.{AuditFault}
@@ -49,3 +51,9 @@ abbrev pub JudgesEvent : Option arch.Offence → Result (Unit {0}) AuditFault �
 JudgesEvent offence (Ok done) = offence ≡ None
 JudgesEvent offence (Err (Offence found)) = offence ≡ Some found
 JudgesEvent offence (Err Memory) = offence ≡ None
+
+-- once this event was taken in this state, it knows what the node did that was activated
+abbrev pub KnowsDeed : AuditState → Shape → (rows : ℕ) → State → Event → Type 0
+KnowsDeed a s rows st (Act n at) = (member_at a.members n).did ≡ deed_at s rows st n
+KnowsDeed a s rows st (Del c at) = Unit {0}
+KnowsDeed a s rows st (End at) = Unit {0}

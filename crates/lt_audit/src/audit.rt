@@ -1,5 +1,5 @@
 // What an auditor holds, and how it changes from event to event.
-ghost use Rattle.std.specs.Prelude.{◌≡◌, ◌<◌, ◌*◌, ◌+◌, ◌≤◌, ◌^◌, [], None, IfOk, OnOk, OnErr, length, map, replicate};
+ghost use Rattle.std.specs.Prelude.{◌≡◌, ◌<◌, ◌*◌, ◌+◌, ◌≤◌, ◌^◌, [], None, IfOk, OnOk, OnErr, length, map, replicate, slice_get};
 ghost use Rattle.lt_arch.specs.declared.limits.TheConstants.{GREATEST_TIME};
 ghost use Rattle.lt_arch.specs.declared.shape.Shape.{Shape as OfShape};
 ghost use Rattle.lt_arch.specs.declared.timing.Timing.{Timing as OfTiming};
@@ -9,7 +9,7 @@ ghost use Rattle.lt_arch.specs.Schedule.{IsEventOf};
 ghost use Rattle.lt_arch.specs.Shapes.{HaveSameNodes};
 ghost use Rattle.lt_arch.specs.Step.{offence_of};
 ghost use Rattle.lt_arch.specs.Times.{HasTimes};
-ghost use Rattle.lt_audit.specs.Audit.{IsKeptAudit, kept_of, no_chan_state};
+ghost use Rattle.lt_audit.specs.Audit.{IsKeptAudit, chan_at, kept_of, member_at, no_chan_state};
 ghost use Rattle.lt_audit.specs.Acts.{AuditActs, AuditDelivers, AuditTakes, next_number};
 ghost use Rattle.lt_audit.specs.Standing.{AuditStands};
 ghost use Rattle.lt_audit.specs.Starts.{MembersAreAtStart};
@@ -20,7 +20,7 @@ use crate::line::Line;
 use crate::member::Member;
 use crate::missing::first_missed;
 use crate::sending::{deliver, make_room, send_all};
-use lt_arch::{Event, Offence, Protocol, Shape, Timing, Watch};
+use lt_arch::{Deed, Event, Offence, Protocol, Shape, Timing, Watch};
 use lt_base::{Memory, Steps};
 use lt_link::Wiring;
 use std::alloc::Global;
@@ -103,6 +103,42 @@ impl Audit {
         ensures { result ≡ self.now.watch.horizon }
     {
         self.watch.reached()
+    }
+
+    /// What a node did when it was activated last.
+    pub fn did(&self, node: u32) -> Deed
+        requires kept { IsKeptAudit self.now }
+        requires node { node < node_count self.now.shape }
+        ensures { result ≡ (member_at self.now.members node).did }
+    {
+        self.members[node as usize].did()
+    }
+
+    /// How many instants a node has executed.
+    pub fn executed(&self, node: u32) -> u32
+        requires kept { IsKeptAudit self.now }
+        requires node { node < node_count self.now.shape }
+        ensures { result ≡ (member_at self.now.members node).executed }
+    {
+        self.members[node as usize].executed()
+    }
+
+    /// How many messages are in transit on a channel.
+    pub fn transit_count(&self, channel: u32) -> usize
+        requires kept { IsKeptAudit self.now }
+        requires channel { channel < chan_count self.now.shape }
+        ensures { result ≡ length (chan_at self.now.chans channel).transit }
+    {
+        self.lines[channel as usize].in_transit()
+    }
+
+    /// The send time of the message in transit on a channel at this place, the oldest one first.
+    pub fn in_transit(&self, channel: u32, place: usize) -> Option<u64>
+        requires kept { IsKeptAudit self.now }
+        requires channel { channel < chan_count self.now.shape }
+        ensures { result ≡ slice_get (chan_at self.now.chans channel).transit place }
+    {
+        self.lines[channel as usize].sent_at(place)
     }
 
     /// The offence of an event, if it has one.

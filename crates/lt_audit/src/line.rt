@@ -1,5 +1,5 @@
 // A channel and what is in transit on it.
-ghost use Rattle.std.specs.Prelude.{◌≡◌, ◌<◌, ◌≤◌, ◌+◌, ◌^◌, ◌++◌, ◌∷◌, [], length, OnOk, OnErr};
+ghost use Rattle.std.specs.Prelude.{◌≡◌, ◌<◌, ◌≤◌, ◌+◌, ◌^◌, ◌++◌, ◌∷◌, [], length, slice_get, OnOk, OnErr};
 ghost use Rattle.lt_arch.specs.Step.{with_delivered};
 ghost use Rattle.lt_audit.specs.Audit.{kept_of, oldest};
 
@@ -50,6 +50,20 @@ impl Line {
         ensures { result ≡ oldest self.now.transit }
     {
         self.transit.front().copied()
+    }
+
+    /// The send time of the message in transit at this place, the oldest one first.
+    pub fn sent_at(&self, place: usize) -> Option<u64>
+        ensures { result ≡ slice_get self.now.transit place }
+    {
+        self.transit.get(place).copied()
+    }
+
+    /// How many messages are in transit.
+    pub fn in_transit(&self) -> usize
+        ensures { result ≡ length self.now.transit }
+    {
+        self.transit.len()
     }
 
     /// Takes room for one more message.

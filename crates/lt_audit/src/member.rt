@@ -8,11 +8,12 @@ use lt_arch::{Controller, Deed, Timing};
 use lt_lead::NodeController;
 use std::marker::Model;
 
-/// The controller of a node, and how many instants the node has executed.
+/// The controller of a node, how many instants the node has executed, and what it did when it was activated last.
 #[derive(Drop)]
 pub struct Member {
     controller: NodeController,
     executed: u32,
+    did: Deed,
 }
 
 impl Model for Member {
@@ -26,6 +27,7 @@ impl Model for Member {
       execute = ⟦<NodeController as Controller>⟧.execute m.controller;
       phase = ⟦<NodeController as Controller>⟧.phase m.controller;
       executed = m.executed;
+      did = m.did;
     } };
 }
 
@@ -38,6 +40,7 @@ impl Member {
         Member {
             controller: NodeController::of_node(timing, node),
             executed: 0,
+            did: Deed::Nothing,
         }
     }
 
@@ -46,6 +49,13 @@ impl Member {
         ensures { result ≡ self.now.executed }
     {
         self.executed
+    }
+
+    /// What it did when it was activated last, and before that nothing.
+    pub fn did(&self) -> Deed
+        ensures { result ≡ self.now.did }
+    {
+        self.did
     }
 
     /// It is activated, with so many rows of inputs, and hears this.
@@ -61,6 +71,7 @@ impl Member {
         if matches!(deed, Deed::Execute) {
             self.executed += 1;
         }
+        self.did = deed;
         deed
     }
 }

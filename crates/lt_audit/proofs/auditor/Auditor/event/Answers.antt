@@ -8,8 +8,9 @@ use Rattle.lt_arch.specs.Step.{offence_of}
 use Rattle.lt_arch.specs.Times.{Times, HasTimes}
 use Rattle.lt_audit.specs.declared.fault.AuditFault.{AuditFault}
 use Rattle.lt_audit.specs.Audit.{AuditState}
-use Rattle.lt_audit.specs.Standing.{AuditStands, JudgesEvent, oldest_only}
+use Rattle.lt_audit.specs.Standing.{AuditStands, JudgesEvent, KnowsDeed, oldest_only}
 use Rattle.lt_audit.proofs.Oldest.{offence_same}
+use Rattle.lt_audit.proofs.Seen.{deed_known}
 use Rattle.lt_audit.proofs.StandsOn.{stands_on}
 use Rattle.lt_audit.proofs.auditor.Auditor.event.Goals as goal
 use Rattle.lt_audit.proofs.auditor.Auditor.event.Goals.{in-Ok, in-Err}
@@ -46,4 +47,16 @@ returns-clause-takes g c =
           stands_on c.self.inside.audit c.take.new.self s t rows es c.args.e c.self.invariant here (subst (λ (a : AuditState). IsPlacedIn a.shape c.args.e) (sym c.self.view_is) c.requires.placed) none w.in-Ok.ensures.takes w.in-Ok.ensures.number)
       | in-Err w ↦
           subst (λ (r : Result (Unit {0}) AuditFault). OnOk r ((s : Shape) (t : Timing) (rows : ℕ) (es : List Event) → AuditStands c.args.self.now s t rows es → AuditStands c.take.new.self s t rows (es ++ c.args.e ∷ []))) (sym w.result-is) tt
+    ]
+
+pub returns-clause-deeds : goal.returns-clause-deeds
+returns-clause-deeds g c =
+    elim c.match-take.branch [
+      | in-Ok w ↦
+          subst (λ (r : Result (Unit {0}) AuditFault). OnOk r ((s : Shape) (t : Timing) (rows : ℕ) (es : List Event) → AuditStands c.args.self.now s t rows es → KnowsDeed c.take.new.self s rows (reached s t rows es) c.args.e)) (sym w.result-is)
+          (λ s t rows es stands.
+          let here = subst (λ (a : AuditState). AuditStands a s t rows es) (sym c.self.view_is) stands in
+          deed_known c.self.inside.audit c.take.new.self s t rows es c.args.e c.self.invariant here (subst (λ (a : AuditState). IsPlacedIn a.shape c.args.e) (sym c.self.view_is) c.requires.placed) w.in-Ok.ensures.takes)
+      | in-Err w ↦
+          subst (λ (r : Result (Unit {0}) AuditFault). OnOk r ((s : Shape) (t : Timing) (rows : ℕ) (es : List Event) → AuditStands c.args.self.now s t rows es → KnowsDeed c.take.new.self s rows (reached s t rows es) c.args.e)) (sym w.result-is) tt
     ]
