@@ -8,3 +8,4 @@ mod Noting
 mod Told
 mod Finished
 pub mod Elsewhere
+pub mod OneScene

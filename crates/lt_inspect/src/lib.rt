@@ -16,4 +16,5 @@ mod tracing;
 
 pub use audited::Audited;
 pub use auditing::audit;
+pub use regions::find_node;
 pub use tracing::trace;

@@ -41,8 +41,8 @@ pub fn find_region(
     })
 }
 
-// The number of the node that is named, if one is.
-fn find_node(
+/// The number of the node that is named, if one is.
+pub fn find_node(
     alloc: Global,
     checked: &Checked,
     shape: &Shape,
