@@ -16,7 +16,8 @@ use Rattle.lt_load.proofs.OnePlan.{inputs_decided}
 use Rattle.lt_evaluate.specs.Main.{cells_verdict, output_streams}
 use Rattle.lt_evaluate.specs.Meaning.{outputs_printed_verdict, streams_verdict, inputs_streams_verdict, meaning_verdict}
 
-cells_decided : {K : Type 0} (kind : CommandFault → K) (p : WholeProgram) (rows : List (List Value)) → HasOneOutcome kind (cells_verdict p rows)
+-- the limit on cells
+pub cells_decided : {K : Type 0} (kind : CommandFault → K) (p : WholeProgram) (rows : List (List Value)) → HasOneOutcome kind (cells_verdict p rows)
 cells_decided kind p rows =
     of_rule kind (cell_count p rows ≤ most_cells) (λ e. e ≡ fault.TooManyCells) (λ e f is it. ap kind (is ∙ sym it))
 

@@ -61,11 +61,11 @@ fn flat_streams(alloc: Global, checked: Examined, table: &Inputs) -> Result<Outp
     ensures { IfOk result (PrintsOutputs checked.program (output_streams checked.program table.now.rows)) }
 {
     let flattened = flatten(alloc, checked)?;
-    show(alloc, &flattened, table)
+    outputs_of(alloc, &flattened, table)
 }
 
-// The outputs of a program with their streams on rows of inputs.
-fn show(alloc: Global, checked: &Checked, table: &Inputs) -> Result<Outputs, Memory>
+/// The outputs of a program with their streams on rows of inputs; whether they are too many is not asked.
+pub fn outputs_of(alloc: Global, checked: &Checked, table: &Inputs) -> Result<Outputs, Memory>
     requires { InputsFitMain checked.now.program table.now }
     ensures { IfOk result (PrintsOutputs checked.now.program (output_streams checked.now.program table.now.rows)) }
 {

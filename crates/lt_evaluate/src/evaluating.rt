@@ -32,7 +32,7 @@ fn is_too_many(alloc: Global, program: &Program, inputs: &Inputs) -> Result<bool
 }
 
 /// Refuses a program that has too many cells on these inputs.
-pub(crate) fn limit_cells(
+pub fn limit_cells(
     alloc: Global,
     program: &Program,
     inputs: &Inputs,

@@ -7,5 +7,6 @@ mod evaluating;
 mod outputs;
 mod streaming;
 
-pub use commands::meaning;
+pub use commands::{meaning, outputs_of};
+pub use evaluating::limit_cells;
 pub use outputs::{Outputs, output_names};

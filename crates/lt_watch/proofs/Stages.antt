@@ -1,12 +1,14 @@
 -- A watched run, step after step.
 use Rattle.std.proofs.Common.{◌≡◌, ◌∙◌, ◌<◌, ◌≤◌, ℕ, zero, suc, true, false, inl, inr, List, [], ◌∷◌, take, length, get_or, Option, Some, None, Result, Ok, Err, IsTrue, refl, sym, ap, subst, arith, ltb-true, ltb-false, ◌++◌}
 use Rattle.std.specs.Prelude.{◌↔◌, ◌^◌, IsErrAnd, nat_lt, slice_index_or}
+use Rattle.std.specs.List.{All}
+use Rattle.std.proofs.lemmas.List.Elements.{All-head, All-tail}
 use Rattle.lt_base.specs.declared.memory.Or.{Or}
 use Rattle.lt_base.specs.declared.memory.Or.TheVariants.{Fault, Memory}
 use Rattle.lt_base.specs.declared.value.Value.{Value}
 use Rattle.lt_base.specs.declared.value.Cell.{Cell}
 use Rattle.lt_base.specs.declared.value.Cell.TheVariants.{Absent}
-use Rattle.lt_base.specs.Program.{WholeProgram}
+use Rattle.lt_base.specs.Program.{Function, WholeProgram}
 use Rattle.lt_base.specs.Inputs.{InputTable}
 use Rattle.lt_arch.specs.declared.shape.Shape.{Shape}
 use Rattle.lt_arch.specs.declared.timing.Timing.{Timing}
@@ -20,6 +22,7 @@ use Rattle.lt_lead.specs.Paced.{IsShapeBy}
 use Rattle.lt_answer.specs.World.{World, Blame, alone, world}
 use Rattle.lt_answer.specs.Answered.{Answered, Verdict, AndThen}
 use Rattle.lt_answer.proofs.Stages.{beside, goes_on, renamed, stops, widened}
+use Rattle.lt_resolve.specs.Resolves.{IsSmallFunction}
 use Rattle.lt_front.specs.Examined.{ExaminedText}
 use Rattle.lt_past.specs.Formula.{SignalsBelow}
 use Rattle.lt_past.specs.Satisfaction.{Sat}
@@ -112,22 +115,29 @@ told_right o low schedule new k outputs told tells right =
           (same_signals p k.layout k.shape k.inputs.rows new.fabric _ _ _ outputs.names outputs.cells read.at_end.told.shown faithful o.outs n least) o.formula (uses_below (length o.outs) o.formula low) i before;
     }
 
+-- a program that reads has few outputs in each function
+pub few_outputs : (fs : List Function) (n : ℕ) (d : Function) → length d.outs ≤ 64 → All IsSmallFunction fs → length (get_or fs n d).outs ≤ 64
+few_outputs [] n d h small = h
+few_outputs (f ∷ fs) zero d h small = (All-head IsSmallFunction f fs small).outputs
+few_outputs (f ∷ fs) (suc n) d h small = few_outputs fs n d h (All-tail IsSmallFunction f fs small)
+
 -- what was loaded, and then its observer and its run
 
-module _ (named : List ℕ → Option (List ℕ)) (program inputs schedule observer : List ℕ) (config : Option (List ℕ)) (new : World) where
-  along_of : (plan : Plan) (k : LoadedPlan) → IsLoadedFrom plan k → (o : Result Outputs CommandFault) → along_loaded new.fabric k (named schedule) o → run_along_verdict new.fabric (named schedule) plan o
-  unfolding run_along_verdict
-  along_of plan k from o along =
-      let laid : IsLaidOutBy plan k.layout k.shape = record { layout = from.layout; shape = subst (λ (p : Pace × Timing). IsShapeBy k.layout p.0 p.1 k.shape) (λ i. (from.pace i, from.timing i)) from.shape } in
-      let timed = subst (λ (t : Timing). placed_run_verdict k.checked.program k.layout k.shape t k.pace k.inputs.rows new.fabric (named schedule) o) from.timing along in
-      let paced = subst (λ (p : Pace). placed_run_verdict k.checked.program k.layout k.shape plan.setup.timing p k.inputs.rows new.fabric (named schedule) o) from.pace timed in
-      let fed = subst (λ (t : InputTable). placed_run_verdict k.checked.program k.layout k.shape plan.setup.timing plan.setup.pace t.rows new.fabric (named schedule) o) from.inputs paced in
-      let told = subst (λ (x : ExaminedText). placed_run_verdict x.program k.layout k.shape plan.setup.timing plan.setup.pace plan.inputs.rows new.fabric (named schedule) o) from.checked fed in
-      (k.layout, k.shape, laid, told)
+-- what is right of a run of what was loaded is right of its plan
+pub along_of : (fabric : FabricState) (file : Option (List ℕ)) (plan : Plan) (k : LoadedPlan) → IsLoadedFrom plan k → (o : Result Outputs CommandFault) → along_loaded fabric k file o → run_along_verdict fabric file plan o
+unfolding run_along_verdict
+along_of fabric file plan k from o along =
+    let laid : IsLaidOutBy plan k.layout k.shape = record { layout = from.layout; shape = subst (λ (p : Pace × Timing). IsShapeBy k.layout p.0 p.1 k.shape) (λ i. (from.pace i, from.timing i)) from.shape } in
+    let timed = subst (λ (t : Timing). placed_run_verdict k.checked.program k.layout k.shape t k.pace k.inputs.rows fabric file o) from.timing along in
+    let paced = subst (λ (p : Pace). placed_run_verdict k.checked.program k.layout k.shape plan.setup.timing p k.inputs.rows fabric file o) from.pace timed in
+    let fed = subst (λ (t : InputTable). placed_run_verdict k.checked.program k.layout k.shape plan.setup.timing plan.setup.pace t.rows fabric file o) from.inputs paced in
+    let told = subst (λ (x : ExaminedText). placed_run_verdict x.program k.layout k.shape plan.setup.timing plan.setup.pace plan.inputs.rows fabric file o) from.checked fed in
+    (k.layout, k.shape, laid, told)
 
+module _ (named : List ℕ → Option (List ℕ)) (program inputs schedule observer : List ℕ) (config : Option (List ℕ)) (new : World) where
   near_of : (plan : Plan) (k : LoadedPlan) → IsLoadedFrom plan k → (o : Result Outputs WatchFault) → InCommand (run_along (named schedule) new k) o → InCommand (ReadNear (named schedule) new.files.place (run_along_verdict new.fabric (named schedule) plan)) o
-  near_of plan k from (Ok outputs) right = along_of plan k from (Ok outputs) right
-  near_of plan k from (Err e) right = (right.0, (along_of plan k from (Err right.0) right.1.0, right.1.1), right.2)
+  near_of plan k from (Ok outputs) right = along_of new.fabric (named schedule) plan k from (Ok outputs) right
+  near_of plan k from (Err e) right = (right.0, (along_of new.fabric (named schedule) plan k from (Err right.0) right.1.0, right.1.1), right.2)
 
   told_of : (plan : Plan) (k : LoadedPlan) → IsLoadedFrom plan k → (o : Observing) (outputs : Outputs) (r : Result Watched WatchFault) → told_verdict k.checked.program k.inputs.rows new.fabric o outputs r → told_verdict plan.checked.program plan.inputs.rows new.fabric o outputs r
   told_of plan k from o outputs r right =

@@ -85,11 +85,7 @@ fn fill(outs: &[u32], cells: &[List<Cell>], instant: usize, row: &mut [bool])
 }
 
 /// What an observer makes of the cells of outputs. A monitor follows them instant by instant.
-pub(crate) fn judge(
-    alloc: Global,
-    observer: &Observer,
-    cells: &[List<Cell>],
-) -> Result<Watched, Memory>
+pub fn judge(alloc: Global, observer: &Observer, cells: &[List<Cell>]) -> Result<Watched, Memory>
     ensures { IfOk result (WatchTells observer.now cells.now) }
 {
     let outs: &[u32] = &observer.outs;

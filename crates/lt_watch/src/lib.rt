@@ -8,5 +8,7 @@ mod watched;
 mod watching;
 
 pub use fault::WatchFault;
+pub use judging::judge;
+pub use observing::{load_observer, load_run};
 pub use watched::Watched;
-pub use watching::watch;
+pub use watching::{run_outputs, watch};

@@ -12,7 +12,7 @@ use lt_past::{Observer, read_observer};
 use std::alloc::Global;
 
 /// Loads what a run is of.
-pub(crate) fn load_run<F: Files>(
+pub fn load_run<F: Files>(
     alloc: Global,
     files: &mut F,
     program: &str,
@@ -44,7 +44,7 @@ fn fetch_observer<F: Files>(
 }
 
 /// Reads an observer's file: the observer, over the outputs of `main`.
-pub(crate) fn load_observer<F: Files>(
+pub fn load_observer<F: Files>(
     alloc: Global,
     files: &mut F,
     name: &str,

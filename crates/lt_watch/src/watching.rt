@@ -87,8 +87,8 @@ fn follow<F: Files, W: Fabric>(
     Ok(judged?)
 }
 
-// The outputs of the run.
-fn run_outputs<F: Files, W: Fabric>(
+/// The outputs of a run of what was loaded, as `lt_run::run_loaded` gives them.
+pub fn run_outputs<F: Files, W: Fabric>(
     alloc: Global,
     files: &mut F,
     fabric: &mut W,

@@ -1,10 +1,7 @@
-use Rattle.std.proofs.Common.{◌≡◌, ◌∙◌, ◌≤◌, ℕ, zero, suc, List, [], ◌∷◌, Ok, Err, length, get_or, ap, subst, arith}
-use Rattle.std.specs.List.{All}
-use Rattle.std.proofs.lemmas.List.Elements.{All-head, All-tail}
+use Rattle.std.proofs.Common.{◌≡◌, ◌∙◌, [], Ok, Err, length, ap, subst, arith}
 use Rattle.lt_base.specs.Program.{Function}
 use Rattle.lt_answer.specs.World.{alone, world}
 use Rattle.lt_answer.specs.Answered.{Answered}
-use Rattle.lt_resolve.specs.Resolves.{IsSmallFunction}
 use Rattle.lt_front.specs.Checked.{CheckedText}
 use Rattle.lt_load_fit.specs.Main.{main_in}
 use Rattle.lt_load.specs.Plan.{LoadedPlan}
@@ -12,14 +9,9 @@ use Rattle.lt_load.proofs.Steps.{counts_on}
 use Rattle.lt_watch.specs.Blamed.{watch_blame}
 use Rattle.lt_watch.specs.Errands.{observer_errand}
 use Rattle.lt_watch.specs.Watch.{observer_verdict}
-use Rattle.lt_watch.proofs.Stages.{no_observer, with_observer}
+use Rattle.lt_watch.proofs.Stages.{few_outputs, no_observer, with_observer}
 use Rattle.lt_watch.proofs.Unwatched.{not_observed}
 use Rattle.lt_watch.proofs.watching.watch_loaded.Goals as goal
-
-few_outputs : (fs : List Function) (n : ℕ) (d : Function) → length d.outs ≤ 64 → All IsSmallFunction fs → length (get_or fs n d).outs ≤ 64
-few_outputs [] n d h small = h
-few_outputs (f ∷ fs) zero d h small = (All-head IsSmallFunction f fs small).outputs
-few_outputs (f ∷ fs) (suc n) d h small = few_outputs fs n d h (All-tail IsSmallFunction f fs small)
 
 pub load_observer-requires-clause-few : goal.load_observer-requires-clause-few
 load_observer-requires-clause-few g c =

@@ -3,7 +3,7 @@ use Rattle.lt_front.specs.Checked.{CheckedText}
 use Rattle.lt_load_fit.specs.Main.{main_in}
 use Rattle.lt_evaluate.specs.Main.{output_streams}
 use Rattle.lt_evaluate.proofs.Streams.{prints_if, streams_are, whole_width}
-use Rattle.lt_evaluate.proofs.commands.show.Goals as goal
+use Rattle.lt_evaluate.proofs.commands.outputs_of.Goals as goal
 
 pub print-requires : goal.print-requires
 print-requires c =
