@@ -72,8 +72,8 @@ unfoldable pub plot_head : Plot → (width height : ℕ) → List ℕ
 plot_head p w h = plot_frame w h ++ (plot_titles p ++ (plot_style ++ filled_template (codes "<rect width=\"%\" height=\"%\" class=\"bg\"/>\n") (w ∷ h ∷ [])))
 
 -- what an observer says, in red where it fails
-unfoldable pub plot_verdict : Plot → List ℕ
-plot_verdict p =
+unfoldable pub judgement_text : Plot → List ℕ
+judgement_text p =
     if is_some p.failure then codes "<text x=\"12\" y=\"56\" class=\"badt b\">" ++ (escaped p.verdict ++ codes "</text>\n")
     else codes "<text x=\"12\" y=\"56\" class=\"tx b\">" ++ (escaped p.verdict ++ codes "</text>\n")
 
@@ -81,7 +81,7 @@ plot_verdict p =
 unfoldable pub plot_heading : Plot → List ℕ
 plot_heading p =
     (codes "<text x=\"12\" y=\"24\" class=\"tx b\">" ++ (escaped p.title ++ codes "</text>\n"))
-    ++ ((codes "<text x=\"12\" y=\"40\" class=\"ts\">" ++ (escaped p.facts ++ codes "</text>\n")) ++ plot_verdict p)
+    ++ ((codes "<text x=\"12\" y=\"40\" class=\"ts\">" ++ (escaped p.facts ++ codes "</text>\n")) ++ judgement_text p)
 
 -- what the lines mean
 unfoldable pub lines_legend : (run : Bool) → (y : ℕ) → List ℕ

@@ -1,7 +1,7 @@
 // What stands before the picture, and its lines of text.
 ghost use Rattle.std.specs.Prelude.{◌≡◌, ◌++◌, OnOk};
 ghost use Rattle.lt_svg.specs.Pieces.{escaped};
-ghost use Rattle.lt_plot.specs.Around.{plot_frame, plot_titles, plot_style, plot_head, plot_verdict, plot_heading};
+ghost use Rattle.lt_plot.specs.Around.{plot_frame, plot_titles, plot_style, plot_head, judgement_text, plot_heading};
 ghost use Rattle.lt_plot.specs.PlotText.{rows_top};
 
 use crate::plot::Plot;
@@ -74,9 +74,9 @@ pub(crate) fn head(out: &mut List<u8>, plot: &Plot, width: u64, height: u64) -> 
 }
 
 // What an observer says, in red where it fails.
-#[tactic(auto, unfolding(crate::specs::Around::plot_verdict))]
+#[tactic(auto, unfolding(crate::specs::Around::judgement_text))]
 fn verdict(out: &mut List<u8>, plot: &Plot) -> Result<(), Memory>
-    ensures { OnOk result (out.new ≡ out.old ++ plot_verdict plot.now) }
+    ensures { OnOk result (out.new ≡ out.old ++ judgement_text plot.now) }
 {
     if plot.failure.is_some() {
         return between(

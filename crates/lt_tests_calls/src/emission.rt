@@ -27,7 +27,8 @@ lttac plot p i s c o
 lttac plot p i --from 4294967296
 ";
 
-const USAGE: &str = "words: usage: lttac emit [--header] P C NODE | schedule P I C --seed N --horizon H [--jitter J] | draw P I S C [--node NAME] [--from T] [--to T] [--width W] | plot P I [S C] [--observer O] [--from K] [--to K] [--width W]/";
+const USAGE: &str =
+    "words: usage: lttac emit [--header] P C NODE | schedule P I C --seed N --horizon H [--jitter J] | draw P I S C [--node NAME] [--from T] [--to T] [--width W] | plot P I [S C] [--observer O] [--from K] [--to K] [--width W]/";
 
 const OUTSIDE: &str = "\
 - what is to be printed is written by one call, which fails with nothing written

@@ -27,6 +27,8 @@ mod order;
 #[cfg(test)]
 mod outside;
 #[cfg(test)]
+mod plots;
+#[cfg(test)]
 mod programs;
 #[cfg(test)]
 mod script;

@@ -1,0 +1,21 @@
+use Rattle.std.proofs.Common.{None}
+use Rattle.lt_answer.specs.World.{alone}
+use Rattle.lt_answer.proofs.Stages.{settles}
+use Rattle.lt_schedule.specs.Errand.{schedule_errand}
+use Rattle.lt_watch.specs.Blamed.{watch_blame}
+use Rattle.lt_plotting.specs.Stage.{loaded_run_verdict}
+use Rattle.lt_plotting.proofs.Optional.{named_value, named_fault}
+use Rattle.lt_plotting.proofs.printing.run_if_named.Goals as goal
+
+pub returns-in-Ok : goal.returns-in-Ok
+returns-in-Ok g c =
+    let a = g.F.Files.state c.args.files.now in
+    rw c.in-Some.is (named_value watch_blame schedule_errand (λ name. loaded_run_verdict c.args.loaded.now (a.named name)) (alone a) (alone (g.F.Files.state c.run_faithfully.new.files)) c.in-Some.name.now c.in-Ok.outputs c.in-Ok.ensures)
+
+pub returns-in-Err : goal.returns-in-Err
+returns-in-Err g c =
+    let a = g.F.Files.state c.args.files.now in
+    rw c.in-Some.is (named_fault watch_blame schedule_errand (λ name. loaded_run_verdict c.args.loaded.now (a.named name)) (alone a) (alone (g.F.Files.state c.run_faithfully.new.files)) c.in-Some.name.now c.in-Err.fault c.in-Err.ensures)
+
+pub returns-in-None : goal.returns-in-None
+returns-in-None g c = rw c.in-None.is (settles _ None tt)
