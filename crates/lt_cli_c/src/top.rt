@@ -106,9 +106,7 @@ fn answer<F: Files>(
             width,
         } => {
             let view = DrawView { from, to, width };
-            draw(
-                alloc, files, program, inputs, schedule, config, node, view,
-            )
+            draw(alloc, files, program, inputs, schedule, config, node, view)
         }
         LttacCommand::Plot {
             program,

@@ -23,8 +23,6 @@ pub(crate) fn draw<F: Files>(
     requires { MayFail (F.state files.old).faults }
     ensures { AnswersDraw program.now inputs.now schedule.now config.now (given_word node.entry) view (F.state files.old) (F.state files.new) result }
 {
-    let picture = lt_drawing::draw(
-        alloc, files, program, inputs, schedule, config, node, view,
-    );
+    let picture = lt_drawing::draw(alloc, files, program, inputs, schedule, config, node, view);
     command_text(picture)
 }

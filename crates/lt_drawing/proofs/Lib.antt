@@ -1,0 +1,12 @@
+mod Ends
+pub mod Sent
+pub mod Strokes
+pub mod Placing
+pub mod Recorded
+pub mod Grounded
+pub mod Staging
+pub mod Visits
+pub mod Outcomes
+pub mod Shown
+pub mod Alike
+pub mod OneDrawing

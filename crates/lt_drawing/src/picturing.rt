@@ -1,0 +1,217 @@
+// The picture of a schedule.
+ghost use Rattle.std.specs.Prelude.{◌≡◌, ◌≤◌, length, unwrap_or, IfOk};
+ghost use Rattle.lt_audit.specs.Acts.{next_number};
+ghost use Rattle.lt_draw.specs.PictureText.{picture_text};
+ghost use Rattle.lt_text_lines.specs.ScheduleLines.{offence_line};
+ghost use Rattle.lt_drawing.specs.Pictures.{drawn_refusal, facts_text, picture_in, picture_of, refusal_in, ring_at, ring_in};
+
+use crate::course::{Course, RefusedEvent};
+use crate::keeping::{count_in, is_in_window, kept_arrows, marks_in};
+use crate::refusing::time_or_zero;
+use crate::stage::Stage;
+use crate::stroke::Stroke;
+use crate::titles::{append_extent, append_setting, note_text, ring_text, row_text, title_text};
+use crate::view::DrawView;
+use crate::window::{Window, last_time, stroke_time_at, window_of};
+use lt_arch::Shape;
+use lt_audit::Miss;
+use lt_base::{List, Memory};
+use lt_draw::{Picture, Ring, write_picture};
+use lt_text_lines::append_offence;
+use std::alloc::Global;
+
+// The line below the title.
+fn facts_text(
+    alloc: Global,
+    stage: &Stage,
+    window: Window,
+    course: &Course,
+) -> Result<List<u8>, Memory>
+    ensures { IfOk result (λ text. text ≡ facts_text stage.now window course.now) }
+{
+    let ground = &stage.ground;
+    let strokes = course.strokes.as_slice();
+    let shown = count_in(window, strokes);
+    let nodes = ground.shape.nodes.len();
+    let mut out = List::new(alloc);
+    append_setting(&mut out, ground.pace, ground.timing.protocol, nodes)?;
+    append_extent(
+        &mut out,
+        &ground.shape,
+        ground.node,
+        window,
+        shown,
+        strokes.len(),
+        last_time(strokes),
+        &course.refused,
+    )?;
+    Ok(out)
+}
+
+// The line of a run that refuses an event of this number.
+fn refusal_line(
+    alloc: Global,
+    shape: &Shape,
+    number: u32,
+    offence: lt_arch::Offence,
+) -> Result<List<u8>, Memory>
+    ensures { IfOk result (λ line. line ≡ offence_line shape.now number offence) }
+{
+    let mut line = List::new(alloc);
+    append_offence(&mut line, shape, number, offence)?;
+    Ok(line)
+}
+
+// The event of this number that is refused.
+fn drawn_refusal(
+    alloc: Global,
+    shape: &Shape,
+    number: u32,
+    refused: &RefusedEvent,
+) -> Result<lt_draw::Offence, Memory>
+    ensures { IfOk result (λ drawn. drawn ≡ drawn_refusal shape.now number refused.now) }
+{
+    let refusal = refusal_line(alloc, shape, number, refused.offence)?;
+    let row = row_text(alloc, number, refused.row.as_slice(), refused.offence)?;
+    let note = note_text(alloc, time_or_zero(refused.bound), refused.offence)?;
+    Ok(lt_draw::Offence {
+        time: refused.time,
+        refusal,
+        row,
+        note,
+        wrong: refused.wrong,
+    })
+}
+
+fn refusal_in(
+    alloc: Global,
+    shape: &Shape,
+    number: u32,
+    refused: &Option<RefusedEvent>,
+) -> Result<Option<lt_draw::Offence>, Memory>
+    ensures { IfOk result (λ drawn. drawn ≡ refusal_in shape.now number refused.now) }
+{
+    match refused {
+        None => Ok(None),
+        Some(refused) => Ok(Some(drawn_refusal(alloc, shape, number, refused)?)),
+    }
+}
+
+fn ring_at(
+    alloc: Global,
+    shape: &Shape,
+    window: Window,
+    time: u64,
+    miss: Miss,
+) -> Result<Option<Ring>, Memory>
+    ensures { IfOk result (λ ring. ring ≡ ring_at shape.now window time miss) }
+{
+    if !is_in_window(window, time) {
+        return Ok(None);
+    }
+    let line = ring_text(alloc, shape, miss)?;
+    Ok(Some(Ring {
+        event: miss.event,
+        node: miss.node,
+        time,
+        line,
+    }))
+}
+
+// The first execution with a message too few or too many, where its event is drawn.
+fn ring_in(
+    alloc: Global,
+    shape: &Shape,
+    window: Window,
+    strokes: &[Stroke],
+    miss: Option<Miss>,
+) -> Result<Option<Ring>, Memory>
+    ensures { IfOk result (λ ring. ring ≡ ring_in shape.now window strokes.now miss) }
+{
+    match miss {
+        None => Ok(None),
+        Some(miss) => {
+            let time = stroke_time_at(strokes, miss.event.saturating_sub(1) as usize);
+            ring_at(alloc, shape, window, time, miss)
+        }
+    }
+}
+
+// The number of the event behind so many.
+fn next_number(count: usize) -> u32
+    ensures { result ≡ next_number count }
+{
+    count.saturating_add(1).min(4_294_967_295) as u32
+}
+
+// The picture in this window.
+fn picture_in(
+    alloc: Global,
+    schedule: &[u8],
+    config: &[u8],
+    view: DrawView,
+    stage: &Stage,
+    course: &Course,
+    window: Window,
+) -> Result<Picture, Memory>
+    ensures { IfOk result (λ picture. picture ≡ picture_in schedule.now config.now view stage.now course.now window) }
+{
+    let shape = &stage.ground.shape;
+    let node = stage.ground.node;
+    let strokes = course.strokes.as_slice();
+    let pending = course.pending.as_slice();
+    let number = next_number(strokes.len());
+    Ok(Picture {
+        width: width_of(view),
+        from: window.from,
+        to: window.to,
+        title: title_text(alloc, schedule, config)?,
+        facts: facts_text(alloc, stage, window, course)?,
+        names: shape.nodes.copy()?,
+        marks: marks_in(alloc, window, strokes)?,
+        arrows: kept_arrows(alloc, window, node, &course.refused, strokes, pending)?,
+        again: false,
+        offence: refusal_in(alloc, shape, number, &course.refused)?,
+        ring: ring_in(alloc, shape, window, strokes, course.miss)?,
+    })
+}
+
+fn width_of(view: DrawView) -> u32
+    ensures { result ≡ unwrap_or view.width 760 }
+{
+    match view.width {
+        Some(width) => width,
+        None => 760,
+    }
+}
+
+// The picture of a schedule over its stage.
+fn picture_of(
+    alloc: Global,
+    schedule: &[u8],
+    config: &[u8],
+    view: DrawView,
+    stage: &Stage,
+    course: &Course,
+) -> Result<Picture, Memory>
+    ensures { IfOk result (λ picture. picture ≡ picture_of schedule.now config.now view stage.now course.now) }
+{
+    let nodes = stage.ground.shape.nodes.len();
+    let window = window_of(view, nodes, course.strokes.as_slice(), &course.refused);
+    picture_in(alloc, schedule, config, view, stage, course, window)
+}
+
+/// The text of the picture of a schedule over its stage.
+pub(crate) fn draw_course(
+    alloc: Global,
+    schedule: &[u8],
+    config: &[u8],
+    view: DrawView,
+    stage: &Stage,
+    course: &Course,
+) -> Result<List<u8>, Memory>
+    ensures { IfOk result (λ text. text ≡ picture_text (picture_of schedule.now config.now view stage.now course.now)) }
+{
+    let picture = picture_of(alloc, schedule, config, view, stage, course)?;
+    write_picture(alloc, &picture)
+}

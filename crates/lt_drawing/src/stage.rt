@@ -1,0 +1,24 @@
+// What a schedule is drawn over.
+ghost use Rattle.lt_drawing.specs.Grounds.{IsDrawable};
+
+use lt_arch::{Pace, Shape, Timing};
+use lt_base::List;
+use lt_place::Crossing;
+
+/// The nodes and the channels between them, the bounds of time, what crosses, the pace of the protocol, and the node that is named.
+#[derive(Drop)]
+pub struct Ground {
+    pub shape: Shape,
+    pub timing: Timing,
+    pub cross: List<Crossing>,
+    pub pace: Pace,
+    pub node: Option<u32>,
+    ghost drawable: { IsDrawable shape timing },
+}
+
+/// The same with the count of rows of inputs.
+#[derive(Drop)]
+pub struct Stage {
+    pub ground: Ground,
+    pub rows: u32,
+}
