@@ -10,3 +10,4 @@ pub mod Outcomes
 pub mod Shown
 pub mod Alike
 pub mod OneDrawing
+pub mod Agreeing

@@ -13,7 +13,7 @@ returns-in_err-course g c =
 pub returns-in-Ok : goal.returns-in-Ok
 returns-in-Ok g c =
     is_shown (λ course. picture_text (picture_of c.args.schedule.now c.args.config.now c.args.view c.args.stage.now course)) (stage_course_verdict c.args.stage.now ((g.F.Files.state c.args.files.now).named c.args.schedule.now)) _ _ c.in_ok-course.course _
-    (c.in-Ok.ensures ∙ (λ i. picture_text (picture_of (c.as_bytes.ensures i) (c.as_bytes-2.ensures i) c.args.view c.args.stage.now c.in_ok-course.course))) c.in_ok-course.ensures
+    (c.in-Ok.ensures ∙ (λ i. picture_text (picture_of (c.as_bytes.ensures.value i) (c.as_bytes-2.ensures.value i) c.args.view c.args.stage.now c.in_ok-course.course))) c.in_ok-course.ensures
 
 pub returns-in-Err : goal.returns-in-Err
 returns-in-Err g c =
