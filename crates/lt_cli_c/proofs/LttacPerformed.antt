@@ -56,7 +56,7 @@ schedule_kinds named program inputs config seed horizon jitter =
 
 draw_kinds : (named : List ℕ → Option (List ℕ)) (program inputs events config : List ℕ) (node : Option (List ℕ)) (view : DrawView) → HasOneKind (λ e. refusal_status (Command e)) (draw_verdict named program inputs events config node view)
 draw_kinds named program inputs events config node view =
-    draw_decided (λ e. refusal_status (Command e)) tells_limits (λ f g main main'. refl) (λ f g names names' mixed mixed'. refl) named program inputs events config node view
+    draw_decided (λ e. refusal_status (Command e)) tells_limits (λ f g main main'. refl) named program inputs events config node view
 
 plot_kinds : (named : List ℕ → Option (List ℕ)) (program inputs : List ℕ) (along : Option (List ℕ × List ℕ)) (observer : Option (List ℕ)) (view : PlotView) → HasOneKind (λ e. refusal_status (watch_refusal e)) (plot_verdict named program inputs along observer view)
 plot_kinds named program inputs along observer view =

@@ -49,7 +49,7 @@ lttac_verdict named (plot program inputs along observer from to width) = answer_
 abbrev pub lttac_said_errands : LttacSaid → List Errand
 lttac_said_errands (emit header program config node) = check_errands program (Some config)
 lttac_said_errands (schedule program inputs config seed horizon jitter) = load_errands program inputs (Some config)
-lttac_said_errands (draw program inputs events config node from to width) = draw_errands program inputs events config
+lttac_said_errands (draw program inputs events config place from to width) = draw_errands program inputs events config
 lttac_said_errands (plot program inputs along observer from to width) = plot_errands program inputs along observer
 
 -- words that say no command have none
