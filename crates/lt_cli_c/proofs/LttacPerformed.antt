@@ -1,6 +1,6 @@
 -- All that holds of a call of `lttac`, from what it printed and whose count rose.
-use Rattle.std.proofs.Common.{◌≡◌, ◌≢◌, ◌<◌, ℕ, IsTrue, List, ◌++◌, Bool, Option, Some, None, Result, Err, refl, sym, ◌∙◌, ap, subst, append-nil, arith, inl, inr}
-use Rattle.std.specs.Prelude.{codes, if◌then◌else◌}
+use Rattle.std.proofs.Common.{◌≡◌, ◌≢◌, ℕ, IsTrue, List, ◌++◌, Bool, Option, Some, None, Result, Err, refl, sym, ◌∙◌, ap, subst, append-nil, arith, inl, inr}
+use Rattle.std.specs.Prelude.{codes}
 use Rattle.lt_io.specs.FabricState.{FabricState}
 use Rattle.lt_answer.specs.World.{Reading}
 use Rattle.lt_answer.specs.Answered.{Verdict}
@@ -21,7 +21,7 @@ use Rattle.lt_text_answers.specs.declared.refusal.Refusal.TheVariants.{LttacWord
 use Rattle.lt_text_answers.specs.declared.status.Status.{Status}
 use Rattle.lt_text_answers.specs.declared.status.Status.TheVariants as status
 use Rattle.lt_text_answers.specs.Blamed.{blame_of}
-use Rattle.lt_text_answers.specs.Texts.{status_of, out_text, err_text, refusal_line, refusal_status, no_node_line}
+use Rattle.lt_text_answers.specs.Texts.{status_of, out_text, err_text, refusal_line, refusal_status}
 use Rattle.lt_text_answers.specs.Replies.{watch_refusal}
 use Rattle.lt_text_answers.proofs.Refusals.{blamed_reads, fault_not_words, watch_reads}
 use Rattle.lt_cli.specs.Answers.{answer_verdict}

@@ -1,12 +1,12 @@
 -- How the answer to a command of `lttac` ends a call.
-use Rattle.std.proofs.Common.{◌≡◌, ℕ, List, [], ◌∷◌, ◌++◌, Result, Ok, Err, refl, sym, ap, subst}
+use Rattle.std.proofs.Common.{◌≡◌, ℕ, List, [], ◌∷◌, ◌++◌, Result, Ok, Err, refl, sym, subst}
 use Rattle.lt_base.specs.declared.memory.Or.{Or}
 use Rattle.lt_base.specs.declared.memory.Or.TheVariants.{Fault, Memory}
 use Rattle.lt_io.specs.Visits.{Errand}
 use Rattle.lt_io.specs.SinkState.{SinkState}
 use Rattle.lt_answer.specs.Answered.{Verdict, Answered}
-use Rattle.lt_answer.specs.Rules.{Shown, Raised}
-use Rattle.lt_answer.specs.World.{World, Blame}
+use Rattle.lt_answer.specs.Rules.{Raised}
+use Rattle.lt_answer.specs.World.{World}
 use Rattle.lt_answer.proofs.Stages.{widened}
 use Rattle.lt_load.proofs.Raising.{raised_value, raised_fault}
 use Rattle.lt_emit.specs.declared.fault.EmitFault.{EmitFault}
