@@ -16,10 +16,7 @@ const USUAL: PlotView = PlotView {
 };
 
 // The plot, with a run along a schedule or without one.
-fn plot_across(
-    alloc: Global,
-    along: Option<(&str, &str)>,
-) -> Result<List<u8>, Or<WatchFault>> {
+fn plot_across(alloc: Global, along: Option<(&str, &str)>) -> Result<List<u8>, Or<WatchFault>> {
     let mut files = files(alloc, ACROSS, NOTHING)?;
     plot(alloc, &mut files, "p", "i", along, Some("o"), USUAL)
 }
