@@ -1,5 +1,5 @@
 -- What is drawn of a schedule file is what a run's verdict says of it.
-use Rattle.std.proofs.Common.{◌≡◌, ◌∙◌, ℕ, ◌+◌, nat_lt, Bool, true, false, List, [], ◌∷◌, ◌++◌, length, drop, Option, Some, None, Result, Ok, Err, is_some, if◌then◌else◌, refl, sym, ap, arith, length-append}
+use Rattle.std.proofs.Common.{◌≡◌, ◌∙◌, ℕ, ◌+◌, nat_lt, Bool, true, false, List, [], ◌∷◌, ◌++◌, length, drop, Option, Some, None, Result, Ok, Err, is_some, if◌then◌else◌, refl, sym, ap, length-append}
 use Rattle.std.specs.Prelude.{option_map}
 use Rattle.lt_arch.specs.declared.event.Event.{Event}
 use Rattle.lt_arch.specs.declared.event.Offence.{Offence}
@@ -17,7 +17,7 @@ use Rattle.lt_rows.specs.Rows.{FileRow, rows_of}
 use Rattle.lt_schedule.specs.declared.halt.ScheduleRefusal.{ScheduleRefusal}
 use Rattle.lt_schedule.specs.declared.halt.ScheduleRefusal.TheVariants as refusal
 use Rattle.lt_schedule.specs.Rules.{file_judged_by, header_refusal, judged_behind, row_event, row_zero, unless_fault, unless_missing, unless_offence, unless_refused}
-use Rattle.lt_schedule.specs.Verdict.{rules_of, unended}
+use Rattle.lt_schedule.specs.Verdict.{rules_of}
 use Rattle.lt_drawing.specs.declared.course.Stopped.{Stopped}
 use Rattle.lt_drawing.specs.Courses.{drawing_rules, stopped_at}
 use Rattle.lt_drawing.specs.Laws.{AgreesWith}

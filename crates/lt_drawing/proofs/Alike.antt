@@ -1,5 +1,5 @@
 -- Rows are judged alike by rules that differ in what they tell of an offence alone.
-use Rattle.std.proofs.Common.{◌≡◌, ◌∙◌, ℕ, ◌+◌, nat_lt, Bool, true, false, List, [], ◌∷◌, ◌++◌, length, drop, Option, Some, None, Result, Ok, Err, if◌then◌else◌, refl, sym, ap, subst}
+use Rattle.std.proofs.Common.{◌≡◌, ℕ, ◌+◌, nat_lt, Bool, true, false, List, [], ◌∷◌, ◌++◌, length, drop, Option, Some, None, Result, Ok, Err, if◌then◌else◌, refl, sym, ap, subst}
 use Rattle.lt_rows.specs.declared.fault.RowFault.{RowFault}
 use Rattle.lt_rows.specs.declared.fault.RowFault.TheVariants.{Header, TooMany}
 use Rattle.lt_rows.specs.Limits.{most_bytes, most_events}

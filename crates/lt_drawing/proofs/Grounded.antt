@@ -1,5 +1,5 @@
 -- Where a program runs by a setup, step after step.
-use Rattle.std.proofs.Common.{◌≡◌, ◌∙◌, ℕ, ◌+◌, ◌*◌, ◌^◌, ◌<◌, ◌≤◌, List, length, Option, Some, None, Result, Ok, Err, inl, inr, refl, sym, ap, subst, arith}
+use Rattle.std.proofs.Common.{◌≡◌, ◌∙◌, ℕ, ◌*◌, ◌^◌, ◌<◌, ◌≤◌, List, length, Option, Some, None, Result, Ok, Err, inl, inr, refl, sym, ap, subst, arith}
 use Rattle.std.specs.Prelude.{IsErrAnd, bytes_eq, position}
 use Rattle.std.proofs.lemmas.Nat.{mul-le}
 use Rattle.lt_base.specs.declared.memory.Or.{Or}
@@ -10,10 +10,8 @@ use Rattle.lt_arch.specs.declared.shape.Shape.{Shape}
 use Rattle.lt_arch.specs.declared.timing.Protocol.{Protocol}
 use Rattle.lt_arch.specs.declared.timing.Protocol.TheVariants.{BackPressure, TimeBased}
 use Rattle.lt_arch.specs.Paced.{FitsPace}
-use Rattle.lt_arch.specs.Readers.{chan_count}
 use Rattle.lt_answer.specs.Answered.{Refuses, Settles}
 use Rattle.lt_norm.specs.Flat.{Originated}
-use Rattle.lt_place_reads.specs.declared.crossing.Crossing.{Crossing}
 use Rattle.lt_place.specs.declared.layout.Layout.{Layout}
 use Rattle.lt_place.specs.Layout.{IsLayoutOf, IsPlaced}
 use Rattle.lt_arch.specs.Placement.{node_names}

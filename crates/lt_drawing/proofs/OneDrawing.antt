@@ -2,7 +2,6 @@
 use Rattle.std.proofs.Common.{◌≡◌, ◌∙◌, ℕ, List, Option, Some, None, Result, Ok, Err, refl, sym, ap, subst}
 use Rattle.std.specs.Prelude.{option_map}
 use Rattle.lt_arch.specs.declared.event.Event.{Event}
-use Rattle.lt_arch.specs.declared.event.Offence.{Offence}
 use Rattle.lt_arch.specs.declared.shape.Shape.{Shape}
 use Rattle.lt_arch.specs.declared.timing.Timing.{Timing}
 use Rattle.lt_arch.specs.Paced.{allowed_of}
@@ -23,14 +22,13 @@ use Rattle.lt_load.specs.Plan.{Plan}
 use Rattle.lt_load.proofs.OneLoad.{TellsLimits, program_decided}
 use Rattle.lt_load.proofs.OneCheck.{MergesPlaces, config_once, passes_decided}
 use Rattle.lt_load.proofs.OneShape.{one_shape}
-use Rattle.lt_inspect.specs.Scenes.{placed_plan_verdict}
 use Rattle.lt_inspect.proofs.OneScene.{placed_once}
 use Rattle.lt_drawing.specs.declared.course.Course.{Course}
 use Rattle.lt_drawing.specs.declared.course.Stopped.{Stopped}
 use Rattle.lt_drawing.specs.declared.stage.Stage.{Stage}
 use Rattle.lt_drawing.specs.declared.view.DrawView.{DrawView}
 use Rattle.lt_drawing.specs.Courses.{CourseBy, course_or_fault, course_verdict, drawing_rules, stopped_at}
-use Rattle.lt_drawing.specs.Drawn.{along_stage, draw_verdict, plan_drawn, stage_course_verdict}
+use Rattle.lt_drawing.specs.Drawn.{draw_verdict, plan_drawn, stage_course_verdict}
 use Rattle.lt_drawing.specs.Stages.{IsStageOf, lossless_config_verdict, lossless_verdict, losses_fault, setup_stage_verdict, stage_verdict}
 use Rattle.lt_drawing.proofs.Alike.{AreAlikeReads, SameCase, SameRefusal, alike_file}
 

@@ -1,10 +1,10 @@
 -- What reading a schedule file for a picture answers.
-use Rattle.std.proofs.Common.{◌≡◌, ◌∙◌, ◌<◌, ℕ, List, Option, Some, None, Result, Ok, Err, IsTrue, refl, sym, ap, subst, arith, true, false}
+use Rattle.std.proofs.Common.{◌≡◌, ◌<◌, ℕ, List, Option, Some, None, Result, Ok, Err, IsTrue, refl, sym, subst, arith, true, false}
 use Rattle.std.specs.Prelude.{IsSome}
 use Rattle.lt_base.specs.declared.memory.Or.{Or}
 use Rattle.lt_base.specs.declared.memory.Or.TheVariants.{Fault, Memory}
 use Rattle.lt_io.specs.FilesState.{FilesState, KeepsNames}
-use Rattle.lt_io.specs.Visits.{Errand, Visited}
+use Rattle.lt_io.specs.Visits.{Visited}
 use Rattle.lt_io.proofs.Visiting.{visited_any}
 use Rattle.lt_arch.specs.declared.event.Event.{Event}
 use Rattle.lt_arch.specs.declared.shape.Shape.{Shape}

@@ -1,5 +1,5 @@
 -- A recorder after one event more, and at an offence.
-use Rattle.std.proofs.Common.{◌≡◌, ◌∙◌, ℕ, ◌+◌, ◌-◌, ◌^◌, ◌<◌, ◌≤◌, min, List, [], ◌∷◌, ◌++◌, length, All, Option, Some, None, Result, Ok, Err, refl, sym, ap, subst, arith, length-append}
+use Rattle.std.proofs.Common.{◌≡◌, ◌∙◌, ℕ, ◌+◌, ◌-◌, ◌^◌, ◌<◌, ◌≤◌, min, List, [], ◌∷◌, ◌++◌, length, All, Some, None, Result, Ok, Err, refl, sym, ap, subst, arith, length-append}
 use Rattle.std.specs.Prelude.{IfErr, OnOk, option_map}
 use Rattle.std.proofs.lemmas.List.Elements.{All-push}
 use Rattle.lt_arch.specs.declared.event.Deed.{Deed}
@@ -27,10 +27,10 @@ use Rattle.lt_drawing.specs.declared.course.RefusedEvent.{RefusedEvent}
 use Rattle.lt_drawing.specs.declared.course.Stopped.{Stopped}
 use Rattle.lt_drawing.specs.declared.stroke.Stroke.{Stroke}
 use Rattle.lt_drawing.specs.Courses.{drawing_rules, last_for, oldest_for, refused_by, stopped_at}
-use Rattle.lt_drawing.specs.Lasts.{last_mark, last_mark_for, oldest_in}
+use Rattle.lt_drawing.specs.Lasts.{last_mark, last_mark_for, oldest_read}
 use Rattle.lt_drawing.specs.Placed.{IsPlacedOffence, IsTimelyStroke}
-use Rattle.lt_drawing.specs.Recorded.{IsRecorded, JudgesNextEvent}
-use Rattle.lt_drawing.specs.Sketches.{IsDone, IsExecuted, IsSent, stroke_by}
+use Rattle.lt_drawing.specs.Recorded.{IsNotedSoFar, JudgesNextEvent}
+use Rattle.lt_drawing.specs.Sketches.{IsDeedDone, IsExecuted, IsSent, stroke_by}
 use Rattle.lt_drawing.specs.Strokes.{first_sent_or, pending_below, pending_of, stroke_of, strokes_of}
 use Rattle.lt_drawing.proofs.Strokes.{last_seen, pending_same, stroke_same, strokes_push}
 
@@ -44,9 +44,9 @@ timely_stroke cross s number executed sent deed (End at) is = is
 number_after : (n : ℕ) → min (n + 1) (2 ^ 32 - 1) ≡ next_number (0 + n)
 number_after n = let same : n ≡ 0 + n = omega arith in ap next_number same
 
-module _ (a b : AuditState) (cross : List Crossing) (t : Timing) (strokes : List Stroke) (es : List Event) (e : Event) (before : IsRecorded a cross t strokes es) (event : IsEventOf a.shape e) where
+module _ (a b : AuditState) (cross : List Crossing) (t : Timing) (strokes : List Stroke) (es : List Event) (e : Event) (before : IsNotedSoFar a cross t strokes es) (event : IsEventOf a.shape e) where
   pub recorded_on : (deed : Deed) (executed sent : ℕ) (after : List Stroke) → b.shape ≡ a.shape → AuditStands b a.shape t a.rows (es ++ e ∷ []) → KnowsDeed b a.shape a.rows (reached a.shape t a.rows es) e
-      → IsExecuted a e executed → IsSent a e sent → IsDone b e deed → after ≡ strokes ++ stroke_by cross b.shape b.taken deed executed sent e ∷ [] → IsRecorded b cross t after (es ++ e ∷ [])
+      → IsExecuted a e executed → IsSent a e sent → IsDeedDone b e deed → after ≡ strokes ++ stroke_by cross b.shape b.taken deed executed sent e ∷ [] → IsNotedSoFar b cross t after (es ++ e ∷ [])
   recorded_on deed executed sent after shape stands knows ex se done is =
       let st = reached a.shape t a.rows es in
       let number : b.taken ≡ next_number (0 + length es) = stands.taken_is ∙ ap (λ (n : ℕ). min n (2 ^ 32 - 1)) (length-append es (e ∷ [])) ∙ number_after (length es) in
@@ -63,7 +63,7 @@ module _ (a b : AuditState) (cross : List Crossing) (t : Timing) (strokes : List
 
 -- what is read for an offence
 
-module _ (a : AuditState) (cross : List Crossing) (t : Timing) (strokes : List Stroke) (es : List Event) (before : IsRecorded a cross t strokes es) where
+module _ (a : AuditState) (cross : List Crossing) (t : Timing) (strokes : List Stroke) (es : List Event) (before : IsNotedSoFar a cross t strokes es) where
   abbrev st : State
   st = reached a.shape t a.rows es
 
@@ -83,7 +83,7 @@ module _ (a : AuditState) (cross : List Crossing) (t : Timing) (strokes : List S
   oldest_of : (c : ℕ) → c < chan_count a.shape → first_sent_or 0 (chan_at a.chans c).transit ≡ first_sent_or 0 (st.chan c).transit
   oldest_of c lc = ap (λ (ch : ChanState). first_sent_or 0 ch.transit) (chan_seen a a.shape t a.rows es before.stands c lc)
 
-  oldest_same : (o : Offence) → IsPlacedOffence a.shape o → oldest_in a o ≡ oldest_for st o
+  oldest_same : (o : Offence) → IsPlacedOffence a.shape o → oldest_read a o ≡ oldest_for st o
   oldest_same AfterEnd placed = refl
   oldest_same Backwards placed = refl
   oldest_same (NodeOverdue n) placed = refl
@@ -97,14 +97,14 @@ module _ (a : AuditState) (cross : List Crossing) (t : Timing) (strokes : List S
   pending_is = pending_same cross a.shape t (chan_at a.chans) st.chan (chan_count a.shape) (λ c lc. chan_seen a a.shape t a.rows es before.stands c lc)
 
   pub stopped_is : (e : Event) (o : Offence) (pending : List Arrow) (refused : RefusedEvent) → IsPlacedOffence a.shape o → pending ≡ pending_below cross a.shape t (chan_at a.chans) (chan_count a.shape)
-      → refused ≡ refused_by a.shape t (last_mark_for strokes o) (oldest_in a o) e o → record { strokes = strokes; pending = pending; refused = refused } ≡ stopped_at cross a.shape t a.rows es e o
+      → refused ≡ refused_by a.shape t (last_mark_for strokes o) (oldest_read a o) e o → record { strokes = strokes; pending = pending; refused = refused } ≡ stopped_at cross a.shape t a.rows es e o
   stopped_is e o pending refused placed waits is =
       λ i. record { strokes = before.strokes_are i; pending = (waits ∙ pending_is) i; refused = (is ∙ (λ j. refused_by a.shape t (last_same o j) (oldest_same o placed j) e o)) i }
 
 -- the same by equal auditors, crossings and bounds of time
-pub moved : (a b : AuditState) (cross cross' : List Crossing) (t t' : Timing) (xs : List Stroke) (es : List Event) → b ≡ a → cross' ≡ cross → t' ≡ t → IsRecorded a cross t xs es → IsRecorded b cross' t' xs es
+pub moved : (a b : AuditState) (cross cross' : List Crossing) (t t' : Timing) (xs : List Stroke) (es : List Event) → b ≡ a → cross' ≡ cross → t' ≡ t → IsNotedSoFar a cross t xs es → IsNotedSoFar b cross' t' xs es
 moved a b cross cross' t t' xs es p q r rec =
-    subst (λ (x : AuditState). IsRecorded x cross' t' xs es) (sym p) (subst (λ (c : List Crossing). IsRecorded a c t' xs es) (sym q) (subst (λ (u : Timing). IsRecorded a cross u xs es) (sym r) rec))
+    subst (λ (x : AuditState). IsNotedSoFar x cross' t' xs es) (sym p) (subst (λ (c : List Crossing). IsNotedSoFar a c t' xs es) (sym q) (subst (λ (u : Timing). IsNotedSoFar a cross u xs es) (sym r) rec))
 
 -- what is judged of the next event
 

@@ -1,5 +1,5 @@
 -- What a schedule is drawn over, step after step.
-use Rattle.std.proofs.Common.{◌≡◌, ◌∙◌, ℕ, List, length, Option, Some, None, Result, Ok, Err, inl, inr, refl, sym, ap, subst, [], ◌++◌}
+use Rattle.std.proofs.Common.{◌≡◌, ℕ, List, length, Option, Some, None, Result, Ok, Err, inl, inr, refl, sym, ap, subst, [], ◌++◌}
 use Rattle.std.specs.Prelude.{IsErrAnd}
 use Rattle.lt_base.specs.declared.memory.Or.{Or}
 use Rattle.lt_base.specs.declared.memory.Or.TheVariants.{Fault, Memory}
@@ -22,7 +22,7 @@ use Rattle.lt_load.proofs.Steps.{Names, IsContent, content_then, refused_step, n
 use Rattle.lt_inspect.specs.Scenes.{named_node_verdict, named_place_verdict, placed_plan_verdict}
 use Rattle.lt_drawing.specs.declared.stage.Ground.{Ground}
 use Rattle.lt_drawing.specs.declared.stage.Stage.{Stage}
-use Rattle.lt_drawing.specs.Stages.{IsGroundOf, IsStageOf, Staged, ground_verdict}
+use Rattle.lt_drawing.specs.Stages.{IsGroundOf, Staged, ground_verdict}
 
 staged_then : {T : Type 0} (node : Option (List ℕ)) (V : Verdict T CommandFault) (next : T → Verdict Plan CommandFault) (o : Result Stage CommandFault) → AndThen V (λ x. Staged node (next x)) o → Staged node (AndThen V next) o
 staged_then _ V next (Ok k) (inl p) = absurd p

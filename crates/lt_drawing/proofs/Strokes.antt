@@ -1,25 +1,23 @@
 -- One event more, as it is drawn.
-use Rattle.std.proofs.Common.{◌≡◌, ◌∙◌, ℕ, zero, suc, ◌+◌, ◌<◌, ◌==◌, List, [], ◌∷◌, ◌++◌, length, map, Bool, true, false, Option, Some, None, if◌then◌else◌, refl, sym, ap, subst, arith}
+use Rattle.std.proofs.Common.{◌≡◌, ◌∙◌, ℕ, zero, suc, ◌+◌, ◌<◌, ◌==◌, List, [], ◌∷◌, ◌++◌, length, map, Bool, true, false, Option, if◌then◌else◌, refl, sym, ap, arith}
 use Rattle.lt_arch.specs.declared.event.Deed.{Deed}
 use Rattle.lt_arch.specs.declared.event.Event.{Event}
 use Rattle.lt_arch.specs.declared.event.Event.TheVariants.{Act, Del, End}
 use Rattle.lt_arch.specs.declared.shape.Shape.{Shape}
 use Rattle.lt_arch.specs.declared.timing.Timing.{Timing}
-use Rattle.lt_arch.specs.State.{ChanState, State, NodeState, start, executed_of}
-use Rattle.lt_arch.specs.Readers.{node_count, chan_count}
+use Rattle.lt_arch.specs.State.{ChanState, State, NodeState, start}
 use Rattle.lt_arch.specs.Schedule.{IsPlacedIn, after_all, reached}
-use Rattle.lt_arch.specs.Step.{after, updated, woken}
+use Rattle.lt_arch.specs.Step.{after, woken}
 use Rattle.lt_place_reads.specs.declared.crossing.Crossing.{Crossing}
 use Rattle.lt_audit.specs.Audit.{AuditState}
 use Rattle.lt_audit.specs.Acts.{next_number}
 use Rattle.lt_audit.specs.Standing.{AuditStands, KnowsDeed}
 use Rattle.lt_audit.proofs.Seen.{chan_seen, executed_seen}
-use Rattle.lt_draw.specs.declared.picture.Arrow.{Arrow}
 use Rattle.lt_drawing.specs.declared.stroke.Stroke.{Stroke}
-use Rattle.lt_drawing.specs.declared.stroke.Stroke.TheVariants.{Point, Line, Edge}
+use Rattle.lt_drawing.specs.declared.stroke.Stroke.TheVariants.{Point}
 use Rattle.lt_drawing.specs.Lasts.{last_mark, last_mark_from, later_mark}
-use Rattle.lt_drawing.specs.Sketches.{IsDone, IsExecuted, IsSent, stroke_by}
-use Rattle.lt_drawing.specs.Strokes.{arrow_of, first_sent_or, pending_arrow, pending_below, sign_of, stroke_of, strokes_from, strokes_of}
+use Rattle.lt_drawing.specs.Sketches.{IsDeedDone, IsExecuted, IsSent, stroke_by}
+use Rattle.lt_drawing.specs.Strokes.{first_sent_or, pending_arrow, pending_below, sign_of, stroke_of, strokes_from, strokes_of}
 
 module _ (cross : List Crossing) (s : Shape) (t : Timing) (rows : ℕ) where
   -- the last event's stroke comes last
@@ -39,7 +37,7 @@ module _ (cross : List Crossing) (s : Shape) (t : Timing) (rows : ℕ) where
 
 -- what is read of an auditor around an event gives what the event is drawn as
 pub stroke_same : (a b : AuditState) (cross : List Crossing) (s : Shape) (t : Timing) (rows : ℕ) (es : List Event) (number executed sent : ℕ) (deed : Deed) (e : Event)
-    → AuditStands a s t rows es → IsPlacedIn a.shape e → KnowsDeed b s rows (reached s t rows es) e → IsExecuted a e executed → IsSent a e sent → IsDone b e deed
+    → AuditStands a s t rows es → IsPlacedIn a.shape e → KnowsDeed b s rows (reached s t rows es) e → IsExecuted a e executed → IsSent a e sent → IsDeedDone b e deed
     → stroke_by cross s number deed executed sent e ≡ stroke_of cross s rows (reached s t rows es) number e
 stroke_same a b cross s t rows es number executed sent deed (Act n at) stands placed knows ex se done =
     λ i. Point (record { event = number; node = n; time = at; sign = sign_of ((done ∙ knows) i) ((ex ∙ executed_seen a s t rows es stands n placed) i) })

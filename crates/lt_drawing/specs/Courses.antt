@@ -59,15 +59,15 @@ oldest_for st (TooEarly c) = first_sent_or 0 (st.chan c).transit
 oldest_for st NoEnd = 0
 
 -- the tick by which the node or the message of an offence was due, or before which it was not, by those two times
-abbrev pub bound_by : Shape → Timing → (last : Option ℕ) → (oldest : ℕ) → Offence → Option ℕ
-bound_by s t last oldest AfterEnd = None
-bound_by s t last oldest Backwards = None
-bound_by s t last oldest (NodeOverdue n) = Some (after_last last (tmax_of t n))
-bound_by s t last oldest (ChannelOverdue c) = Some (oldest + dmax_of t (from_of s c) (to_of s c))
-bound_by s t last oldest (TooSoon n) = Some (after_last last (tmin_of t n))
-bound_by s t last oldest (NothingSent c) = None
-bound_by s t last oldest (TooEarly c) = Some (oldest + dmin_of t (from_of s c) (to_of s c))
-bound_by s t last oldest NoEnd = None
+abbrev pub offence_bound : Shape → Timing → (last : Option ℕ) → (oldest : ℕ) → Offence → Option ℕ
+offence_bound s t last oldest AfterEnd = None
+offence_bound s t last oldest Backwards = None
+offence_bound s t last oldest (NodeOverdue n) = Some (after_last last (tmax_of t n))
+offence_bound s t last oldest (ChannelOverdue c) = Some (oldest + dmax_of t (from_of s c) (to_of s c))
+offence_bound s t last oldest (TooSoon n) = Some (after_last last (tmin_of t n))
+offence_bound s t last oldest (NothingSent c) = None
+offence_bound s t last oldest (TooEarly c) = Some (oldest + dmin_of t (from_of s c) (to_of s c))
+offence_bound s t last oldest NoEnd = None
 
 -- where an event at this time stands out, with that tick
 abbrev pub wrong_by : Shape → (last : Option ℕ) → (oldest at bound : ℕ) → Offence → Wrong
@@ -86,8 +86,8 @@ refused_by s t last oldest e o = record {
   time = time_of e;
   row = event_text s e;
   offence = o;
-  bound = bound_by s t last oldest o;
-  wrong = wrong_by s last oldest (time_of e) (time_or_zero (bound_by s t last oldest o)) o;
+  bound = offence_bound s t last oldest o;
+  wrong = wrong_by s last oldest (time_of e) (time_or_zero (offence_bound s t last oldest o)) o;
 }
 
 -- in this state

@@ -1,5 +1,5 @@
 -- A schedule as one SVG: what is right, and what is answered over files.
-use Rattle.std.specs.Prelude.{◌≡◌, ℕ, List, ◌++◌, Option, Some, Ok, Result}
+use Rattle.std.specs.Prelude.{ℕ, List, ◌++◌, Option, Some, Result}
 use Rattle.lt_base.specs.declared.memory.Or.{Or}
 use Rattle.lt_io.specs.FilesState.{FilesState}
 use Rattle.lt_io.specs.Visits.{Errand}

@@ -32,12 +32,12 @@ last_mark_for xs (TooEarly c) = None
 last_mark_for xs NoEnd = None
 
 -- when the oldest message in transit on the channel of an offence was sent
-abbrev pub oldest_in : AuditState → Offence → ℕ
-oldest_in a AfterEnd = 0
-oldest_in a Backwards = 0
-oldest_in a (NodeOverdue n) = 0
-oldest_in a (ChannelOverdue c) = first_sent_or 0 (chan_at a.chans c).transit
-oldest_in a (TooSoon n) = 0
-oldest_in a (NothingSent c) = 0
-oldest_in a (TooEarly c) = first_sent_or 0 (chan_at a.chans c).transit
-oldest_in a NoEnd = 0
+abbrev pub oldest_read : AuditState → Offence → ℕ
+oldest_read a AfterEnd = 0
+oldest_read a Backwards = 0
+oldest_read a (NodeOverdue n) = 0
+oldest_read a (ChannelOverdue c) = first_sent_or 0 (chan_at a.chans c).transit
+oldest_read a (TooSoon n) = 0
+oldest_read a (NothingSent c) = 0
+oldest_read a (TooEarly c) = first_sent_or 0 (chan_at a.chans c).transit
+oldest_read a NoEnd = 0

@@ -1,5 +1,5 @@
 -- The picture of a schedule.
-use Rattle.std.specs.Prelude.{ℕ, ◌+◌, ◌-◌, List, ◌++◌, length, Option, Some, None, false, unwrap_or, if◌then◌else◌}
+use Rattle.std.specs.Prelude.{ℕ, ◌-◌, List, ◌++◌, length, Option, Some, None, false, unwrap_or, if◌then◌else◌}
 use Rattle.lt_arch.specs.declared.shape.Shape.{Shape}
 use Rattle.lt_audit.specs.Acts.{next_number}
 use Rattle.lt_audit.specs.declared.miss.Miss.{Miss}
@@ -16,7 +16,7 @@ use Rattle.lt_drawing.specs.declared.window.Window.{Window}
 use Rattle.lt_drawing.specs.Courses.{time_or_zero}
 use Rattle.lt_drawing.specs.Kept.{arrows_if, arrows_in, count_in, is_in_window, marks_in}
 use Rattle.lt_drawing.specs.Strokes.{last_time, stroke_time_at}
-use Rattle.lt_drawing.specs.Titles.{alone_text, events_text, nodes_text, note_text, protocol_text, ring_text, row_text, ticks_text, title_text}
+use Rattle.lt_drawing.specs.Titles.{alone_text, events_text, nodes_text, note_text, protocol_text, ring_text, refused_row_text, ticks_text, title_text}
 use Rattle.lt_drawing.specs.Windows.{window_of}
 
 -- the line below the title
@@ -26,18 +26,18 @@ facts_text k w c =
     ++ ticks_text w (last_time c.strokes) c.refused ++ alone_text k.ground.shape k.ground.node
 
 -- the event of this number that is refused, with the line of a run that refuses it
-abbrev pub drawn_refusal : Shape → (number : ℕ) → RefusedEvent → Offence
-drawn_refusal s number r = record {
+abbrev pub shown_refusal : Shape → (number : ℕ) → RefusedEvent → Offence
+shown_refusal s number r = record {
   time = r.time;
   refusal = offence_line s number r.offence;
-  row = row_text number r.row r.offence;
+  row = refused_row_text number r.row r.offence;
   note = note_text (time_or_zero r.bound) r.offence;
   wrong = r.wrong;
 }
 
 abbrev pub refusal_in : Shape → (number : ℕ) → Option RefusedEvent → Option Offence
 refusal_in s number None = None
-refusal_in s number (Some r) = Some (drawn_refusal s number r)
+refusal_in s number (Some r) = Some (shown_refusal s number r)
 
 -- the first execution with a message too few or too many, where its event is drawn
 abbrev pub ring_at : Shape → Window → (time : ℕ) → Miss → Option Ring

@@ -1,14 +1,12 @@
 -- Offences at places of a shape.
-use Rattle.std.specs.Prelude.{◌<◌, ◌≤◌, ℕ, List, [], ◌∷◌, Option, Some, None}
+use Rattle.std.specs.Prelude.{◌<◌, ◌≤◌, ℕ, Option, Some, None}
 use Rattle.lt_arch.specs.declared.event.Offence.{Offence}
 use Rattle.lt_arch.specs.declared.event.Offence.TheVariants.{AfterEnd, Backwards, NodeOverdue, ChannelOverdue, TooSoon, NothingSent, TooEarly, NoEnd}
 use Rattle.lt_arch.specs.declared.limits.TheConstants.{GREATEST_TIME}
 use Rattle.lt_arch.specs.declared.shape.Shape.{Shape}
 use Rattle.lt_arch.specs.Readers.{node_count, chan_count}
-use Rattle.lt_audit.specs.Audit.{AuditState, chan_at}
 use Rattle.lt_drawing.specs.declared.stroke.Stroke.{Stroke}
-use Rattle.lt_drawing.specs.declared.stroke.Stroke.TheVariants.{Point, Line, Edge}
-use Rattle.lt_drawing.specs.Strokes.{first_sent_or, stroke_time}
+use Rattle.lt_drawing.specs.Strokes.{stroke_time}
 
 -- the node or the channel of an offence is one of the shape
 abbrev pub IsPlacedOffence : Shape → Offence → Type 0

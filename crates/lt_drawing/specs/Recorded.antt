@@ -1,5 +1,5 @@
 -- A recorder of the events of a schedule.
-use Rattle.std.specs.Prelude.{◌≡◌, ℕ, List, ◌∷◌, ◌++◌, [], All, None, Some, Result, Ok, Err, Option}
+use Rattle.std.specs.Prelude.{◌≡◌, List, All, None, Some, Result, Ok, Err}
 use Rattle.lt_arch.specs.declared.event.Event.{Event}
 use Rattle.lt_arch.specs.declared.timing.Timing.{Timing}
 use Rattle.lt_arch.specs.Shapes.{HaveSameNodes}
@@ -11,12 +11,11 @@ use Rattle.lt_audit.specs.Audit.{AuditState}
 use Rattle.lt_audit.specs.Standing.{AuditStands}
 use Rattle.lt_drawing.specs.declared.course.Stopped.{Stopped}
 use Rattle.lt_drawing.specs.declared.stroke.Stroke.{Stroke}
-use Rattle.lt_drawing.specs.Courses.{drawing_rules}
 use Rattle.lt_drawing.specs.Placed.{IsTimelyStroke}
 use Rattle.lt_drawing.specs.Strokes.{strokes_of}
 
 -- the auditor stands for these events, over as many nodes as the timing has, and these are the strokes that they are drawn as
-pub record IsRecorded (a : AuditState) (cross : List Crossing) (t : Timing) (strokes : List Stroke) (es : List Event) : Type 0 where
+pub record IsNotedSoFar (a : AuditState) (cross : List Crossing) (t : Timing) (strokes : List Stroke) (es : List Event) : Type 0 where
   pub stands : AuditStands a a.shape t a.rows es
   pub same : HaveSameNodes a.shape t
   pub strokes_are : strokes ≡ strokes_of cross a.shape t a.rows es

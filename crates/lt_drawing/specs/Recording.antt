@@ -8,11 +8,11 @@ use Rattle.lt_schedule.specs.Rules.{Rules}
 use Rattle.lt_drawing.specs.declared.course.Stopped.{Stopped}
 use Rattle.lt_drawing.specs.declared.recorder.Recorder.{Recorder}
 use Rattle.lt_drawing.specs.Courses.{drawing_rules}
-use Rattle.lt_drawing.specs.Recorded.{IsRecorded}
+use Rattle.lt_drawing.specs.Recorded.{IsNotedSoFar}
 
 -- it has taken these events
 abbrev pub HasRecorded : Recorder → List Event → Type 0
-HasRecorded r es = IsRecorded r.auditor r.cross r.timing r.strokes es
+HasRecorded r es = IsNotedSoFar r.auditor r.cross r.timing r.strokes es
 
 -- how it judges lines and events
 abbrev pub recorder_rules : Recorder → Rules Event Stopped

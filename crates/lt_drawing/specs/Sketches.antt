@@ -1,5 +1,5 @@
 -- What an event is drawn as, by what is read of an auditor before and after it.
-use Rattle.std.specs.Prelude.{◌≡◌, ℕ, List, map}
+use Rattle.std.specs.Prelude.{◌≡◌, ℕ, List}
 use Rattle.lt_arch.specs.declared.event.Deed.{Deed}
 use Rattle.lt_arch.specs.declared.event.Event.{Event}
 use Rattle.lt_arch.specs.declared.event.Event.TheVariants.{Act, Del, End}
@@ -30,7 +30,7 @@ IsSent a (Del c at) sent = sent ≡ first_sent_or at (chan_at a.chans c).transit
 IsSent a (End at) sent = Unit {0}
 
 -- an activation did this deed
-abbrev pub IsDone : AuditState → Event → Deed → Type 0
-IsDone a (Act n at) deed = deed ≡ (member_at a.members n).did
-IsDone a (Del c at) deed = Unit {0}
-IsDone a (End at) deed = Unit {0}
+abbrev pub IsDeedDone : AuditState → Event → Deed → Type 0
+IsDeedDone a (Act n at) deed = deed ≡ (member_at a.members n).did
+IsDeedDone a (Del c at) deed = Unit {0}
+IsDeedDone a (End at) deed = Unit {0}

@@ -21,7 +21,6 @@ use Rattle.lt_draw.specs.declared.picture.Fate.{Fate}
 use Rattle.lt_draw.specs.declared.picture.Fate.TheVariants.{Delivered, Pending}
 use Rattle.lt_draw.specs.declared.picture.Ink.{Ink}
 use Rattle.lt_draw.specs.declared.picture.Ink.TheVariants.{Strong, Pale, Dashed}
-use Rattle.lt_draw.specs.declared.picture.Mark.{Mark}
 use Rattle.lt_draw.specs.declared.picture.Sign.{Sign}
 use Rattle.lt_draw.specs.declared.picture.Sign.TheVariants as sign
 use Rattle.lt_drawing.specs.declared.stroke.Stroke.{Stroke}

@@ -1,5 +1,5 @@
 -- The lines of text of a picture.
-use Rattle.std.specs.Prelude.{ℕ, ◌+◌, ◌-◌, ◌==◌, min, List, [], ◌∷◌, ◌++◌, length, codes, decimal, Bool, Option, Some, None, if◌then◌else◌}
+use Rattle.std.specs.Prelude.{ℕ, ◌==◌, min, List, [], ◌∷◌, ◌++◌, codes, decimal, Option, Some, None, if◌then◌else◌}
 use Rattle.lt_arch.specs.declared.event.Offence.{Offence}
 use Rattle.lt_arch.specs.declared.event.Offence.TheVariants.{AfterEnd, Backwards, NodeOverdue, ChannelOverdue, TooSoon, NothingSent, TooEarly, NoEnd}
 use Rattle.lt_arch.specs.declared.pace.Pace.{Pace}
@@ -50,13 +50,13 @@ ticks_text w end None = filled_template (codes ", ticks % to %") (w.from ∷ min
 ticks_text w end (Some r) = filled_template (codes " before the offence, ticks % to %") (w.from ∷ w.to ∷ [])
 
 -- that the messages of node n are drawn
-abbrev pub named_text : Shape → (n : ℕ) → List ℕ
-named_text s n = codes ", messages of " ++ name_of_node s n ++ codes " alone"
+abbrev pub messages_of_text : Shape → (n : ℕ) → List ℕ
+messages_of_text s n = codes ", messages of " ++ name_of_node s n ++ codes " alone"
 
 -- whose messages are drawn
 abbrev pub alone_text : Shape → Option ℕ → List ℕ
 alone_text s None = []
-alone_text s (Some n) = named_text s n
+alone_text s (Some n) = messages_of_text s n
 
 -- which event executes
 abbrev pub execution_text : Shape → Miss → List ℕ
@@ -75,15 +75,15 @@ abbrev pub numbered_row : (number : ℕ) → (row : List ℕ) → List ℕ
 numbered_row number row = codes "event " ++ decimal number ++ codes ": " ++ row
 
 -- as it stands beside a refusal
-abbrev pub row_text : (number : ℕ) → (row : List ℕ) → Offence → List ℕ
-row_text number row AfterEnd = numbered_row number row
-row_text number row Backwards = numbered_row number row
-row_text number row (NodeOverdue n) = numbered_row number row
-row_text number row (ChannelOverdue c) = numbered_row number row
-row_text number row (TooSoon n) = numbered_row number row
-row_text number row (NothingSent c) = numbered_row number row
-row_text number row (TooEarly c) = numbered_row number row
-row_text number row NoEnd = codes "no end"
+abbrev pub refused_row_text : (number : ℕ) → (row : List ℕ) → Offence → List ℕ
+refused_row_text number row AfterEnd = numbered_row number row
+refused_row_text number row Backwards = numbered_row number row
+refused_row_text number row (NodeOverdue n) = numbered_row number row
+refused_row_text number row (ChannelOverdue c) = numbered_row number row
+refused_row_text number row (TooSoon n) = numbered_row number row
+refused_row_text number row (NothingSent c) = numbered_row number row
+refused_row_text number row (TooEarly c) = numbered_row number row
+refused_row_text number row NoEnd = codes "no end"
 
 -- what is wrong with it, with the tick by which it was due, or before which it was not
 abbrev pub note_text : (bound : ℕ) → Offence → List ℕ

@@ -9,8 +9,8 @@ use Rattle.lt_drawing.specs.Courses.{time_or_zero}
 use Rattle.lt_drawing.specs.Strokes.{last_time, stroke_time, stroke_time_at}
 
 -- how many events of so many nodes are drawn where nothing is asked
-abbrev pub most_drawn : (nodes : ℕ) → ℕ
-most_drawn nodes = max (60 * nodes) 120
+abbrev pub most_shown : (nodes : ℕ) → ℕ
+most_shown nodes = max (60 * nodes) 120
 
 -- the latest tick at which a picture begins, past the range of times
 abbrev pub latest_tick : ℕ
@@ -51,6 +51,6 @@ last_tick view from most xs refused = max (unwrap_or view.to (default_to from mo
 -- which ticks are drawn of events of so many nodes
 abbrev pub window_of : DrawView → (nodes : ℕ) → List Stroke → Option RefusedEvent → Window
 window_of view nodes xs refused = record {
-  from = first_tick view (most_drawn nodes) xs refused;
-  to = last_tick view (first_tick view (most_drawn nodes) xs refused) (most_drawn nodes) xs refused;
+  from = first_tick view (most_shown nodes) xs refused;
+  to = last_tick view (first_tick view (most_shown nodes) xs refused) (most_shown nodes) xs refused;
 }

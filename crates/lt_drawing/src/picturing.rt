@@ -3,14 +3,16 @@ ghost use Rattle.std.specs.Prelude.{◌≡◌, ◌≤◌, length, unwrap_or, IfO
 ghost use Rattle.lt_audit.specs.Acts.{next_number};
 ghost use Rattle.lt_draw.specs.PictureText.{picture_text};
 ghost use Rattle.lt_text_lines.specs.ScheduleLines.{offence_line};
-ghost use Rattle.lt_drawing.specs.Pictures.{drawn_refusal, facts_text, picture_in, picture_of, refusal_in, ring_at, ring_in};
+ghost use Rattle.lt_drawing.specs.Pictures.{shown_refusal, facts_text, picture_in, picture_of, refusal_in, ring_at, ring_in};
 
 use crate::course::{Course, RefusedEvent};
 use crate::keeping::{count_in, is_in_window, kept_arrows, marks_in};
 use crate::refusing::time_or_zero;
 use crate::stage::Stage;
 use crate::stroke::Stroke;
-use crate::titles::{append_extent, append_setting, note_text, ring_text, row_text, title_text};
+use crate::titles::{
+    append_extent, append_setting, note_text, refused_row_text, ring_text, title_text,
+};
 use crate::view::DrawView;
 use crate::window::{Window, last_time, stroke_time_at, window_of};
 use lt_arch::Shape;
@@ -63,16 +65,16 @@ fn refusal_line(
 }
 
 // The event of this number that is refused.
-fn drawn_refusal(
+fn shown_refusal(
     alloc: Global,
     shape: &Shape,
     number: u32,
     refused: &RefusedEvent,
 ) -> Result<lt_draw::Offence, Memory>
-    ensures { IfOk result (λ drawn. drawn ≡ drawn_refusal shape.now number refused.now) }
+    ensures { IfOk result (λ drawn. drawn ≡ shown_refusal shape.now number refused.now) }
 {
     let refusal = refusal_line(alloc, shape, number, refused.offence)?;
-    let row = row_text(alloc, number, refused.row.as_slice(), refused.offence)?;
+    let row = refused_row_text(alloc, number, refused.row.as_slice(), refused.offence)?;
     let note = note_text(alloc, time_or_zero(refused.bound), refused.offence)?;
     Ok(lt_draw::Offence {
         time: refused.time,
@@ -93,7 +95,7 @@ fn refusal_in(
 {
     match refused {
         None => Ok(None),
-        Some(refused) => Ok(Some(drawn_refusal(alloc, shape, number, refused)?)),
+        Some(refused) => Ok(Some(shown_refusal(alloc, shape, number, refused)?)),
     }
 }
 

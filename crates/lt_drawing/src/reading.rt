@@ -6,7 +6,7 @@ ghost use Rattle.lt_arch.specs.Schedule.{IsPlacedIn};
 ghost use Rattle.lt_arch.specs.Shapes.{HaveSameNodes};
 ghost use Rattle.lt_audit.specs.Audit.{chan_at};
 ghost use Rattle.lt_drawing.specs.Strokes.{first_sent_or, pending_arrow, pending_below};
-ghost use Rattle.lt_drawing.specs.Sketches.{IsDone, IsExecuted, IsSent};
+ghost use Rattle.lt_drawing.specs.Sketches.{IsDeedDone, IsExecuted, IsSent};
 
 use crate::sketch::{arrow_of, chan_at};
 use lt_arch::{Deed, Event, Timing};
@@ -43,7 +43,7 @@ pub(crate) fn sent_before(auditor: &Auditor, e: &Event) -> u64
 /// What the node did that an event activated.
 pub(crate) fn done_at(auditor: &Auditor, e: &Event) -> Deed
     requires { IsPlacedIn auditor.now.shape e.now }
-    ensures { IsDone auditor.now e.now result }
+    ensures { IsDeedDone auditor.now e.now result }
 {
     match e {
         Event::Act(node, _) => auditor.did(*node),
@@ -73,7 +73,8 @@ pub(crate) fn pending_of(
     timing: &Timing,
 ) -> Result<List<Arrow>, Memory>
     requires same { HaveSameNodes auditor.now.shape timing.now }
-    ensures { IfOk result (λ arrows. arrows ≡ pending_below cross.now auditor.now.shape timing.now (chan_at auditor.now.chans) (chan_count auditor.now.shape)) }
+    ensures { IfOk result (λ arrows. arrows ≡ pending_below cross.now auditor.now.shape timing.now
+        (chan_at auditor.now.chans) (chan_count auditor.now.shape)) }
 {
     auditor.invariant_holds();
     let mut arrows = List::new(alloc);
@@ -94,7 +95,8 @@ fn add_pending(
 ) -> Result<(), Memory>
     requires same { HaveSameNodes auditor.now.shape timing.now }
     requires channel { channel < chan_count auditor.now.shape }
-    ensures { OnOk result (arrows.new ≡ arrows.old ++ map (pending_arrow cross.now auditor.now.shape timing.now channel) (chan_at auditor.now.chans channel).transit) }
+    ensures { OnOk result (arrows.new ≡ arrows.old
+        ++ map (pending_arrow cross.now auditor.now.shape timing.now channel) (chan_at auditor.now.chans channel).transit) }
 {
     let count = auditor.transit_count(channel);
     'places: for place in 0..count {
@@ -114,7 +116,8 @@ fn add_place(
 ) -> Result<(), Memory>
     requires same { HaveSameNodes auditor.now.shape timing.now }
     requires channel { channel < chan_count auditor.now.shape }
-    ensures { OnOk result (arrows.new ≡ arrows.old ++ pending_arrow cross.now auditor.now.shape timing.now channel (slice_index_or (chan_at auditor.now.chans channel).transit place 0) ∷ []) }
+    ensures { OnOk result (arrows.new ≡ arrows.old
+        ++ pending_arrow cross.now auditor.now.shape timing.now channel (slice_index_or (chan_at auditor.now.chans channel).transit place 0) ∷ []) }
 {
     let sent = sent_at(auditor, channel, place);
     arrows.push(pending_arrow(auditor, cross, timing, channel, sent))

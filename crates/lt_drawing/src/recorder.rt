@@ -12,11 +12,11 @@ ghost use Rattle.lt_schedule.specs.declared.halt.Stop.TheVariants as stops;
 ghost use Rattle.lt_drawing.specs.Courses.{drawing_rules, stopped_at};
 ghost use Rattle.lt_drawing.specs.Recorded.{JudgesNextEvent};
 ghost use Rattle.lt_drawing.specs.Recording.{HasRecorded, KeepsRecorder, offence_behind, recorder_rules};
-ghost use Rattle.lt_drawing.specs.Sketches.{IsDone, stroke_by};
+ghost use Rattle.lt_drawing.specs.Sketches.{IsDeedDone, stroke_by};
 
 use crate::course::Stopped;
 use crate::reading::{done_at, executed_at, pending_of, sent_before};
-use crate::refusing::{last_mark_for, oldest_in, refused_by};
+use crate::refusing::{last_mark_for, oldest_read, refused_by};
 use crate::sketch::stroke_by;
 use crate::stroke::Stroke;
 use lt_arch::{Event, Offence, Shape, Timing};
@@ -94,8 +94,9 @@ impl Recorder {
         ensures auditor { self.new.auditor ≡ self.old.auditor }
         ensures cross { self.new.cross ≡ self.old.cross }
         ensures timing { self.new.timing ≡ self.old.timing }
-        ensures strokes { OnOk result ((deed : Deed) × IsDone self.old.auditor e.now deed
-            × (self.new.strokes ≡ self.old.strokes ++ stroke_by self.old.cross self.old.auditor.shape self.old.auditor.taken deed executed sent e.now ∷ [])) }
+        ensures strokes { OnOk result ((deed : Deed) × IsDeedDone self.old.auditor e.now deed
+            × (self.new.strokes ≡ self.old.strokes
+            ++ stroke_by self.old.cross self.old.auditor.shape self.old.auditor.taken deed executed sent e.now ∷ [])) }
         ensures short { IfErr result (λ stop. stop ≡ stops.Memory) }
     {
         let deed = done_at(&self.auditor, e);
@@ -159,7 +160,7 @@ impl Recorder {
         ensures timing { self.new.timing ≡ self.old.timing }
     {
         let last = last_mark_for(self.strokes.as_slice(), offence);
-        let oldest = oldest_in(&self.auditor, offence);
+        let oldest = oldest_read(&self.auditor, offence);
         let shape = self.auditor.shape();
         let refused = refused_by(self.alloc, shape, &self.timing, last, oldest, e, offence)?;
         let cross = self.cross.as_slice();

@@ -88,7 +88,8 @@ fn replay_file<F: Files>(
     requires stands { HasRecorded recorder.old [] }
     ensures cause { ReadCounted (F.state files.old).faults (F.state files.new).faults result }
     ensures link_cause { HaltCounted 0 0 result }
-    ensures sound { IsTrue (F.state files.old).sound → IsSome ((F.state files.old).named name.now) → (F.state files.new).faults ≡ (F.state files.old).faults }
+    ensures sound { IsTrue (F.state files.old).sound → IsSome ((F.state files.old).named name.now)
+        → (F.state files.new).faults ≡ (F.state files.old).faults }
     ensures keeps_files { KeepsNames (F.state files.old) (F.state files.new) }
     ensures visits { VisitsUnlessRead name.now (F.state files.old).visits (F.state files.new).visits result }
     ensures keeps { KeepsRecorder recorder.old recorder.new }
@@ -167,7 +168,8 @@ fn unended(alloc: Global, auditor: &Auditor, last: u64) -> Option<RefusedEvent>
 
 // The first execution with a message too few or too many, as far as events can be numbered.
 fn first_miss(auditor: &Auditor) -> Option<Miss>
-    ensures { auditor.now.taken < 2 ^ 32 - 1 → (s : OfShape) (t : OfTiming) (rows : ℕ) (es : Items OfEvent) → AuditStands auditor.now s t rows es → FirstMiss s t rows es result }
+    ensures { auditor.now.taken < 2 ^ 32 - 1
+        → (s : OfShape) (t : OfTiming) (rows : ℕ) (es : Items OfEvent) → AuditStands auditor.now s t rows es → FirstMiss s t rows es result }
 {
     if auditor.taken_count() == 4_294_967_295 {
         return None;

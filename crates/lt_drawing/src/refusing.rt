@@ -7,8 +7,8 @@ ghost use Rattle.lt_arch.specs.Schedule.{IsEventOf};
 ghost use Rattle.lt_arch.specs.Shapes.{HaveSameNodes};
 ghost use Rattle.lt_rows.specs.Texts.{event_text};
 ghost use Rattle.lt_draw.specs.declared.picture.Wrong.TheVariants as wrongs;
-ghost use Rattle.lt_drawing.specs.Courses.{bound_by, refused_by, time_or_zero, wrong_by};
-ghost use Rattle.lt_drawing.specs.Lasts.{last_mark, last_mark_for, later_mark, oldest_in};
+ghost use Rattle.lt_drawing.specs.Courses.{offence_bound, refused_by, time_or_zero, wrong_by};
+ghost use Rattle.lt_drawing.specs.Lasts.{last_mark, last_mark_for, later_mark, oldest_read};
 ghost use Rattle.lt_drawing.specs.Placed.{IsPlacedOffence, IsTimelyLast, IsTimelyStroke};
 
 use crate::course::RefusedEvent;
@@ -73,9 +73,9 @@ pub(crate) fn last_mark_for(strokes: &[Stroke], offence: Offence) -> Option<u64>
 }
 
 /// When the oldest message in transit on the channel of an offence was sent.
-pub(crate) fn oldest_in(auditor: &Auditor, offence: Offence) -> u64
+pub(crate) fn oldest_read(auditor: &Auditor, offence: Offence) -> u64
     requires { IsPlacedOffence auditor.now.shape offence }
-    ensures value { result ≡ oldest_in auditor.now offence }
+    ensures value { result ≡ oldest_read auditor.now offence }
     ensures timely { result ≤ GREATEST_TIME }
 {
     match offence {
@@ -102,7 +102,7 @@ fn after_last(last: Option<u64>, gap: u64) -> u64
 }
 
 // The tick by which the node or the message of an offence was due, or before which it was not.
-fn bound_by(
+fn offence_bound(
     shape: &Shape,
     timing: &Timing,
     last: Option<u64>,
@@ -113,7 +113,7 @@ fn bound_by(
     requires placed { IsPlacedOffence shape.now offence }
     requires last { IsTimelyLast last }
     requires oldest { oldest ≤ GREATEST_TIME }
-    ensures { result ≡ bound_by shape.now timing.now last oldest offence }
+    ensures { result ≡ offence_bound shape.now timing.now last oldest offence }
 {
     match offence {
         Offence::NodeOverdue(node) => Some(after_last(last, timing.tmax_of(node))),
@@ -232,7 +232,7 @@ pub(crate) fn refused_by(
     ensures { IfOk result (λ x. x ≡ refused_by shape.now timing.now last oldest e.now offence) }
 {
     let row = row_of(alloc, shape, e)?;
-    let bound = bound_by(shape, timing, last, oldest, offence);
+    let bound = offence_bound(shape, timing, last, oldest, offence);
     Ok(RefusedEvent {
         time: e.time(),
         row,

@@ -1,5 +1,6 @@
 // What an event is drawn as.
 ghost use Rattle.std.specs.Prelude.{◌≡◌, ◌<◌};
+ghost use Rattle.lt_arch.specs.declared.chan.ChanKind.TheVariants as kinds;
 ghost use Rattle.lt_arch.specs.Ends.{HasEnds};
 ghost use Rattle.lt_arch.specs.Readers.{chan_count, chan_of, node_count};
 ghost use Rattle.lt_arch.specs.Schedule.{IsPlacedIn};
@@ -22,11 +23,17 @@ fn sign_of(deed: Deed, executed: u32) -> Sign
     }
 }
 
+fn data_ink(crossed: bool) -> Ink
+    ensures { result ≡ ink_by kinds.Data crossed }
+{
+    if crossed { Ink::Strong } else { Ink::Pale }
+}
+
 fn ink_by(kind: ChanKind, crossed: bool) -> Ink
     ensures { result ≡ ink_by kind crossed }
 {
     match kind {
-        ChanKind::Data => { if crossed { Ink::Strong } else { Ink::Pale } }
+        ChanKind::Data => data_ink(crossed),
         ChanKind::Ack => Ink::Dashed,
     }
 }

@@ -1,7 +1,7 @@
 // The lines of text of a picture.
 ghost use Rattle.std.specs.Prelude.{◌≡◌, ◌++◌, ◌≤◌, decimal, drop, length, IfOk, OnOk};
 ghost use Rattle.lt_arch.specs.declared.pace.Pace.TheVariants as paces;
-ghost use Rattle.lt_drawing.specs.Titles.{alone_text, base_name, delivered_text, events_text, execution_text, named_text, nodes_text, note_text, numbered_row, protocol_text, reach_text, ring_text, row_text, ticks_text, title_text};
+ghost use Rattle.lt_drawing.specs.Titles.{alone_text, base_name, delivered_text, events_text, execution_text, messages_of_text, nodes_text, note_text, numbered_row, protocol_text, reach_text, ring_text, refused_row_text, ticks_text, title_text};
 
 use crate::course::RefusedEvent;
 use crate::window::Window;
@@ -118,7 +118,7 @@ fn append_ticks(
 
 // Appends that the messages of this node are drawn.
 fn append_named(out: &mut List<u8>, shape: &Shape, node: u32) -> Result<(), Memory>
-    ensures { OnOk result (out.new ≡ out.old ++ named_text shape.now node) }
+    ensures { OnOk result (out.new ≡ out.old ++ messages_of_text shape.now node) }
 {
     out.extend(b", messages of ")?;
     append_node_name(out, shape, node)?;
@@ -211,13 +211,13 @@ fn numbered_row(alloc: Global, number: u32, row: &[u8]) -> Result<List<u8>, Memo
 }
 
 /// The row of an event with this number that is refused.
-pub(crate) fn row_text(
+pub(crate) fn refused_row_text(
     alloc: Global,
     number: u32,
     row: &[u8],
     offence: Offence,
 ) -> Result<List<u8>, Memory>
-    ensures { IfOk result (λ text. text ≡ row_text number row.now offence) }
+    ensures { IfOk result (λ text. text ≡ refused_row_text number row.now offence) }
 {
     if matches!(offence, Offence::NoEnd) {
         return List::from_slice(alloc, b"no end");

@@ -1,7 +1,7 @@
 // Which ticks are drawn.
 ghost use Rattle.std.specs.Prelude.{◌≡◌, ◌≤◌, ◌+◌, ◌-◌, ◌*◌, length, nat_le, position};
 ghost use Rattle.lt_drawing.specs.Strokes.{last_time, stroke_time, stroke_time_at};
-ghost use Rattle.lt_drawing.specs.Windows.{default_from, default_to, first_tick, last_tick, latest_tick, most_drawn, past_stop, reach_time, skipped_to, stop_time, window_of};
+ghost use Rattle.lt_drawing.specs.Windows.{default_from, default_to, first_tick, last_tick, latest_tick, most_shown, past_stop, reach_time, skipped_to, stop_time, window_of};
 
 use crate::course::RefusedEvent;
 use crate::refusing::time_or_zero;
@@ -19,9 +19,9 @@ pub struct Window {
 const LATEST: u64 = 2_000_000_000_000_000;
 
 // How many events of so many nodes are drawn where nothing is asked.
-fn most_drawn(nodes: usize) -> usize
+fn most_shown(nodes: usize) -> usize
     requires { nodes ≤ 4294967295 }
-    ensures value { result ≡ most_drawn nodes }
+    ensures value { result ≡ most_shown nodes }
     ensures some { 1 ≤ result }
     ensures few { result ≤ 60 * 4294967295 }
 {
@@ -179,7 +179,7 @@ pub(crate) fn window_of(
     requires { nodes ≤ 4294967295 }
     ensures { result ≡ window_of view nodes strokes.now refused.now }
 {
-    let most = most_drawn(nodes);
+    let most = most_shown(nodes);
     let from = first_tick(view, most, strokes, refused);
     let to = last_tick(view, from, most, strokes, refused);
     Window { from, to }

@@ -1,4 +1,4 @@
-use Rattle.std.proofs.Common.{◌∙◌, ap, refl}
+use Rattle.std.proofs.Common.{ap, refl}
 use Rattle.std.specs.Prelude.{option_map}
 use Rattle.lt_front.specs.Checked.{CheckedText, examined_part}
 use Rattle.lt_load.specs.Errands.{inputs_errand}

@@ -1,4 +1,4 @@
-use Rattle.std.proofs.Common.{◌≡◌, ◌∙◌, ◌<◌, ◌-◌, ◌^◌, List, length, sym, ap, arith}
+use Rattle.std.proofs.Common.{◌∙◌, ◌<◌, ◌-◌, ◌^◌, List, length, sym, ap, arith}
 use Rattle.std.proofs.Math.Nat.{min-le_left}
 use Rattle.lt_arch.specs.Readers.{chan_count}
 use Rattle.lt_audit.specs.Audit.{chan_at}

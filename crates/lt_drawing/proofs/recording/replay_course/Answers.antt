@@ -1,4 +1,4 @@
-use Rattle.std.proofs.Common.{ℕ, refl}
+use Rattle.std.proofs.Common.{refl}
 use Rattle.lt_answer.proofs.Stages.{runs_short_by}
 use Rattle.lt_drawing.specs.Recording.{HasRecorded}
 use Rattle.lt_drawing.proofs.Outcomes.{halted, took_all, took_short}

@@ -1,4 +1,4 @@
-use Rattle.std.proofs.Common.{◌≡◌, ◌∙◌, List, sym, ap, subst}
+use Rattle.std.proofs.Common.{◌∙◌, List, sym, ap, subst}
 use Rattle.lt_arch.specs.declared.shape.Shape.{Shape}
 use Rattle.lt_arch.specs.Readers.{chan_count}
 use Rattle.lt_arch.specs.Schedule.{reached}
@@ -13,8 +13,8 @@ use Rattle.lt_drawing.proofs.Placing.{offence_placed}
 use Rattle.lt_drawing.proofs.Recorded.{stopped_is}
 use Rattle.lt_drawing.proofs.recorder.Recorder.stopped.Goals as goal
 
-pub oldest_in-oldest-requires : goal.oldest_in-oldest-requires
-oldest_in-oldest-requires c =
+pub oldest_read-oldest-requires : goal.oldest_read-oldest-requires
+oldest_read-oldest-requires c =
     let old = c.args.self.now in
     let at = c.requires.stands in
     offence_placed old.auditor.shape old.timing (reached old.auditor.shape old.timing old.auditor.rows at.0) c.args.e.now c.args.offence c.requires.event.placed (c.requires.offence at.0 at.1)
@@ -33,6 +33,6 @@ returns-clause-stopped c = λ before rec.
     let placed = offence_placed old.auditor.shape old.timing (reached old.auditor.shape old.timing old.auditor.rows before) c.args.e.now o c.requires.event.placed (c.requires.offence before rec) in
     let last = c.last_mark_for-last.ensures.value ∙ ap (λ (xs : List Stroke). last_mark_for xs o) c.as_slice.ensures in
     let pending = c.in_ok-pending.ensures ∙ ap (λ (x : List Crossing). pending_below x old.auditor.shape old.timing (chan_at old.auditor.chans) (chan_count old.auditor.shape)) c.as_slice-cross.ensures in
-    let refused = c.in_ok-refused.ensures ∙ (λ i. refused_by (c.shape-shape.ensures i) old.timing (last i) (c.oldest_in-oldest.ensures.value i) c.args.e.now o) in
+    let refused = c.in_ok-refused.ensures ∙ (λ i. refused_by (c.shape-shape.ensures i) old.timing (last i) (c.oldest_read-oldest.ensures.value i) c.args.e.now o) in
     (λ i. record { strokes = c.replace-strokes.ensures.value i; pending = c.in_ok-pending.pending; refused = c.in_ok-refused.refused })
     ∙ stopped_is old.auditor old.cross old.timing old.strokes before rec c.args.e.now o c.in_ok-pending.pending c.in_ok-refused.refused placed pending refused

@@ -1,6 +1,4 @@
-use Rattle.std.proofs.Common.{◌++◌, ◌∷◌, ◌∙◌, [], sym, subst}
-use Rattle.lt_audit.specs.Audit.{AuditState}
-use Rattle.lt_drawing.specs.Recorded.{IsRecorded}
+use Rattle.std.proofs.Common.{◌++◌, ◌∷◌, []}
 use Rattle.lt_drawing.proofs.Recorded.{judged_taken, moved, on_ok, recorded_on}
 use Rattle.lt_drawing.proofs.recorder.Recorder.take.Goals as goal
 
