@@ -29,7 +29,8 @@ use Rattle.lt_drawing.specs.declared.stage.Stage.{Stage}
 use Rattle.lt_drawing.specs.declared.view.DrawView.{DrawView}
 use Rattle.lt_drawing.specs.Courses.{CourseBy, course_or_fault, course_verdict, drawing_rules, stopped_at}
 use Rattle.lt_drawing.specs.Drawn.{draw_verdict, plan_drawn, stage_course_verdict}
-use Rattle.lt_drawing.specs.Stages.{IsStageOf, lossless_config_verdict, lossless_verdict, losses_fault, setup_stage_verdict, stage_verdict}
+use Rattle.lt_scheduling.specs.Scheduled.{losses_fault}
+use Rattle.lt_drawing.specs.Stages.{IsStageOf, lossless_config_verdict, lossless_verdict, setup_stage_verdict, stage_verdict}
 use Rattle.lt_drawing.proofs.Alike.{AreAlikeReads, SameCase, SameRefusal, alike_file}
 
 -- a schedule file, whatever crosses

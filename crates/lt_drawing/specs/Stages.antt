@@ -1,5 +1,5 @@
 -- What a schedule is drawn over: all checks of a run but the acceptance of the timing, with a leader or without.
-use Rattle.std.specs.Prelude.{◌≡◌, ℕ, List, length, Option, Some, None, Ok, Err, Result, codes, ◌++◌}
+use Rattle.std.specs.Prelude.{◌≡◌, ℕ, List, length, Option, Some, None, Ok, Err, Result, ◌++◌}
 use Rattle.lt_base.specs.declared.memory.Or.{Or}
 use Rattle.lt_io.specs.FilesState.{FilesState}
 use Rattle.lt_arch.specs.Paced.{allowed_of}
@@ -9,22 +9,17 @@ use Rattle.lt_lead.specs.Paced.{IsShapeBy}
 use Rattle.lt_front.specs.Examined.{ExaminedText}
 use Rattle.lt_front.specs.Flattened.{flat_of}
 use Rattle.lt_config.specs.declared.config.Config.{Config}
-use Rattle.lt_config.specs.declared.fault.ConfigKind.TheVariants.{OutOfRange}
 use Rattle.lt_answer.specs.Answered.{Verdict, AndThen}
 use Rattle.lt_load_fit.specs.declared.fault.CommandFault.{CommandFault}
-use Rattle.lt_load_fit.specs.declared.fault.CommandFault.TheVariants as fault
 use Rattle.lt_load_fit.specs.Fits.{SetupPasses}
 use Rattle.lt_load.specs.Errands.{config_errand, inputs_errand, load_errands}
 use Rattle.lt_load.specs.Loaded.{program_verdict, config_verdict}
 use Rattle.lt_load.specs.OnFiles.{OnFiles}
 use Rattle.lt_load.specs.Plan.{Plan}
+use Rattle.lt_scheduling.specs.Scheduled.{losses_fault}
 use Rattle.lt_inspect.specs.Scenes.{named_node, named_place_verdict, placed_plan_verdict}
 use Rattle.lt_drawing.specs.declared.stage.Ground.{Ground}
 use Rattle.lt_drawing.specs.declared.stage.Stage.{Stage}
-
--- that of a setup whose links lose messages: `losses` is outside the range of those that a schedule is drawn for
-abbrev pub losses_fault : CommandFault
-losses_fault = fault.Config (record { kind = OutOfRange; key = codes "losses" })
 
 -- a setup whose links lose no messages
 unfoldable pub lossless_verdict : Config → Verdict Config CommandFault
