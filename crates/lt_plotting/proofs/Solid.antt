@@ -1,7 +1,7 @@
 -- What is drawn solid is what the run printed, and all streams end together.
-use Rattle.std.proofs.Common.{◌≡◌, ◌∙◌, ◌<◌, ℕ, zero, suc, List, [], ◌∷◌, map, length, take, get_or, Option, Some, Ok, IsTrue, refl, sym, ap, subst, arith}
+use Rattle.std.proofs.Common.{◌≡◌, ◌∙◌, ◌<◌, ℕ, zero, suc, List, [], ◌∷◌, map, length, take, Some, IsTrue, refl, sym, ap, subst, arith}
 use Rattle.std.specs.Prelude.{slice_get, slice_index_or}
-use Rattle.std.proofs.lemmas.List.{get_or-map, length-map}
+use Rattle.std.proofs.lemmas.List.{get_or-map}
 use Rattle.lt_base.specs.declared.value.Cell.{Cell}
 use Rattle.lt_base.specs.declared.value.Value.{Value}
 use Rattle.lt_base.specs.Program.{WholeProgram}
@@ -12,14 +12,11 @@ use Rattle.lt_io.specs.FabricState.{FabricState}
 use Rattle.lt_place.specs.declared.layout.Layout.{Layout}
 use Rattle.lt_plot.specs.declared.plot.Row.{Row}
 use Rattle.lt_load_fit.specs.Main.{main_in}
-use Rattle.lt_load.specs.Plan.{Plan}
-use Rattle.lt_evaluate.specs.declared.outputs.Outputs.{Outputs}
 use Rattle.lt_evaluate.specs.Main.{output_streams}
 use Rattle.lt_run.specs.Printed.{AreShown}
 use Rattle.lt_run.specs.Run.{OutputsShow, run_along_verdict}
 use Rattle.lt_run.proofs.Reading.{has_read}
 use Rattle.lt_plotting.specs.Picture.{output_row, output_rows}
-use Rattle.lt_plotting.specs.Plotted.{faithful_run_verdict}
 use Rattle.lt_plotting.specs.Laws.{SolidIsPromised, StreamsEndTogether}
 use Rattle.lt_plotting.proofs.Places.{placed_at}
 

@@ -1,5 +1,5 @@
 -- What is right of what was loaded is right of its plan.
-use Rattle.std.proofs.Common.{◌≡◌, ℕ, List, Option, Some, None, Result, Ok, Err, IsTrue, inl, inr, subst}
+use Rattle.std.proofs.Common.{ℕ, List, Option, Some, None, Result, Ok, Err, IsTrue, inl, inr, subst}
 use Rattle.lt_base.specs.declared.value.Value.{Value}
 use Rattle.lt_base.specs.Inputs.{InputTable}
 use Rattle.lt_base.specs.Program.{WholeProgram}

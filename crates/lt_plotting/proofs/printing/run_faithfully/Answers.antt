@@ -1,4 +1,4 @@
-use Rattle.std.proofs.Common.{◌≡◌, ◌∙◌, ◌==◌, ℕ, List, length, IsTrue, ap, sym}
+use Rattle.std.proofs.Common.{◌∙◌, ◌==◌, ℕ, List, length, IsTrue, ap}
 use Rattle.lt_io.specs.MemFabric.{mem_fabric_state}
 use Rattle.lt_answer.specs.World.{world}
 use Rattle.lt_watch.specs.Blamed.{watch_blame}
