@@ -52,7 +52,7 @@ x files 1 6
 6 fault: read/
 > lttac draw q i s c
 6 fault: read/
-> lttac draw p i q c --node a --from 0 --to 1000000000000000 --width 400
+> lttac draw p i q c --node all --from 0 --to 1000000000000000 --width 400
 6 fault: read/
 > lttac plot p q
 6 fault: read/
