@@ -1,0 +1,15 @@
+pub mod Arrivals
+pub mod Upcoming
+pub mod Measure
+pub mod Ending
+pub mod Losses
+pub mod LossyRows
+pub mod FileRows
+pub mod Least
+pub mod Changed
+pub mod Standing
+pub mod Following
+pub mod Pages
+pub mod Messages
+pub mod Waking
+pub mod Taking

@@ -1,0 +1,6 @@
+pub mod Losing
+pub mod LossyFile
+pub mod Laws
+pub mod Bounds
+pub mod Held
+pub mod LossyRecorded

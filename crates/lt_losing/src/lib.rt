@@ -1,0 +1,15 @@
+//! Schedules that a seed draws where links lose messages: as over links without losses, and of the messages that arrive some are lost.
+#![tactic(auto)]
+
+mod drawing;
+mod fresh;
+pub mod laws;
+mod page;
+mod pending;
+mod queue;
+mod recording;
+mod row;
+mod sending;
+mod words;
+
+pub use recording::lose;
