@@ -4,26 +4,24 @@ use Rattle.lt_io.specs.FilesState.{FilesState}
 use Rattle.lt_arch.specs.declared.event.Event.{Event}
 use Rattle.lt_arch.specs.declared.shape.Shape.{Shape}
 use Rattle.lt_arch.specs.declared.timing.Timing.{Timing}
-use Rattle.lt_config.specs.declared.config.Config.{Config}
 use Rattle.lt_front.specs.Examined.{ExaminedText}
 use Rattle.lt_front.specs.Flattened.{flat_of}
 use Rattle.lt_schedule.specs.declared.fault.ScheduleFault.{ScheduleFault}
 use Rattle.lt_schedule.specs.declared.fault.ScheduleFault.TheVariants.{Read}
 use Rattle.lt_schedule.specs.Verdict.{verdict}
-use Rattle.lt_answer.proofs.Decided.{HasOneKind, HasOneOutcome, exactly, and_then, and_then_one}
+use Rattle.lt_answer.proofs.Decided.{HasOneKind, HasOneOutcome, and_then, and_then_one}
 use Rattle.lt_load_fit.specs.declared.fault.CommandFault.{CommandFault}
-use Rattle.lt_load_fit.specs.Fits.{placed_verdict}
-use Rattle.lt_load.specs.Loaded.{program_verdict, inputs_verdict}
-use Rattle.lt_load.specs.Plan.{Plan, inputs_plan_verdict}
+use Rattle.lt_load.specs.Loaded.{program_verdict}
+use Rattle.lt_load.specs.Plan.{Plan}
 use Rattle.lt_load.proofs.OneLoad.{TellsLimits, program_decided}
-use Rattle.lt_load.proofs.OneCheck.{MergesPlaces, placed_decided}
-use Rattle.lt_load.proofs.OnePlan.{inputs_decided}
+use Rattle.lt_load.proofs.OneCheck.{MergesPlaces}
 use Rattle.lt_load.proofs.OneShape.{one_shape}
 use Rattle.lt_load.proofs.OnePlain.{plain_config_decided}
 use Rattle.lt_load.specs.Pacing.{plain_config_verdict}
 use Rattle.lt_arch.specs.declared.pace.Pace.TheVariants.{Plain}
 use Rattle.lt_inspect.specs.declared.scene.Scene.{Scene}
-use Rattle.lt_inspect.specs.Scenes.{IsSceneOf, named_node_verdict, named_place_verdict, placed_plan_verdict, setup_scene_verdict, scene_verdict}
+use Rattle.lt_inspect.specs.Scenes.{IsSceneOf, setup_scene_verdict, scene_verdict}
+use Rattle.lt_inspect.proofs.OneScene.{placed_once}
 use Rattle.lt_inspect.specs.Inspected.{InspectionEndsWith, IsAudited, IsTraced, inspect_file_verdict, schedule_command_fault, along_scene, inspect_along_verdict, audit_verdict, ordered_audit_verdict, ordered_trace_verdict, trace_verdict}
 
 -- a schedule file, whatever is told of it
@@ -80,29 +78,10 @@ module _ {T K : Type 0} (kind : CommandFault → K) (end : Scene → List Event 
   }
 
 module _ {K : Type 0} (kind : CommandFault → K) where
-  named_once : (checked : ExaminedText) (setup : Config) (node : Option (List ℕ)) → HasOneOutcome kind (named_node_verdict checked setup node)
-  named_once checked setup None = exactly kind (Ok setup)
-  named_once checked setup (Some name) = record {
-    faults = record { one_kind = λ e f p q. ap kind (p.1 ∙ sym q.1); not_both = λ e x p q. (let same = sym p.0 ∙ q.1.1 in cc) };
-    one_value = λ x y p q. p.0 ∙ sym q.0;
-  }
-
   module _ (along : TellsLimits kind) (places : MergesPlaces kind) (named : List ℕ → Option (List ℕ)) (inputs : List ℕ) (node : Option (List ℕ)) where
-    inputs_once : (checked : ExaminedText) (setup : Config) → HasOneOutcome kind (inputs_plan_verdict named inputs checked setup)
-    unfolding inputs_plan_verdict
-    inputs_once checked setup = and_then_one kind (inputs_verdict checked.program (named inputs)) _ (inputs_decided kind checked.program (named inputs)) (λ table. exactly kind (Ok _))
-
-    place_once : (checked : ExaminedText) (setup : Config) → HasOneOutcome kind (named_place_verdict checked setup node)
-    unfolding named_place_verdict
-    place_once checked setup = and_then_one kind (placed_verdict checked setup) _ (placed_decided kind places checked setup) (λ legal. named_once checked legal node)
-
-    placed_once : (checked : ExaminedText) (setup : Config) → HasOneOutcome kind (placed_plan_verdict named inputs node checked setup)
-    unfolding placed_plan_verdict
-    placed_once checked setup = and_then_one kind (named_place_verdict checked setup node) _ (place_once checked setup) (λ known. inputs_once checked known)
-
     setup_once : (config : List ℕ) (checked : ExaminedText) → HasOneOutcome kind (setup_scene_verdict named inputs config node checked)
     unfolding setup_scene_verdict
-    setup_once config checked = and_then_one kind (plain_config_verdict (named config)) _ (plain_config_decided kind (named config)) (λ setup. placed_once checked setup)
+    setup_once config checked = and_then_one kind (plain_config_verdict (named config)) _ (plain_config_decided kind (named config)) (λ setup. placed_once kind along places named inputs node checked setup)
 
     pub scene_once : (program config : List ℕ) → HasOneOutcome kind (scene_verdict named program inputs config node)
     unfolding scene_verdict
