@@ -13,3 +13,6 @@ pub mod Pages
 pub mod Messages
 pub mod Waking
 pub mod Taking
+pub mod Wider
+pub mod Shown
+pub mod Walking

@@ -8,7 +8,8 @@ use Rattle.lt_arch.specs.declared.shape.Shape.{Shape}
 use Rattle.lt_arch.specs.declared.timing.Timing.{Timing}
 use Rattle.lt_arch.specs.State.{Phase, Wait, Ready}
 use Rattle.lt_arch.specs.Readers.{node_count, chan_count, from_of, carries_data, tmax_of}
-use Rattle.lt_arch.specs.Deeds.{all_below}
+use Rattle.lt_arch.specs.declared.event.Deed.{Deed}
+use Rattle.lt_arch.specs.Deeds.{deed_of, all_below}
 use Rattle.lt_arch.specs.Shapes.{HaveSameNodes}
 use Rattle.lt_lossy.specs.State.{Message}
 use Rattle.lt_sim.specs.Words.{left_after, drawn_word, number_in}
@@ -27,6 +28,11 @@ ready_phase false = Wait
 -- each channel of a kind to node n, below a number, has delivered a message of at least this number
 abbrev pub all_heard : List Chan → (newest : List ℕ) → (n number : ℕ) → (data_kind : Bool) → (below : ℕ) → Bool
 all_heard cs newest n number data_kind below = all_below (λ c. not (leads_kind_to cs data_kind n c) || nat_le number (slice_index_or newest c 0)) below
+
+-- what node n does then by what it has heard, where it has executed so many instants; whether some channel to it is fresh makes no difference
+abbrev pub deed_heard : List Chan → (newest : List ℕ) → (n executed : ℕ) → (ready some left : Bool) → Deed
+deed_heard cs newest n executed ready some left =
+    deed_of (ready_phase ready) (all_heard cs newest n executed true (length cs)) some (all_heard cs newest n executed false (length cs)) left
 
 -- what a node that has sent and executed so many instants counts on channel c, and whether it sends there
 abbrev pub count_on : Shape → (sent executed c : ℕ) → ℕ

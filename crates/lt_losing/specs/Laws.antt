@@ -12,6 +12,7 @@ use Rattle.lt_lossy.specs.declared.event.LossyEvent.{LossyEvent}
 use Rattle.lt_lossy.specs.declared.event.LossyEvent.TheVariants.{Plain, Lose}
 use Rattle.lt_lossy.specs.Events.{IsLossyEventOf}
 use Rattle.lt_lossy.specs.Schedule.{IsLossyAdmissible, LossyEndsAt}
+use Rattle.lt_narrow.specs.Narrow.{HasBoundsWithin}
 use Rattle.lt_net_lossy.specs.Rules.{lossy_rules_of}
 use Rattle.lt_sim.specs.Drawn.{most_to}
 use Rattle.lt_losing.specs.Losing.{lossy_beginning, lossy_events_to, lossy_drawn}
@@ -72,3 +73,22 @@ LosesAtMost limit c es = (front between later : List LossyEvent) → es ≡ fron
 abbrev pub LosesFew : Type 0
 LosesFew =
     (s : Shape) (t : Timing) (limit rows rate seed horizon c : ℕ) → horizon ≤ GREATEST_TIME → c < chan_count s → LosesAtMost limit c (lossy_drawn s t limit rows rate seed horizon)
+
+-- Where periods are drawn from a part of their intervals.
+
+-- a list that is admissible within narrower bounds is so within the wider ones
+abbrev pub LossyStaysAdmissible : Type 0
+LossyStaysAdmissible =
+    (s : Shape) (t narrow : Timing) (limit rows : ℕ) (es : List LossyEvent) → HasBoundsWithin t narrow → IsLossyAdmissible s narrow limit rows es → IsLossyAdmissible s t limit rows es
+
+-- what a reader has of a schedule that was drawn and written: these events keep to the bounds, and end at the horizon; and the text of their file, read as
+-- a schedule file, is these events, of which none is refused
+pub record IsLossyShown (s : Shape) (t : Timing) (limit rows horizon : ℕ) (es : List LossyEvent) : Type 0 where
+  pub sound : LossyScheduleIsSound s t limit rows horizon es
+  pub reads : file_judged_by (lossy_rules_of s t limit rows) (lossy_file_text s es) ≡ Ok es
+
+-- a list that is drawn within narrower bounds, and is not too long, is shown within the wider ones
+abbrev pub LosesShown : Type 0
+LosesShown =
+    (s : Shape) (t narrow : Timing) (limit rows rate seed horizon : ℕ) → HasBoundsWithin t narrow → horizon ≤ GREATEST_TIME → length (lossy_drawn s narrow limit rows rate seed horizon) ≤ most_events →
+    IsLossyShown s t limit rows horizon (lossy_drawn s narrow limit rows rate seed horizon)

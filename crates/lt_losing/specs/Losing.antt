@@ -34,11 +34,15 @@ as_lossless d = record { state = plain_of d.state; activation = d.activation; de
 abbrev pub next_lossy_due : Shape → LossyDraw → Option (ℕ × ℕ)
 next_lossy_due s d = next_due s (as_lossless d)
 
--- Whether the message that arrives next on channel c is lost: the channel may lose one more in a row, and the next word is below the rate, which
--- is in thousandths. A word is drawn at each arrival, also where none may be lost, so that with another rate the words stay the same while the
--- events do.
+-- Whether a message that arrives is lost, on a channel that has lost so many in a row, by the word of this number: one more may be lost, and the word is
+-- below the rate, which is in thousandths.
+abbrev pub loses_by : (limit rate seed : ℕ) → (losses number : ℕ) → Bool
+loses_by limit rate seed losses number = nat_lt losses limit && nat_lt (drawn_word seed number % 1000) rate
+
+-- Whether the message that arrives next on channel c is lost, by the next word. A word is drawn at each arrival, also where none may be lost, so that with
+-- another rate the words stay the same while the events do.
 abbrev pub loses_next : (limit rate seed : ℕ) → LossyDraw → (c : ℕ) → Bool
-loses_next limit rate seed d c = nat_lt (d.state.link c).losses limit && nat_lt (drawn_word seed (d.words + 1) % 1000) rate
+loses_next limit rate seed d c = loses_by limit rate seed (d.state.link c).losses (d.words + 1)
 
 -- what happens where this event would over links without losses: in place of a delivery a message may be lost
 abbrev pub lossy_or : (limit rate seed : ℕ) → LossyDraw → Event → LossyEvent

@@ -6,15 +6,12 @@ use Rattle.lt_io.specs.SinkState.{SinkState}
 use Rattle.lt_arch.specs.declared.shape.Shape.{Shape}
 use Rattle.lt_arch.specs.declared.timing.Timing.{Timing}
 use Rattle.lt_rows.specs.Limits.{most_events}
-use Rattle.lt_schedule.specs.Rules.{file_judged_by}
 use Rattle.lt_lossy.specs.declared.event.LossyEvent.{LossyEvent}
-use Rattle.lt_net_lossy.specs.Rules.{lossy_rules_of}
 use Rattle.lt_sim.specs.declared.fault.SimFault.{SimFault}
 use Rattle.lt_sim.specs.declared.fault.SimFault.TheVariants.{Write, TooMany}
 use Rattle.lt_sim.specs.Recorded.{WritesWhole, WritesFrontOf, FailsAfter}
 use Rattle.lt_losing.specs.Losing.{lossy_beginning}
 use Rattle.lt_losing.specs.LossyFile.{lossy_file_text}
-use Rattle.lt_losing.specs.Laws.{LossyScheduleIsSound}
 use Rattle.lt_losing.specs.Held.{LossyDrawingStands}
 use Rattle.lt_losing.specs.declared.drawing.LossyDrawing.{LossyDrawing}
 
@@ -44,12 +41,6 @@ LossyRecords s es old new (Ok count) = IsLossyRecorded s es old new count
 LossyRecords s es old new (Err (Fault Write)) = IsLossyBroken s es old new
 LossyRecords s es old new (Err (Fault TooMany)) = AreTooManyLossyEvents es old new
 LossyRecords s es old new (Err Memory) = WritesFrontOf (lossy_schedule_text s es) old new
-
--- what a reader has of a schedule that was drawn and written: these events keep to the bounds, and end at the horizon; and the text of their file, read as
--- a schedule file, is these events, of which none is refused
-pub record IsLossyShown (s : Shape) (t : Timing) (limit rows horizon : ℕ) (es : List LossyEvent) : Type 0 where
-  pub sound : LossyScheduleIsSound s t limit rows horizon es
-  pub reads : file_judged_by (lossy_rules_of s t limit rows) (lossy_file_text s es) ≡ Ok es
 
 -- these are all events of a list, or it has more than a schedule may have
 abbrev pub IsDrawnWhole : (es held : List LossyEvent) → (ended : Bool) → Type 0

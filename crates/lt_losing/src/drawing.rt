@@ -74,7 +74,8 @@ impl LossyDrawing {
     /// The time of what happens next and its place, where it is not past the horizon.
     pub fn next(&self, horizon: u64) -> Option<(u64, u32)>
         requires { length self.now.activations.items + length self.now.arrivals.items < 2 ^ 32 }
-        ensures { (s : OfShape) (t : OfTiming) (seed : ℕ) (d : LossyDraw) → LossyDrawingStands self.now s t seed d → result ≡ unless_later horizon (next_lossy_due s d) }
+        ensures { (s : OfShape) (t : OfTiming) (seed : ℕ) (d : LossyDraw) → LossyDrawingStands self.now s t seed d
+            → result ≡ unless_later horizon (next_lossy_due s d) }
     {
         let (at, place) = self.first()?;
         if horizon < at {
@@ -106,10 +107,13 @@ impl LossyDrawing {
     ) -> Result<LossyEvent, Memory>
         requires due { IsLossyDue self.old shape.now timing.now (at, place) }
         requires time { at ≤ GREATEST_TIME }
-        ensures event { (seed : ℕ) (d : LossyDraw) → LossyDrawingStands self.old shape.now timing.now seed d → next_lossy_due shape.now d ≡ Some (at, place)
+        ensures event { (seed : ℕ) (d : LossyDraw) → LossyDrawingStands self.old shape.now timing.now seed d
+            → next_lossy_due shape.now d ≡ Some (at, place)
             → IfOk result (λ e. e ≡ due_lossy_event shape.now limit rate seed d (at, place)) }
-        ensures stands { (seed : ℕ) (d : LossyDraw) → LossyDrawingStands self.old shape.now timing.now seed d → IsUpcoming shape.now timing.now d → next_lossy_due shape.now d ≡ Some (at, place)
-            → OnOk result (LossyDrawingStands self.new shape.now timing.now seed (lossy_drawn_on shape.now timing.now rows seed d (due_lossy_event shape.now limit rate seed d (at, place)))) }
+        ensures stands { (seed : ℕ) (d : LossyDraw) → LossyDrawingStands self.old shape.now timing.now seed d
+            → IsUpcoming shape.now timing.now d → next_lossy_due shape.now d ≡ Some (at, place)
+            → OnOk result (LossyDrawingStands self.new shape.now timing.now seed
+            (lossy_drawn_on shape.now timing.now rows seed d (due_lossy_event shape.now limit rate seed d (at, place)))) }
     {
         let nodes = shape.nodes.len() as u32;
         if place < nodes {
@@ -176,7 +180,8 @@ impl LossyDrawing {
         requires losses { ch < length self.old.losses.items }
         requires numbers { ch < length self.old.numbers.items }
         requires arrivals { ch < length self.old.arrivals.items }
-        ensures lost { result ≡ (nat_lt (slice_index_or self.old.losses.items ch 0) limit && nat_lt ((next_u64 (stream_of splitmix_steps self.old.generator)).0 % 1000) rate) }
+        ensures lost { result ≡ (nat_lt (slice_index_or self.old.losses.items ch 0) limit
+            && nat_lt ((next_u64 (stream_of splitmix_steps self.old.generator)).0 % 1000) rate) }
         ensures taken { TakesOldest self.old self.new ch result }
     {
         let c = ch as usize;
@@ -231,8 +236,10 @@ fn first_times(
     generator: &mut SplitMix64,
     timing: &Timing,
 ) -> Result<Vec<u64>, Memory>
-    ensures times { (seed : ℕ) → stream_of splitmix_steps generator.old ≡ left_after seed 0 → IfOk result (λ times. HasFirstTimes timing.now seed (length timing.now.nodes) times.items) }
-    ensures left { (seed : ℕ) → stream_of splitmix_steps generator.old ≡ left_after seed 0 → OnOk result (stream_of splitmix_steps generator.new ≡ left_after seed (length timing.now.nodes)) }
+    ensures times { (seed : ℕ) → stream_of splitmix_steps generator.old ≡ left_after seed 0
+        → IfOk result (λ times. HasFirstTimes timing.now seed (length timing.now.nodes) times.items) }
+    ensures left { (seed : ℕ) → stream_of splitmix_steps generator.old ≡ left_after seed 0
+        → OnOk result (stream_of splitmix_steps generator.new ≡ left_after seed (length timing.now.nodes)) }
 {
     let mut times = Vec::new(alloc);
     for node in 0..timing.node_count() {

@@ -1,10 +1,10 @@
 // What a node does when it is activated.
 ghost use Rattle.std.specs.Prelude.{◌≡◌, ◌<◌, ◌≤◌, ◌+◌, ◌&&◌, ◌||◌, ◌==◌, ◌^◌, ℕ, Bool, not, nat_lt, nat_le, length, slice_index_or, if◌then◌else◌};
-ghost use Rattle.lt_arch.specs.Deeds.{deed_of, phase_after, all_below};
+ghost use Rattle.lt_arch.specs.Deeds.{phase_after};
 ghost use Rattle.lt_arch.specs.Readers.{is_data};
 ghost use Rattle.lt_arch.specs.Step.{is_execute};
 ghost use Rattle.lt_base.specs.Truths.{same_truth};
-ghost use Rattle.lt_losing.specs.Held.{ready_phase, all_heard};
+ghost use Rattle.lt_losing.specs.Held.{ready_phase, all_heard, deed_heard};
 
 use lt_arch::{Chan, ChanKind};
 
@@ -48,11 +48,10 @@ pub fn wake(
     executed: u32,
 ) -> (bool, u32)
     requires { length newest.now ≡ length channels.now }
-    ensures phase { (p q : ℕ) (some : Bool) → ready_phase result.0 ≡ phase_after p q (ready_phase ready)
-        (deed_of (ready_phase ready) (all_heard channels.now newest.now node executed Bool.true (length channels.now)) some (all_heard channels.now newest.now node executed Bool.false (length channels.now)) (nat_lt executed rows)) }
-    ensures executed { (some : Bool) → result.1 ≡ (if is_execute
-        (deed_of (ready_phase ready) (all_heard channels.now newest.now node executed Bool.true (length channels.now)) some (all_heard channels.now newest.now node executed Bool.false (length channels.now)) (nat_lt executed rows))
-        then executed + 1 else executed) }
+    ensures phase { (p q : ℕ) (some : Bool) → ready_phase result.0
+        ≡ phase_after p q (ready_phase ready) (deed_heard channels.now newest.now node executed ready some (nat_lt executed rows)) }
+    ensures executed { (some : Bool) → result.1
+        ≡ (if is_execute (deed_heard channels.now newest.now node executed ready some (nat_lt executed rows)) then executed + 1 else executed) }
 {
     if ready {
         let acknowledged = all_fresh(channels, newest, node, executed, false);

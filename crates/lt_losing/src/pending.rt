@@ -37,7 +37,8 @@ pub fn first_arrival(
     places: u32,
 ) -> Option<(u64, u32)>
     requires { places + length arrivals.now.items < 2 ^ 32 }
-    ensures { (f : ℕ → Option ℕ) → best ≡ least_below f places → ((c : ℕ) → c < length arrivals.now.items → f (places + c) ≡ oldest_in (slice_index_or arrivals.now.items c []))
+    ensures { (f : ℕ → Option ℕ) → best ≡ least_below f places
+        → ((c : ℕ) → c < length arrivals.now.items → f (places + c) ≡ oldest_in (slice_index_or arrivals.now.items c []))
         → result ≡ least_below f (places + length arrivals.now.items) }
 {
     let mut first = best;

@@ -9,8 +9,9 @@ ghost use Rattle.lt_arch.specs.Shapes.{HaveSameNodes};
 ghost use Rattle.lt_lossy.specs.Events.{IsLossyEventOf};
 ghost use Rattle.lt_sim.specs.Recorded.{WritesText};
 ghost use Rattle.lt_losing.specs.Losing.{lossy_drawn};
+ghost use Rattle.lt_losing.specs.Laws.{IsLossyShown};
 ghost use Rattle.lt_losing.specs.LossyFile.{lossy_file_text};
-ghost use Rattle.lt_losing.specs.LossyRecorded.{LossyRecords, IsLossyShown, IsDrawnWhole, LossyDrawingStarts};
+ghost use Rattle.lt_losing.specs.LossyRecorded.{LossyRecords, IsDrawnWhole, LossyDrawingStarts};
 
 use crate::drawing::LossyDrawing;
 use crate::page::{first_page, put_row, write_out};

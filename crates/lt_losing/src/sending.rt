@@ -35,9 +35,11 @@ pub fn send(
     requires arrivals { length arrivals.old.items ≡ chan_count shape.now }
     requires time { at ≤ GREATEST_TIME }
     ensures left { (seed words : ℕ) → stream_of splitmix_steps generator.old ≡ left_after seed words
-        → OnOk result (stream_of splitmix_steps generator.new ≡ left_after seed (words + how_many (sends_count shape.now node sent executed) (chan_count shape.now))) }
+        → OnOk result (stream_of splitmix_steps generator.new
+        ≡ left_after seed (words + how_many (sends_count shape.now node sent executed) (chan_count shape.now))) }
     ensures sends { (seed words : ℕ) → stream_of splitmix_steps generator.old ≡ left_after seed words
-        → OnOk result (SendsAnew shape.now timing.now seed words at (chan_count shape.now) (sends_count shape.now node sent executed) (count_on shape.now sent executed)
+        → OnOk result (SendsAnew shape.now timing.now seed words at (chan_count shape.now)
+        (sends_count shape.now node sent executed) (count_on shape.now sent executed)
         numbers.old.items arrivals.old.items numbers.new.items arrivals.new.items) }
 {
     let channels = shape.channels.as_slice();
@@ -78,10 +80,16 @@ fn send_on(
     requires arrivals { c < length arrivals.old.items }
     requires time { at ≤ GREATEST_TIME }
     ensures left { OnOk result (stream_of splitmix_steps generator.new
-        ≡ (if (channel.from == node) && nat_lt 0 number then (next_u64 (stream_of splitmix_steps generator.old)).1 else stream_of splitmix_steps generator.old)) }
-    ensures numbers { OnOk result (numbers.new.items ≡ (if (channel.from == node) && nat_lt 0 number then slice_set numbers.old.items c (slice_index_or numbers.old.items c [] ++ number ∷ []) else numbers.old.items)) }
-    ensures arrivals { OnOk result (arrivals.new.items ≡ (if (channel.from == node) && nat_lt 0 number then slice_set arrivals.old.items c (with_arrival (slice_index_or arrivals.old.items c [])
-        (at + number_in (dmin_of timing.now channel.from channel.to) (dmax_of timing.now channel.from channel.to) (next_u64 (stream_of splitmix_steps generator.old)).0)) else arrivals.old.items)) }
+        ≡ (if (channel.from == node) && nat_lt 0 number then (next_u64 (stream_of splitmix_steps generator.old)).1
+        else stream_of splitmix_steps generator.old)) }
+    ensures numbers { OnOk result (numbers.new.items ≡ (if (channel.from == node) && nat_lt 0 number
+        then slice_set numbers.old.items c (slice_index_or numbers.old.items c [] ++ number ∷ [])
+        else numbers.old.items)) }
+    ensures arrivals { OnOk result (arrivals.new.items ≡ (if (channel.from == node) && nat_lt 0 number
+        then slice_set arrivals.old.items c (with_arrival (slice_index_or arrivals.old.items c []) (at + number_in
+        (dmin_of timing.now channel.from channel.to) (dmax_of timing.now channel.from channel.to)
+        (next_u64 (stream_of splitmix_steps generator.old)).0))
+        else arrivals.old.items)) }
 {
     let sends = channel.from == node && 0 < number;
     if !sends {

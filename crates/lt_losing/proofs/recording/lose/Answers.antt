@@ -1,11 +1,11 @@
-use Rattle.std.proofs.Common.{◌≡◌, List, [], Option, Some, true, false, MatchOption, is_some, ap, sym, subst}
+use Rattle.std.proofs.Common.{◌≡◌, List, [], Option, Some, true, false, MatchOption, sym, subst}
 use Rattle.std.specs.List.{All}
 use Rattle.lt_lossy.specs.declared.event.LossyEvent.{LossyEvent}
 use Rattle.lt_lossy.specs.Events.{IsLossyEventOf}
 use Rattle.lt_losing.specs.Losing.{lossy_drawn}
 use Rattle.lt_losing.specs.LossyRecorded.{IsDrawnWhole}
-use Rattle.lt_losing.proofs.Ending.{lossy_drawn-sound, lossy_drawn-free}
-use Rattle.lt_losing.proofs.FileRows.{file_judged}
+use Rattle.lt_losing.proofs.Ending.{lossy_drawn-sound}
+use Rattle.lt_losing.proofs.Shown.{sound_shown}
 use Rattle.lt_losing.proofs.recording.lose.Goals as goal
 
 -- what is said of what was found
@@ -25,8 +25,4 @@ returns-in_ok-write-in-Some-clause-shown g c =
     let t = c.args.timing.now in
     let es : List LossyEvent = lossy_drawn s t c.args.limit c.args.rows c.args.rate c.args.seed c.args.horizon in
     let whole : IsDrawnWhole es c.in-Some.events.items true = found_is c.in_ok-events.field-0 c.in-Some.events c.in-Some.is (IsDrawnWhole es [] false) (λ events. IsDrawnWhole es events.items true) c.in_ok-events.ensures in
-    let sound = lossy_drawn-sound s t c.args.limit c.args.rows c.args.rate c.args.seed c.args.horizon c.requires.horizon in
-    record {
-      sound = sound;
-      reads = file_judged s t c.args.limit c.args.rows es sound.placed whole.1 (lossy_drawn-free s t c.args.limit c.args.rows c.args.rate c.args.seed c.args.horizon c.requires.horizon) (ap is_some sound.ends);
-    }
+    sound_shown s t c.args.limit c.args.rows c.args.horizon es (lossy_drawn-sound s t c.args.limit c.args.rows c.args.rate c.args.seed c.args.horizon c.requires.horizon) whole.1
