@@ -23,7 +23,7 @@ use Rattle.lt_sim.specs.Drawn.{pending_at, next_due}
 use Rattle.lt_sim.proofs.Dues.{which, least}
 use Rattle.lt_losing.specs.Losing.{LossyDraw, next_lossy_due, loses_next, lossy_or, due_lossy_event, lossy_beginning, lossy_drawn_on, unless_lossy_past, lossy_drawn}
 use Rattle.lt_losing.specs.Laws.{LossyScheduleIsSound}
-use Rattle.lt_losing.specs.Bounds.{latest_time, IsUpcoming}
+use Rattle.lt_losing.specs.Bounds.{time_or_0, IsUpcoming}
 use Rattle.lt_losing.proofs.Upcoming.{oldest_draw, next-same, lossy_end_free, next_lossy_free, upcoming_on, upcoming_first}
 use Rattle.lt_losing.proofs.Measure.{lossy_room, less, behind, rest, rest-is, drawn-is}
 
@@ -65,7 +65,7 @@ module _ (s : Shape) (t : Timing) (limit rows rate seed horizon : ℕ) (near : h
   placed_due d due is le = (step-due d due (sym (next-same s d) ∙ is)).placed le
 
   -- the end, where all that is pending is past the horizon
-  sound-end : (d : LossyDraw) → IsUpcoming s t d → latest_time d.state.latest ≤ horizon → ((place at : ℕ) → place < node_count s + chan_count s → pending_at s (oldest_draw d) place ≡ Some at → horizon < at)
+  sound-end : (d : LossyDraw) → IsUpcoming s t d → time_or_0 d.state.latest ≤ horizon → ((place at : ℕ) → place < node_count s + chan_count s → pending_at s (oldest_draw d) place ≡ Some at → horizon < at)
       → AreSound s t limit rows horizon d.state (Plain (End horizon) ∷ [])
   sound-end d h latest past = record {
     free = (lossy_end_free s t d h limit horizon latest past, tt);
@@ -80,13 +80,13 @@ module _ (s : Shape) (t : Timing) (limit rows rate seed horizon : ℕ) (near : h
       let h' = subst (λ (st : LossyState). AreSound s t limit rows horizon st es) is h in
       record { free = (free, h'.free); ends = h'.ends; placed = All-cons (IsLossyEventOf s) e es placed h'.placed }
 
-  module _ (d : LossyDraw) (h : IsUpcoming s t d) (latest : latest_time d.state.latest ≤ horizon) where
+  module _ (d : LossyDraw) (h : IsUpcoming s t d) (latest : time_or_0 d.state.latest ≤ horizon) where
     nothing : next_due s (oldest_draw d) ≡ None → (place at : ℕ) → place < node_count s + chan_count s → pending_at s (oldest_draw d) place ≡ Some at → horizon < at
     nothing none place at lt pending =
         let first = subst (IsFirst (pending_at s (oldest_draw d)) (node_count s + chan_count s)) none (least_below-first (pending_at s (oldest_draw d)) (node_count s + chan_count s)) in
         let clash : None ≡ Some at = sym (first place lt) ∙ pending in absurd cc
 
-    sound-step : ((next : LossyDraw) → lossy_room s horizon next + 1 ≤ lossy_room s horizon d → IsUpcoming s t next → latest_time next.state.latest ≤ horizon → AreSound s t limit rows horizon next.state (rest s t limit rows rate seed horizon next))
+    sound-step : ((next : LossyDraw) → lossy_room s horizon next + 1 ≤ lossy_room s horizon d → IsUpcoming s t next → time_or_0 next.state.latest ≤ horizon → AreSound s t limit rows horizon next.state (rest s t limit rows rate seed horizon next))
         → AreSound s t limit rows horizon d.state (rest s t limit rows rate seed horizon d)
     sound-step again = subst (AreSound s t limit rows horizon d.state) (sym (rest-is s t limit rows rate seed horizon d)) (by (next_lossy_due s d) refl)
       where
@@ -100,7 +100,7 @@ module _ (s : Shape) (t : Timing) (limit rows rate seed horizon : ℕ) (near : h
             let is' : next_due s (oldest_draw d) ≡ Some due = sym (next-same s d) ∙ is in
             let step = step-due d due is' in
             let next : LossyDraw = lossy_drawn_on s t rows seed d (due_lossy_event s limit rate seed d due) in
-            let time : latest_time next.state.latest ≡ due.0 = ap latest_time step.latest in
+            let time : time_or_0 next.state.latest ≡ due.0 = ap time_or_0 step.latest in
             sound-more d.state next.state (due_lossy_event s limit rate seed d due) (rest s t limit rows rate seed horizon next) step.state
             (next_lossy_free s t limit rows rate seed d h due is') (step.placed le)
             (again next (less s t rows seed horizon d limit rate due is le) (upcoming_on s t limit rows rate seed d h due is') (omega (arith, time, le)))
@@ -109,7 +109,7 @@ module _ (s : Shape) (t : Timing) (limit rows rate seed horizon : ℕ) (near : h
         by None is = sound-end d h latest (nothing (sym (next-same s d) ∙ is))
         by (Some due) is = at_due due is (nat_lt horizon due.0) refl
 
-  sound-by : (n : ℕ) (d : LossyDraw) → lossy_room s horizon d ≤ n → IsUpcoming s t d → latest_time d.state.latest ≤ horizon → AreSound s t limit rows horizon d.state (rest s t limit rows rate seed horizon d)
+  sound-by : (n : ℕ) (d : LossyDraw) → lossy_room s horizon d ≤ n → IsUpcoming s t d → time_or_0 d.state.latest ≤ horizon → AreSound s t limit rows horizon d.state (rest s t limit rows rate seed horizon d)
   sound-by zero d le h latest = sound-step d h latest (λ next less _ _. absurd (omega (arith, less, le)))
   sound-by (suc n) d le h latest = sound-step d h latest (λ next less upcoming time. sound-by n next (omega (arith, less, le)) upcoming time)
 

@@ -11,7 +11,7 @@ use Rattle.lt_sim.specs.Standing.{unless_later}
 use Rattle.lt_losing.specs.Losing.{LossyDraw, next_lossy_due, due_lossy_event, lossy_beginning, lossy_drawn_on, unless_lossy_past, lossy_drawn}
 use Rattle.lt_losing.specs.Bounds.{IsUpcoming}
 use Rattle.lt_losing.specs.Held.{LossyDrawingStands, IsLossyDue}
-use Rattle.lt_losing.specs.LossyRecorded.{IsDrawnWhole}
+use Rattle.lt_losing.specs.LossyRecorded.{IsHeldWhole}
 use Rattle.lt_losing.specs.declared.drawing.LossyDrawing.{LossyDrawing}
 use Rattle.lt_losing.proofs.Measure.{behind, rest, rest-is, drawn-is}
 use Rattle.lt_losing.proofs.Upcoming.{next-same, upcoming_on, upcoming_first}
@@ -113,12 +113,12 @@ module _ (s : Shape) (t : Timing) (limit rows rate seed horizon : ℕ) (near : h
 
     -- the list with its end, where it is within the limit
     pub whole_ends : (number : ℕ) (held : List LossyEvent) → length front ≡ number → number < 5000000 → unless_later horizon (next_lossy_due s h.draw) ≡ None → held ≡ front ++ Plain (End horizon) ∷ []
-        → IsDrawnWhole (lossy_drawn s t limit rows rate seed horizon) held true
+        → IsHeldWhole (lossy_drawn s t limit rows rate seed horizon) held true
     whole_ends number held size few is held_is =
         let whole = ap (λ (es : List LossyEvent). length es) (follows_end is) ∙ length-append front (Plain (End horizon) ∷ []) in
         (held_is ∙ sym (follows_end is), omega (arith, whole, size, few))
 
-    pub whole_not : (held : List LossyEvent) → length front ≡ 5000000 → IsDrawnWhole (lossy_drawn s t limit rows rate seed horizon) held false
+    pub whole_not : (held : List LossyEvent) → length front ≡ 5000000 → IsHeldWhole (lossy_drawn s t limit rows rate seed horizon) held false
     whole_not held size =
         let some = rest_some in
         let all = ap (λ (es : List LossyEvent). length es) h.list_is ∙ length-append front (rest s t limit rows rate seed horizon h.draw) in

@@ -24,7 +24,7 @@ use Rattle.lt_sim.specs.Drawn.{pending_at, gap, delay}
 use Rattle.lt_sim.proofs.Delays.{left-next}
 use Rattle.lt_sim.proofs.Dues.{pending-node, pending-chan}
 use Rattle.lt_losing.specs.Losing.{LossyDraw, as_lossless, next_lossy_due, lossy_beginning, sends_anew, with_arrival, lossy_activated, lossy_arrived}
-use Rattle.lt_losing.specs.Held.{ready_phase, count_on, sends_count, oldest_or_0, SendsAnew, TakesOldest, HoldsAll, LossyDrawingStands, HasFirstTimes}
+use Rattle.lt_losing.specs.Held.{phase_when, count_on, sends_count, oldest_or_0, SendsAnew, TakesOldest, HoldsAll, LossyDrawingStands, HasFirstTimes}
 use Rattle.lt_losing.specs.declared.drawing.LossyDrawing.{LossyDrawing}
 use Rattle.lt_losing.proofs.Changed.{changed_all}
 use Rattle.lt_losing.proofs.Least.{least_same}
@@ -67,7 +67,7 @@ stands_first k s t seed same numbered times left ready executed newest losses nu
   };
   left = left ∙ ap (left_after seed) same;
   activations = λ n lt. times.each n (omega (arith, lt, same));
-  phases = λ n lt. sym (ap ready_phase (ap (λ (l : List Bool). slice_index_or l n false) ready ∙ get_or-replicate (node_count s) n false false lt));
+  phases = λ n lt. sym (ap phase_when (ap (λ (l : List Bool). slice_index_or l n false) ready ∙ get_or-replicate (node_count s) n false false lt));
   executed = λ n lt. ap (λ (l : List ℕ). slice_index_or l n 0) executed ∙ get_or-replicate (node_count s) n 0 0 lt;
   newest = λ c lt. ap (λ (l : List ℕ). slice_index_or l c 0) newest ∙ get_or-replicate (chan_count s) c 0 0 lt;
   losses = λ c lt. ap (λ (l : List ℕ). slice_index_or l c 0) losses ∙ get_or-replicate (chan_count s) c 0 0 lt;
@@ -103,7 +103,7 @@ module _ (k : LossyDrawing) (s : Shape) (t : Timing) (rows seed : ℕ) (d : Loss
   abbrev node_after : NodeState
   node_after = woken s t rows (plain_of d.state) n at
 
-  module _ (new : LossyDrawing) (ready : Bool) (gap_drawn : ℕ) (phase : ready_phase ready ≡ node_after.phase) (gap_is : gap_drawn ≡ gap t seed n (d.words + 1))
+  module _ (new : LossyDrawing) (ready : Bool) (gap_drawn : ℕ) (phase : phase_when ready ≡ node_after.phase) (gap_is : gap_drawn ≡ gap t seed n (d.words + 1))
       (activations_set : new.activations.items ≡ set k.activations.items n (at + gap_drawn)) (ready_set : new.ready.items ≡ set k.ready.items n ready) (executed_set : new.executed.items ≡ set k.executed.items n node_after.executed)
       (sends : SendsAnew s t seed (d.words + 1) at (chan_count s) (sends_count s n (sent_count node_after) node_after.executed) (count_on s (sent_count node_after) node_after.executed) k.numbers.items k.arrivals.items new.numbers.items new.arrivals.items) where
     activation-act : (i : ℕ) → i < node_count s → slice_index_or new.activations.items i 0 ≡ updated d.activation n (at + gap t seed n (d.words + 1)) i
@@ -113,13 +113,13 @@ module _ (k : LossyDrawing) (s : Shape) (t : Timing) (rows seed : ℕ) (d : Loss
         (λ _. let size = stands.holds.activations in get_or-set_same k.activations.items n (at + gap_drawn) 0 (omega (arith, lt, size)) ∙ ap (λ v. at + v) gap_is)
         (λ i ne inside. get_or-set_other k.activations.items n i (at + gap_drawn) 0 ne ∙ stands.activations i inside) i within
 
-    phase-act : (i : ℕ) → i < node_count s → ((lossy_after s t rows d.state (Plain (Act n at))).node i).phase ≡ ready_phase (slice_index_or new.ready.items i false)
+    phase-act : (i : ℕ) → i < node_count s → ((lossy_after s t rows d.state (Plain (Act n at))).node i).phase ≡ phase_when (slice_index_or new.ready.items i false)
     phase-act i within =
-        node-act s t rows d.state n at (λ (v : NodeState). v.phase ≡ ready_phase (slice_index_or (set k.ready.items n ready) i false)) i
+        node-act s t rows d.state n at (λ (v : NodeState). v.phase ≡ phase_when (slice_index_or (set k.ready.items n ready) i false)) i
         (λ e. let size = stands.holds.ready in
-        sym phase ∙ ap ready_phase (sym (subst (λ j. slice_index_or (set k.ready.items n ready) j false ≡ ready) (sym e) (get_or-set_same k.ready.items n ready false (omega (arith, lt, size))))))
-        (λ ne. stands.phases i within ∙ ap ready_phase (sym (get_or-set_other k.ready.items n i ready false ne)))
-        ∙ ap (λ (xs : List Bool). ready_phase (slice_index_or xs i false)) (sym ready_set)
+        sym phase ∙ ap phase_when (sym (subst (λ j. slice_index_or (set k.ready.items n ready) j false ≡ ready) (sym e) (get_or-set_same k.ready.items n ready false (omega (arith, lt, size))))))
+        (λ ne. stands.phases i within ∙ ap phase_when (sym (get_or-set_other k.ready.items n i ready false ne)))
+        ∙ ap (λ (xs : List Bool). phase_when (slice_index_or xs i false)) (sym ready_set)
 
     executed-act : (i : ℕ) → i < node_count s → slice_index_or new.executed.items i 0 ≡ ((lossy_after s t rows d.state (Plain (Act n at))).node i).executed
     executed-act i within =
@@ -230,8 +230,8 @@ module _ (k new : LossyDrawing) (s : Shape) (t : Timing) (rows seed : ℕ) (d : 
     executed-take : (i : ℕ) → i < node_count s → slice_index_or new.executed.items i 0 ≡ (d.state.node i).executed
     executed-take i within = ap (λ (xs : List ℕ). slice_index_or xs i 0) takes.executed ∙ stands.executed i within
 
-    phases-take : (i : ℕ) → i < node_count s → (d.state.node i).phase ≡ ready_phase (slice_index_or new.ready.items i false)
-    phases-take i within = stands.phases i within ∙ ap (λ (xs : List Bool). ready_phase (slice_index_or xs i false)) (sym takes.ready)
+    phases-take : (i : ℕ) → i < node_count s → (d.state.node i).phase ≡ phase_when (slice_index_or new.ready.items i false)
+    phases-take i within = stands.phases i within ∙ ap (λ (xs : List Bool). phase_when (slice_index_or xs i false)) (sym takes.ready)
 
     activations-take : (i : ℕ) → i < node_count s → slice_index_or new.activations.items i 0 ≡ d.activation i
     activations-take i within = ap (λ (xs : List ℕ). slice_index_or xs i 0) takes.activations ∙ stands.activations i within

@@ -15,7 +15,7 @@ use Rattle.lt_sim.specs.Drawn.{pending_at, due_event}
 use Rattle.lt_sim.proofs.Delays.{word-next}
 use Rattle.lt_sim.proofs.Dues.{pending-chan, first}
 use Rattle.lt_losing.specs.Losing.{LossyDraw, as_lossless, next_lossy_due, loses_next, lossy_or, due_lossy_event, lossy_activated, lossy_drawn_on}
-use Rattle.lt_losing.specs.Bounds.{latest_time, IsUpcoming}
+use Rattle.lt_losing.specs.Bounds.{time_or_0, IsUpcoming}
 use Rattle.lt_losing.specs.Held.{TakesOldest, LossyDrawingStands}
 use Rattle.lt_losing.specs.declared.drawing.LossyDrawing.{LossyDrawing}
 use Rattle.lt_losing.proofs.Arrivals.{some_transit}
@@ -66,5 +66,5 @@ module _ (s : Shape) (t : Timing) (limit rate rows seed : ℕ) (d : LossyDraw) (
     arrived_stands new upcoming takes =
         let pending : pending_at s (as_lossless d) place ≡ Some at = (first s (as_lossless d) (at, place) next).1 in
         let oldest : oldest_in (d.arrivals c) ≡ Some at = sym (pending-chan s (as_lossless d) c) ∙ (ap (pending_at s (as_lossless d)) (sym place_is) ∙ pending) in
-        let some = some_transit (dmin_of t (from_of s c) (to_of s c)) (dmax_of t (from_of s c) (to_of s c)) (latest_time d.state.latest) (latest_time d.state.latest) at (d.state.link c).transit (d.arrivals c) (upcoming.arrivals c chan-in) oldest in
+        let some = some_transit (dmin_of t (from_of s c) (to_of s c)) (dmax_of t (from_of s c) (to_of s c)) (time_or_0 d.state.latest) (time_or_0 d.state.latest) at (d.state.link c).transit (d.arrivals c) (upcoming.arrivals c chan-in) oldest in
         subst (λ (e : LossyEvent). LossyDrawingStands new s t seed (lossy_drawn_on s t rows seed d e)) arrived_due (arrived_by new lost some takes)

@@ -23,14 +23,14 @@ use Rattle.lt_sim.specs.Standing.{IsRestPending, IsNotBefore, IsPending}
 use Rattle.lt_sim.proofs.Dues.{pending-node, pending-chan, IsDelivery, first, which, least}
 use Rattle.lt_sim.proofs.Keeping.{number-low, number-high, next_free, end_free}
 use Rattle.lt_losing.specs.Losing.{LossyDraw, next_lossy_due, loses_next, lossy_or, due_lossy_event, lossy_beginning, sends_anew, lossy_activated, lossy_arrived, lossy_drawn_on}
-use Rattle.lt_losing.specs.Bounds.{latest_time, AreArrivals, IsUpcoming}
+use Rattle.lt_losing.specs.Bounds.{time_or_0, AreArrivals, IsUpcoming}
 use Rattle.lt_losing.proofs.Arrivals.{arrivals_later, arrivals_from, oldest-from, arrivals_sent, arrivals_delivered, arrivals_lost, oldest_pending}
 
-pub not_before : (latest : Option ℕ) (at : ℕ) → latest_time latest ≤ at → IsNotBefore latest at
+pub not_before : (latest : Option ℕ) (at : ℕ) → time_or_0 latest ≤ at → IsNotBefore latest at
 not_before None at h = tt
 not_before (Some latest) at h = h
 
-clock_before : (latest : Option ℕ) (at : ℕ) → IsNotBefore latest at → latest_time latest ≤ at
+clock_before : (latest : Option ℕ) (at : ℕ) → IsNotBefore latest at → time_or_0 latest ≤ at
 clock_before None at h = omega arith
 clock_before (Some latest) at h = h
 
@@ -55,19 +55,19 @@ module _ (s : Shape) (t : Timing) (d : LossyDraw) (h : IsUpcoming s t d) where
         let c = place - node_count s in
         let there : place ≡ node_count s + c = omega (arith, past) in
         let here : oldest_in (d.arrivals c) ≡ Some at = sym (pending-chan s (oldest_draw d) c) ∙ (ap (pending_at s (oldest_draw d)) (sym there) ∙ is) in
-        not_before d.state.latest at (oldest-from (dmin_of t (from_of s c) (to_of s c)) (dmax_of t (from_of s c) (to_of s c)) (latest_time d.state.latest) (latest_time d.state.latest) (d.state.link c).transit (d.arrivals c) at (h.arrivals c (omega (arith, lt, there))) here)
+        not_before d.state.latest at (oldest-from (dmin_of t (from_of s c) (to_of s c)) (dmax_of t (from_of s c) (to_of s c)) (time_or_0 d.state.latest) (time_or_0 d.state.latest) (d.state.link c).transit (d.arrivals c) at (h.arrivals c (omega (arith, lt, there))) here)
   ]
 
   pending : IsPending s t (oldest_draw d)
   pending = record {
     open_end = h.open_end;
     activations = h.activations;
-    deliveries = λ c lt. oldest_pending (dmin_of t (from_of s c) (to_of s c)) (dmax_of t (from_of s c) (to_of s c)) (latest_time d.state.latest) (latest_time d.state.latest) (d.state.link c).transit (d.arrivals c) (h.arrivals c lt);
+    deliveries = λ c lt. oldest_pending (dmin_of t (from_of s c) (to_of s c)) (dmax_of t (from_of s c) (to_of s c)) (time_or_0 d.state.latest) (time_or_0 d.state.latest) (d.state.link c).transit (d.arrivals c) (h.arrivals c lt);
     forward = forward_all;
   }
 
   -- the end has no offence, where all that is pending comes after it
-  pub lossy_end_free : (limit horizon : ℕ) → latest_time d.state.latest ≤ horizon → ((place at : ℕ) → place < node_count s + chan_count s → pending_at s (oldest_draw d) place ≡ Some at → horizon < at) → lossy_offence s t limit d.state (Plain (End horizon)) ≡ None
+  pub lossy_end_free : (limit horizon : ℕ) → time_or_0 d.state.latest ≤ horizon → ((place at : ℕ) → place < node_count s + chan_count s → pending_at s (oldest_draw d) place ≡ Some at → horizon < at) → lossy_offence s t limit d.state (Plain (End horizon)) ≡ None
   unfolding lossy_offence
   lossy_end_free limit horizon le past =
       let free : offence_of s t (plain_of d.state) (End horizon) ≡ None = sym (offence-same s t d.state (End horizon)) ∙ end_free s t (oldest_draw d) pending horizon (not_before d.state.latest horizon le) past in
@@ -97,7 +97,7 @@ module _ (s : Shape) (t : Timing) (limit rows rate seed : ℕ) (d : LossyDraw) (
   pub next_lossy_free : lossy_offence s t limit d.state (due_lossy_event s limit rate seed d due) ≡ None
   next_lossy_free = free_of (due_event s due) (sym (offence-same s t d.state (due_event s due)) ∙ next_free s t (oldest_draw d) (pending s t d h) due is)
 
-  on_time : latest_time d.state.latest ≤ due.0
+  on_time : time_or_0 d.state.latest ≤ due.0
   on_time = let f = first s (oldest_draw d) due is in clock_before d.state.latest due.0 (forward_all s t d h due.1 due.0 f.0 f.1)
 
   -- the arrivals come no earlier than what happens next
@@ -105,9 +105,9 @@ module _ (s : Shape) (t : Timing) (limit rows rate seed : ℕ) (d : LossyDraw) (
   arrivals-now c lt =
       let dmin = dmin_of t (from_of s c) (to_of s c) in
       let dmax = dmax_of t (from_of s c) (to_of s c) in
-      arrivals_from dmin dmax due.0 (latest_time d.state.latest) due.0 (d.state.link c).transit (d.arrivals c)
+      arrivals_from dmin dmax due.0 (time_or_0 d.state.latest) due.0 (d.state.link c).transit (d.arrivals c)
       (λ at found. least s (oldest_draw d) due is (node_count s + c) at (omega (arith, lt)) (pending-chan s (oldest_draw d) c ∙ found))
-      (arrivals_later dmin dmax (latest_time d.state.latest) due.0 (latest_time d.state.latest) (d.state.link c).transit (d.arrivals c) on_time (h.arrivals c lt))
+      (arrivals_later dmin dmax (time_or_0 d.state.latest) due.0 (time_or_0 d.state.latest) (d.state.link c).transit (d.arrivals c) on_time (h.arrivals c lt))
 
   activation-now : (i : ℕ) → i < node_count s → due.0 ≤ d.activation i
   activation-now i lt = least s (oldest_draw d) due is i (d.activation i) (omega (arith, lt)) (pending-node s (oldest_draw d) i lt)

@@ -10,7 +10,7 @@ use Rattle.lt_arch.specs.Deeds.{deed_of, deed_at, phase_after, all_below, all_in
 use Rattle.lt_arch.specs.Step.{woken, is_execute}
 use Rattle.lt_lossy.specs.State.{plain_of}
 use Rattle.lt_losing.specs.Losing.{LossyDraw}
-use Rattle.lt_losing.specs.Held.{ready_phase, all_heard, LossyDrawingStands}
+use Rattle.lt_losing.specs.Held.{phase_when, all_heard, LossyDrawingStands}
 use Rattle.lt_losing.specs.declared.drawing.LossyDrawing.{LossyDrawing}
 
 all_same : (p q : ℕ → Bool) (n : ℕ) → ((c : ℕ) → c < n → p c ≡ q c) → all_below p n ≡ all_below q n
@@ -39,8 +39,8 @@ module _ (k : LossyDrawing) (s : Shape) (t : Timing) (rows seed : ℕ) (d : Loss
       ap (λ m. not (ack_to s n c) || nat_le (executed_of st n) m) (stands.newest c within) ∙ asked_same (to_of s c) n (not (carries_data s c)) (executed_of st) (d.state.link c).newest)
 
   module _ (channels : List Chan) (newest : List ℕ) (ready : Bool) (executed : ℕ) (channels_is : channels ≡ s.channels) (newest_is : newest ≡ k.newest.items) (ready_is : ready ≡ slice_index_or k.ready.items n false) (executed_is : executed ≡ slice_index_or k.executed.items n 0) where
-    phase-is : ready_phase ready ≡ (d.state.node n).phase
-    phase-is = ap ready_phase ready_is ∙ sym (stands.phases n lt)
+    phase-is : phase_when ready ≡ (d.state.node n).phase
+    phase-is = ap phase_when ready_is ∙ sym (stands.phases n lt)
 
     count-is : executed ≡ executed_of st n
     count-is = executed_is ∙ stands.executed n lt
@@ -48,15 +48,15 @@ module _ (k : LossyDrawing) (s : Shape) (t : Timing) (rows seed : ℕ) (d : Loss
     heard-is : (kind : Bool) → all_heard channels newest n executed kind (length channels) ≡ all_heard s.channels k.newest.items n (executed_of st n) kind (chan_count s)
     heard-is kind = λ i. all_heard (channels_is i) (newest_is i) n (count-is i) kind (length (channels_is i))
 
-    deed-is : deed_of (ready_phase ready) (all_heard channels newest n executed true (length channels)) (any_in s st n) (all_heard channels newest n executed false (length channels)) (nat_lt executed rows) ≡ deed_at s rows st n
+    deed-is : deed_of (phase_when ready) (all_heard channels newest n executed true (length channels)) (any_in s st n) (all_heard channels newest n executed false (length channels)) (nat_lt executed rows) ≡ deed_at s rows st n
     deed-is = λ i. deed_of (phase-is i) ((heard-is true ∙ heard_in) i) (any_in s st n) ((heard-is false ∙ heard_ack) i) (nat_lt (count-is i) rows)
 
-    pub woken-phase : (result : Bool) → ready_phase result ≡ phase_after (send_of t n) (execute_of t n) (ready_phase ready)
-        (deed_of (ready_phase ready) (all_heard channels newest n executed true (length channels)) (any_in s st n) (all_heard channels newest n executed false (length channels)) (nat_lt executed rows))
-        → ready_phase result ≡ (woken s t rows st n at).phase
+    pub woken-phase : (result : Bool) → phase_when result ≡ phase_after (send_of t n) (execute_of t n) (phase_when ready)
+        (deed_of (phase_when ready) (all_heard channels newest n executed true (length channels)) (any_in s st n) (all_heard channels newest n executed false (length channels)) (nat_lt executed rows))
+        → phase_when result ≡ (woken s t rows st n at).phase
     woken-phase result is = is ∙ (λ i. phase_after (send_of t n) (execute_of t n) (phase-is i) (deed-is i))
 
     pub woken-executed : (result : ℕ) → result ≡ (if is_execute
-        (deed_of (ready_phase ready) (all_heard channels newest n executed true (length channels)) (any_in s st n) (all_heard channels newest n executed false (length channels)) (nat_lt executed rows))
+        (deed_of (phase_when ready) (all_heard channels newest n executed true (length channels)) (any_in s st n) (all_heard channels newest n executed false (length channels)) (nat_lt executed rows))
         then executed + 1 else executed) → result ≡ (woken s t rows st n at).executed
     woken-executed result is = is ∙ (λ i. if is_execute (deed-is i) then count-is i + 1 else count-is i)

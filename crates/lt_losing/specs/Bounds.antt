@@ -8,9 +8,9 @@ use Rattle.lt_sim.specs.Standing.{IsRestPending}
 use Rattle.lt_losing.specs.Losing.{LossyDraw}
 
 -- a time, or 0
-abbrev pub latest_time : Option ℕ → ℕ
-latest_time None = 0
-latest_time (Some at) = at
+abbrev pub time_or_0 : Option ℕ → ℕ
+time_or_0 None = 0
+time_or_0 (Some at) = at
 
 -- a message that was sent by now arrives at this time: no earlier than a time, and within the bounds of its delay
 pub record IsArrival (dmin dmax now low : ℕ) (m : Message) (at : ℕ) : Type 0 where
@@ -30,5 +30,5 @@ AreArrivals dmin dmax now low (m ∷ ms) (at ∷ later) = IsArrival dmin dmax no
 pub record IsUpcoming (s : Shape) (t : Timing) (d : LossyDraw) : Type 0 where
   pub open_end : d.state.horizon ≡ None
   pub activations : (n : ℕ) → n < node_count s → IsRestPending (tmin_of t n) (tmax_of t n) (d.state.node n).last (d.activation n)
-  pub forward : (n : ℕ) → n < node_count s → latest_time d.state.latest ≤ d.activation n
-  pub arrivals : (c : ℕ) → c < chan_count s → AreArrivals (dmin_of t (from_of s c) (to_of s c)) (dmax_of t (from_of s c) (to_of s c)) (latest_time d.state.latest) (latest_time d.state.latest) (d.state.link c).transit (d.arrivals c)
+  pub forward : (n : ℕ) → n < node_count s → time_or_0 d.state.latest ≤ d.activation n
+  pub arrivals : (c : ℕ) → c < chan_count s → AreArrivals (dmin_of t (from_of s c) (to_of s c)) (dmax_of t (from_of s c) (to_of s c)) (time_or_0 d.state.latest) (time_or_0 d.state.latest) (d.state.link c).transit (d.arrivals c)

@@ -21,9 +21,9 @@ use Rattle.lt_losing.specs.Losing.{LossyDraw, with_arrival, next_lossy_due}
 use Rattle.lt_losing.specs.Bounds.{IsUpcoming}
 
 -- the phase of a node's controller under back-pressure, by whether it has executed an instant that it has not sent
-abbrev pub ready_phase : Bool → Phase
-ready_phase true = Ready
-ready_phase false = Wait
+abbrev pub phase_when : Bool → Phase
+phase_when true = Ready
+phase_when false = Wait
 
 -- each channel of a kind to node n, below a number, has delivered a message of at least this number
 abbrev pub all_heard : List Chan → (newest : List ℕ) → (n number : ℕ) → (data_kind : Bool) → (below : ℕ) → Bool
@@ -32,12 +32,13 @@ all_heard cs newest n number data_kind below = all_below (λ c. not (leads_kind_
 -- what node n does then by what it has heard, where it has executed so many instants; whether some channel to it is fresh makes no difference
 abbrev pub deed_heard : List Chan → (newest : List ℕ) → (n executed : ℕ) → (ready some left : Bool) → Deed
 deed_heard cs newest n executed ready some left =
-    deed_of (ready_phase ready) (all_heard cs newest n executed true (length cs)) some (all_heard cs newest n executed false (length cs)) left
+    deed_of (phase_when ready) (all_heard cs newest n executed true (length cs)) some (all_heard cs newest n executed false (length cs)) left
 
--- what a node that has sent and executed so many instants counts on channel c, and whether it sends there
+-- what a node that has sent and executed so many instants counts on channel c
 abbrev pub count_on : Shape → (sent executed c : ℕ) → ℕ
 count_on s sent executed c = if carries_data s c then sent else executed
 
+-- whether node n sends there
 abbrev pub sends_count : Shape → (n sent executed c : ℕ) → Bool
 sends_count s n sent executed c = (from_of s c == n) && nat_lt 0 (count_on s sent executed c)
 
@@ -86,7 +87,7 @@ pub record LossyDrawingStands (k : LossyDrawing) (s : Shape) (t : Timing) (seed 
   pub holds : HoldsAll k (node_count s) (chan_count s)
   pub left : stream_of splitmix_steps k.generator ≡ left_after seed d.words
   pub activations : (n : ℕ) → n < node_count s → slice_index_or k.activations.items n 0 ≡ d.activation n
-  pub phases : (n : ℕ) → n < node_count s → (d.state.node n).phase ≡ ready_phase (slice_index_or k.ready.items n false)
+  pub phases : (n : ℕ) → n < node_count s → (d.state.node n).phase ≡ phase_when (slice_index_or k.ready.items n false)
   pub executed : (n : ℕ) → n < node_count s → slice_index_or k.executed.items n 0 ≡ (d.state.node n).executed
   pub newest : (c : ℕ) → c < chan_count s → slice_index_or k.newest.items c 0 ≡ (d.state.link c).newest
   pub losses : (c : ℕ) → c < chan_count s → slice_index_or k.losses.items c 0 ≡ (d.state.link c).losses

@@ -43,6 +43,7 @@ LosesReadBack =
 
 -- Losses.
 
+-- the event loses a message
 abbrev pub is_loss : LossyEvent → Bool
 is_loss (Plain e) = false
 is_loss (Lose c at) = true

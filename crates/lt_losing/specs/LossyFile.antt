@@ -11,6 +11,7 @@ use Rattle.lt_lossy.specs.declared.event.LossyEvent.{LossyEvent}
 use Rattle.lt_lossy.specs.declared.event.LossyEvent.TheVariants.{Plain, Lose}
 use Rattle.lt_sim.specs.File.{header_text}
 
+-- the kind of a loss on a channel of this kind
 abbrev pub loss_kind_text : ChanKind → List ℕ
 loss_kind_text Data = codes "losedata"
 loss_kind_text Ack = codes "loseack"

@@ -43,9 +43,9 @@ LossyRecords s es old new (Err (Fault TooMany)) = AreTooManyLossyEvents es old n
 LossyRecords s es old new (Err Memory) = WritesFrontOf (lossy_schedule_text s es) old new
 
 -- these are all events of a list, or it has more than a schedule may have
-abbrev pub IsDrawnWhole : (es held : List LossyEvent) → (ended : Bool) → Type 0
-IsDrawnWhole es held true = (held ≡ es) × (length es ≤ most_events)
-IsDrawnWhole es held false = most_events < length es
+abbrev pub IsHeldWhole : (es held : List LossyEvent) → (ended : Bool) → Type 0
+IsHeldWhole es held true = (held ≡ es) × (length es ≤ most_events)
+IsHeldWhole es held false = most_events < length es
 
 -- it stands for a list of which nothing is drawn but the first activations
 abbrev pub LossyDrawingStarts : LossyDrawing → Shape → Timing → (seed : ℕ) → Type 0

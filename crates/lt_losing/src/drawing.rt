@@ -13,7 +13,7 @@ ghost use Rattle.lt_sim.specs.Words.{left_after};
 ghost use Rattle.lt_sim.specs.Standing.{unless_later};
 ghost use Rattle.lt_losing.specs.Losing.{LossyDraw, lossy_beginning, lossy_activated, lossy_drawn_on, due_lossy_event, next_lossy_due};
 ghost use Rattle.lt_losing.specs.Bounds.{IsUpcoming};
-ghost use Rattle.lt_losing.specs.Held.{HoldsAll, TakesOldest, LossyDrawingStands, IsLossyDue, HasFirstTimes, oldest_or_0, ready_phase};
+ghost use Rattle.lt_losing.specs.Held.{HoldsAll, TakesOldest, LossyDrawingStands, IsLossyDue, HasFirstTimes, oldest_or_0, phase_when};
 
 use crate::fresh::wake;
 use crate::pending::{first_activation, first_arrival};
@@ -199,7 +199,7 @@ impl LossyDrawing {
 
 // How many instants a node has sent.
 fn sent(ready: bool, executed: u32) -> u32
-    ensures { result ≡ executed - unsent (ready_phase ready) }
+    ensures { result ≡ executed - unsent (phase_when ready) }
 {
     if ready {
         executed.saturating_sub(1)

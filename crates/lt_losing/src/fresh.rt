@@ -4,7 +4,7 @@ ghost use Rattle.lt_arch.specs.Deeds.{phase_after};
 ghost use Rattle.lt_arch.specs.Readers.{is_data};
 ghost use Rattle.lt_arch.specs.Step.{is_execute};
 ghost use Rattle.lt_base.specs.Truths.{same_truth};
-ghost use Rattle.lt_losing.specs.Held.{ready_phase, all_heard, deed_heard};
+ghost use Rattle.lt_losing.specs.Held.{phase_when, all_heard, deed_heard};
 
 use lt_arch::{Chan, ChanKind};
 
@@ -48,8 +48,8 @@ pub fn wake(
     executed: u32,
 ) -> (bool, u32)
     requires { length newest.now ≡ length channels.now }
-    ensures phase { (p q : ℕ) (some : Bool) → ready_phase result.0
-        ≡ phase_after p q (ready_phase ready) (deed_heard channels.now newest.now node executed ready some (nat_lt executed rows)) }
+    ensures phase { (p q : ℕ) (some : Bool) → phase_when result.0
+        ≡ phase_after p q (phase_when ready) (deed_heard channels.now newest.now node executed ready some (nat_lt executed rows)) }
     ensures executed { (some : Bool) → result.1
         ≡ (if is_execute (deed_heard channels.now newest.now node executed ready some (nat_lt executed rows)) then executed + 1 else executed) }
 {

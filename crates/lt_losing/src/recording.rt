@@ -11,7 +11,7 @@ ghost use Rattle.lt_sim.specs.Recorded.{WritesText};
 ghost use Rattle.lt_losing.specs.Losing.{lossy_drawn};
 ghost use Rattle.lt_losing.specs.Laws.{IsLossyShown};
 ghost use Rattle.lt_losing.specs.LossyFile.{lossy_file_text};
-ghost use Rattle.lt_losing.specs.LossyRecorded.{LossyRecords, IsDrawnWhole, LossyDrawingStarts};
+ghost use Rattle.lt_losing.specs.LossyRecorded.{LossyRecords, IsHeldWhole, LossyDrawingStarts};
 
 use crate::drawing::LossyDrawing;
 use crate::page::{first_page, put_row, write_out};
@@ -70,8 +70,8 @@ fn draw_all(
     requires same { HaveSameNodes shape.now timing.now }
     requires numbered { 2 * (node_count shape.now + chan_count shape.now) < 2 ^ 32 }
     requires horizon { horizon ≤ GREATEST_TIME }
-    ensures { IfOk result (λ drawn. MatchOption drawn (IsDrawnWhole (lossy_drawn shape.now timing.now limit rows rate seed horizon) [] Bool.false)
-        (λ events. IsDrawnWhole (lossy_drawn shape.now timing.now limit rows rate seed horizon) events.items Bool.true)) }
+    ensures { IfOk result (λ drawn. MatchOption drawn (IsHeldWhole (lossy_drawn shape.now timing.now limit rows rate seed horizon) [] Bool.false)
+        (λ events. IsHeldWhole (lossy_drawn shape.now timing.now limit rows rate seed horizon) events.items Bool.true)) }
 {
     let mut drawing = LossyDrawing::start(alloc, shape, timing, seed)?;
     let mut events = Vec::new(alloc);
@@ -106,7 +106,7 @@ fn extend(
     requires horizon { horizon ≤ GREATEST_TIME }
     requires starts { (seed : ℕ) × LossyDrawingStarts drawing.old shape.now timing.now seed }
     ensures { (seed : ℕ) → LossyDrawingStarts drawing.old shape.now timing.now seed
-        → IfOk result (IsDrawnWhole (lossy_drawn shape.now timing.now limit rows rate seed horizon) events.new.items) }
+        → IfOk result (IsHeldWhole (lossy_drawn shape.now timing.now limit rows rate seed horizon) events.new.items) }
 {
     for _number in 0..MOST_EVENTS {
         match drawing.next(horizon) {

@@ -14,7 +14,7 @@ use Rattle.lt_sim.specs.Words.{left_after, drawn_word, number_in}
 use Rattle.lt_sim.specs.Drawn.{gap}
 use Rattle.lt_sim.proofs.Delays.{number_drawn, left_drawn}
 use Rattle.lt_losing.specs.Losing.{lossy_activated}
-use Rattle.lt_losing.specs.Held.{ready_phase, count_on, sends_count, SendsAnew, LossyDrawingStands}
+use Rattle.lt_losing.specs.Held.{phase_when, count_on, sends_count, SendsAnew, LossyDrawingStands}
 use Rattle.lt_losing.specs.declared.drawing.LossyDrawing.{LossyDrawing}
 use Rattle.lt_losing.proofs.Standing.{on_both, stands_act}
 use Rattle.lt_losing.proofs.Waking.{woken-phase, woken-executed}
@@ -42,7 +42,7 @@ returns c seed d stands =
     let ready_is = get_or_read k.ready.items n c.index.result.now (omega (arith, lt, ready_size)) c.index.ensures false in
     let executed_is = get_or_read k.executed.items n c.index-2.result.now (omega (arith, lt, executed_size)) c.index-2.ensures 0 in
     let some = any_in s (plain_of d.state) n in
-    let phase : ready_phase c.wake-ready.result.0 ≡ w.phase =
+    let phase : phase_when c.wake-ready.result.0 ≡ w.phase =
     woken-phase k s t rows seed d stands n at lt c.as_slice.result.now c.as_slice-2.result.now c.index.result.now c.index-2.result.now c.as_slice.ensures c.as_slice-2.ensures.value ready_is executed_is
     c.wake-ready.result.0 (c.wake-ready.ensures.phase (send_of t n) (execute_of t n) some) in
     let executed : c.wake-ready.result.1 ≡ w.executed =

@@ -1,0 +1,4 @@
+pub mod Drawn
+pub mod Paced
+pub mod Loaded
+pub mod OneSchedule

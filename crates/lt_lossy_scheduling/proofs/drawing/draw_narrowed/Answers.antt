@@ -1,0 +1,15 @@
+use Rattle.std.proofs.Common.{Some, subst}
+use Rattle.lt_narrow.specs.Narrow.{HasBoundsWithin, IsNarrowed}
+use Rattle.lt_load.specs.Plan.{LoadedPlan}
+use Rattle.lt_lossy_scheduling.proofs.Paced.{jittered}
+use Rattle.lt_lossy_scheduling.proofs.drawing.draw_narrowed.Goals as goal
+
+pub draw_by-text-requires-clause-within : goal.draw_by-text-requires-clause-within
+draw_by-text-requires-clause-within c =
+    let k : LoadedPlan = record { checked = c.loaded.inside.checked; layout = c.loaded.inside.layout; shape = c.loaded.inside.shape; timing = c.loaded.inside.timing; inputs = c.loaded.inside.inputs; pace = c.loaded.inside.pace } in
+    subst (λ (p : LoadedPlan). HasBoundsWithin p.timing c.in_ok-timing.timing) c.loaded.view_is (c.narrows_within.ensures c.args.part k.timing c.in_ok-timing.timing c.in_ok-timing.ensures)
+
+pub returns : goal.returns
+returns c =
+    let k : LoadedPlan = record { checked = c.loaded.inside.checked; layout = c.loaded.inside.layout; shape = c.loaded.inside.shape; timing = c.loaded.inside.timing; inputs = c.loaded.inside.inputs; pace = c.loaded.inside.pace } in
+    jittered c.args.limit c.args.rate c.args.seed c.args.horizon (Some c.args.part) c.args.loaded.now c.in_ok-timing.timing c.draw_by-text.result (subst (λ (p : LoadedPlan). IsNarrowed c.args.part p.timing c.in_ok-timing.timing) c.loaded.view_is c.in_ok-timing.ensures) c.draw_by-text.ensures
