@@ -19,10 +19,11 @@ use crate::fresh::wake;
 use crate::pending::{first_activation, first_arrival};
 use crate::queue::Queue;
 use crate::sending::send;
-use crate::words::{draw, generator_of, is_below};
+use crate::words::is_below;
 use lt_arch::{Event, Shape, Timing};
 use lt_base::Memory;
 use lt_lossy::LossyEvent;
+use lt_sim::words::{draw, generator_of};
 use rand_xoshiro::SplitMix64;
 use std::alloc::Global;
 

@@ -4,7 +4,6 @@
 mod drawing;
 mod fresh;
 pub mod laws;
-mod page;
 mod pending;
 mod queue;
 mod recording;

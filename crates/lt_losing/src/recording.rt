@@ -14,13 +14,14 @@ ghost use Rattle.lt_losing.specs.LossyFile.{lossy_file_text};
 ghost use Rattle.lt_losing.specs.LossyRecorded.{LossyRecords, IsHeldWhole, LossyDrawingStarts};
 
 use crate::drawing::LossyDrawing;
-use crate::page::{first_page, put_row, write_out};
+use crate::row::put_row;
 use lt_arch::{Event, Shape, Timing};
 use lt_base::{List, Memory, Or};
 use lt_io::Sink;
 use lt_lossy::LossyEvent;
 use lt_rows::MOST_EVENTS;
 use lt_sim::SimFault;
+use lt_sim::page::{first_page, write_out};
 use std::alloc::Global;
 
 /// Draws the list of events of a seed up to a horizon in ticks, for so many rows of inputs, over links that lose at most so many messages in a row on a

@@ -13,9 +13,9 @@ ghost use Rattle.lt_losing.specs.Losing.{with_arrival};
 ghost use Rattle.lt_losing.specs.Held.{count_on, sends_count, SendsAnew};
 
 use crate::queue::Queue;
-use crate::words::draw;
 use lt_arch::{Chan, ChanKind, Shape, Timing};
 use lt_base::Memory;
+use lt_sim::words::draw;
 use rand_xoshiro::SplitMix64;
 
 /// Sends the messages of an activation: on each channel from the node the number that it counts there, but never 0, and draws their delays.

@@ -12,6 +12,7 @@ pub mod Nexts
 pub mod Waking
 pub mod Following
 pub mod Pages
+pub mod EventPages
 pub mod FileRows
 pub mod Walking
 pub mod Shown

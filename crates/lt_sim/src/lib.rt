@@ -6,13 +6,13 @@ mod controllers;
 mod drawing;
 mod fault;
 pub mod laws;
-mod page;
+pub mod page;
 mod pending;
 mod progress;
 mod recording;
 mod sending;
 mod tally;
-mod words;
+pub mod words;
 
 pub use fault::SimFault;
 pub use recording::record;

@@ -1,5 +1,5 @@
 // The part of a file that is not written yet.
-ghost use Rattle.std.specs.Prelude.{◌≡◌, ◌<◌, ◌-◌, ◌++◌, ◌∷◌, [], IsTrue, IfOk, OnOk, length};
+ghost use Rattle.std.specs.Prelude.{ℕ, ◌≡◌, ◌<◌, ◌-◌, ◌++◌, ◌∷◌, [], IsTrue, IfOk, OnOk, length};
 ghost use Rattle.lt_io.specs.Counts.{MayFail};
 ghost use Rattle.lt_arch.specs.Schedule.{IsEventOf};
 ghost use Rattle.lt_rows.specs.Texts.{event_text};
@@ -61,8 +61,26 @@ fn clear(alloc: Global, page: &mut List<u8>)
     *page = List::of(bytes);
 }
 
+/// Writes the page where it is full, behind a row that was appended.
+pub fn write_full<O: Sink>(
+    alloc: Global,
+    page: &mut List<u8>,
+    sink: &mut O,
+) -> Result<(), Or<SimFault>>
+    requires { MayFail (O.state sink.old).faults }
+    ensures written { (kept row : List ℕ) → page.old ≡ kept ++ row → WritesPart row kept page.new (O.state sink.old) (O.state sink.new) result }
+    ensures short { OnOk result (length page.new < 65280) }
+    ensures keeps { KeepsSink (O.state sink.old) (O.state sink.new) }
+    ensures sound { IsTrue (O.state sink.old).sound → (O.state sink.new).faults ≡ (O.state sink.old).faults }
+{
+    if page.len() < FULL {
+        return Ok(());
+    }
+    write_out(alloc, page, sink)
+}
+
 /// Puts an event's row on the page, and writes the page where it is full.
-pub fn put_row<O: Sink>(
+pub(crate) fn put_row<O: Sink>(
     alloc: Global,
     page: &mut List<u8>,
     e: &Event,
@@ -78,8 +96,5 @@ pub fn put_row<O: Sink>(
     ensures sound { IsTrue (O.state sink.old).sound → (O.state sink.new).faults ≡ (O.state sink.old).faults }
 {
     extend_event(page, e, shape)?;
-    if page.len() < FULL {
-        return Ok(());
-    }
-    write_out(alloc, page, sink)
+    write_full(alloc, page, sink)
 }

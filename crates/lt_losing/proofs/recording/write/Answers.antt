@@ -8,7 +8,8 @@ use Rattle.lt_schedule.proofs.Steps.{err_is}
 use Rattle.lt_sim.specs.File.{header_text}
 use Rattle.lt_sim.specs.Recorded.{WritesText}
 use Rattle.lt_losing.specs.LossyFile.{lossy_rows_text, lossy_file_text}
-use Rattle.lt_losing.proofs.Pages.{HasPut, put_more, row_fails, page_writes, text_more, text_whole}
+use Rattle.lt_sim.proofs.Pages.{HasPut, put_more, row_fails, page_writes}
+use Rattle.lt_losing.proofs.Pages.{text_more, text_whole}
 use Rattle.lt_losing.proofs.recording.write.Goals as goal
 
 pub loop-e-preserved : goal.loop-e-preserved

@@ -1,8 +1,8 @@
 use Rattle.std.proofs.Common.{◌≡◌, ◌++◌, ◌<◌, length, take}
 use Rattle.lt_io.specs.SinkState.{KeepsSink}
 use Rattle.lt_sim.specs.File.{header_text}
+use Rattle.lt_sim.proofs.Pages.{HasPut}
 use Rattle.lt_losing.specs.LossyFile.{lossy_rows_text}
-use Rattle.lt_losing.proofs.Pages.{HasPut}
 use Rattle.lt_losing.proofs.recording.write.Given as goal
 
 abbrev pub invariant-loop-e : goal.invariant-loop-e

@@ -9,7 +9,8 @@ use Rattle.lt_sim.specs.Drawn.{next_due, due_event, drawn}
 use Rattle.lt_sim.specs.Recorded.{WritesPart, TakesPart}
 use Rattle.lt_sim.specs.Standing.{unless_later}
 use Rattle.lt_sim.proofs.Following.{follows_first, follows_on, follows_end, is_due, due_timely, next_is, is_placed, list_more, list_longer}
-use Rattle.lt_sim.proofs.Pages.{put_none, put_more, last_writes, row_fails, still_sound}
+use Rattle.lt_sim.proofs.Pages.{still_sound}
+use Rattle.lt_sim.proofs.EventPages.{event_fails, last_writes, put_event, put_first}
 use Rattle.lt_schedule.proofs.Steps.{err_is}
 use Rattle.lt_sim.proofs.recording.write.Goals as goal
 
@@ -24,7 +25,7 @@ loop-number-init g c = record {
       size = refl;
       follows = follows_first c.args.shape.now c.args.timing.now c.args.rows seed c.args.horizon c.requires.one_place c.requires.horizon c.args.drawing.now starts;
     };
-    put = put_none c.args.shape.now c.args.page.now (g.O.Sink.state c.args.sink.now) c.requires.page;
+    put = put_first c.args.shape.now c.args.page.now (g.O.Sink.state c.args.sink.now) c.requires.page;
   };
 }
 
@@ -89,7 +90,7 @@ loop-number-preserved g c =
               follows = follows_on s t c.args.rows seed c.args.horizon c.requires.one_place c.requires.horizon c.loop-number.drawing p.front p.follows due is c.take.new.self
                   (c.take.ensures seed p.front p.follows.draw p.follows.stands p.follows.keeps following);
             };
-            put = put_more s p.front c.loop-number.page old now put before.keeps.told (due_event s due) next c.put_row.new.page part;
+            put = put_event s p.front c.loop-number.page old now put before.keeps.told (due_event s due) next c.put_row.new.page part;
           };
     }
 
@@ -126,7 +127,7 @@ returns-in_err-put_row-in-Some-clause-written g c seed starts =
     let fails : WritesPart (event_text s (due_event s due) ++ 10 ∷ []) c.loop-number.page c.put_row.new.page now next (Err fault) =
     subst (λ (e : Event). WritesPart (event_text s e ++ 10 ∷ []) c.loop-number.page c.put_row.new.page now next (Err fault)) c.event_at.ensures c.in_err-put_row-in-Some.ensures.written in
     rw (err_is _ _ c.from_residual.ensures.1)
-    (row_fails s p.front c.loop-number.page old now (before.passed seed starts).put before.keeps.told (due_event s due) (drawn s t c.args.rows seed c.args.horizon) next fault more.0 c.put_row.new.page more.1 fails)
+    (event_fails s p.front c.loop-number.page old now (before.passed seed starts).put before.keeps.told (due_event s due) (drawn s t c.args.rows seed c.args.horizon) next fault more.0 c.put_row.new.page more.1 fails)
 
 pub returns-in_err-put_row-in-Some-clause-keeps : goal.returns-in_err-put_row-in-Some-clause-keeps
 returns-in_err-put_row-in-Some-clause-keeps g c = sink_trans (g.O.Sink.state c.args.sink.now) (g.O.Sink.state c.loop-number.sink) (g.O.Sink.state c.put_row.new.sink) c.loop-number.invariant.keeps c.put_row.ensures.keeps

@@ -1,7 +1,7 @@
 use Rattle.std.proofs.Common.{ℕ, ◌≡◌, ◌<◌, length}
 use Rattle.lt_io.specs.SinkState.{KeepsSink}
 use Rattle.lt_sim.specs.Standing.{DrawingStarts}
-use Rattle.lt_sim.proofs.Pages.{HasPassed}
+use Rattle.lt_sim.proofs.EventPages.{HasPassed}
 use Rattle.lt_sim.proofs.recording.write.Given as goal
 
 abbrev pub invariant-loop-number : goal.invariant-loop-number
