@@ -3,7 +3,7 @@
 #![tactic(auto)]
 
 mod controllers;
-mod drawing;
+pub mod drawing;
 mod fault;
 pub mod laws;
 pub mod page;
