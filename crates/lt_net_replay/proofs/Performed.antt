@@ -94,6 +94,25 @@ pub no_memory : {M : Type 0} (mch : Machines M) (l : Layout) (s : Shape) (t : Ti
 no_memory mch l s t inputs name files fabric r is =
     at_error (λ answer. HasReplayed mch l s t inputs name files files fabric fabric answer) r Memory is (record { answered = runs_short (world files fabric); ended = tt; near = λ told. tt; opens = record { calls = opens_none fabric; done = tt }; layout = tt })
 
+-- what is taken from a net at the end of these events is what they lead to
+pub replayed_at : {C M : Type 0} (ctl : Controls C) (mch : Machines M) (l : Layout) (s : Shape) (t : Timing) (inputs : List (List Value)) (fabric' : FabricState) (old new : NetState C M) (ms : List M) (cs : List C) →
+    IsMadeOf l s t (length inputs) ms cs old.bench → (f : Originated) → IsPlaced f l → RowsFit f.func inputs → PlanIsSound l s t (length inputs) → IsSized new.bench → length new.bench.tracks ≡ length new.bench.layout.outs →
+    (taken : Replayed M) → ReplayIsTaken new.bench taken → (events : List Event) → IsAtEnd ctl mch old new inputs fabric' events → IsReplay mch l s t inputs fabric' events taken
+replayed_at ctl mch l s t inputs fabric' old new ms cs is f placed fit networks sized tracks taken taken_is events last =
+    let layout_is : new.bench.layout ≡ l = last.fixed.layout ∙ is.layout in
+    let shape_is : new.bench.shape ≡ s = last.fixed.shape ∙ is.shape in
+    let timing_is : new.bench.timing ≡ t = last.fixed.timing ∙ is.timing in
+    let rows_are : new.bench.rows ≡ length inputs = last.fixed.rows ∙ is.rows in
+    subst (λ z. IsReplay mch z s t inputs fabric' events taken) layout_is
+    (subst (λ z. IsReplay mch new.bench.layout z t inputs fabric' events taken) shape_is
+    (subst (λ z. IsReplay mch new.bench.layout new.bench.shape z inputs fabric' events taken) timing_is
+    (is_replay ctl mch new.bench inputs events fabric' last.lists rows_are last.keeps sized tracks
+    (ap node_count shape_is ∙ networks.fits.channels.nodes ∙ sym (ap (λ (z : Layout). length z.nodes) layout_is))
+    ((λ i. first_offence (last.fixed.shape i) (last.fixed.timing i) (last.fixed.rows i) events) ∙ last.admissible)
+    last.ends f (subst (IsPlaced f) (sym layout_is) placed) fit
+    (sound_of_equals l new.bench.layout s new.bench.shape t new.bench.timing (length inputs) layout_is shape_is timing_is networks)
+    taken taken_is)))
+
 -- a step's answer as that of another, where what is right of the one is right of the other
 module _ {T U E : Type 0} (blame : E → Blame) (es : List Errand) (V : Verdict T E) (W : Verdict U E) (a b : World) (wider : (e : E) → V (Err e) → W (Err e)) where
   reads_too : RefusesReading blame V → RefusesReading blame W
@@ -228,20 +247,7 @@ module _ {C M : Type 0} (ctl : Controls C) (mch : Machines M)
     module _ (f : Originated) (placed : IsPlaced f l) (fit : RowsFit f.func inputs) (networks : PlanIsSound l s t (length inputs)) (sized : IsSized new.bench) (tracks : length new.bench.tracks ≡ length new.bench.layout.outs)
         (taken : Replayed M) (taken_is : ReplayIsTaken new.bench taken) where
       at_last : (events : List Event) → ends_at_last events → comes_to events taken
-      at_last events last =
-          let layout_is : new.bench.layout ≡ l = last.fixed.layout ∙ is.layout in
-          let shape_is : new.bench.shape ≡ s = last.fixed.shape ∙ is.shape in
-          let timing_is : new.bench.timing ≡ t = last.fixed.timing ∙ is.timing in
-          let rows_are : new.bench.rows ≡ length inputs = last.fixed.rows ∙ is.rows in
-          subst (λ z. IsReplay mch z s t inputs fabric' events taken) layout_is
-          (subst (λ z. IsReplay mch new.bench.layout z t inputs fabric' events taken) shape_is
-          (subst (λ z. IsReplay mch new.bench.layout new.bench.shape z inputs fabric' events taken) timing_is
-          (is_replay ctl mch new.bench inputs events fabric' last.lists rows_are last.keeps sized tracks
-          (ap node_count shape_is ∙ networks.fits.channels.nodes ∙ sym (ap (λ (z : Layout). length z.nodes) layout_is))
-          ((λ i. first_offence (last.fixed.shape i) (last.fixed.timing i) (last.fixed.rows i) events) ∙ last.admissible)
-          last.ends f (subst (IsPlaced f) (sym layout_is) placed) fit
-          (sound_of_equals l new.bench.layout s new.bench.shape t new.bench.timing (length inputs) layout_is shape_is timing_is networks)
-          taken taken_is)))
+      at_last events last = replayed_at ctl mch l s t inputs fabric' old new ms cs is f placed fit networks sized tracks taken taken_is events last
 
       pub taken_so : HasReplayed mch l s t inputs name files files' fabric fabric' (Ok taken)
       taken_so = record {

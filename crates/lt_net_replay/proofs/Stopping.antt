@@ -1,11 +1,11 @@
 -- A line that is not taken for a fault of a running net.
 use Rattle.std.proofs.Common.{◌≡◌, ◌<◌, ℕ, List, Option, Some, None, sym, ap, ◌∙◌, subst}
-use Rattle.std.specs.Prelude.{Result, Err, IsErrOf}
+use Rattle.std.specs.Prelude.{Result, Ok, Err, IsErrOf}
 use Rattle.lt_arch.specs.declared.event.Offence.{Offence}
 use Rattle.lt_schedule.specs.declared.halt.Stop.{Stop}
 use Rattle.lt_schedule.specs.declared.halt.Stop.TheVariants as stop
 use Rattle.lt_schedule.specs.Rules.{Rules}
-use Rattle.lt_schedule.specs.Taken.{StopsAt, StopCountedBy, IsStopMemory}
+use Rattle.lt_schedule.specs.Taken.{JudgesLine, StopCountedBy, IsStopMemory}
 use Rattle.lt_net.specs.declared.fault.First.{First}
 use Rattle.lt_net.specs.declared.fault.NetFault.{NetFault}
 use Rattle.lt_net.specs.declared.fault.NetFault.TheVariants as net
@@ -13,6 +13,7 @@ use Rattle.lt_net.specs.declared.fault.First.TheVariants as first
 use Rattle.lt_net.specs.Event.{NetRefuses}
 use Rattle.lt_net.specs.NetModel.{NetState}
 use Rattle.lt_net_replay.specs.Blamed.{IsStopOf}
+use Rattle.lt_net_replay.specs.Playing.{StopsAtEvent, JudgesEvent}
 use Rattle.lt_net_start.specs.Ends.{LeavesNet}
 
 -- a net that runs was not stopped
@@ -34,13 +35,13 @@ module _ {T : Type 0} (r : Result T NetFault) where
   wanted net.Memory why is same memory = is
   wanted (net.Stopped f) why is same memory = absurd same
 
-  -- an offence is that of the line's event
-  pub stops : {E : Type 0} (rules : Rules E Offence) (line : List ℕ) (before : List E) (fault : NetFault) (why : Stop Offence) → r ≡ Err fault → IsStopOf fault why →
-      ((o : Offence) → r ≡ Err (net.Offence o) → StopsAt rules line before (stop.Offence o)) → StopsAt rules line before why
-  stops rules line before (net.Offence o) why is same told = subst (StopsAt rules line before) (sym same) (told o is)
-  stops rules line before net.Link why is same told = subst (StopsAt rules line before) (sym same) tt
-  stops rules line before net.Memory why is same told = subst (StopsAt rules line before) (sym same) tt
-  stops rules line before (net.Stopped f) why is same told = absurd same
+  -- an offence is that of the event
+  pub stops : {E : Type 0} (rules : Rules E Offence) (before : List E) (e : E) (fault : NetFault) (why : Stop Offence) → r ≡ Err fault → IsStopOf fault why →
+      ((o : Offence) → r ≡ Err (net.Offence o) → rules.offence before e ≡ Some o) → StopsAtEvent rules before e why
+  stops rules before e (net.Offence o) why is same told = subst (StopsAtEvent rules before e) (sym same) (told o is)
+  stops rules before e net.Link why is same told = subst (StopsAtEvent rules before e) (sym same) tt
+  stops rules before e net.Memory why is same told = subst (StopsAtEvent rules before e) (sym same) tt
+  stops rules before e (net.Stopped f) why is same told = absurd same
 
   -- what a fault leaves of the net
   pub leaves : {C M : Type 0} (before after : NetState C M) (fault : NetFault) (why : Stop Offence) → r ≡ Err fault → IsStopOf fault why → (NetRefuses r → after ≡ before) →
@@ -49,3 +50,12 @@ module _ {T : Type 0} (r : Result T NetFault) where
   leaves before after net.Link why is same refused link memory = subst (λ x. LeavesNet before after after.stopped (Err x)) (sym same) (link is)
   leaves before after net.Memory why is same refused link memory = subst (λ x. LeavesNet before after after.stopped (Err x)) (sym same) (memory is)
   leaves before after (net.Stopped f) why is same refused link memory = absurd same
+
+-- the verdict on the event of a line is that on the line
+pub line_by : {E O : Type 0} (rules : Rules E O) (line : List ℕ) (e : E) → rules.reads line ≡ Ok e → (stands : List E → Type 0) (before : List E) (r : Result (Unit {0}) (Stop O)) →
+    JudgesEvent rules stands before e r → JudgesLine rules line stands before r
+line_by rules line e reads stands before (Ok x) judged = record { event = e; reads = reads; free = judged.0; stands_on = judged.1 }
+line_by rules line e reads stands before (Err (stop.Row fault)) judged = absurd judged
+line_by rules line e reads stands before (Err (stop.Offence offence)) judged = (e, reads, judged)
+line_by rules line e reads stands before (Err stop.Link) judged = tt
+line_by rules line e reads stands before (Err stop.Memory) judged = tt

@@ -3,9 +3,9 @@
 #![tactic(auto)]
 
 pub mod laws;
-mod playback;
+pub mod playback;
 mod playing;
 mod replaying;
-mod taking;
+pub mod taking;
 
 pub use replaying::replay;

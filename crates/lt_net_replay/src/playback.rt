@@ -3,7 +3,7 @@ ghost use Rattle.std.specs.Prelude.{◌≡◌, ◌≢◌, ◌<◌, ◌+◌, ◌-
 ghost use Rattle.lt_arch.specs.declared.event.Event.{Event as OfEvent};
 ghost use Rattle.lt_base.specs.Behaviour.{RowsFit};
 ghost use Rattle.lt_arch.specs.Readers.{node_count, chan_count};
-ghost use Rattle.lt_arch.specs.Schedule.{OnePlace};
+ghost use Rattle.lt_arch.specs.Schedule.{OnePlace, IsEventOf};
 ghost use Rattle.lt_arch.specs.Shapes.{HaveSameNodes};
 ghost use Rattle.lt_io.specs.Counts.{MayFail, LinkCounted};
 ghost use Rattle.lt_io.specs.FabricState.{KeepsPromises, OpensOnce};
@@ -21,7 +21,7 @@ ghost use Rattle.lt_net.specs.declared.fault.First.{First};
 ghost use Rattle.lt_net.specs.declared.fault.NetFault.TheVariants.{Stopped};
 ghost use Rattle.lt_net_replay.specs.Blamed.{IsStopOf};
 ghost use Rattle.lt_net_start.specs.Ends.{LeavesNet};
-ghost use Rattle.lt_net_replay.specs.Playing.{rules_for, PlaysFor, PlaysLine, KeepsPlayback};
+ghost use Rattle.lt_net_replay.specs.Playing.{rules_for, PlaysFor, PlaysEvent, PlaysLine, KeepsPlayback};
 ghost use Rattle.lt_net_replay.specs.Keeping.{keeps_itself, keeps_on};
 
 use lt_arch::{Controller, Event, Offence, Shape, Timing};
@@ -110,6 +110,34 @@ impl<'a, C: Controller, M: Machine> Playback<'a, C, M> {
     }
 }
 
+impl<C: Controller, M: Machine> Playback<'_, C, M> {
+    /// Takes an event, with the row of inputs that it needs. It is refused where it has an offence.
+    pub fn take_event<W: Fabric, L: Ledger>(
+        &mut self,
+        e: Event,
+        fabric: &mut W,
+        steps: &mut Steps<L>,
+    ) -> Result<(), Stop<Offence>>
+        requires event { IsEventOf self.old.net.bench.shape e }
+        requires count { MayFail (W.state fabric.old).faults }
+        requires stands { (before : Items OfEvent) × PlaysFor C.Controller M.Machine self.old steps.old (W.state fabric.old) before }
+        ensures cause { StopCounted (W.state fabric.old).faults (W.state fabric.new).faults result }
+        ensures prompt { IsTrue (W.state fabric.old).prompt → ¬ IsMemoryStop result }
+        ensures keeps { KeepsPlayback M.size self.old self.new (W.state fabric.old) (W.state fabric.new) }
+        ensures takes { PlaysEvent C.Controller M.Machine self.old self.new e steps.old steps.new (W.state fabric.old) (W.state fabric.new) result }
+
+        // An event that is refused leaves the net as it was; a failed call or want of memory has stopped it.
+        ensures leaves { LeavesNet self.old.net self.new.net self.new.net.stopped result }
+    {
+        let has = read_next(&self.net, self.inputs, self.width, e, &mut self.row);
+        let row = row_if(has, &self.row);
+        match self.net.event(e, row, fabric, steps) {
+            Ok(()) => Ok(()),
+            Err(fault) => Err(stop_by(fault)),
+        }
+    }
+}
+
 impl<C: Controller, M: Machine, W: Fabric> Replica<W> for Playback<'_, C, M> {
     type Event = Event;
 
@@ -143,14 +171,7 @@ impl<C: Controller, M: Machine, W: Fabric> Replica<W> for Playback<'_, C, M> {
     {
         match self.places.read_event(line, self.net.shape()) {
             Err(fault) => Err(Stop::Row(fault)),
-            Ok(e) => {
-                let has = read_next(&self.net, self.inputs, self.width, e, &mut self.row);
-                let row = row_if(has, &self.row);
-                match self.net.event(e, row, outside, steps) {
-                    Ok(()) => Ok(()),
-                    Err(fault) => Err(stop_by(fault)),
-                }
-            }
+            Ok(e) => self.take_event(e, outside, steps),
         }
     }
 

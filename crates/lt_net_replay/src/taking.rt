@@ -9,10 +9,7 @@ use lt_net::{Net, Replayed};
 use std::alloc::Global;
 
 /// The cells, the horizon, the machines and the layout of a net that took an end.
-pub(crate) fn take<C: Controller, M: Machine>(
-    alloc: Global,
-    net: Net<C, M>,
-) -> Result<Replayed<M>, Memory>
+pub fn take<C: Controller, M: Machine>(alloc: Global, net: Net<C, M>) -> Result<Replayed<M>, Memory>
     requires { (h : ℕ) × (net.bench.watch.horizon ≡ Some h) }
     ensures { IfOk result (ReplayIsTaken net.bench) }
 {
