@@ -45,9 +45,9 @@ use Rattle.lt_c_net.specs.Stands.{Packet, offered, handed}
 use Rattle.lt_c_net.specs.Moves.{feed_source, feed_sources, given_by, own_row}
 use Rattle.lt_c_net.specs.Laws.{firsts_from}
 use Rattle.lt_c_net.specs.Emitted.{needs_countdown, init_tree, activation_tree, values_tree, message_tree}
-use Rattle.lt_c_node.specs.declared.file.Carried.{Carried}
-use Rattle.lt_c_node.specs.declared.file.NodeFile.{NodeFile}
-use Rattle.lt_c_node.specs.Acts.{peer_numbers}
+use Rattle.lt_c_heads.specs.declared.file.Carried.{Carried}
+use Rattle.lt_c_heads.specs.declared.file.NodeFile.{NodeFile}
+use Rattle.lt_c_bodies.specs.Acts.{peer_numbers}
 use Rattle.lt_c_node.specs.NodeOf.{output_for, is_output, carried, values_between, brings_data, IsFileOfNode}
 use Rattle.lt_c_files.specs.FileNodes.{slots_to, code_of_file}
 use Rattle.lt_c_files.specs.DeclaredTypes.{type_or, delay_type, slot_type_of, value_type, values_of_peer, declared_types}

@@ -23,7 +23,7 @@ use Rattle.lt_c_net.specs.Moves.{own_row}
 use Rattle.lt_c_net.specs.Laws.{taken_in}
 use Rattle.lt_c_net.specs.Emitted.{NodeCode, init_tree, activation_tree, has_executed, has_sent, packet_for, answer_packet}
 use Rattle.lt_c_net.specs.Runs.{Deployment, NodesRunning, begun_with, activated_store, put_on, with_activation, value_count, with_delivery, with_event, with_events}
-use Rattle.lt_c_node.specs.declared.file.NodeFile.{NodeFile}
+use Rattle.lt_c_heads.specs.declared.file.NodeFile.{NodeFile}
 use Rattle.lt_c_node.specs.NodeOf.{values_between, IsFileOfNode}
 use Rattle.lt_c_files.specs.FileNodes.{code_of_file}
 use Rattle.lt_c_files.specs.FileRuns.{RunsTexts}

@@ -34,10 +34,10 @@ use Rattle.lt_c_net.specs.Stands.{ListsSenders, OneEach}
 use Rattle.lt_c_net.specs.Moves.{feed_source, feed_sources}
 use Rattle.lt_c_net.specs.Laws.{firsts_from}
 use Rattle.lt_c_net.proofs.Shaped.{shapes_serve}
-use Rattle.lt_c_node.specs.declared.file.Carried.{Carried}
-use Rattle.lt_c_node.specs.declared.file.Peer.{Peer}
-use Rattle.lt_c_node.specs.Words.{made_from}
-use Rattle.lt_c_node.specs.Acts.{peer_numbers}
+use Rattle.lt_c_heads.specs.declared.file.Carried.{Carried}
+use Rattle.lt_c_heads.specs.declared.file.Peer.{Peer}
+use Rattle.lt_c_heads.specs.Words.{made_from}
+use Rattle.lt_c_bodies.specs.Acts.{peer_numbers}
 use Rattle.lt_c_node.specs.NodeOf.{source_of, is_output, output_for, outputs_of, given_slot, carried, values_between, brings_data, takes_data, is_answer, brings_answers}
 use Rattle.lt_c_files.specs.FileNodes.{slots_to, FilesAreNodes}
 use Rattle.lt_c_files.proofs.Picked.{AllApart, in_picked, of_picked, picked_apart}

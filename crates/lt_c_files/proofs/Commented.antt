@@ -4,9 +4,9 @@ use Rattle.lt_c.specs.Tree.{Statement}
 use Rattle.lt_c.specs.Meaning.{Store, store_left}
 use Rattle.lt_c_step.specs.Part.{feeding, showing}
 use Rattle.lt_c_step.specs.Translate.{of_lets, of_keeps}
-use Rattle.lt_c_node.specs.Equations.{told_lets}
-use Rattle.lt_c_node.proofs.Telling.{same_work}
-use Rattle.lt_c_node.specs.Types.{has_items}
+use Rattle.lt_c_bodies.specs.Equations.{told_lets}
+use Rattle.lt_c_bodies.proofs.Telling.{same_work}
+use Rattle.lt_c_heads.specs.Types.{has_items}
 use Rattle.lt_c_files.specs.Bodies.{noted_if, CommentsLeaveAll}
 
 same_left : (b : Bool) (comment : List ℕ) (s : Statement) (m : Store) → store_left (noted_if b comment s) m ≡ store_left s m

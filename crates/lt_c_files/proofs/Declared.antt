@@ -12,10 +12,10 @@ use Rattle.lt_place.specs.declared.layout.Part.{Part}
 use Rattle.lt_place.specs.Layout.{part_of}
 use Rattle.lt_net_bench.proofs.Entries.{same_number}
 use Rattle.lt_c_step.specs.declared.sources.Output.{Output}
-use Rattle.lt_c_node.specs.declared.file.Carried.{Carried}
-use Rattle.lt_c_node.specs.declared.file.Peer.{Peer}
-use Rattle.lt_c_node.specs.Words.{type_word, type_word_at}
-use Rattle.lt_c_node.specs.Acts.{peer_numbers}
+use Rattle.lt_c_heads.specs.declared.file.Carried.{Carried}
+use Rattle.lt_c_heads.specs.declared.file.Peer.{Peer}
+use Rattle.lt_c_heads.specs.Words.{type_word, type_word_at}
+use Rattle.lt_c_bodies.specs.Acts.{peer_numbers}
 use Rattle.lt_c_node.specs.NodeOf.{output_for, is_output, values_between}
 use Rattle.lt_c_files.specs.DeclaredTypes.{type_or, delay_type, slot_type_of, value_type, declared_types, FilesDeclareTypes}
 use Rattle.lt_c_files.proofs.Picked.{or_right}

@@ -22,21 +22,21 @@ use Rattle.lt_c.specs.Text.{Spelling, spelled, statement_text}
 use Rattle.lt_c.specs.HeadText.{file_head_text}
 use Rattle.lt_c_step.specs.Part.{feeding, showing}
 use Rattle.lt_c_step.specs.Translate.{of_keeps, of_firsts}
-use Rattle.lt_c_node.specs.Equations.{told_lets}
+use Rattle.lt_c_bodies.specs.Equations.{told_lets}
 use Rattle.lt_c_control.specs.declared.posts.Post.{Post}
 use Rattle.lt_c_control.specs.Inboxes.{FirstData, starting, delivering, acknowledging}
 use Rattle.lt_c_net.specs.Laws.{firsts_from}
 use Rattle.lt_c_net.specs.Emitted.{NodeCode, needs_countdown, activation_under, activation_tree, values_tree}
-use Rattle.lt_c_node.specs.declared.file.Carried.{Carried}
-use Rattle.lt_c_node.specs.declared.file.Peer.{Peer}
-use Rattle.lt_c_node.specs.declared.file.NodeFile.{NodeFile}
-use Rattle.lt_c_node.specs.Words.{text_if, title, spelling, indent}
-use Rattle.lt_c_node.specs.Types.{has_items}
-use Rattle.lt_c_node.specs.Heads.{init_head, activate_head, deliver_head, acknowledge_head, message_head}
-use Rattle.lt_c_node.specs.Starts.{first_values, first_data, starting_by, init_text}
-use Rattle.lt_c_node.specs.Steps.{execute_text}
-use Rattle.lt_c_node.specs.Acts.{peer_numbers, posts_of, file_calls, acting, activation, placing_text, deed_text, activate_text}
-use Rattle.lt_c_node.specs.Messages.{delivering_by, acknowledging_by, giving, messaging, function_text, deliver_text, acknowledge_text, message_text, answer_text}
+use Rattle.lt_c_heads.specs.declared.file.Carried.{Carried}
+use Rattle.lt_c_heads.specs.declared.file.Peer.{Peer}
+use Rattle.lt_c_heads.specs.declared.file.NodeFile.{NodeFile}
+use Rattle.lt_c_heads.specs.Words.{text_if, title, spelling, indent}
+use Rattle.lt_c_heads.specs.Types.{has_items}
+use Rattle.lt_c_heads.specs.Heads.{init_head, activate_head, deliver_head, acknowledge_head, message_head}
+use Rattle.lt_c_bodies.specs.Starts.{first_values, first_data, starting_by, init_text}
+use Rattle.lt_c_bodies.specs.Steps.{execute_text}
+use Rattle.lt_c_bodies.specs.Acts.{peer_numbers, posts_of, file_calls, acting, activation, placing_text, deed_text, activate_text}
+use Rattle.lt_c_bodies.specs.Messages.{delivering_by, acknowledging_by, giving, messaging, function_text, deliver_text, acknowledge_text, message_text, answer_text}
 use Rattle.lt_c_node.specs.NodeText.{opening_text, declarations_text}
 use Rattle.lt_c_node.specs.NodeOf.{carried, values_between, protocol_regime, regime_of, IsFileOfNode}
 use Rattle.lt_c_files.specs.FileNodes.{slots_to, code_of_file}

@@ -14,7 +14,7 @@ use Rattle.lt_c.specs.Tree.{slot, Tree, assign}
 use Rattle.lt_c.specs.Literals.{of_value}
 use Rattle.lt_c.specs.Text.{Spelling, helper_text, tree_text, condition_text, conditions_text, statement_text}
 use Rattle.lt_c_step.specs.Translate.{of_unary, of_binary, of_imported, of_expression, under, of_keeps, of_firsts}
-use Rattle.lt_c_node.specs.Equations.{told_equation, told_lets}
+use Rattle.lt_c_bodies.specs.Equations.{told_equation, told_lets}
 
 module _ (a b : Spelling) (same : (x : ℕ) → a (slot x) ≡ b (slot x)) where
   abbrev Alike : Tree → Type 0

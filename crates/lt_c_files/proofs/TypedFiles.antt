@@ -30,8 +30,8 @@ use Rattle.lt_c_step.specs.Typed.{SlotsTyped}
 use Rattle.lt_c_control.specs.Control.{becomes, if_acked, read_data, read_acks, executing, sending}
 use Rattle.lt_c_control.specs.Inboxes.{FirstData, taking, delivering, filling, starting_data, starting_acks, starting}
 use Rattle.lt_c_net.specs.Emitted.{NodeCode, activation_under}
-use Rattle.lt_c_node.specs.declared.file.Peer.{Peer}
-use Rattle.lt_c_node.specs.Acts.{peer_numbers}
+use Rattle.lt_c_heads.specs.declared.file.Peer.{Peer}
+use Rattle.lt_c_bodies.specs.Acts.{peer_numbers}
 use Rattle.lt_c_node.specs.NodeOf.{carried, values_between}
 use Rattle.lt_c_files.specs.DeclaredTypes.{type_or, delay_type, slot_type_of, value_type, values_of_peer}
 

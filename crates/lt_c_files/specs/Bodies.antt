@@ -19,13 +19,13 @@ use Rattle.lt_c_step.specs.Part.{feeding, showing, part_step}
 use Rattle.lt_c_step.specs.Translate.{of_keeps}
 use Rattle.lt_c_control.specs.Inboxes.{delivering, acknowledging}
 use Rattle.lt_c_net.specs.Emitted.{NodeCode, init_tree, activation_tree, message_tree}
-use Rattle.lt_c_node.specs.declared.file.NodeFile.{NodeFile}
-use Rattle.lt_c_node.specs.Words.{title, spelling, indent}
-use Rattle.lt_c_node.specs.Types.{has_items}
-use Rattle.lt_c_node.specs.Equations.{told_lets}
-use Rattle.lt_c_node.specs.Heads.{init_head, activate_head, deliver_head, acknowledge_head, message_head}
-use Rattle.lt_c_node.specs.Acts.{file_calls, placing_text, deed_text}
-use Rattle.lt_c_node.specs.Messages.{function_text, answer_text}
+use Rattle.lt_c_heads.specs.declared.file.NodeFile.{NodeFile}
+use Rattle.lt_c_heads.specs.Words.{title, spelling, indent}
+use Rattle.lt_c_heads.specs.Types.{has_items}
+use Rattle.lt_c_bodies.specs.Equations.{told_lets}
+use Rattle.lt_c_heads.specs.Heads.{init_head, activate_head, deliver_head, acknowledge_head, message_head}
+use Rattle.lt_c_bodies.specs.Acts.{file_calls, placing_text, deed_text}
+use Rattle.lt_c_bodies.specs.Messages.{function_text, answer_text}
 use Rattle.lt_c_node.specs.NodeText.{opening_text, declarations_text, node_text}
 use Rattle.lt_c_node.specs.NodeOf.{IsFileOfNode}
 use Rattle.lt_c_files.specs.FileNodes.{code_of_file}

@@ -20,10 +20,10 @@ use Rattle.lt_c.specs.Meaning.{Store}
 use Rattle.lt_c.specs.Truths.{Types, c_type_of, IsTruthNumber, HoldsTruths}
 use Rattle.lt_c_net.specs.Stands.{Packet}
 use Rattle.lt_c_net.specs.Runs.{Deployment, NodesRunning, emitted_run}
-use Rattle.lt_c_node.specs.declared.file.Carried.{Carried}
-use Rattle.lt_c_node.specs.declared.file.Peer.{Peer}
-use Rattle.lt_c_node.specs.declared.file.NodeFile.{NodeFile}
-use Rattle.lt_c_node.specs.Words.{type_word, type_word_at}
+use Rattle.lt_c_heads.specs.declared.file.Carried.{Carried}
+use Rattle.lt_c_heads.specs.declared.file.Peer.{Peer}
+use Rattle.lt_c_heads.specs.declared.file.NodeFile.{NodeFile}
+use Rattle.lt_c_heads.specs.Words.{type_word, type_word_at}
 use Rattle.lt_c_node.specs.NodeOf.{values_between, IsFileOfNode}
 use Rattle.lt_c_files.specs.FileRuns.{RunsTexts}
 

@@ -8,9 +8,9 @@ use Rattle.lt_place.specs.declared.layout.Layout.{Layout}
 use Rattle.lt_place.specs.Layout.{IsPlaced}
 use Rattle.lt_net_node.specs.Channels.{HasChannels}
 use Rattle.lt_c_net.specs.Emitted.{NodeCode, IsEmittedNode}
-use Rattle.lt_c_node.specs.declared.file.Peer.{Peer}
-use Rattle.lt_c_node.specs.declared.file.NodeFile.{NodeFile}
-use Rattle.lt_c_node.specs.Acts.{peer_numbers}
+use Rattle.lt_c_heads.specs.declared.file.Peer.{Peer}
+use Rattle.lt_c_heads.specs.declared.file.NodeFile.{NodeFile}
+use Rattle.lt_c_bodies.specs.Acts.{peer_numbers}
 use Rattle.lt_c_node.specs.NodeOf.{IsFileOfNode}
 
 -- the slots of the values that are sent to node j, in order

@@ -17,7 +17,7 @@ use Rattle.lt_c_step.specs.Translate.{of_firsts}
 use Rattle.lt_c_control.specs.Inboxes.{payload_value}
 use Rattle.lt_c_net.specs.Stands.{sender}
 use Rattle.lt_c_net.specs.Laws.{literals_of, firsts_from}
-use Rattle.lt_c_node.specs.Starts.{starting_number, starting_numbers, starting_answers}
+use Rattle.lt_c_bodies.specs.Starts.{starting_number, starting_numbers, starting_answers}
 use Rattle.lt_c_lossy.specs.Crossed.{crossing_channel}
 use Rattle.lt_c_lossy.specs.LosingLaws.{LosingStarts}
 use Rattle.lt_c_lossy.proofs.Whole.{entry_between}

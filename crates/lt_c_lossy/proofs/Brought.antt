@@ -32,7 +32,7 @@ use Rattle.lt_c.specs.Literals.{c_number}
 use Rattle.lt_c.proofs.Stores.{truth_back, other_tag, same_self}
 use Rattle.lt_c_control.specs.Inboxes.{taking}
 use Rattle.lt_c_control.proofs.Delivered.{taking_others}
-use Rattle.lt_c_node.specs.Messages.{delivering_newer, acknowledging_newer}
+use Rattle.lt_c_bodies.specs.Messages.{delivering_newer, acknowledging_newer}
 use Rattle.lt_c_net.specs.Stands.{sender, Packet, OneEach}
 use Rattle.lt_c_net.proofs.Shaped.{shapes_serve}
 use Rattle.lt_c_lossy.specs.Crossed.{crossing_value, crossing_channel}

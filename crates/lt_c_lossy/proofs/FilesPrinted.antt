@@ -9,12 +9,12 @@ use Rattle.lt_place.specs.declared.layout.Layout.{Layout}
 use Rattle.lt_net_node.specs.Layout.{joins}
 use Rattle.lt_c.specs.Tree.{perform}
 use Rattle.lt_c_net.specs.Laws.{literals_of, firsts_from}
-use Rattle.lt_c_node.specs.declared.file.Carried.{Carried}
-use Rattle.lt_c_node.specs.declared.file.Peer.{Peer}
-use Rattle.lt_c_node.specs.declared.file.Regime.{Regime}
-use Rattle.lt_c_node.specs.Acts.{peer_numbers, posts_of, acting}
-use Rattle.lt_c_node.specs.Starts.{first_values, first_of, first_data, starting_losing, starting_by}
-use Rattle.lt_c_node.specs.Messages.{delivering_newer, acknowledging_by, delivering_by, messaging}
+use Rattle.lt_c_heads.specs.declared.file.Carried.{Carried}
+use Rattle.lt_c_heads.specs.declared.file.Peer.{Peer}
+use Rattle.lt_c_heads.specs.declared.file.Regime.{Regime}
+use Rattle.lt_c_bodies.specs.Acts.{peer_numbers, posts_of, acting}
+use Rattle.lt_c_bodies.specs.Starts.{first_values, first_of, first_data, starting_losing, starting_by}
+use Rattle.lt_c_bodies.specs.Messages.{delivering_newer, acknowledging_by, delivering_by, messaging}
 use Rattle.lt_c_node.specs.NodeOf.{carried, values_between}
 use Rattle.lt_c_lossy.specs.Losing.{losing_message}
 use Rattle.lt_c_lossy.specs.LosingFiles.{LosingFilesPrint}

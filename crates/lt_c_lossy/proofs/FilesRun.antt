@@ -8,7 +8,7 @@ use Rattle.lt_net_node.specs.Channels.{FitsLayout}
 use Rattle.lt_net_node.proofs.LayoutShape.{shapes_fit}
 use Rattle.lt_c_control.specs.declared.posts.Post.{Post}
 use Rattle.lt_c_net.specs.Emitted.{NodeCode}
-use Rattle.lt_c_node.specs.Acts.{posts_of}
+use Rattle.lt_c_bodies.specs.Acts.{posts_of}
 use Rattle.lt_c_files.specs.FileNodes.{code_of_file}
 use Rattle.lt_c_files.proofs.Coded.{files_are_nodes}
 use Rattle.lt_c_lossy.specs.Losing.{IsLosingNode}

@@ -9,7 +9,7 @@ use Rattle.lt_c.specs.Literals.{c_number, of_value}
 use Rattle.lt_c.proofs.Literal.{literal_number}
 use Rattle.lt_c.proofs.Stores.{other_tag, same_self}
 use Rattle.lt_c_control.specs.Inboxes.{payload_value, taking, filling}
-use Rattle.lt_c_node.specs.Messages.{giving_again}
+use Rattle.lt_c_bodies.specs.Messages.{giving_again}
 
 neither_one : (a b : Bool) → b ≡ false → (a && b) ≡ false
 neither_one true b h = h

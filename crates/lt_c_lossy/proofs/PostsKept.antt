@@ -25,10 +25,10 @@ use Rattle.lt_net_bench.proofs.FedRows.{map_entry}
 use Rattle.lt_net_bench.proofs.LaidOut.{laid_out}
 use Rattle.lt_c_control.specs.declared.posts.Post.{Post}
 use Rattle.lt_c_control.specs.Lossy.{is_post, DifferAsPosts}
-use Rattle.lt_c_node.specs.declared.file.Carried.{Carried}
-use Rattle.lt_c_node.specs.declared.file.Peer.{Peer}
-use Rattle.lt_c_node.specs.Words.{made_from}
-use Rattle.lt_c_node.specs.Acts.{peer_numbers, post_of, posts_to, posts_of}
+use Rattle.lt_c_heads.specs.declared.file.Carried.{Carried}
+use Rattle.lt_c_heads.specs.declared.file.Peer.{Peer}
+use Rattle.lt_c_heads.specs.Words.{made_from}
+use Rattle.lt_c_bodies.specs.Acts.{peer_numbers, post_of, posts_to, posts_of}
 use Rattle.lt_c_node.specs.NodeOf.{given_slot, carried, values_between, takes_data, AreReceivers}
 use Rattle.lt_c_lossy.specs.Crossed.{crossing_channel}
 use Rattle.lt_c_lossy.specs.LosingFiles.{FilesKeepCrossings}

@@ -15,8 +15,8 @@ use Rattle.lt_c_control.specs.Lossy.{losing, DifferAsPosts}
 use Rattle.lt_c_net.specs.Stands.{sender, Packet}
 use Rattle.lt_c_net.specs.Laws.{firsts_from}
 use Rattle.lt_c_net.specs.Emitted.{NodeCode, IsEmittedNode}
-use Rattle.lt_c_node.specs.Starts.{starting_losing}
-use Rattle.lt_c_node.specs.Messages.{delivering_newer, acknowledging_newer, giving_again}
+use Rattle.lt_c_bodies.specs.Starts.{starting_losing}
+use Rattle.lt_c_bodies.specs.Messages.{delivering_newer, acknowledging_newer, giving_again}
 
 -- node n keeps these values to send them again: of what crosses from it, each at its place, and none twice
 pub record KeepsCrossings (l : Layout) (n : ℕ) (posts : List Post) : Type 0 where

@@ -11,7 +11,7 @@ use Rattle.lt_lead.specs.Paced.{KeepsPace}
 use Rattle.lt_norm.specs.Flat.{Originated}
 use Rattle.lt_place.specs.Layout.{IsPlaced}
 use Rattle.lt_c.specs.Meaning.{Store}
-use Rattle.lt_c_node.specs.Acts.{posts_of}
+use Rattle.lt_c_bodies.specs.Acts.{posts_of}
 use Rattle.lt_c_node.specs.NodeOf.{IsEmitted}
 use Rattle.lt_c_files.specs.FileNodes.{code_of_file}
 use Rattle.lt_c_files.specs.FileRuns.{EmittedFilesRunWhole}

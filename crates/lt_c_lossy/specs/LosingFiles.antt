@@ -13,11 +13,11 @@ use Rattle.lt_net_node.specs.Layout.{joins}
 use Rattle.lt_c.specs.Tree.{Statement, perform}
 use Rattle.lt_c_control.specs.Lossy.{losing}
 use Rattle.lt_c_net.specs.Laws.{firsts_from}
-use Rattle.lt_c_node.specs.declared.file.Peer.{Peer}
-use Rattle.lt_c_node.specs.declared.file.NodeFile.{NodeFile}
-use Rattle.lt_c_node.specs.Acts.{peer_numbers, posts_of, activation}
-use Rattle.lt_c_node.specs.Starts.{first_data, starting_losing, starting_by}
-use Rattle.lt_c_node.specs.Messages.{delivering_newer, acknowledging_newer, delivering_by, acknowledging_by, messaging}
+use Rattle.lt_c_heads.specs.declared.file.Peer.{Peer}
+use Rattle.lt_c_heads.specs.declared.file.NodeFile.{NodeFile}
+use Rattle.lt_c_bodies.specs.Acts.{peer_numbers, posts_of, activation}
+use Rattle.lt_c_bodies.specs.Starts.{first_data, starting_losing, starting_by}
+use Rattle.lt_c_bodies.specs.Messages.{delivering_newer, acknowledging_newer, delivering_by, acknowledging_by, messaging}
 use Rattle.lt_c_node.specs.NodeOf.{AreReceivers, IsFileOfNode}
 use Rattle.lt_c_lossy.specs.Losing.{KeepsCrossings, losing_message}
 

@@ -1,11 +1,11 @@
 -- The interface in a node's header, and in its file.
 use Rattle.std.proofs.Common.{◌++◌, ◌∙◌, ap, sym, codes, append_assoc}
 use Rattle.lt_c.specs.HeadText.{file_head_text}
-use Rattle.lt_c_node.specs.declared.file.NodeFile.{NodeFile}
-use Rattle.lt_c_node.specs.Words.{title}
-use Rattle.lt_c_node.specs.Interface.{interface_text, header_opening_text, header_guard_text, node_header_text}
-use Rattle.lt_c_node.specs.Variables.{variables_text}
-use Rattle.lt_c_node.specs.Acts.{file_calls}
+use Rattle.lt_c_heads.specs.declared.file.NodeFile.{NodeFile}
+use Rattle.lt_c_heads.specs.Words.{title}
+use Rattle.lt_c_heads.specs.Interface.{interface_text, header_opening_text, header_guard_text, node_header_text}
+use Rattle.lt_c_bodies.specs.Variables.{variables_text}
+use Rattle.lt_c_bodies.specs.Acts.{file_calls}
 use Rattle.lt_c_node.specs.NodeText.{opening_text, functions_text, node_text, StandsWithin, HeaderAgrees}
 
 in_header : (f : NodeFile) → StandsWithin (interface_text (title f) f) (node_header_text f)

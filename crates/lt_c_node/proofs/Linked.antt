@@ -6,8 +6,8 @@ use Rattle.std.proofs.lemmas.List.{map-append}
 use Rattle.std.proofs.lemmas.List.Elements.{filter-append, All-push}
 use Rattle.lt_arch.specs.declared.chan.Chan.{Chan}
 use Rattle.lt_place.specs.declared.layout.Layout.{Layout}
-use Rattle.lt_c_node.specs.declared.file.Peer.{Peer}
-use Rattle.lt_c_node.specs.Acts.{peer_numbers}
+use Rattle.lt_c_heads.specs.declared.file.Peer.{Peer}
+use Rattle.lt_c_bodies.specs.Acts.{peer_numbers}
 use Rattle.lt_c_node.specs.NodeOf.{values_between, brings_data, takes_data, AreSenders, AreReceivers}
 
 next_taken : {A : Type 0} (xs : List A) (i : ℕ) (x : A) → i < length xs → x ≡ get_or xs i x → take (i + 1) xs ≡ take i xs ++ x ∷ []

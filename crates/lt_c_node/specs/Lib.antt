@@ -1,13 +1,3 @@
-pub mod Words
-pub mod Types
-pub mod Heads
-pub mod Variables
-pub mod Starts
-pub mod Equations
-pub mod Steps
-pub mod Acts
-pub mod Messages
-pub mod Interface
 pub mod NodeText
 pub mod Names
 pub mod NodeOf

@@ -26,15 +26,15 @@ use Rattle.lt_c.specs.Text.{name_at}
 use Rattle.lt_c_step.specs.declared.sources.Source.{Source}
 use Rattle.lt_c_step.specs.declared.sources.Source.TheVariants.{Given, Arrived}
 use Rattle.lt_c_step.specs.declared.sources.Output.{Output}
-use Rattle.lt_c_node.specs.declared.file.Carried.{Carried}
-use Rattle.lt_c_node.specs.declared.file.Peer.{Peer}
-use Rattle.lt_c_node.specs.declared.file.Regime.{Regime}
-use Rattle.lt_c_node.specs.declared.file.Regime.TheVariants.{Pressing, Counting, Losing}
-use Rattle.lt_c_node.specs.declared.file.PartCode.{PartCode}
-use Rattle.lt_c_node.specs.declared.file.Correspondence.{Correspondence}
-use Rattle.lt_c_node.specs.declared.file.NodeFile.{NodeFile}
-use Rattle.lt_c_node.specs.Words.{made_from}
-use Rattle.lt_c_node.specs.Acts.{peer_numbers}
+use Rattle.lt_c_heads.specs.declared.file.Carried.{Carried}
+use Rattle.lt_c_heads.specs.declared.file.Peer.{Peer}
+use Rattle.lt_c_heads.specs.declared.file.Regime.{Regime}
+use Rattle.lt_c_heads.specs.declared.file.Regime.TheVariants.{Pressing, Counting, Losing}
+use Rattle.lt_c_heads.specs.declared.file.PartCode.{PartCode}
+use Rattle.lt_c_heads.specs.declared.file.Correspondence.{Correspondence}
+use Rattle.lt_c_heads.specs.declared.file.NodeFile.{NodeFile}
+use Rattle.lt_c_heads.specs.Words.{made_from}
+use Rattle.lt_c_bodies.specs.Acts.{peer_numbers}
 use Rattle.lt_c_node.specs.NodeText.{emitted_text}
 
 -- ---- the step

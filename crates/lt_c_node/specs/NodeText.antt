@@ -2,14 +2,14 @@
 use Rattle.std.specs.Prelude.{◌≡◌, ℕ, ◌++◌, Bool, true, false, List, codes}
 use Rattle.lt_c.specs.HeadText.{file_head_text}
 use Rattle.lt_c.specs.Spelled.{node_at}
-use Rattle.lt_c_node.specs.declared.file.NodeFile.{NodeFile}
-use Rattle.lt_c_node.specs.Words.{title}
-use Rattle.lt_c_node.specs.Interface.{interface_text, node_header_text}
-use Rattle.lt_c_node.specs.Variables.{variables_text}
-use Rattle.lt_c_node.specs.Starts.{init_text}
-use Rattle.lt_c_node.specs.Steps.{execute_text}
-use Rattle.lt_c_node.specs.Acts.{file_calls, activate_text}
-use Rattle.lt_c_node.specs.Messages.{transport_text}
+use Rattle.lt_c_heads.specs.declared.file.NodeFile.{NodeFile}
+use Rattle.lt_c_heads.specs.Words.{title}
+use Rattle.lt_c_heads.specs.Interface.{interface_text, node_header_text}
+use Rattle.lt_c_bodies.specs.Variables.{variables_text}
+use Rattle.lt_c_bodies.specs.Starts.{init_text}
+use Rattle.lt_c_bodies.specs.Steps.{execute_text}
+use Rattle.lt_c_bodies.specs.Acts.{file_calls, activate_text}
+use Rattle.lt_c_bodies.specs.Messages.{transport_text}
 
 -- what stands above all
 abbrev pub opening_text : NodeFile → List ℕ

@@ -9,13 +9,13 @@ ghost use Rattle.lt_step.specs.Compile.{CodeOf};
 ghost use Rattle.lt_c_node.specs.NodeText.{emitted_text};
 ghost use Rattle.lt_c_node.specs.NodeOf.{IsFeedOf, sources_of, protocol_regime, regime_of, IsPartCodeOf, IsFileOfNode, IsEmitted};
 
-use crate::file::{NodeFile, PartCode, Regime};
-use crate::interface::write_header;
 use crate::linking::links_of;
 use crate::part::{outputs_of, part_of, sources_of};
 use crate::writer::write_node;
 use lt_arch::{Pace, Protocol, Shape, Timing};
 use lt_base::{Decl, List, Memory};
+use lt_c_heads::interface::write_header;
+use lt_c_heads::{NodeFile, PartCode, Regime};
 use lt_c_step::Source;
 use lt_cause::order_of;
 use lt_norm::Flat;

@@ -1,5 +1,5 @@
 //! What holds of emitted files; nothing here is run.
-ghost use Rattle.lt_c_node.specs.Equations.{CommentsChangeNothing};
+ghost use Rattle.lt_c_bodies.specs.Equations.{CommentsChangeNothing};
 ghost use Rattle.lt_c_node.specs.Names.{FileNamesDiffer};
 ghost use Rattle.lt_c_node.specs.NodeText.{HeaderAgrees};
 

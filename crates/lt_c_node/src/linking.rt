@@ -7,10 +7,10 @@ ghost use Rattle.lt_c.specs.Text.{name_at};
 ghost use Rattle.lt_net_node.specs.Layout.{joins};
 ghost use Rattle.lt_c_node.specs.NodeOf.{carried_by, carried, values_between, is_answer, brings_answers, AreSenders, AreReceivers, AreLinksOf, StartsBelow};
 
-use crate::file::{Carried, Correspondence, Peer};
 use crate::part::{given_slot, part_of};
 use lt_arch::{Chan, ChanKind};
 use lt_base::{Decl, List, Memory, Name};
+use lt_c_heads::{Carried, Correspondence, Peer};
 use lt_place::{Crossing, Layout, Part};
 use std::alloc::Global;
 

@@ -33,7 +33,7 @@ fn crossing_of(layout: &Layout, c: u32) -> Crossing
 }
 
 // How many of these crossings lead from one node to another.
-#[tactic(auto, using(crate::proofs::Growing::count_most))]
+#[tactic(auto, using(lt_c_heads::proofs::Growing::count_most))]
 fn count_between(cross: &[Crossing], from: u32, to: u32) -> usize
     ensures is { result ≡ count_by (joins from to) cross.now }
     ensures most { result ≤ length cross.now }

@@ -3,19 +3,17 @@
 ghost use Rattle.std.specs.Prelude.{◌≡◌, ◌++◌, IfOk, OnOk};
 ghost use Rattle.lt_c.specs.Tree.{Statement};
 ghost use Rattle.lt_c.specs.Views.{statement_of};
-ghost use Rattle.lt_c_node.specs.Acts.{activation};
+ghost use Rattle.lt_c_bodies.specs.Acts.{activation};
 ghost use Rattle.lt_c_node.specs.NodeText.{opening_text, declarations_text, functions_text, titled_text, node_text};
 
-use crate::acting::{activate, activation, file_calls};
-use crate::file::NodeFile;
-use crate::interface::interface;
-use crate::keeping::variables;
-use crate::starting::init;
-use crate::stepping::execute;
-use crate::transport::transport_functions;
-use crate::words::{three, title};
 use lt_base::{List, Memory};
 use lt_c::{Action, head, node_name};
+use lt_c_bodies::{
+    activate, activation, execute, file_calls, init, transport_functions, variables,
+};
+use lt_c_heads::NodeFile;
+use lt_c_heads::interface::interface;
+use lt_c_heads::words::{three, title};
 use std::alloc::Global;
 
 fn opening(out: &mut List<u8>, file: &NodeFile) -> Result<(), Memory>

@@ -4,7 +4,7 @@ use Rattle.lt_arch.specs.declared.shape.Shape.{Shape}
 use Rattle.lt_arch.specs.declared.timing.Timing.{Timing}
 use Rattle.lt_arch.specs.declared.pace.Pace.{Pace}
 use Rattle.lt_place.specs.declared.layout.Layout.{Layout}
-use Rattle.lt_c_node.specs.declared.file.NodeFile.{NodeFile}
+use Rattle.lt_c_heads.specs.declared.file.NodeFile.{NodeFile}
 use Rattle.lt_c_node.specs.NodeText.{emitted_text}
 use Rattle.lt_c_node.specs.NodeOf.{IsFileOfNode, IsEmitted}
 use Rattle.lt_c_node.proofs.building.emit_node.Goals as goal

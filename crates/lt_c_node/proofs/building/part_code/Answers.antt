@@ -1,7 +1,7 @@
 use Rattle.std.proofs.Common.{◌<◌, ◌^◌, List, length, sym, ap, ◌∙◌, subst, arith}
 use Rattle.lt_base.specs.declared.function.Decl.{Decl}
 use Rattle.lt_c_node.specs.NodeOf.{source_of}
-use Rattle.lt_c_node.proofs.Growing.{made_length}
+use Rattle.lt_c_heads.proofs.Growing.{made_length}
 use Rattle.lt_c_node.proofs.building.part_code.Goals as goal
 
 pub invariant_of-result : goal.invariant_of-result

@@ -1,4 +1,4 @@
-use Rattle.lt_c_node.proofs.Telling.{same_work}
+use Rattle.lt_c_bodies.proofs.Telling.{same_work}
 use Rattle.lt_c_node.proofs.laws.comments_change_nothing.Goals as goal
 
 pub returns : goal.returns

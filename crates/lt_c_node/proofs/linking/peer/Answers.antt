@@ -2,7 +2,7 @@ use Rattle.std.proofs.Common.{◌<◌, ◌^◌, List, length, sym, subst}
 use Rattle.lt_place_reads.specs.declared.crossing.Crossing.{Crossing}
 use Rattle.lt_net_node.specs.Layout.{joins}
 use Rattle.lt_c_node.specs.NodeOf.{carried}
-use Rattle.lt_c_node.proofs.Growing.{few_picked}
+use Rattle.lt_c_heads.proofs.Growing.{few_picked}
 use Rattle.lt_c_node.proofs.linking.peer.Goals as goal
 
 pub invariant_of-result : goal.invariant_of-result

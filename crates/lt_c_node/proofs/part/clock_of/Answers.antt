@@ -1,6 +1,6 @@
 use Rattle.std.proofs.Common.{◌≡◌, IfOk, sym, subst, ◌∙◌}
 use Rattle.lt_base.specs.Meaning.{ClockPairs}
-use Rattle.lt_c_node.proofs.Typing.{clock_there, clock_past}
+use Rattle.lt_c_heads.proofs.Typing.{clock_there, clock_past}
 use Rattle.lt_c_node.proofs.part.clock_of.Goals as goal
 
 pub returns-then-x-decls : goal.returns-then-x-decls

@@ -1,6 +1,6 @@
 use Rattle.lt_place.specs.declared.layout.Feed.TheVariants.{Input}
 use Rattle.lt_c_node.specs.NodeOf.{source_of}
-use Rattle.lt_c_node.proofs.Growing.{made_there}
+use Rattle.lt_c_heads.proofs.Growing.{made_there}
 use Rattle.lt_c_node.proofs.part.sources_of.Goals as goal
 
 pub source_of-requires-clause-feed : goal.source_of-requires-clause-feed

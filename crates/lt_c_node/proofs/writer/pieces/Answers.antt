@@ -1,8 +1,8 @@
 use Rattle.std.proofs.Common.{◌++◌, ◌∙◌, ap}
 use Rattle.lt_c.specs.HeadText.{file_head_text}
-use Rattle.lt_c_node.specs.Acts.{file_calls}
+use Rattle.lt_c_bodies.specs.Acts.{file_calls}
 use Rattle.lt_c_node.specs.NodeText.{opening_text, declarations_text, functions_text}
-use Rattle.lt_c_node.proofs.Growing.{four_pieces}
+use Rattle.lt_c_heads.proofs.Growing.{four_pieces}
 use Rattle.lt_c_node.proofs.writer.pieces.Goals as goal
 
 pub returns : goal.returns

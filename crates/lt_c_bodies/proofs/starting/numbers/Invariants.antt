@@ -1,0 +1,8 @@
+use Rattle.std.proofs.Common.{◌≡◌, ◌-◌, length, drop}
+use Rattle.lt_c.specs.Tree.{Statement}
+use Rattle.lt_c.specs.Views.{statement_of}
+use Rattle.lt_c_bodies.specs.Starts.{first_data, starting_numbers}
+use Rattle.lt_c_bodies.proofs.starting.numbers.Given as goal
+
+abbrev pub invariant-peers : goal.invariant-peers
+invariant-peers l = (run : Statement) → statement_of run l.all ≡ starting_numbers (first_data (drop (length l.peers - l.i) l.peers))

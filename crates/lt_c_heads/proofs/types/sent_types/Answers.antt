@@ -1,0 +1,6 @@
+use Rattle.lt_c_heads.specs.Types.{sent_type_text}
+use Rattle.lt_c_heads.proofs.Growing.{grows}
+use Rattle.lt_c_heads.proofs.types.sent_types.Goals as goal
+
+pub peers-preserved : goal.peers-preserved
+peers-preserved c = grows (sent_type_text c.args.t.now c.args.regime c.args.names.now) c.args.out.now c.peers.out c.sent_type.new.out c.args.peers.now c.peers.peer-index c.peer-item.result c.peers-test.true c.peer-item.is c.peers.invariant c.in_ok-sent_type.ensures

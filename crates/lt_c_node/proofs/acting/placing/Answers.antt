@@ -1,5 +1,0 @@
-use Rattle.lt_c_node.proofs.Growing.{two_pieces}
-use Rattle.lt_c_node.proofs.acting.placing.Goals as goal
-
-pub returns : goal.returns
-returns c = two_pieces c.placing_pointers.result c.args.out.now _ _ c.extend.new.self c.placing_pointers.new.out c.in_ok-extend.ensures.ok c.placing_pointers.ensures

@@ -1,6 +1,0 @@
-use Rattle.lt_c_node.specs.Heads.{as_prototype, message_head}
-use Rattle.lt_c_node.proofs.Growing.{grows}
-use Rattle.lt_c_node.proofs.heads.message_prototypes.Goals as goal
-
-pub peers-preserved : goal.peers-preserved
-peers-preserved c = grows (λ p. as_prototype (message_head c.args.t.now c.args.names.now p)) c.args.out.now c.peers.out c.message_prototype.new.out c.args.peers.now c.peers.peer-index c.peer-item.result c.peers-test.true c.peer-item.is c.peers.invariant c.in_ok-message_prototype.ensures
