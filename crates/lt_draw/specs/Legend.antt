@@ -21,7 +21,7 @@ entry_text Sends = codes "<path d=\"M8 1h12l-6 -12z\" class=\"se\"/><text x=\"30
 entry_text Nothing = codes "<path d=\"M6 -4h16\" class=\"nl\"/><path d=\"M14 -9v10\" class=\"no\"/><text x=\"30\" class=\"ts s\">does nothing</text></g>\n"
 entry_text Message = codes "<path d=\"M4 -4h20\" class=\"da\" marker-end=\"url(#hda)\"/><text x=\"30\" class=\"ts s\">message</text></g>\n"
 entry_text WithoutValues = codes "<path d=\"M4 -4h20\" class=\"em\" marker-end=\"url(#hem)\"/><text x=\"30\" class=\"ts s\">message without values</text></g>\n"
-entry_text Again = codes "<path d=\"M4 -4h20\" class=\"em\" marker-end=\"url(#hem)\"/><text x=\"30\" class=\"ts s\">message sent again</text></g>\n"
+entry_text Again = codes "<path d=\"M4 -4h20\" class=\"em\" marker-end=\"url(#hem)\"/><text x=\"30\" class=\"ts s\">message with nothing new</text></g>\n"
 entry_text Acknowledgement = codes "<path d=\"M4 -4h20\" class=\"ac\" marker-end=\"url(#hac)\"/><text x=\"30\" class=\"ts s\">acknowledgement</text></g>\n"
 entry_text Lost = codes "<path d=\"M10 -8l8 8m0 -8l-8 8\" class=\"lo\"/><text x=\"30\" class=\"ts s\">lost</text></g>\n"
 entry_text Pending = codes "<path d=\"M4 -4h20\" class=\"da w\"/><text x=\"30\" class=\"ts s\">on its way at the end</text></g>\n"

@@ -1,5 +1,5 @@
 -- A picture as one SVG.
-use Rattle.std.specs.Prelude.{ℕ, ◌+◌, ◌++◌, List, [], Option, Some, None, codes}
+use Rattle.std.specs.Prelude.{ℕ, ◌+◌, ◌-◌, ◌++◌, List, [], Option, Some, None, codes}
 use Rattle.lt_draw.specs.declared.picture.Picture.{Picture}
 use Rattle.lt_draw.specs.declared.picture.Offence.{Offence}
 use Rattle.lt_draw.specs.declared.picture.Ring.{Ring}
@@ -31,14 +31,22 @@ drawn_messages c s p =
     drawn_arrows c p.names (arrow_end s.size) Pale p.arrows
     ++ (drawn_arrows c p.names (arrow_end s.size) Dashed p.arrows ++ drawn_arrows c p.names (arrow_end s.size) Strong p.arrows)
 
--- what stands out, a refusal before all
-unfoldable pub drawn_miss : Chart → Option Ring → List ℕ
-drawn_miss c None = []
-drawn_miss c (Some r) = drawn_ring c r
+-- where the words of a ring stand: above the rows, or below the words of a refusal
+abbrev pub ring_words_at : Chart → Option Offence → ℕ
+ring_words_at c None = c.top - 4
+ring_words_at c (Some o) = c.top + 10
 
+unfoldable pub drawn_miss : Chart → (above : ℕ) → Option Ring → List ℕ
+drawn_miss c above None = []
+drawn_miss c above (Some r) = drawn_ring c above r
+
+unfoldable pub drawn_stop : Chart → Option Offence → List ℕ
+drawn_stop c None = []
+drawn_stop c (Some o) = drawn_offence c o
+
+-- what stands out: an execution with a message too few or too many, and over it an event that is refused
 unfoldable pub drawn_red : Chart → Option Offence → Option Ring → List ℕ
-drawn_red c None r = drawn_miss c r
-drawn_red c (Some o) r = drawn_offence c o
+drawn_red c o r = drawn_miss c (ring_words_at c o) r ++ drawn_stop c o
 
 -- the activations
 unfoldable pub drawn_deeds : Chart → Style → Picture → List ℕ

@@ -103,11 +103,18 @@ drawn_refusal c o = drawn_band c o.time ++ (drawn_row c o ++ drawn_spot c o)
 unfoldable pub drawn_offence : Chart → Offence → List ℕ
 drawn_offence c o = group_title o.refusal ++ (drawn_refusal c o ++ codes "</g>\n")
 
--- a ring round an execution with a message too few or too many, under the line that tells of it
-unfoldable pub ring_mark : Chart → (event node time : ℕ) → List ℕ
-ring_mark c event node time =
-    filled_template (codes "<circle cx=\"%\" cy=\"%\" r=\"11\" class=\"bad\"/><path d=\"M% %V%\" class=\"bad bd\"/><text x=\"%\" y=\"%\" dx=\"5\" class=\"badt s b\">event % at %</text></g>\n")
-    (x_at c time ∷ y_at c node ∷ x_at c time ∷ (c.top - 4) ∷ (y_at c node - 11) ∷ x_at c time ∷ (c.top - 4) ∷ event ∷ time ∷ [])
+-- a ring round an execution with a message too few or too many, and a line from it up to its words
+unfoldable pub ring_circle : Chart → (above node time : ℕ) → List ℕ
+ring_circle c above node time =
+    filled_template (codes "<circle cx=\"%\" cy=\"%\" r=\"11\" class=\"bad\"/><path d=\"M% %V%\" class=\"bad bd\"/>") (x_at c time ∷ y_at c node ∷ x_at c time ∷ above ∷ (y_at c node - 11) ∷ [])
 
-unfoldable pub drawn_ring : Chart → Ring → List ℕ
-drawn_ring c r = group_title r.line ++ ring_mark c r.event r.node r.time
+-- which event it is, on the side with more room
+unfoldable pub ring_words : Chart → (above event time : ℕ) → List ℕ
+ring_words c above event time = filled_template (note_template c (x_at c time)) (x_at c time ∷ above ∷ []) ++ filled_template (codes "event % at %</text></g>\n") (event ∷ time ∷ [])
+
+unfoldable pub ring_mark : Chart → (above event node time : ℕ) → List ℕ
+ring_mark c above event node time = ring_circle c above node time ++ ring_words c above event time
+
+-- all of it, under the line that tells of it
+unfoldable pub drawn_ring : Chart → (above : ℕ) → Ring → List ℕ
+drawn_ring c above r = group_title r.line ++ ring_mark c above r.event r.node r.time

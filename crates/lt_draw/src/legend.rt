@@ -47,7 +47,7 @@ fn entry_text(entry: Entry) -> &'static [u8]
             b"<path d=\"M4 -4h20\" class=\"em\" marker-end=\"url(#hem)\"/><text x=\"30\" class=\"ts s\">message without values</text></g>\n"
         }
         Entry::Again => {
-            b"<path d=\"M4 -4h20\" class=\"em\" marker-end=\"url(#hem)\"/><text x=\"30\" class=\"ts s\">message sent again</text></g>\n"
+            b"<path d=\"M4 -4h20\" class=\"em\" marker-end=\"url(#hem)\"/><text x=\"30\" class=\"ts s\">message with nothing new</text></g>\n"
         }
         Entry::Acknowledgement => {
             b"<path d=\"M4 -4h20\" class=\"ac\" marker-end=\"url(#hac)\"/><text x=\"30\" class=\"ts s\">acknowledgement</text></g>\n"

@@ -24,9 +24,9 @@ pub struct Mark {
 /// What a message is drawn as.
 #[derive(Clone, Copy)]
 pub enum Ink {
-    /// It carries values that were not sent before.
+    /// It carries values that its receiver has not had.
     Strong,
-    /// It carries no values, or is sent again.
+    /// It carries no values, or none that its receiver has not had.
     Pale,
     /// It acknowledges an instant.
     Dashed,
@@ -130,7 +130,7 @@ pub struct Picture {
     /// The activations by their times. One before the first tick counts for what the node is at.
     pub marks: List<Mark>,
     pub arrows: List<Arrow>,
-    /// Whether pale messages are sent again, and else carry no values.
+    /// Whether pale messages carry nothing new, and else no values.
     pub again: bool,
     pub offence: Option<Offence>,
     pub ring: Option<Ring>,

@@ -1,6 +1,6 @@
 // What stands out: an event that is refused, or an execution with a message too few or too many.
 ghost use Rattle.std.specs.Prelude.{◌≡◌, ◌++◌, ◌<◌, ◌^◌, OnOk};
-ghost use Rattle.lt_draw.specs.Red.{note_template, drawn_note, over, absence_mark, drawn_absence, haste_mark, drawn_haste, beyond, drawn_course, untimely_mark, drawn_untimely, gone_cross, gone_mark, drawn_gone, unsent_mark, drawn_unsent, drawn_wrong, drawn_band, group_title, drawn_row, drawn_spot, drawn_refusal, drawn_offence, ring_mark, drawn_ring};
+ghost use Rattle.lt_draw.specs.Red.{note_template, drawn_note, over, absence_mark, drawn_absence, haste_mark, drawn_haste, beyond, drawn_course, untimely_mark, drawn_untimely, gone_cross, gone_mark, drawn_gone, unsent_mark, drawn_unsent, drawn_wrong, drawn_band, group_title, drawn_row, drawn_spot, drawn_refusal, drawn_offence, ring_circle, ring_words, ring_mark, drawn_ring};
 
 use crate::arrows::{tip, write_way};
 use crate::chart::{Chart, bottom, right, x_at, y_at};
@@ -366,41 +366,67 @@ pub(crate) fn write_offence(
     out.extend(b"</g>\n")
 }
 
+// A ring round an execution, and a line from it up to its words.
+#[tactic(auto, unfolding(crate::specs::Red::ring_circle))]
+fn mark_circle(
+    out: &mut List<u8>,
+    chart: &Chart,
+    above: u64,
+    node: u32,
+    time: u64,
+) -> Result<(), Memory>
+    ensures { OnOk result (out.new ≡ out.old ++ ring_circle chart.now above node time) }
+{
+    let x = x_at(chart, time);
+    let y = y_at(chart, node);
+    fill(
+        out,
+        b"<circle cx=\"%\" cy=\"%\" r=\"11\" class=\"bad\"/><path d=\"M% %V%\" class=\"bad bd\"/>",
+        &[x, y, x, above, y.saturating_sub(11)],
+    )
+}
+
+// Which event it is, on the side with more room.
+#[tactic(auto, unfolding(crate::specs::Red::ring_words))]
+fn write_ring_words(
+    out: &mut List<u8>,
+    chart: &Chart,
+    above: u64,
+    event: u32,
+    time: u64,
+) -> Result<(), Memory>
+    ensures { OnOk result (out.new ≡ out.old ++ ring_words chart.now above event time) }
+{
+    let x = x_at(chart, time);
+    fill(out, note_template(chart, x), &[x, above])?;
+    fill(out, b"event % at %</text></g>\n", &[u64::from(event), time])
+}
+
 #[tactic(auto, unfolding(crate::specs::Red::ring_mark))]
 fn mark_ring(
     out: &mut List<u8>,
     chart: &Chart,
+    above: u64,
     event: u32,
     node: u32,
     time: u64,
 ) -> Result<(), Memory>
-    ensures { OnOk result (out.new ≡ out.old ++ ring_mark chart.now event node time) }
+    ensures { OnOk result (out.new ≡ out.old ++ ring_mark chart.now above event node time) }
 {
-    let x = x_at(chart, time);
-    let y = y_at(chart, node);
-    let above = u64::from(chart.top.saturating_sub(4));
-    fill(
-        out,
-        b"<circle cx=\"%\" cy=\"%\" r=\"11\" class=\"bad\"/><path d=\"M% %V%\" class=\"bad bd\"/><text x=\"%\" y=\"%\" dx=\"5\" class=\"badt s b\">event % at %</text></g>\n",
-        &[
-            x,
-            y,
-            x,
-            above,
-            y.saturating_sub(11),
-            x,
-            above,
-            u64::from(event),
-            time,
-        ],
-    )
+    mark_circle(out, chart, above, node, time)?;
+    write_ring_words(out, chart, above, event, time)
 }
 
-/// Appends a ring round an execution with a message too few or too many, under the line that tells of it.
+/// Appends a ring round an execution with a message too few or too many, under the line that tells of it. Its words stand at this height.
 #[tactic(auto, unfolding(crate::specs::Red::drawn_ring))]
-pub(crate) fn write_ring(out: &mut List<u8>, chart: &Chart, ring: &Ring) -> Result<(), Memory>
-    ensures { OnOk result (out.new ≡ out.old ++ drawn_ring chart.now ring.now) }
+pub(crate) fn write_ring(
+    out: &mut List<u8>,
+    chart: &Chart,
+    above: u64,
+    ring: &Ring,
+) -> Result<(), Memory>
+    ensures { OnOk result (out.new ≡ out.old ++ drawn_ring chart.now above ring.now) }
 {
     write_title(out, &ring.line)?;
-    mark_ring(out, chart, ring.event, ring.node, ring.time)
+    mark_ring(out, chart, above, ring.event, ring.node, ring.time)
 }

@@ -1,6 +1,6 @@
 // The text of a picture.
 ghost use Rattle.std.specs.Prelude.{◌≡◌, ◌++◌, IfOk, OnOk};
-ghost use Rattle.lt_draw.specs.PictureText.{tint_end, drawn_ground, drawn_messages, drawn_miss, drawn_red, drawn_deeds, drawn_rows, styled_rows, drawn_above, charted_text, picture_text};
+ghost use Rattle.lt_draw.specs.PictureText.{tint_end, drawn_ground, drawn_messages, ring_words_at, drawn_miss, drawn_stop, drawn_red, drawn_deeds, drawn_rows, styled_rows, drawn_above, charted_text, picture_text};
 
 use crate::arrows::write_arrows;
 use crate::axis::{write_axis, write_nodes};
@@ -55,17 +55,43 @@ fn write_messages(
     write_arrows(out, chart, names, head, Ink::Strong, arrows)
 }
 
-#[tactic(auto, unfolding(crate::specs::PictureText::drawn_miss))]
-fn write_miss(out: &mut List<u8>, chart: &Chart, ring: &Option<Ring>) -> Result<(), Memory>
-    ensures { OnOk result (out.new ≡ out.old ++ drawn_miss chart.now ring.now) }
+// Where the words of a ring stand.
+fn ring_words_at(chart: &Chart, offence: &Option<Offence>) -> u64
+    ensures { result ≡ ring_words_at chart.now offence.now }
 {
-    match ring {
-        None => Ok(()),
-        Some(ring) => write_ring(out, chart, ring),
+    let top = u64::from(chart.top);
+    match offence {
+        None => top.saturating_sub(4),
+        Some(_) => top + 10,
     }
 }
 
-// Appends what stands out, a refusal before all.
+#[tactic(auto, unfolding(crate::specs::PictureText::drawn_miss))]
+fn write_miss(
+    out: &mut List<u8>,
+    chart: &Chart,
+    above: u64,
+    ring: &Option<Ring>,
+) -> Result<(), Memory>
+    ensures { OnOk result (out.new ≡ out.old ++ drawn_miss chart.now above ring.now) }
+{
+    match ring {
+        None => Ok(()),
+        Some(ring) => write_ring(out, chart, above, ring),
+    }
+}
+
+#[tactic(auto, unfolding(crate::specs::PictureText::drawn_stop))]
+fn write_stop(out: &mut List<u8>, chart: &Chart, offence: &Option<Offence>) -> Result<(), Memory>
+    ensures { OnOk result (out.new ≡ out.old ++ drawn_stop chart.now offence.now) }
+{
+    match offence {
+        None => Ok(()),
+        Some(offence) => write_offence(out, chart, offence),
+    }
+}
+
+// Appends what stands out.
 #[tactic(auto, unfolding(crate::specs::PictureText::drawn_red))]
 fn write_red(
     out: &mut List<u8>,
@@ -75,10 +101,8 @@ fn write_red(
 ) -> Result<(), Memory>
     ensures { OnOk result (out.new ≡ out.old ++ drawn_red chart.now offence.now ring.now) }
 {
-    match offence {
-        None => write_miss(out, chart, ring),
-        Some(offence) => write_offence(out, chart, offence),
-    }
+    write_miss(out, chart, ring_words_at(chart, offence), ring)?;
+    write_stop(out, chart, offence)
 }
 
 // Appends the activations.
