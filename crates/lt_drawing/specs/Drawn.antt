@@ -12,10 +12,10 @@ use Rattle.lt_load.specs.Blamed.{command_blame}
 use Rattle.lt_load.specs.Errands.{load_errands}
 use Rattle.lt_load.specs.Plan.{Plan}
 use Rattle.lt_draw.specs.PictureText.{picture_text}
-use Rattle.lt_drawing.specs.declared.course.Course.{Course}
+use Rattle.lt_course.specs.declared.course.Course.{Course}
 use Rattle.lt_drawing.specs.declared.stage.Stage.{Stage}
 use Rattle.lt_drawing.specs.declared.view.DrawView.{DrawView}
-use Rattle.lt_drawing.specs.Courses.{course_verdict}
+use Rattle.lt_course.specs.Courses.{course_verdict}
 use Rattle.lt_drawing.specs.Pictures.{picture_of}
 use Rattle.lt_drawing.specs.Stages.{IsStageOf, stage_verdict}
 
@@ -49,7 +49,3 @@ DrawsOnFiles program inputs schedule config node view old new result =
 abbrev pub DrawsStage : Stage → (schedule config : List ℕ) → DrawView → (old new : FilesState) → Result (List ℕ) (Or CommandFault) → Type 0
 DrawsStage k schedule config view old new result =
     AnsweredOnFiles command_blame (schedule_errand schedule) (along_stage schedule config view k (old.named schedule)) old new result
-
--- what is drawn over a stage of the schedule file of this name
-abbrev pub ReadsStageCourse : Stage → (schedule : List ℕ) → (old new : FilesState) → Result Course (Or CommandFault) → Type 0
-ReadsStageCourse k schedule old new result = AnsweredOnFiles command_blame (schedule_errand schedule) (stage_course_verdict k (old.named schedule)) old new result

@@ -5,11 +5,11 @@ use Rattle.lt_draw.specs.declared.picture.Arrow.{Arrow}
 use Rattle.lt_draw.specs.declared.picture.Mark.{Mark}
 use Rattle.lt_draw.specs.declared.picture.Wrong.{Wrong}
 use Rattle.lt_draw.specs.declared.picture.Wrong.TheVariants.{Moment, Absent, Soon, Untimely, Gone, Unsent}
-use Rattle.lt_drawing.specs.declared.course.RefusedEvent.{RefusedEvent}
-use Rattle.lt_drawing.specs.declared.stroke.Stroke.{Stroke}
-use Rattle.lt_drawing.specs.declared.stroke.Stroke.TheVariants.{Point, Line, Edge}
+use Rattle.lt_course.specs.declared.course.RefusedEvent.{RefusedEvent}
+use Rattle.lt_course.specs.declared.stroke.Stroke.{Stroke}
+use Rattle.lt_course.specs.declared.stroke.Stroke.TheVariants.{Point, Line, Edge}
 use Rattle.lt_drawing.specs.declared.window.Window.{Window}
-use Rattle.lt_drawing.specs.Strokes.{stroke_time}
+use Rattle.lt_course.specs.Strokes.{stroke_time}
 
 -- the marks among strokes that are no later than a window; those before it tell at which instant a node is there
 abbrev pub mark_in : Window → Stroke → List Mark

@@ -1,5 +1,3 @@
-pub mod Strokes
-pub mod Courses
 pub mod Grounds
 pub mod Stages
 pub mod Windows
@@ -7,10 +5,3 @@ pub mod Kept
 pub mod Titles
 pub mod Pictures
 pub mod Drawn
-pub mod Laws
-pub mod Sketches
-pub mod Lasts
-pub mod Placed
-pub mod Recorded
-pub mod Recording
-pub mod Reading

@@ -3,19 +3,18 @@ use Rattle.std.specs.Prelude.{ℕ, ◌-◌, List, ◌++◌, length, Option, Some
 use Rattle.lt_arch.specs.declared.shape.Shape.{Shape}
 use Rattle.lt_audit.specs.Acts.{next_number}
 use Rattle.lt_audit.specs.declared.miss.Miss.{Miss}
-use Rattle.lt_text_lines.specs.ScheduleLines.{offence_line}
+use Rattle.lt_text_lines.specs.ScheduleLines.{lossy_line}
 use Rattle.lt_draw.specs.declared.picture.Offence.{Offence}
 use Rattle.lt_draw.specs.declared.picture.Picture.{Picture}
 use Rattle.lt_draw.specs.declared.picture.Ring.{Ring}
-use Rattle.lt_drawing.specs.declared.course.Course.{Course}
-use Rattle.lt_drawing.specs.declared.course.RefusedEvent.{RefusedEvent}
+use Rattle.lt_course.specs.declared.course.Course.{Course}
+use Rattle.lt_course.specs.declared.course.RefusedEvent.{RefusedEvent}
 use Rattle.lt_drawing.specs.declared.stage.Stage.{Stage}
-use Rattle.lt_drawing.specs.declared.stroke.Stroke.{Stroke}
+use Rattle.lt_course.specs.declared.stroke.Stroke.{Stroke}
 use Rattle.lt_drawing.specs.declared.view.DrawView.{DrawView}
 use Rattle.lt_drawing.specs.declared.window.Window.{Window}
-use Rattle.lt_drawing.specs.Courses.{time_or_zero}
 use Rattle.lt_drawing.specs.Kept.{arrows_if, arrows_in, count_in, is_in_window, marks_in}
-use Rattle.lt_drawing.specs.Strokes.{last_time, stroke_time_at}
+use Rattle.lt_course.specs.Strokes.{last_time, stroke_time_at, time_or_zero}
 use Rattle.lt_drawing.specs.Titles.{alone_text, events_text, nodes_text, note_text, protocol_text, ring_text, refused_row_text, ticks_text, title_text}
 use Rattle.lt_drawing.specs.Windows.{window_of}
 
@@ -29,7 +28,7 @@ facts_text k w c =
 abbrev pub shown_refusal : Shape → (number : ℕ) → RefusedEvent → Offence
 shown_refusal s number r = record {
   time = r.time;
-  refusal = offence_line s number r.offence;
+  refusal = lossy_line s number r.offence;
   row = refused_row_text number r.row r.offence;
   note = note_text (time_or_zero r.bound) r.offence;
   wrong = r.wrong;

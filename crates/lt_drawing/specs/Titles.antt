@@ -8,9 +8,11 @@ use Rattle.lt_arch.specs.declared.shape.Shape.{Shape}
 use Rattle.lt_arch.specs.declared.timing.Protocol.{Protocol}
 use Rattle.lt_arch.specs.declared.timing.Protocol.TheVariants.{BackPressure, TimeBased}
 use Rattle.lt_audit.specs.declared.miss.Miss.{Miss}
+use Rattle.lt_lossy.specs.declared.event.LossyOffence.{LossyOffence}
+use Rattle.lt_lossy.specs.declared.event.LossyOffence.TheVariants.{Common, TooManyLost}
 use Rattle.lt_svg.specs.Pieces.{filled_template}
 use Rattle.lt_text_lines.specs.ScheduleLines.{channel_text, name_of_node}
-use Rattle.lt_drawing.specs.declared.course.RefusedEvent.{RefusedEvent}
+use Rattle.lt_course.specs.declared.course.RefusedEvent.{RefusedEvent}
 use Rattle.lt_drawing.specs.declared.window.Window.{Window}
 
 -- what stands behind the last slash of a name
@@ -74,24 +76,34 @@ ring_text s m = execution_text s m ++ delivered_text s m
 abbrev pub numbered_row : (number : ℕ) → (row : List ℕ) → List ℕ
 numbered_row number row = codes "event " ++ decimal number ++ codes ": " ++ row
 
+-- the row of an event with this number and offence
+abbrev pub common_row_text : (number : ℕ) → (row : List ℕ) → Offence → List ℕ
+common_row_text number row AfterEnd = numbered_row number row
+common_row_text number row Backwards = numbered_row number row
+common_row_text number row (NodeOverdue n) = numbered_row number row
+common_row_text number row (ChannelOverdue c) = numbered_row number row
+common_row_text number row (TooSoon n) = numbered_row number row
+common_row_text number row (NothingSent c) = numbered_row number row
+common_row_text number row (TooEarly c) = numbered_row number row
+common_row_text number row NoEnd = codes "no end"
+
 -- as it stands beside a refusal
-abbrev pub refused_row_text : (number : ℕ) → (row : List ℕ) → Offence → List ℕ
-refused_row_text number row AfterEnd = numbered_row number row
-refused_row_text number row Backwards = numbered_row number row
-refused_row_text number row (NodeOverdue n) = numbered_row number row
-refused_row_text number row (ChannelOverdue c) = numbered_row number row
-refused_row_text number row (TooSoon n) = numbered_row number row
-refused_row_text number row (NothingSent c) = numbered_row number row
-refused_row_text number row (TooEarly c) = numbered_row number row
-refused_row_text number row NoEnd = codes "no end"
+abbrev pub refused_row_text : (number : ℕ) → (row : List ℕ) → LossyOffence → List ℕ
+refused_row_text number row (Common o) = common_row_text number row o
+refused_row_text number row (TooManyLost c) = numbered_row number row
 
 -- what is wrong with it, with the tick by which it was due, or before which it was not
-abbrev pub note_text : (bound : ℕ) → Offence → List ℕ
-note_text bound AfterEnd = []
-note_text bound Backwards = []
-note_text bound (NodeOverdue n) = codes "due by " ++ decimal bound
-note_text bound (ChannelOverdue c) = codes "due by " ++ decimal bound
-note_text bound (TooSoon n) = codes "not before " ++ decimal bound
-note_text bound (NothingSent c) = codes "nothing sent"
-note_text bound (TooEarly c) = codes "not before " ++ decimal bound
-note_text bound NoEnd = []
+abbrev pub common_note_text : (bound : ℕ) → Offence → List ℕ
+common_note_text bound AfterEnd = []
+common_note_text bound Backwards = []
+common_note_text bound (NodeOverdue n) = codes "due by " ++ decimal bound
+common_note_text bound (ChannelOverdue c) = codes "due by " ++ decimal bound
+common_note_text bound (TooSoon n) = codes "not before " ++ decimal bound
+common_note_text bound (NothingSent c) = codes "nothing sent"
+common_note_text bound (TooEarly c) = codes "not before " ++ decimal bound
+common_note_text bound NoEnd = []
+
+-- the same where a link may also lose too many messages
+abbrev pub note_text : (bound : ℕ) → LossyOffence → List ℕ
+note_text bound (Common o) = common_note_text bound o
+note_text bound (TooManyLost c) = codes "too many lost"

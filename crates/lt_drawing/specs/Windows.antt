@@ -1,12 +1,11 @@
 -- Which ticks are drawn.
 use Rattle.std.specs.Prelude.{ℕ, ◌+◌, ◌-◌, ◌*◌, ◌/◌, min, max, nat_le, nat_lt, List, length, Option, Some, None, position, unwrap_or, if◌then◌else◌}
 use Rattle.lt_arch.specs.declared.limits.TheConstants.{GREATEST_TIME}
-use Rattle.lt_drawing.specs.declared.course.RefusedEvent.{RefusedEvent}
-use Rattle.lt_drawing.specs.declared.stroke.Stroke.{Stroke}
+use Rattle.lt_course.specs.declared.course.RefusedEvent.{RefusedEvent}
+use Rattle.lt_course.specs.declared.stroke.Stroke.{Stroke}
 use Rattle.lt_drawing.specs.declared.view.DrawView.{DrawView}
 use Rattle.lt_drawing.specs.declared.window.Window.{Window}
-use Rattle.lt_drawing.specs.Courses.{time_or_zero}
-use Rattle.lt_drawing.specs.Strokes.{last_time, stroke_time, stroke_time_at}
+use Rattle.lt_course.specs.Strokes.{last_time, stroke_time, stroke_time_at, time_or_zero}
 
 -- how many events of so many nodes are drawn where nothing is asked
 abbrev pub most_shown : (nodes : ℕ) → ℕ

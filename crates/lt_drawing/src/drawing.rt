@@ -6,10 +6,10 @@ ghost use Rattle.lt_drawing.specs.Drawn.{DrawsOnFiles, DrawsStage};
 
 use crate::loading::load_stage;
 use crate::picturing::draw_course;
-use crate::recording::read_course;
 use crate::stage::Stage;
 use crate::view::DrawView;
 use lt_base::{List, Or};
+use lt_course::read_course;
 use lt_io::Files;
 use lt_load::CommandFault;
 use std::alloc::Global;
@@ -48,7 +48,16 @@ fn draw_stage<F: Files>(
     requires { MayFail (F.state files.old).faults }
     ensures { DrawsStage stage.now schedule.now config.now view (F.state files.old) (F.state files.new) result }
 {
-    let course = read_course(alloc, files, schedule, stage)?;
+    let ground = &stage.ground;
+    let course = read_course(
+        alloc,
+        files,
+        schedule,
+        &ground.shape,
+        &ground.timing,
+        &ground.cross,
+        stage.rows,
+    )?;
     let text = draw_course(
         alloc,
         schedule.as_bytes(),

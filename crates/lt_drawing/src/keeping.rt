@@ -2,10 +2,9 @@
 ghost use Rattle.std.specs.Prelude.{◌≡◌, ◌≤◌, ◌<◌, ◌^◌, ◌++◌, length, IfOk, OnOk};
 ghost use Rattle.lt_drawing.specs.Kept.{arrow_if, arrow_in, arrows_if, arrows_in, count_in, is_at_node, is_drawn_red, is_in_red, is_in_window, is_kept_arrow, mark_in, marks_in};
 
-use crate::course::RefusedEvent;
-use crate::stroke::Stroke;
-use crate::window::{Window, stroke_time};
+use crate::window::Window;
 use lt_base::{List, Memory};
+use lt_course::{RefusedEvent, Stroke, stroke_time};
 use lt_draw::{Arrow, Mark, Wrong};
 use std::alloc::Global;
 

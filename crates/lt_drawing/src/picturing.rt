@@ -2,24 +2,23 @@
 ghost use Rattle.std.specs.Prelude.{◌≡◌, ◌≤◌, length, unwrap_or, IfOk};
 ghost use Rattle.lt_audit.specs.Acts.{next_number};
 ghost use Rattle.lt_draw.specs.PictureText.{picture_text};
-ghost use Rattle.lt_text_lines.specs.ScheduleLines.{offence_line};
+ghost use Rattle.lt_text_lines.specs.ScheduleLines.{lossy_line};
 ghost use Rattle.lt_drawing.specs.Pictures.{shown_refusal, facts_text, picture_in, picture_of, refusal_in, ring_at, ring_in};
 
-use crate::course::{Course, RefusedEvent};
 use crate::keeping::{count_in, is_in_window, kept_arrows, marks_in};
-use crate::refusing::time_or_zero;
 use crate::stage::Stage;
-use crate::stroke::Stroke;
 use crate::titles::{
     append_extent, append_setting, note_text, refused_row_text, ring_text, title_text,
 };
 use crate::view::DrawView;
-use crate::window::{Window, last_time, stroke_time_at, window_of};
+use crate::window::{Window, window_of};
 use lt_arch::Shape;
 use lt_audit::Miss;
 use lt_base::{List, Memory};
+use lt_course::{Course, RefusedEvent, Stroke, last_time, stroke_time_at, time_or_zero};
 use lt_draw::{Picture, Ring, write_picture};
-use lt_text_lines::append_offence;
+use lt_lossy::LossyOffence;
+use lt_text_lines::append_lossy;
 use std::alloc::Global;
 
 // The line below the title.
@@ -55,12 +54,12 @@ fn refusal_line(
     alloc: Global,
     shape: &Shape,
     number: u32,
-    offence: lt_arch::Offence,
+    offence: LossyOffence,
 ) -> Result<List<u8>, Memory>
-    ensures { IfOk result (λ line. line ≡ offence_line shape.now number offence) }
+    ensures { IfOk result (λ line. line ≡ lossy_line shape.now number offence) }
 {
     let mut line = List::new(alloc);
-    append_offence(&mut line, shape, number, offence)?;
+    append_lossy(&mut line, shape, number, offence)?;
     Ok(line)
 }
 

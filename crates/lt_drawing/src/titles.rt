@@ -1,13 +1,14 @@
 // The lines of text of a picture.
 ghost use Rattle.std.specs.Prelude.{◌≡◌, ◌++◌, ◌≤◌, decimal, drop, length, IfOk, OnOk};
 ghost use Rattle.lt_arch.specs.declared.pace.Pace.TheVariants as paces;
-ghost use Rattle.lt_drawing.specs.Titles.{alone_text, base_name, delivered_text, events_text, execution_text, messages_of_text, nodes_text, note_text, numbered_row, protocol_text, reach_text, ring_text, refused_row_text, ticks_text, title_text};
+ghost use Rattle.lt_drawing.specs.Titles.{alone_text, base_name, common_note_text, common_row_text, delivered_text, events_text, execution_text, messages_of_text, nodes_text, note_text, numbered_row, protocol_text, reach_text, ring_text, refused_row_text, ticks_text, title_text};
 
-use crate::course::RefusedEvent;
 use crate::window::Window;
 use lt_arch::{Offence, Pace, Protocol, Shape};
 use lt_audit::Miss;
 use lt_base::{List, Memory, append_number};
+use lt_course::RefusedEvent;
+use lt_lossy::LossyOffence;
 use lt_svg::fill;
 use lt_text_lines::{append_channel, append_node_name};
 use std::alloc::Global;
@@ -215,9 +216,23 @@ pub(crate) fn refused_row_text(
     alloc: Global,
     number: u32,
     row: &[u8],
-    offence: Offence,
+    offence: LossyOffence,
 ) -> Result<List<u8>, Memory>
     ensures { IfOk result (λ text. text ≡ refused_row_text number row.now offence) }
+{
+    match offence {
+        LossyOffence::Common(offence) => common_row_text(alloc, number, row, offence),
+        LossyOffence::TooManyLost(_) => numbered_row(alloc, number, row),
+    }
+}
+
+fn common_row_text(
+    alloc: Global,
+    number: u32,
+    row: &[u8],
+    offence: Offence,
+) -> Result<List<u8>, Memory>
+    ensures { IfOk result (λ text. text ≡ common_row_text number row.now offence) }
 {
     if matches!(offence, Offence::NoEnd) {
         return List::from_slice(alloc, b"no end");
@@ -235,8 +250,21 @@ fn words(alloc: Global, text: &[u8], bound: u64) -> Result<List<u8>, Memory>
 }
 
 /// What is wrong with an event, with the tick by which it was due, or before which it was not.
-pub(crate) fn note_text(alloc: Global, bound: u64, offence: Offence) -> Result<List<u8>, Memory>
+pub(crate) fn note_text(
+    alloc: Global,
+    bound: u64,
+    offence: LossyOffence,
+) -> Result<List<u8>, Memory>
     ensures { IfOk result (λ note. note ≡ note_text bound offence) }
+{
+    match offence {
+        LossyOffence::Common(offence) => common_note_text(alloc, bound, offence),
+        LossyOffence::TooManyLost(_) => List::from_slice(alloc, b"too many lost"),
+    }
+}
+
+fn common_note_text(alloc: Global, bound: u64, offence: Offence) -> Result<List<u8>, Memory>
+    ensures { IfOk result (λ note. note ≡ common_note_text bound offence) }
 {
     match offence {
         Offence::NodeOverdue(_) => words(alloc, b"due by ", bound),

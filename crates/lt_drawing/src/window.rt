@@ -1,12 +1,10 @@
 // Which ticks are drawn.
 ghost use Rattle.std.specs.Prelude.{◌≡◌, ◌≤◌, ◌+◌, ◌-◌, ◌*◌, length, nat_le, position};
-ghost use Rattle.lt_drawing.specs.Strokes.{last_time, stroke_time, stroke_time_at};
+ghost use Rattle.lt_course.specs.Strokes.{last_time, stroke_time, stroke_time_at};
 ghost use Rattle.lt_drawing.specs.Windows.{default_from, default_to, first_tick, last_tick, latest_tick, most_shown, past_stop, reach_time, skipped_to, stop_time, window_of};
 
-use crate::course::RefusedEvent;
-use crate::refusing::time_or_zero;
-use crate::stroke::Stroke;
 use crate::view::DrawView;
+use lt_course::{RefusedEvent, Stroke, last_time, stroke_time, stroke_time_at, time_or_zero};
 
 /// The first and the last tick that are drawn.
 #[derive(Clone, Copy)]
@@ -26,38 +24,6 @@ fn most_shown(nodes: usize) -> usize
     ensures few { result ≤ 60 * 4294967295 }
 {
     (60 * nodes).max(120)
-}
-
-/// When an event happened, by what it is drawn as.
-pub(crate) fn stroke_time(stroke: &Stroke) -> u64
-    ensures { result ≡ stroke_time stroke.now }
-{
-    match stroke {
-        Stroke::Point(mark) => mark.time,
-        Stroke::Line(arrow) => arrow.come,
-        Stroke::Edge(at) => *at,
-    }
-}
-
-/// When the event at this place happened.
-pub(crate) fn stroke_time_at(strokes: &[Stroke], place: usize) -> u64
-    ensures { result ≡ stroke_time_at strokes.now place }
-{
-    if place < strokes.len() {
-        stroke_time(&strokes[place])
-    } else {
-        0
-    }
-}
-
-/// When the last event happened.
-pub(crate) fn last_time(strokes: &[Stroke]) -> u64
-    ensures { result ≡ last_time strokes.now }
-{
-    if strokes.len() == 0 {
-        return 0;
-    }
-    stroke_time_at(strokes, strokes.len() - 1)
 }
 
 fn is_reached(from: u64, stroke: &Stroke) -> bool

@@ -1,0 +1,10 @@
+mod Ends
+pub mod Sent
+pub mod Strokes
+pub mod Placing
+pub mod Recorded
+pub mod Visits
+pub mod Outcomes
+pub mod Alike
+pub mod OneCourse
+pub mod Agreeing

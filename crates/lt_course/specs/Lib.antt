@@ -1,0 +1,9 @@
+pub mod Strokes
+pub mod Courses
+pub mod Laws
+pub mod Sketches
+pub mod Lasts
+pub mod Placed
+pub mod Recorded
+pub mod Recording
+pub mod Reading

@@ -1,0 +1,34 @@
+// What a schedule is drawn as, as far as it goes without an offence.
+use crate::stroke::Stroke;
+use lt_audit::Miss;
+use lt_base::List;
+use lt_draw::{Arrow, Wrong};
+use lt_lossy::LossyOffence;
+
+/// An event that is refused, with its row, the tick by which it was due or before which it was not, and where it stands out.
+#[derive(Drop)]
+pub struct RefusedEvent {
+    pub time: u64,
+    pub row: List<u8>,
+    pub offence: LossyOffence,
+    pub bound: Option<u64>,
+    pub wrong: Wrong,
+}
+
+/// What the events before one with an offence are drawn as, what is in transit behind them, and that event.
+#[derive(Drop)]
+pub struct Stopped {
+    pub strokes: List<Stroke>,
+    pub pending: List<Arrow>,
+    pub refused: RefusedEvent,
+}
+
+/// What the events of a schedule are drawn as, what is in transit behind them, the event at which it is refused, if it is, and the first
+/// execution with a message too few or too many.
+#[derive(Drop)]
+pub struct Course {
+    pub strokes: List<Stroke>,
+    pub pending: List<Arrow>,
+    pub refused: Option<RefusedEvent>,
+    pub miss: Option<Miss>,
+}

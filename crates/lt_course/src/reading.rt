@@ -1,0 +1,157 @@
+// What is read of an auditor for a picture.
+ghost use Rattle.std.specs.Prelude.{◌≡◌, ◌<◌, ◌≤◌, ◌++◌, ◌∷◌, [], length, slice_index_or, map, IfOk, OnOk};
+ghost use Rattle.lt_arch.specs.declared.limits.TheConstants.{GREATEST_TIME};
+ghost use Rattle.lt_arch.specs.Readers.{chan_count};
+ghost use Rattle.lt_arch.specs.Schedule.{IsPlacedIn};
+ghost use Rattle.lt_arch.specs.Shapes.{HaveSameNodes};
+ghost use Rattle.lt_audit.specs.Audit.{chan_at};
+ghost use Rattle.lt_course.specs.Strokes.{first_sent_or, pending_arrow, pending_below};
+ghost use Rattle.lt_course.specs.Sketches.{IsDeedDone, IsExecuted, IsSent};
+
+use crate::sketch::{arrow_of, chan_at};
+use lt_arch::{Deed, Event, Timing};
+use lt_audit::Auditor;
+use lt_base::{List, Memory};
+use lt_draw::{Arrow, Fate};
+use lt_place::Crossing;
+use std::alloc::Global;
+
+/// How many instants the node has executed that an event activates.
+pub(crate) fn executed_at(auditor: &Auditor, e: &Event) -> u32
+    requires { IsPlacedIn auditor.now.shape e.now }
+    ensures { IsExecuted auditor.now e.now result }
+{
+    match e {
+        Event::Act(node, _) => auditor.executed(*node),
+        Event::Del(_, _) => 0,
+        Event::End(_) => 0,
+    }
+}
+
+/// When the message was sent that an event hands over.
+pub(crate) fn sent_before(auditor: &Auditor, e: &Event) -> u64
+    requires { IsPlacedIn auditor.now.shape e.now }
+    ensures { IsSent auditor.now e.now result }
+{
+    match e {
+        Event::Act(_, _) => 0,
+        Event::Del(channel, at) => first_sent_or(auditor, *channel, *at),
+        Event::End(_) => 0,
+    }
+}
+
+/// What the node did that an event activated.
+pub(crate) fn done_at(auditor: &Auditor, e: &Event) -> Deed
+    requires { IsPlacedIn auditor.now.shape e.now }
+    ensures { IsDeedDone auditor.now e.now result }
+{
+    match e {
+        Event::Act(node, _) => auditor.did(*node),
+        Event::Del(_, _) => Deed::Nothing,
+        Event::End(_) => Deed::Nothing,
+    }
+}
+
+/// The send time of the oldest message in transit on a channel, or this where there is none.
+#[tactic(auto, using(crate::proofs::Sent::first_some, crate::proofs::Sent::first_none))]
+pub(crate) fn first_sent_or(auditor: &Auditor, channel: u32, none: u64) -> u64
+    requires channel { channel < chan_count auditor.now.shape }
+    ensures value { result ≡ first_sent_or none (chan_at auditor.now.chans channel).transit }
+    ensures timely { none ≤ GREATEST_TIME → result ≤ GREATEST_TIME }
+{
+    match auditor.in_transit(channel, 0) {
+        Some(sent) => sent,
+        None => none,
+    }
+}
+
+/// The messages that are in transit, each up to when it is due.
+pub(crate) fn pending_of(
+    alloc: Global,
+    auditor: &Auditor,
+    cross: &[Crossing],
+    timing: &Timing,
+) -> Result<List<Arrow>, Memory>
+    requires same { HaveSameNodes auditor.now.shape timing.now }
+    ensures { IfOk result (λ arrows. arrows ≡ pending_below cross.now auditor.now.shape timing.now
+        (chan_at auditor.now.chans) (chan_count auditor.now.shape)) }
+{
+    auditor.invariant_holds();
+    let mut arrows = List::new(alloc);
+    let channels = auditor.shape().channels.len();
+    'channels: for channel in 0..channels {
+        add_pending(auditor, cross, timing, channel as u32, &mut arrows)?;
+    }
+    Ok(arrows)
+}
+
+// Appends those of one channel.
+fn add_pending(
+    auditor: &Auditor,
+    cross: &[Crossing],
+    timing: &Timing,
+    channel: u32,
+    arrows: &mut List<Arrow>,
+) -> Result<(), Memory>
+    requires same { HaveSameNodes auditor.now.shape timing.now }
+    requires channel { channel < chan_count auditor.now.shape }
+    ensures { OnOk result (arrows.new ≡ arrows.old
+        ++ map (pending_arrow cross.now auditor.now.shape timing.now channel) (chan_at auditor.now.chans channel).transit) }
+{
+    let count = auditor.transit_count(channel);
+    'places: for place in 0..count {
+        add_place(auditor, cross, timing, channel, place, arrows)?;
+    }
+    Ok(())
+}
+
+// Appends the one at this place.
+fn add_place(
+    auditor: &Auditor,
+    cross: &[Crossing],
+    timing: &Timing,
+    channel: u32,
+    place: usize,
+    arrows: &mut List<Arrow>,
+) -> Result<(), Memory>
+    requires same { HaveSameNodes auditor.now.shape timing.now }
+    requires channel { channel < chan_count auditor.now.shape }
+    ensures { OnOk result (arrows.new ≡ arrows.old
+        ++ pending_arrow cross.now auditor.now.shape timing.now channel (slice_index_or (chan_at auditor.now.chans channel).transit place 0) ∷ []) }
+{
+    let sent = sent_at(auditor, channel, place);
+    arrows.push(pending_arrow(auditor, cross, timing, channel, sent))
+}
+
+// When the message at this place was sent.
+#[tactic(auto, using(crate::proofs::Sent::got_some, crate::proofs::Sent::got_none))]
+fn sent_at(auditor: &Auditor, channel: u32, place: usize) -> u64
+    requires channel { channel < chan_count auditor.now.shape }
+    ensures value { result ≡ slice_index_or (chan_at auditor.now.chans channel).transit place 0 }
+    ensures timely { result ≤ GREATEST_TIME }
+{
+    match auditor.in_transit(channel, place) {
+        Some(sent) => sent,
+        None => 0,
+    }
+}
+
+// The arrow of one message.
+#[tactic(auto)]
+fn pending_arrow(
+    auditor: &Auditor,
+    cross: &[Crossing],
+    timing: &Timing,
+    channel: u32,
+    sent: u64,
+) -> Arrow
+    requires same { HaveSameNodes auditor.now.shape timing.now }
+    requires channel { channel < chan_count auditor.now.shape }
+    requires timely { sent ≤ GREATEST_TIME }
+    ensures { result ≡ pending_arrow cross.now auditor.now.shape timing.now channel sent }
+{
+    let shape = auditor.shape();
+    let chan = chan_at(shape, channel);
+    let due = sent + timing.dmax_of(chan.from, chan.to);
+    arrow_of(cross, shape, channel, sent, due, Fate::Pending)
+}

@@ -1,5 +1,0 @@
-use Rattle.lt_drawing.proofs.Agreeing.{agrees_file}
-use Rattle.lt_drawing.proofs.laws.draws_as_judged.Goals as goal
-
-pub returns : goal.returns
-returns c = agrees_file
