@@ -22,7 +22,7 @@ use Rattle.lt_audit.specs.Audit.{AuditState, chan_at}
 use Rattle.lt_audit.specs.Acts.{next_number}
 use Rattle.lt_audit.specs.Standing.{AuditStands, KnowsDeed}
 use Rattle.lt_audit.proofs.Seen.{chan_seen}
-use Rattle.lt_draw.specs.declared.picture.Arrow.{Arrow}
+use Rattle.lt_diagram.specs.declared.picture.Arrow.{Arrow}
 use Rattle.lt_course.specs.declared.course.RefusedEvent.{RefusedEvent}
 use Rattle.lt_course.specs.declared.course.Stopped.{Stopped}
 use Rattle.lt_course.specs.declared.stroke.Stroke.{Stroke}

@@ -26,8 +26,8 @@ use Rattle.lt_answer.specs.Answered.{Verdict, OfFile}
 use Rattle.lt_load_fit.specs.declared.fault.What.TheVariants.{ScheduleBytes}
 use Rattle.lt_load_fit.specs.declared.fault.CommandFault.{CommandFault}
 use Rattle.lt_load_fit.specs.declared.fault.CommandFault.TheVariants as fault
-use Rattle.lt_draw.specs.declared.picture.Wrong.{Wrong}
-use Rattle.lt_draw.specs.declared.picture.Wrong.TheVariants.{Moment, Absent, Soon, Untimely, Unsent}
+use Rattle.lt_diagram.specs.declared.picture.Wrong.{Wrong}
+use Rattle.lt_diagram.specs.declared.picture.Wrong.TheVariants.{Moment, Absent, Soon, Untimely, Unsent}
 use Rattle.lt_course.specs.declared.course.Course.{Course}
 use Rattle.lt_course.specs.declared.course.RefusedEvent.{RefusedEvent}
 use Rattle.lt_course.specs.declared.course.Stopped.{Stopped}

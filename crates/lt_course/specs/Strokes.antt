@@ -16,13 +16,13 @@ use Rattle.lt_arch.specs.Step.{after}
 use Rattle.lt_place_reads.specs.declared.crossing.Crossing.{Crossing}
 use Rattle.lt_net_node.specs.Layout.{joins}
 use Rattle.lt_audit.specs.Acts.{next_number}
-use Rattle.lt_draw.specs.declared.picture.Arrow.{Arrow}
-use Rattle.lt_draw.specs.declared.picture.Fate.{Fate}
-use Rattle.lt_draw.specs.declared.picture.Fate.TheVariants.{Delivered, Pending}
-use Rattle.lt_draw.specs.declared.picture.Ink.{Ink}
-use Rattle.lt_draw.specs.declared.picture.Ink.TheVariants.{Strong, Pale, Dashed}
-use Rattle.lt_draw.specs.declared.picture.Sign.{Sign}
-use Rattle.lt_draw.specs.declared.picture.Sign.TheVariants as sign
+use Rattle.lt_diagram.specs.declared.picture.Arrow.{Arrow}
+use Rattle.lt_diagram.specs.declared.picture.Fate.{Fate}
+use Rattle.lt_diagram.specs.declared.picture.Fate.TheVariants.{Delivered, Pending}
+use Rattle.lt_diagram.specs.declared.picture.Ink.{Ink}
+use Rattle.lt_diagram.specs.declared.picture.Ink.TheVariants.{Strong, Pale, Dashed}
+use Rattle.lt_diagram.specs.declared.picture.Sign.{Sign}
+use Rattle.lt_diagram.specs.declared.picture.Sign.TheVariants as sign
 use Rattle.lt_course.specs.declared.stroke.Stroke.{Stroke}
 use Rattle.lt_course.specs.declared.stroke.Stroke.TheVariants.{Point, Line, Edge}
 

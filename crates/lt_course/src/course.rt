@@ -2,7 +2,7 @@
 use crate::stroke::Stroke;
 use lt_audit::Miss;
 use lt_base::List;
-use lt_draw::{Arrow, Wrong};
+use lt_diagram::{Arrow, Wrong};
 use lt_lossy::LossyOffence;
 
 /// An event that is refused, with its row, the tick by which it was due or before which it was not, and where it stands out.

@@ -12,7 +12,7 @@ use crate::sketch::{arrow_of, chan_at};
 use lt_arch::{Deed, Event, Timing};
 use lt_audit::Auditor;
 use lt_base::{List, Memory};
-use lt_draw::{Arrow, Fate};
+use lt_diagram::{Arrow, Fate};
 use lt_place::Crossing;
 use std::alloc::Global;
 

@@ -25,7 +25,7 @@ use crate::stroke::last_time;
 use lt_arch::{Offence, Shape, Timing};
 use lt_audit::{Auditor, Miss};
 use lt_base::{List, Memory, Or, Steps};
-use lt_draw::Wrong;
+use lt_diagram::Wrong;
 use lt_io::Files;
 use lt_load::{CommandFault, What};
 use lt_lossy::LossyOffence;

@@ -9,7 +9,7 @@ ghost use Rattle.lt_course.specs.Sketches.{stroke_by};
 
 use crate::stroke::Stroke;
 use lt_arch::{Chan, ChanKind, Deed, Event, Shape};
-use lt_draw::{Arrow, Fate, Ink, Mark, Sign};
+use lt_diagram::{Arrow, Fate, Ink, Mark, Sign};
 use lt_net_node::is_crossed;
 use lt_place::Crossing;
 

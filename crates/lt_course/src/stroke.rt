@@ -2,7 +2,7 @@
 ghost use Rattle.std.specs.Prelude.{◌≡◌};
 ghost use Rattle.lt_course.specs.Strokes.{last_time, stroke_time, stroke_time_at, time_or_zero};
 
-use lt_draw::{Arrow, Mark};
+use lt_diagram::{Arrow, Mark};
 
 /// What an event is drawn as.
 #[derive(Clone, Copy)]

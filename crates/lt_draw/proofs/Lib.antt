@@ -1,4 +1,1 @@
-pub mod Pieces
-pub mod Shares
-pub mod Fitting
-pub mod Going
+pub mod Further

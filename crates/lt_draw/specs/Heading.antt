@@ -1,10 +1,10 @@
 -- The lines above a picture, what stands before them, and how much room they take.
 use Rattle.std.specs.Prelude.{ℕ, zero, suc, ◌+◌, ◌-◌, ◌*◌, ◌++◌, ◌||◌, ◌==◌, min, max, Bool, List, [], ◌∷◌, length, take, drop, Option, Some, None, is_some, codes, if◌then◌else◌}
-use Rattle.lt_draw.specs.declared.picture.Picture.{Picture}
-use Rattle.lt_draw.specs.declared.picture.Offence.{Offence}
-use Rattle.lt_draw.specs.declared.picture.Ring.{Ring}
-use Rattle.lt_draw.specs.declared.chart.Chart.{Chart}
-use Rattle.lt_draw.specs.Chart.{bounded_width, per_line, line_count, digit_count, widest, gutter, row_height, node_count_of}
+use Rattle.lt_diagram.specs.declared.picture.Picture.{Picture}
+use Rattle.lt_diagram.specs.declared.picture.Offence.{Offence}
+use Rattle.lt_diagram.specs.declared.picture.Ring.{Ring}
+use Rattle.lt_diagram.specs.declared.chart.Chart.{Chart}
+use Rattle.lt_diagram.specs.Chart.{bounded_width, per_line, line_count, digit_count, widest, gutter, row_height, node_count_of}
 use Rattle.lt_svg.specs.Pieces.{filled_template, escaped}
 
 -- the red lines: the line of a refusal, or what is said of a message too few or too many

@@ -1,17 +1,17 @@
 -- The legend.
 use Rattle.std.specs.Prelude.{ℕ, suc, ◌+◌, ◌-◌, ◌*◌, ◌/◌, ◌%◌, ◌++◌, min, max, Bool, true, false, List, [], ◌∷◌, length, is_some, codes, if◌then◌else◌}
 use Rattle.std.specs.List.{list_any}
-use Rattle.lt_draw.specs.declared.picture.Picture.{Picture}
-use Rattle.lt_draw.specs.declared.picture.Arrow.{Arrow}
-use Rattle.lt_draw.specs.declared.picture.Ink.{Ink}
-use Rattle.lt_draw.specs.declared.picture.Ink.TheVariants.{Strong, Pale, Dashed}
-use Rattle.lt_draw.specs.declared.picture.Fate.{Fate}
-use Rattle.lt_draw.specs.declared.picture.Fate.TheVariants.{Delivered, Lost as Failed, Pending as Waiting}
-use Rattle.lt_draw.specs.declared.chart.Chart.{Chart}
+use Rattle.lt_diagram.specs.declared.picture.Picture.{Picture}
+use Rattle.lt_diagram.specs.declared.picture.Arrow.{Arrow}
+use Rattle.lt_diagram.specs.declared.picture.Ink.{Ink}
+use Rattle.lt_diagram.specs.declared.picture.Ink.TheVariants.{Strong, Pale, Dashed}
+use Rattle.lt_diagram.specs.declared.picture.Fate.{Fate}
+use Rattle.lt_diagram.specs.declared.picture.Fate.TheVariants.{Delivered, Lost as Failed, Pending as Waiting}
+use Rattle.lt_diagram.specs.declared.chart.Chart.{Chart}
 use Rattle.lt_draw.specs.declared.legend.Entry.{Entry}
 use Rattle.lt_draw.specs.declared.legend.Entry.TheVariants.{Executes, Sends, Nothing, Message, WithoutValues, Again, Acknowledgement, Lost, Pending, Tint, Ruled}
-use Rattle.lt_draw.specs.Chart.{bounded_width, bottom}
-use Rattle.lt_draw.specs.Arrows.{is_same_ink}
+use Rattle.lt_diagram.specs.Chart.{bounded_width, bottom}
+use Rattle.lt_diagram.specs.Arrows.{is_same_ink}
 use Rattle.lt_svg.specs.Pieces.{filled_template}
 
 -- what explains an entry

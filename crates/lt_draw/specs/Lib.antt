@@ -1,10 +1,4 @@
-pub mod Template
-pub mod Chart
 pub mod Heading
-pub mod Marks
-pub mod Tints
-pub mod Axis
-pub mod Arrows
 pub mod Red
 pub mod Legend
 pub mod PictureText

@@ -1,18 +1,18 @@
 -- A picture as one SVG.
 use Rattle.std.specs.Prelude.{ℕ, ◌+◌, ◌-◌, ◌++◌, List, [], Option, Some, None, codes}
-use Rattle.lt_draw.specs.declared.picture.Picture.{Picture}
-use Rattle.lt_draw.specs.declared.picture.Offence.{Offence}
-use Rattle.lt_draw.specs.declared.picture.Ring.{Ring}
-use Rattle.lt_draw.specs.declared.picture.Ink.TheVariants.{Strong, Pale, Dashed}
-use Rattle.lt_draw.specs.declared.chart.Chart.{Chart}
-use Rattle.lt_draw.specs.declared.marks.Style.{Style}
+use Rattle.lt_diagram.specs.declared.picture.Picture.{Picture}
+use Rattle.lt_diagram.specs.declared.picture.Offence.{Offence}
+use Rattle.lt_diagram.specs.declared.picture.Ring.{Ring}
+use Rattle.lt_diagram.specs.declared.picture.Ink.TheVariants.{Strong, Pale, Dashed}
+use Rattle.lt_diagram.specs.declared.chart.Chart.{Chart}
+use Rattle.lt_diagram.specs.declared.marks.Style.{Style}
 use Rattle.lt_draw.specs.declared.legend.Entry.{Entry}
-use Rattle.lt_draw.specs.Chart.{bottom}
+use Rattle.lt_diagram.specs.Chart.{bottom}
 use Rattle.lt_draw.specs.Heading.{chart_of, drawn_head, drawn_heading}
-use Rattle.lt_draw.specs.Marks.{style_of, arrow_end, drawn_marks}
-use Rattle.lt_draw.specs.Tints.{drawn_tints}
-use Rattle.lt_draw.specs.Axis.{drawn_axis, drawn_nodes}
-use Rattle.lt_draw.specs.Arrows.{drawn_arrows}
+use Rattle.lt_diagram.specs.Marks.{style_of, arrow_end, drawn_marks}
+use Rattle.lt_diagram.specs.Tints.{drawn_tints}
+use Rattle.lt_diagram.specs.Axis.{drawn_axis, drawn_nodes}
+use Rattle.lt_diagram.specs.Arrows.{drawn_arrows}
 use Rattle.lt_draw.specs.Red.{drawn_offence, drawn_ring}
 use Rattle.lt_draw.specs.Legend.{entries_of, drawn_legend, legend_height}
 

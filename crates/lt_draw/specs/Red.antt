@@ -1,12 +1,12 @@
 -- What stands out: an event that is refused, or an execution with a message too few or too many.
 use Rattle.std.specs.Prelude.{ℕ, ◌+◌, ◌-◌, ◌/◌, ◌++◌, nat_le, nat_lt, List, [], ◌∷◌, codes, if◌then◌else◌}
-use Rattle.lt_draw.specs.declared.picture.Offence.{Offence}
-use Rattle.lt_draw.specs.declared.picture.Ring.{Ring}
-use Rattle.lt_draw.specs.declared.picture.Wrong.{Wrong}
-use Rattle.lt_draw.specs.declared.picture.Wrong.TheVariants.{Moment, Absent, Soon, Untimely, Gone, Unsent}
-use Rattle.lt_draw.specs.declared.chart.Chart.{Chart}
-use Rattle.lt_draw.specs.Chart.{x_at, y_at, bottom}
-use Rattle.lt_draw.specs.Arrows.{tip, drawn_way}
+use Rattle.lt_diagram.specs.declared.picture.Offence.{Offence}
+use Rattle.lt_diagram.specs.declared.picture.Ring.{Ring}
+use Rattle.lt_diagram.specs.declared.picture.Wrong.{Wrong}
+use Rattle.lt_diagram.specs.declared.picture.Wrong.TheVariants.{Moment, Absent, Soon, Untimely, Gone, Unsent}
+use Rattle.lt_diagram.specs.declared.chart.Chart.{Chart}
+use Rattle.lt_diagram.specs.Chart.{x_at, y_at, bottom}
+use Rattle.lt_diagram.specs.Arrows.{tip, drawn_way}
 use Rattle.lt_svg.specs.Pieces.{filled_template, escaped}
 
 -- words beside a place, on the side with more room

@@ -2,9 +2,9 @@
 ghost use Rattle.std.specs.Prelude.{◌≡◌, ◌++◌, ◌≤◌, drop, length, max, min, take, OnOk};
 ghost use Rattle.lt_draw.specs.Heading.{drawn_frame, red_title, drawn_titles, style_text, drawn_opening, drawn_paper, drawn_head, drawn_line, drawn_lines, title_lines, fact_lines, red_lines, drawn_heading};
 
-use crate::picture::Picture;
 use crate::sizes::{bounded_width, line_count, per_line, warning};
 use lt_base::{List, Memory};
+use lt_diagram::Picture;
 use lt_svg::{enclosed, fill};
 
 #[tactic(auto, unfolding(crate::specs::Heading::drawn_frame))]

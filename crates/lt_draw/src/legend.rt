@@ -2,11 +2,9 @@
 ghost use Rattle.std.specs.Prelude.{◌≡◌, ◌++◌, ◌<◌, ◌≤◌, ◌^◌, length, IfOk, OnOk};
 ghost use Rattle.lt_draw.specs.Legend.{entry_text, is_lost, is_pending, has_ink, has_lost, has_pending, entry_if, deed_entries, pale_entries, message_entries, fate_entries, entries_of, columns, drawn_entry, drawn_legend, legend_height};
 
-use crate::arrows::is_same_ink;
-use crate::chart::{Chart, bottom};
-use crate::picture::{Arrow, Fate, Ink, Picture};
 use crate::sizes::bounded_width;
 use lt_base::{List, Memory};
+use lt_diagram::{Arrow, Chart, Fate, Ink, Picture, bottom, is_same_ink};
 use lt_svg::fill;
 use std::alloc::Global;
 

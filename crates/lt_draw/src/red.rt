@@ -2,10 +2,8 @@
 ghost use Rattle.std.specs.Prelude.{◌≡◌, ◌++◌, ◌<◌, ◌^◌, OnOk};
 ghost use Rattle.lt_draw.specs.Red.{note_template, drawn_note, over, absence_mark, drawn_absence, haste_mark, drawn_haste, beyond, drawn_course, untimely_mark, drawn_untimely, gone_cross, gone_mark, drawn_gone, unsent_mark, drawn_unsent, drawn_wrong, drawn_band, group_title, drawn_row, drawn_spot, drawn_refusal, drawn_offence, ring_circle, ring_words, ring_mark, drawn_ring};
 
-use crate::arrows::{tip, write_way};
-use crate::chart::{Chart, bottom, right, x_at, y_at};
-use crate::picture::{Offence, Ring, Wrong};
 use lt_base::{List, Memory};
+use lt_diagram::{Chart, Offence, Ring, Wrong, bottom, right, tip, write_way, x_at, y_at};
 use lt_svg::{enclosed, fill};
 
 fn note_template(chart: &Chart, x: u64) -> &'static [u8]

@@ -1,14 +1,13 @@
 // How much room the parts of a picture take.
 ghost use Rattle.std.specs.Prelude.{◌≡◌, ◌≤◌, IfOk};
-ghost use Rattle.lt_draw.specs.Chart.{digit_count, widest_from, widest, gutter, bounded_width, per_line, line_count, row_height, node_count_of};
+ghost use Rattle.lt_diagram.specs.Chart.{digit_count, widest_from, widest, gutter, bounded_width, per_line, line_count, row_height, node_count_of};
 ghost use Rattle.lt_draw.specs.Heading.{ring_line, warning, heading_lines, rows_begin, chart_of};
 
-use crate::chart::Chart;
-use crate::picture::{Picture, Ring};
 use lt_base::{List, Memory, Name, append_number};
+use lt_diagram::{Chart, Picture, Ring};
 use std::alloc::Global;
 
-#[tactic(auto, unfolding(crate::specs::Chart::digit_count))]
+#[tactic(auto, unfolding(lt_diagram::specs::Chart::digit_count))]
 fn digit_count(alloc: Global, number: u64) -> Result<u32, Memory>
     ensures value { IfOk result (λ n. n ≡ digit_count number) }
     ensures few { IfOk result (λ n. n ≤ 20) }
@@ -19,7 +18,7 @@ fn digit_count(alloc: Global, number: u64) -> Result<u32, Memory>
 }
 
 // The length of the longest name, as far as names are shown.
-#[tactic(auto, unfolding(crate::specs::Chart::widest))]
+#[tactic(auto, unfolding(lt_diagram::specs::Chart::widest))]
 fn widest(names: &[Name]) -> u32
     ensures value { result ≡ widest names.now }
     ensures few { result ≤ 16 }

@@ -2,18 +2,15 @@
 ghost use Rattle.std.specs.Prelude.{◌≡◌, ◌++◌, IfOk, OnOk};
 ghost use Rattle.lt_draw.specs.PictureText.{tint_end, drawn_ground, drawn_messages, ring_words_at, drawn_miss, drawn_stop, drawn_red, drawn_deeds, drawn_rows, styled_rows, drawn_above, charted_text, picture_text};
 
-use crate::arrows::write_arrows;
-use crate::axis::{write_axis, write_nodes};
-use crate::chart::{Chart, bottom};
-use crate::closeness::style_of;
 use crate::head::{write_head, write_heading};
 use crate::legend::{Entry, entries_of, legend_height, write_legend};
-use crate::marks::{Style, arrow_end, write_marks};
-use crate::picture::{Ink, Offence, Picture, Ring};
 use crate::red::{write_offence, write_ring};
 use crate::sizes::chart_of;
-use crate::tints::write_tints;
 use lt_base::{List, Memory};
+use lt_diagram::{
+    Chart, Ink, Offence, Picture, Ring, Style, arrow_end, bottom, style_of, write_arrows,
+    write_axis, write_marks, write_nodes, write_tints,
+};
 use std::alloc::Global;
 
 // Up to where nodes are at an instant.

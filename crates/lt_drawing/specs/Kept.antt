@@ -1,10 +1,10 @@
 -- What of a schedule's strokes is drawn.
 use Rattle.std.specs.Prelude.{ℕ, ◌+◌, ◌==◌, ◌&&◌, ◌||◌, not, nat_le, Bool, true, false, List, [], ◌∷◌, Option, Some, None, if◌then◌else◌}
 use Rattle.std.specs.List.{flat_map}
-use Rattle.lt_draw.specs.declared.picture.Arrow.{Arrow}
-use Rattle.lt_draw.specs.declared.picture.Mark.{Mark}
-use Rattle.lt_draw.specs.declared.picture.Wrong.{Wrong}
-use Rattle.lt_draw.specs.declared.picture.Wrong.TheVariants.{Moment, Absent, Soon, Untimely, Gone, Unsent}
+use Rattle.lt_diagram.specs.declared.picture.Arrow.{Arrow}
+use Rattle.lt_diagram.specs.declared.picture.Mark.{Mark}
+use Rattle.lt_diagram.specs.declared.picture.Wrong.{Wrong}
+use Rattle.lt_diagram.specs.declared.picture.Wrong.TheVariants.{Moment, Absent, Soon, Untimely, Gone, Unsent}
 use Rattle.lt_course.specs.declared.course.RefusedEvent.{RefusedEvent}
 use Rattle.lt_course.specs.declared.stroke.Stroke.{Stroke}
 use Rattle.lt_course.specs.declared.stroke.Stroke.TheVariants.{Point, Line, Edge}

@@ -4,9 +4,9 @@ use Rattle.lt_arch.specs.declared.shape.Shape.{Shape}
 use Rattle.lt_audit.specs.Acts.{next_number}
 use Rattle.lt_audit.specs.declared.miss.Miss.{Miss}
 use Rattle.lt_text_lines.specs.ScheduleLines.{lossy_line}
-use Rattle.lt_draw.specs.declared.picture.Offence.{Offence}
-use Rattle.lt_draw.specs.declared.picture.Picture.{Picture}
-use Rattle.lt_draw.specs.declared.picture.Ring.{Ring}
+use Rattle.lt_diagram.specs.declared.picture.Offence.{Offence}
+use Rattle.lt_diagram.specs.declared.picture.Picture.{Picture}
+use Rattle.lt_diagram.specs.declared.picture.Ring.{Ring}
 use Rattle.lt_course.specs.declared.course.Course.{Course}
 use Rattle.lt_course.specs.declared.course.RefusedEvent.{RefusedEvent}
 use Rattle.lt_drawing.specs.declared.stage.Stage.{Stage}

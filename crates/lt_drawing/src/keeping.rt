@@ -5,7 +5,7 @@ ghost use Rattle.lt_drawing.specs.Kept.{arrow_if, arrow_in, arrows_if, arrows_in
 use crate::window::Window;
 use lt_base::{List, Memory};
 use lt_course::{RefusedEvent, Stroke, stroke_time};
-use lt_draw::{Arrow, Mark, Wrong};
+use lt_diagram::{Arrow, Mark, Wrong};
 use std::alloc::Global;
 
 // Appends the mark of a stroke that is no later than the window.

@@ -1,5 +1,5 @@
 use Rattle.lt_draw.specs.Heading.{drawn_head}
-use Rattle.lt_draw.proofs.Pieces.{three_pieces}
+use Rattle.lt_diagram.proofs.Pieces.{three_pieces}
 use Rattle.lt_draw.proofs.head.write_head.Goals as goal
 
 pub returns : goal.returns

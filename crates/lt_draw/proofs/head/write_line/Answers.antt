@@ -1,5 +1,5 @@
 use Rattle.lt_draw.specs.Heading.{drawn_line}
-use Rattle.lt_draw.proofs.Pieces.{two_pieces}
+use Rattle.lt_diagram.proofs.Pieces.{two_pieces}
 use Rattle.lt_draw.proofs.head.write_line.Goals as goal
 
 pub returns : goal.returns

@@ -1,6 +1,6 @@
 use Rattle.std.proofs.Common.{◌≡◌, ◌+◌, ◌-◌, ◌*◌, ◌++◌, ◌∙◌, sym, ap, arith, append-nil}
 use Rattle.lt_draw.specs.Heading.{drawn_lines, lines_below}
-use Rattle.lt_draw.proofs.Going.{no_lines, lines_on, lines_end}
+use Rattle.lt_draw.proofs.Further.{no_lines, lines_on, lines_end}
 use Rattle.lt_draw.proofs.head.write_lines.Goals as goal
 
 pub returns-then-left-eq0 : goal.returns-then-left-eq0

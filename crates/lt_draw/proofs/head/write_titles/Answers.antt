@@ -1,5 +1,5 @@
 use Rattle.lt_draw.specs.Heading.{drawn_titles}
-use Rattle.lt_draw.proofs.Pieces.{three_pieces}
+use Rattle.lt_diagram.proofs.Pieces.{three_pieces}
 use Rattle.lt_draw.proofs.head.write_titles.Goals as goal
 
 pub returns : goal.returns

@@ -1,7 +1,7 @@
 use Rattle.std.proofs.Common.{◌+◌, ◌++◌, ◌∙◌}
 use Rattle.lt_draw.specs.declared.legend.Entry.TheVariants.{Executes}
 use Rattle.lt_draw.specs.Legend.{entries_from, drawn_legend}
-use Rattle.lt_draw.proofs.Going.{entries_on, entries_end}
+use Rattle.lt_draw.proofs.Further.{entries_on, entries_end}
 use Rattle.lt_draw.proofs.legend.write_legend.Goals as goal
 
 pub entries-preserved : goal.entries-preserved

@@ -1,5 +1,5 @@
 use Rattle.lt_draw.specs.Red.{gone_mark}
-use Rattle.lt_draw.proofs.Pieces.{two_pieces}
+use Rattle.lt_diagram.proofs.Pieces.{two_pieces}
 use Rattle.lt_draw.proofs.red.mark_gone.Goals as goal
 
 pub returns : goal.returns

@@ -1,5 +1,5 @@
 use Rattle.lt_draw.specs.Red.{drawn_offence}
-use Rattle.lt_draw.proofs.Pieces.{three_pieces}
+use Rattle.lt_diagram.proofs.Pieces.{three_pieces}
 use Rattle.lt_draw.proofs.red.write_offence.Goals as goal
 
 pub returns : goal.returns

@@ -1,5 +1,5 @@
 use Rattle.lt_draw.specs.Red.{drawn_refusal}
-use Rattle.lt_draw.proofs.Pieces.{three_pieces}
+use Rattle.lt_diagram.proofs.Pieces.{three_pieces}
 use Rattle.lt_draw.proofs.red.write_refusal.Goals as goal
 
 pub returns : goal.returns

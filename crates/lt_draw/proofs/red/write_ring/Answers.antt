@@ -1,5 +1,5 @@
 use Rattle.lt_draw.specs.Red.{drawn_ring}
-use Rattle.lt_draw.proofs.Pieces.{two_pieces}
+use Rattle.lt_diagram.proofs.Pieces.{two_pieces}
 use Rattle.lt_draw.proofs.red.write_ring.Goals as goal
 
 pub returns : goal.returns

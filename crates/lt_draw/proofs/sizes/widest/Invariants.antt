@@ -1,5 +1,5 @@
 use Rattle.std.proofs.Common.{◌≡◌, ◌≤◌, drop}
-use Rattle.lt_draw.specs.Chart.{widest_from}
+use Rattle.lt_diagram.specs.Chart.{widest_from}
 use Rattle.lt_draw.proofs.sizes.widest.Given as goal
 
 abbrev pub invariant-names : goal.invariant-names

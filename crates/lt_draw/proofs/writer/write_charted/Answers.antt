@@ -1,5 +1,5 @@
 use Rattle.lt_draw.specs.PictureText.{charted_text}
-use Rattle.lt_draw.proofs.Pieces.{four_pieces}
+use Rattle.lt_diagram.proofs.Pieces.{four_pieces}
 use Rattle.lt_draw.proofs.writer.write_charted.Goals as goal
 
 pub returns : goal.returns

@@ -1,5 +1,5 @@
 use Rattle.lt_draw.specs.PictureText.{drawn_rows}
-use Rattle.lt_draw.proofs.Pieces.{four_pieces}
+use Rattle.lt_diagram.proofs.Pieces.{four_pieces}
 use Rattle.lt_draw.proofs.writer.write_rows.Goals as goal
 
 pub returns : goal.returns

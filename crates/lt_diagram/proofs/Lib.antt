@@ -1,0 +1,4 @@
+pub mod Pieces
+pub mod Shares
+pub mod Fitting
+pub mod Going

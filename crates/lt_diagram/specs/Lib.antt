@@ -1,0 +1,6 @@
+pub mod Template
+pub mod Chart
+pub mod Marks
+pub mod Tints
+pub mod Axis
+pub mod Arrows

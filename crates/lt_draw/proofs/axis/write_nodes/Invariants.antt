@@ -1,6 +1,0 @@
-use Rattle.std.proofs.Common.{◌≡◌, ◌++◌, drop}
-use Rattle.lt_draw.specs.Axis.{nodes_from}
-use Rattle.lt_draw.proofs.axis.write_nodes.Given as goal
-
-abbrev pub invariant-names : goal.invariant-names
-invariant-names l = l.out ++ nodes_from l.chart l.k (drop l.k l.names) ≡ l.initial.out ++ nodes_from l.chart 0 l.names

@@ -1,7 +1,0 @@
-use Rattle.std.proofs.Common.{◌≡◌, ◌++◌, drop}
-use Rattle.lt_draw.specs.Template.{each_text}
-use Rattle.lt_draw.specs.Tints.{tint_piece}
-use Rattle.lt_draw.proofs.tints.write_tints.Given as goal
-
-abbrev pub invariant-marks : goal.invariant-marks
-invariant-marks l = l.out ++ each_text (tint_piece l.chart l.end) (drop l.k l.marks) ≡ l.initial.out ++ each_text (tint_piece l.chart l.end) l.marks
