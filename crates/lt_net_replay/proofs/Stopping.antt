@@ -13,7 +13,7 @@ use Rattle.lt_net.specs.declared.fault.First.TheVariants as first
 use Rattle.lt_net.specs.Event.{NetRefuses}
 use Rattle.lt_net.specs.NetModel.{NetState}
 use Rattle.lt_net_replay.specs.Blamed.{IsStopOf}
-use Rattle.lt_net_replay.specs.Playing.{StopsAtEvent, JudgesEvent}
+use Rattle.lt_net_replay.specs.Playing.{StopsAtEvent, JudgesPlayed}
 use Rattle.lt_net_start.specs.Ends.{LeavesNet}
 
 -- a net that runs was not stopped
@@ -53,7 +53,7 @@ module _ {T : Type 0} (r : Result T NetFault) where
 
 -- the verdict on the event of a line is that on the line
 pub line_by : {E O : Type 0} (rules : Rules E O) (line : List ℕ) (e : E) → rules.reads line ≡ Ok e → (stands : List E → Type 0) (before : List E) (r : Result (Unit {0}) (Stop O)) →
-    JudgesEvent rules stands before e r → JudgesLine rules line stands before r
+    JudgesPlayed rules stands before e r → JudgesLine rules line stands before r
 line_by rules line e reads stands before (Ok x) judged = record { event = e; reads = reads; free = judged.0; stands_on = judged.1 }
 line_by rules line e reads stands before (Err (stop.Row fault)) judged = absurd judged
 line_by rules line e reads stands before (Err (stop.Offence offence)) judged = (e, reads, judged)

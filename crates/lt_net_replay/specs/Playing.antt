@@ -34,13 +34,13 @@ StopsAtEvent rules before e stop.Link = Unit {0}
 StopsAtEvent rules before e stop.Memory = Unit {0}
 
 -- the verdict on an event behind these others: it has no offence, and what is kept stands for it besides, or it is stopped at
-abbrev pub JudgesEvent : {E O : Type 0} → Rules E O → (stands : List E → Type 0) → (before : List E) → E → Result (Unit {0}) (Stop O) → Type 0
-JudgesEvent rules stands before e result = MatchResult result (λ _. (rules.offence before e ≡ None) × stands (before ++ e ∷ [])) (StopsAtEvent rules before e)
+abbrev pub JudgesPlayed : {E O : Type 0} → Rules E O → (stands : List E → Type 0) → (before : List E) → E → Result (Unit {0}) (Stop O) → Type 0
+JudgesPlayed rules stands before e result = MatchResult result (λ _. (rules.offence before e ≡ None) × stands (before ++ e ∷ [])) (StopsAtEvent rules before e)
 
 -- behind all events for which it stands, the event is judged by its rules
 abbrev pub PlaysEvent : {C M : Type 0} (ctl : Controls C) (mch : Machines M) → (old new : Playback C M) → Event → (steps steps' : ℕ) → (fabric fabric' : FabricState) → Result (Unit {0}) (Stop Offence) → Type 0
 PlaysEvent ctl mch old new e steps steps' fabric fabric' result =
-    (before : List Event) → PlaysFor ctl mch old steps fabric before → JudgesEvent (rules_for old) (PlaysFor ctl mch new steps' fabric') before e result
+    (before : List Event) → PlaysFor ctl mch old steps fabric before → JudgesPlayed (rules_for old) (PlaysFor ctl mch new steps' fabric') before e result
 
 -- behind all events for which it stands, the line is judged by its rules; where it is taken, it stands for the line's event besides
 abbrev pub PlaysLine : {C M : Type 0} (ctl : Controls C) (mch : Machines M) → (old new : Playback C M) → (line : List ℕ) → (steps steps' : ℕ) → (fabric fabric' : FabricState) → Result (Unit {0}) (Stop Offence) → Type 0
