@@ -1,6 +1,7 @@
 mod Ends
 pub mod Sent
 pub mod Strokes
+pub mod Missing
 pub mod Placing
 pub mod Recorded
 pub mod Visits

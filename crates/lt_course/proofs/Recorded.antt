@@ -1,5 +1,5 @@
 -- A recorder after one event more, and at an offence.
-use Rattle.std.proofs.Common.{◌≡◌, ◌∙◌, ℕ, ◌+◌, ◌-◌, ◌^◌, ◌<◌, ◌≤◌, min, List, [], ◌∷◌, ◌++◌, length, All, Some, None, Result, Ok, Err, refl, sym, ap, subst, arith, length-append}
+use Rattle.std.proofs.Common.{◌≡◌, ◌∙◌, ℕ, ◌+◌, ◌-◌, ◌^◌, ◌<◌, ◌≤◌, min, List, [], ◌∷◌, ◌++◌, length, All, Option, Some, None, Result, Ok, Err, refl, sym, ap, subst, arith, length-append}
 use Rattle.std.specs.Prelude.{IfErr, OnOk, option_map}
 use Rattle.std.proofs.lemmas.List.Elements.{All-push}
 use Rattle.lt_arch.specs.declared.event.Deed.{Deed}
@@ -18,6 +18,7 @@ use Rattle.lt_arch.specs.Step.{offence_of, time_of}
 use Rattle.lt_place_reads.specs.declared.crossing.Crossing.{Crossing}
 use Rattle.lt_schedule.specs.declared.halt.Stop.{Stop}
 use Rattle.lt_schedule.specs.declared.halt.Stop.TheVariants as stop
+use Rattle.lt_audit.specs.declared.miss.Miss.{Miss}
 use Rattle.lt_audit.specs.Audit.{AuditState, chan_at}
 use Rattle.lt_audit.specs.Acts.{next_number}
 use Rattle.lt_audit.specs.Standing.{AuditStands, KnowsDeed}
@@ -28,6 +29,7 @@ use Rattle.lt_course.specs.declared.course.Stopped.{Stopped}
 use Rattle.lt_course.specs.declared.stroke.Stroke.{Stroke}
 use Rattle.lt_course.specs.Courses.{drawing_rules, last_for, oldest_for, refused_by, stopped_at}
 use Rattle.lt_course.specs.Lasts.{last_mark, last_mark_for, oldest_read}
+use Rattle.lt_course.specs.Missed.{first_miss}
 use Rattle.lt_course.specs.Placed.{IsPlacedOffence, IsTimelyStroke}
 use Rattle.lt_course.specs.Recorded.{IsNotedSoFar, JudgesNextEvent}
 use Rattle.lt_course.specs.Sketches.{IsDeedDone, IsExecuted, IsSent, stroke_by}
@@ -96,10 +98,10 @@ module _ (a : AuditState) (cross : List Crossing) (t : Timing) (strokes : List S
   pub pending_is : pending_below cross a.shape t (chan_at a.chans) (chan_count a.shape) ≡ pending_of cross a.shape t st
   pending_is = pending_same cross a.shape t (chan_at a.chans) st.chan (chan_count a.shape) (λ c lc. chan_seen a a.shape t a.rows es before.stands c lc)
 
-  pub stopped_is : (e : Event) (o : Offence) (pending : List Arrow) (refused : RefusedEvent) → IsPlacedOffence a.shape o → pending ≡ pending_below cross a.shape t (chan_at a.chans) (chan_count a.shape)
-      → refused ≡ refused_by a.shape t (last_mark_for strokes o) (oldest_read a o) e o → record { strokes = strokes; pending = pending; refused = refused } ≡ stopped_at cross a.shape t a.rows es e o
-  stopped_is e o pending refused placed waits is =
-      λ i. record { strokes = before.strokes_are i; pending = (waits ∙ pending_is) i; refused = (is ∙ (λ j. refused_by a.shape t (last_same o j) (oldest_same o placed j) e o)) i }
+  pub stopped_is : (e : Event) (o : Offence) (pending : List Arrow) (refused : RefusedEvent) (miss : Option Miss) → IsPlacedOffence a.shape o → pending ≡ pending_below cross a.shape t (chan_at a.chans) (chan_count a.shape)
+      → refused ≡ refused_by a.shape t (last_mark_for strokes o) (oldest_read a o) e o → miss ≡ first_miss a.shape t a.rows es → record { strokes = strokes; pending = pending; refused = refused; miss = miss } ≡ stopped_at cross a.shape t a.rows es e o
+  stopped_is e o pending refused miss placed waits is missed =
+      λ i. record { strokes = before.strokes_are i; pending = (waits ∙ pending_is) i; refused = (is ∙ (λ j. refused_by a.shape t (last_same o j) (oldest_same o placed j) e o)) i; miss = missed i }
 
 -- the same by equal auditors, crossings and bounds of time
 pub moved : (a b : AuditState) (cross cross' : List Crossing) (t t' : Timing) (xs : List Stroke) (es : List Event) → b ≡ a → cross' ≡ cross → t' ≡ t → IsNotedSoFar a cross t xs es → IsNotedSoFar b cross' t' xs es

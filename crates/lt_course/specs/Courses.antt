@@ -1,5 +1,5 @@
 -- A schedule as it is drawn: what its events are drawn as up to its first offence, and that offence.
-use Rattle.std.specs.Prelude.{◌≡◌, ℕ, ◌+◌, ◌-◌, ◌^◌, ◌<◌, List, [], length, Option, Some, None, Result, Ok, Err, option_map, is_some, if◌then◌else◌}
+use Rattle.std.specs.Prelude.{◌≡◌, ℕ, ◌+◌, List, [], Option, Some, None, Result, Ok, Err, option_map, is_some, if◌then◌else◌}
 use Rattle.lt_base.specs.declared.memory.Or.{Or}
 use Rattle.lt_base.specs.declared.memory.Or.TheVariants.{Fault, Memory}
 use Rattle.lt_arch.specs.declared.event.Event.{Event}
@@ -21,7 +21,6 @@ use Rattle.lt_schedule.specs.declared.halt.Halt.TheVariants as halt
 use Rattle.lt_schedule.specs.declared.halt.ScheduleRefusal.{ScheduleRefusal}
 use Rattle.lt_schedule.specs.declared.halt.ScheduleRefusal.TheVariants as refusal
 use Rattle.lt_schedule.specs.Rules.{Rules, file_judged_by}
-use Rattle.lt_audit.specs.Misses.{FirstMiss}
 use Rattle.lt_answer.specs.Answered.{Verdict, OfFile}
 use Rattle.lt_load_fit.specs.declared.fault.What.TheVariants.{ScheduleBytes}
 use Rattle.lt_load_fit.specs.declared.fault.CommandFault.{CommandFault}
@@ -31,6 +30,7 @@ use Rattle.lt_diagram.specs.declared.picture.Wrong.TheVariants.{Moment, Absent, 
 use Rattle.lt_course.specs.declared.course.Course.{Course}
 use Rattle.lt_course.specs.declared.course.RefusedEvent.{RefusedEvent}
 use Rattle.lt_course.specs.declared.course.Stopped.{Stopped}
+use Rattle.lt_course.specs.Missed.{first_miss}
 use Rattle.lt_course.specs.Strokes.{first_sent_or, last_time, pending_of, strokes_of, time_or_zero}
 
 -- when the node of an offence was activated last
@@ -97,6 +97,7 @@ stopped_at cross s t rows before e o = record {
   strokes = strokes_of cross s t rows before;
   pending = pending_of cross s t (reached s t rows before);
   refused = refused_at s t (reached s t rows before) e o;
+  miss = first_miss s t rows before;
 }
 
 -- how lines and events are judged for a picture: as for a run, but with an offence what is drawn of the list is told, and one that stops is no refusal
@@ -120,12 +121,11 @@ pub record IsCourseOf (cross : List Crossing) (s : Shape) (t : Timing) (rows : �
   pub strokes : c.strokes ≡ strokes_of cross s t rows es
   pub pending : c.pending ≡ pending_of cross s t (reached s t rows es)
   pub refused : c.refused ≡ unended_by (reached s t rows es).horizon (last_time c.strokes)
-  -- as far as events can be numbered
-  pub miss : length es < 2 ^ 32 - 1 → FirstMiss s t rows es c.miss
+  pub miss : c.miss ≡ first_miss s t rows es
 
 -- what is drawn of a list with an offence
 abbrev pub stopped_course : Stopped → Course
-stopped_course x = record { strokes = x.strokes; pending = x.pending; refused = Some x.refused; miss = None }
+stopped_course x = record { strokes = x.strokes; pending = x.pending; refused = Some x.refused; miss = x.miss }
 
 -- what a refusal of rows is for a picture: an offence is drawn
 abbrev pub course_or_fault : ScheduleRefusal Stopped → Result Course CommandFault

@@ -1,5 +1,5 @@
 -- What holds of what is drawn.
-use Rattle.std.specs.Prelude.{◌≡◌, ℕ, ◌+◌, List, length, Result, Ok, Err}
+use Rattle.std.specs.Prelude.{◌≡◌, ℕ, ◌+◌, ◌-◌, ◌^◌, ◌<◌, List, length, Result, Ok, Err}
 use Rattle.lt_arch.specs.declared.event.Event.{Event}
 use Rattle.lt_arch.specs.declared.event.Offence.{Offence}
 use Rattle.lt_arch.specs.declared.event.Offence.TheVariants.{NoEnd}
@@ -11,8 +11,10 @@ use Rattle.lt_schedule.specs.declared.halt.ScheduleRefusal.{ScheduleRefusal}
 use Rattle.lt_schedule.specs.declared.halt.ScheduleRefusal.TheVariants as refusal
 use Rattle.lt_schedule.specs.Rules.{file_judged_by}
 use Rattle.lt_schedule.specs.Verdict.{rules_of}
+use Rattle.lt_audit.specs.Misses.{FirstMiss}
 use Rattle.lt_course.specs.declared.course.Stopped.{Stopped}
 use Rattle.lt_course.specs.Courses.{drawing_rules}
+use Rattle.lt_course.specs.Missed.{first_miss}
 use Rattle.lt_course.specs.Strokes.{strokes_of}
 
 -- there is a stroke for each event
@@ -48,3 +50,7 @@ AgreesWith (Err r) (Err q) = AgreesRefused r q
 abbrev pub DrawsAsJudged : Type 0
 DrawsAsJudged =
     (cross : List Crossing) (s : Shape) (t : Timing) (rows : ℕ) (bytes : List ℕ) → AgreesWith (file_judged_by (rules_of s t rows) bytes) (file_judged_by (drawing_rules cross s t rows) bytes)
+
+-- as far as events can be numbered, what is told of a list is the first event at which a node executes with a message too few or too many
+abbrev pub TellsFirstMiss : Type 0
+TellsFirstMiss = (s : Shape) (t : Timing) (rows : ℕ) (es : List Event) → length es < 2 ^ 32 - 1 → FirstMiss s t rows es (first_miss s t rows es)

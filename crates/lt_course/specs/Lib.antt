@@ -1,4 +1,5 @@
 pub mod Strokes
+pub mod Missed
 pub mod Courses
 pub mod Laws
 pub mod Sketches

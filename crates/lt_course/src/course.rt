@@ -15,12 +15,14 @@ pub struct RefusedEvent {
     pub wrong: Wrong,
 }
 
-/// What the events before one with an offence are drawn as, what is in transit behind them, and that event.
+/// What the events before one with an offence are drawn as, what is in transit behind them, that event, and the first execution before it with
+/// a message too few or too many.
 #[derive(Drop)]
 pub struct Stopped {
     pub strokes: List<Stroke>,
     pub pending: List<Arrow>,
     pub refused: RefusedEvent,
+    pub miss: Option<Miss>,
 }
 
 /// What the events of a schedule are drawn as, what is in transit behind them, the event at which it is refused, if it is, and the first

@@ -1,16 +1,21 @@
 // What is read of an auditor for a picture.
-ghost use Rattle.std.specs.Prelude.{◌≡◌, ◌<◌, ◌≤◌, ◌++◌, ◌∷◌, [], length, slice_index_or, map, IfOk, OnOk};
+ghost use Rattle.std.specs.Prelude.{◌≡◌, ◌<◌, ◌≤◌, ◌++◌, ◌∷◌, [], ℕ, List as Items, length, slice_index_or, map, IfOk, OnOk};
+ghost use Rattle.lt_arch.specs.declared.event.Event.{Event as OfEvent};
 ghost use Rattle.lt_arch.specs.declared.limits.TheConstants.{GREATEST_TIME};
+ghost use Rattle.lt_arch.specs.declared.shape.Shape.{Shape as OfShape};
+ghost use Rattle.lt_arch.specs.declared.timing.Timing.{Timing as OfTiming};
 ghost use Rattle.lt_arch.specs.Readers.{chan_count};
 ghost use Rattle.lt_arch.specs.Schedule.{IsPlacedIn};
 ghost use Rattle.lt_arch.specs.Shapes.{HaveSameNodes};
 ghost use Rattle.lt_audit.specs.Audit.{chan_at};
+ghost use Rattle.lt_audit.specs.Standing.{AuditStands};
+ghost use Rattle.lt_course.specs.Missed.{first_miss};
 ghost use Rattle.lt_course.specs.Strokes.{first_sent_or, pending_arrow, pending_below};
 ghost use Rattle.lt_course.specs.Sketches.{IsDeedDone, IsExecuted, IsSent};
 
 use crate::sketch::{arrow_of, chan_at};
 use lt_arch::{Deed, Event, Timing};
-use lt_audit::Auditor;
+use lt_audit::{Auditor, Miss};
 use lt_base::{List, Memory};
 use lt_diagram::{Arrow, Fate};
 use lt_place::Crossing;
@@ -50,6 +55,16 @@ pub(crate) fn done_at(auditor: &Auditor, e: &Event) -> Deed
         Event::Del(_, _) => Deed::Nothing,
         Event::End(_) => Deed::Nothing,
     }
+}
+
+/// The first execution with a message too few or too many, as far as events can be numbered.
+pub(crate) fn first_miss(auditor: &Auditor) -> Option<Miss>
+    ensures { (s : OfShape) (t : OfTiming) (rows : ℕ) (es : Items OfEvent) → AuditStands auditor.now s t rows es → result ≡ first_miss s t rows es }
+{
+    if auditor.taken_count() == 4_294_967_295 {
+        return None;
+    }
+    auditor.miss()
 }
 
 /// The send time of the oldest message in transit on a channel, or this where there is none.

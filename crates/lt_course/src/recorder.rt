@@ -15,7 +15,7 @@ ghost use Rattle.lt_course.specs.Recording.{HasRecorded, KeepsRecorder, offence_
 ghost use Rattle.lt_course.specs.Sketches.{IsDeedDone, stroke_by};
 
 use crate::course::Stopped;
-use crate::reading::{done_at, executed_at, pending_of, sent_before};
+use crate::reading::{done_at, executed_at, first_miss, pending_of, sent_before};
 use crate::refusing::{last_mark_for, oldest_read, refused_by};
 use crate::sketch::stroke_by;
 use crate::stroke::Stroke;
@@ -170,6 +170,7 @@ impl Recorder {
             strokes,
             pending,
             refused,
+            miss: first_miss(&self.auditor),
         })
     }
 }

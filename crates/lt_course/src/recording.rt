@@ -1,17 +1,13 @@
 // What a schedule file is drawn as.
-ghost use Rattle.std.specs.Prelude.{◌≡◌, ◌<◌, ◌≤◌, ◌+◌, ◌-◌, ◌*◌, ◌^◌, [], ℕ, List as Items, IfOk, IsSome, IsTrue};
+ghost use Rattle.std.specs.Prelude.{◌≡◌, ◌<◌, ◌≤◌, ◌+◌, ◌*◌, ◌^◌, [], List as Items, IfOk, IsSome, IsTrue};
 ghost use Rattle.lt_io.specs.Counts.{MayFail};
 ghost use Rattle.lt_io.specs.FilesState.{KeepsFiles, KeepsNames};
 ghost use Rattle.lt_io.specs.Visits.{taken_of};
 ghost use Rattle.lt_rows.specs.Limits.{most_read};
 ghost use Rattle.lt_rows.specs.Lines.{CanGoOn, fresh_lines};
 ghost use Rattle.lt_arch.specs.declared.event.Event.{Event as OfEvent};
-ghost use Rattle.lt_arch.specs.declared.shape.Shape.{Shape as OfShape};
-ghost use Rattle.lt_arch.specs.declared.timing.Timing.{Timing as OfTiming};
 ghost use Rattle.lt_arch.specs.Readers.{chan_count, node_count};
 ghost use Rattle.lt_arch.specs.Shapes.{HaveSameNodes};
-ghost use Rattle.lt_audit.specs.Misses.{FirstMiss};
-ghost use Rattle.lt_audit.specs.Standing.{AuditStands};
 ghost use Rattle.lt_schedule.specs.Halted.{HaltCounted, ReadCounted};
 ghost use Rattle.lt_schedule.specs.Replayed.{JudgesFile, JudgesOpen};
 ghost use Rattle.lt_course.specs.Courses.{IsCourseOf, course_or_fault, halted_course, or_course, unended_by};
@@ -19,11 +15,11 @@ ghost use Rattle.lt_course.specs.Reading.{ReadsCourse, RecordsCourse, VisitsUnle
 ghost use Rattle.lt_course.specs.Recording.{HasRecorded, KeepsRecorder, recorder_rules};
 
 use crate::course::{Course, RefusedEvent, Stopped};
-use crate::reading::pending_of;
+use crate::reading::{first_miss, pending_of};
 use crate::recorder::Recorder;
 use crate::stroke::last_time;
 use lt_arch::{Offence, Shape, Timing};
-use lt_audit::{Auditor, Miss};
+use lt_audit::Auditor;
 use lt_base::{List, Memory, Or, Steps};
 use lt_diagram::Wrong;
 use lt_io::Files;
@@ -171,17 +167,6 @@ fn unended(alloc: Global, auditor: &Auditor, last: u64) -> Option<RefusedEvent>
     })
 }
 
-// The first execution with a message too few or too many, as far as events can be numbered.
-fn first_miss(auditor: &Auditor) -> Option<Miss>
-    ensures { auditor.now.taken < 2 ^ 32 - 1
-        → (s : OfShape) (t : OfTiming) (rows : ℕ) (es : Items OfEvent) → AuditStands auditor.now s t rows es → FirstMiss s t rows es result }
-{
-    if auditor.taken_count() == 4_294_967_295 {
-        return None;
-    }
-    auditor.miss()
-}
-
 // Why rows are not all taken: an offence is drawn.
 fn halted_course(halt: Or<Halt<Stopped>>) -> Result<Course, Or<CommandFault>>
     ensures { result ≡ halted_course halt }
@@ -203,7 +188,7 @@ fn refused_course(refusal: ScheduleRefusal<Stopped>) -> Result<Course, Or<Comman
             strokes: offence.strokes,
             pending: offence.pending,
             refused: Some(offence.refused),
-            miss: None,
+            miss: offence.miss,
         }),
         ScheduleRefusal::Bytes => Err(Or::Fault(CommandFault::Limit(What::ScheduleBytes))),
     }

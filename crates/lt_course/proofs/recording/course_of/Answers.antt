@@ -1,5 +1,4 @@
-use Rattle.std.proofs.Common.{◌∙◌, ◌<◌, ◌-◌, ◌^◌, List, length, sym, ap, arith}
-use Rattle.std.proofs.Math.Nat.{min-le_left}
+use Rattle.std.proofs.Common.{◌∙◌, List, sym, ap}
 use Rattle.lt_arch.specs.Readers.{chan_count}
 use Rattle.lt_audit.specs.Audit.{chan_at}
 use Rattle.lt_place_reads.specs.declared.crossing.Crossing.{Crossing}
@@ -18,9 +17,5 @@ returns c = λ es rec.
       strokes = c.replace-strokes.ensures.value ∙ rec.strokes_are;
       pending = c.in_ok-pending.ensures ∙ ap (λ (x : List Crossing). pending_below x a.shape r.timing (chan_at a.chans) (chan_count a.shape)) c.as_slice-cross.ensures ∙ pending_is a r.cross r.timing r.strokes es rec;
       refused = c.unended-refused.ensures ∙ (λ i. unended_by (rec.stands.state.times.horizon i) (last i));
-      miss = λ few.
-          let is = rec.stands.taken_is in
-          let least = min-le_left (length es) (2 ^ 32 - 1) in
-          let low : a.taken < 2 ^ 32 - 1 = omega (arith, is, few, least) in
-          c.first_miss-miss.ensures low a.shape r.timing a.rows es rec.stands;
+      miss = c.first_miss-miss.ensures a.shape r.timing a.rows es rec.stands;
     }

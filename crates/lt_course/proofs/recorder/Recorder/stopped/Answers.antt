@@ -34,5 +34,6 @@ returns-clause-stopped c = λ before rec.
     let last = c.last_mark_for-last.ensures.value ∙ ap (λ (xs : List Stroke). last_mark_for xs o) c.as_slice.ensures in
     let pending = c.in_ok-pending.ensures ∙ ap (λ (x : List Crossing). pending_below x old.auditor.shape old.timing (chan_at old.auditor.chans) (chan_count old.auditor.shape)) c.as_slice-cross.ensures in
     let refused = c.in_ok-refused.ensures ∙ (λ i. refused_by (c.shape-shape.ensures i) old.timing (last i) (c.oldest_read-oldest.ensures.value i) c.args.e.now o) in
-    (λ i. record { strokes = c.replace-strokes.ensures.value i; pending = c.in_ok-pending.pending; refused = c.in_ok-refused.refused })
-    ∙ stopped_is old.auditor old.cross old.timing old.strokes before rec c.args.e.now o c.in_ok-pending.pending c.in_ok-refused.refused placed pending refused
+    (λ i. record { strokes = c.replace-strokes.ensures.value i; pending = c.in_ok-pending.pending; refused = c.in_ok-refused.refused; miss = c.first_miss.result })
+    ∙ stopped_is old.auditor old.cross old.timing old.strokes before rec c.args.e.now o c.in_ok-pending.pending c.in_ok-refused.refused c.first_miss.result placed pending refused
+    (c.first_miss.ensures old.auditor.shape old.timing old.auditor.rows before rec.stands)
