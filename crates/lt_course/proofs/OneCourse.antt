@@ -17,7 +17,7 @@ use Rattle.lt_course.specs.declared.course.Stopped.{Stopped}
 use Rattle.lt_course.specs.Courses.{CourseBy, course_or_fault, course_verdict, drawing_rules, stopped_at}
 use Rattle.lt_course.proofs.Alike.{AreAlikeReads, SameCase, SameRefusal, alike_file}
 
-wrong_of_row : (r q : ScheduleRefusal Stopped) (e f : CommandFault) → SameRefusal r q → course_or_fault r ≡ Err e → course_or_fault q ≡ Err f → e ≡ f
+pub wrong_of_row : (r q : ScheduleRefusal Stopped) (e f : CommandFault) → SameRefusal r q → course_or_fault r ≡ Err e → course_or_fault q ≡ Err f → e ≡ f
 wrong_of_row (refusal.Row row f) (refusal.Row row' f') e g same p q =
     let here : e ≡ fault.Row row f = cc in let there : g ≡ fault.Row row' f' = cc in here ∙ (λ i. fault.Row (same.0 i) (same.1 i)) ∙ sym there
 wrong_of_row (refusal.Row row f) (refusal.Offence m y) e g same p q = absurd same
@@ -27,7 +27,7 @@ wrong_of_row refusal.Bytes (refusal.Row row f) e g same p q = absurd same
 wrong_of_row refusal.Bytes (refusal.Offence m y) e g same p q = absurd same
 wrong_of_row refusal.Bytes refusal.Bytes e g same p q = let both : Err e ≡ Err g = sym p ∙ q in cc
 
-no_row : (r q : ScheduleRefusal Stopped) (e : CommandFault) (c : Course) → SameRefusal r q → course_or_fault r ≡ Err e → course_or_fault q ≡ Ok c → ⊥
+pub no_row : (r q : ScheduleRefusal Stopped) (e : CommandFault) (c : Course) → SameRefusal r q → course_or_fault r ≡ Err e → course_or_fault q ≡ Ok c → ⊥
 no_row (refusal.Row row f) (refusal.Row row' f') e c same p q = cc
 no_row (refusal.Row row f) (refusal.Offence m y) e c same p q = same
 no_row (refusal.Row row f) refusal.Bytes e c same p q = same
@@ -36,11 +36,11 @@ no_row refusal.Bytes (refusal.Row row f) e c same p q = same
 no_row refusal.Bytes (refusal.Offence m y) e c same p q = same
 no_row refusal.Bytes refusal.Bytes e c same p q = cc
 
-both_mapped : {A B C : Type 0} (f : A → B) (g : A → C) (o : Option A) → SameCase (option_map f o) (option_map g o)
+pub both_mapped : {A B C : Type 0} (f : A → B) (g : A → C) (o : Option A) → SameCase (option_map f o) (option_map g o)
 both_mapped f g None = tt
 both_mapped f g (Some x) = tt
 
-same_refusal : (e f : CommandFault) → ◌≡◌ {A = Result Course CommandFault} (Err e) (Err f) → e ≡ f
+pub same_refusal : (e f : CommandFault) → ◌≡◌ {A = Result Course CommandFault} (Err e) (Err f) → e ≡ f
 same_refusal e f is = cc
 
 module _ (cross other : List Crossing) (s : Shape) (t : Timing) (rows : ℕ) where

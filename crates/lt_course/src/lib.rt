@@ -11,5 +11,7 @@ mod sketch;
 mod stroke;
 
 pub use course::{Course, RefusedEvent, Stopped};
-pub use recording::read_course;
+pub use recording::{halted_course, read_course};
+pub use refusing::{last_mark_for, offence_bound, without_last, wrong_by};
+pub use sketch::{chan_at, ink_by, sign_of};
 pub use stroke::{Stroke, last_time, stroke_time, stroke_time_at, time_or_zero};

@@ -167,8 +167,8 @@ fn unended(alloc: Global, auditor: &Auditor, last: u64) -> Option<RefusedEvent>
     })
 }
 
-// Why rows are not all taken: an offence is drawn.
-fn halted_course(halt: Or<Halt<Stopped>>) -> Result<Course, Or<CommandFault>>
+/// Why rows are not all taken: an offence is drawn.
+pub fn halted_course(halt: Or<Halt<Stopped>>) -> Result<Course, Or<CommandFault>>
     ensures { result ≡ halted_course halt }
 {
     match halt {

@@ -56,7 +56,7 @@ fn last_mark(node: u32, strokes: &[Stroke]) -> Option<u64>
 }
 
 /// When the node of an offence was activated last.
-pub(crate) fn last_mark_for(strokes: &[Stroke], offence: Offence) -> Option<u64>
+pub fn last_mark_for(strokes: &[Stroke], offence: Offence) -> Option<u64>
     requires { All IsTimelyStroke strokes.now }
     ensures value { result ≡ last_mark_for strokes.now offence }
     ensures timely { IsTimelyLast result }
@@ -102,8 +102,8 @@ fn after_last(last: Option<u64>, gap: u64) -> u64
     }
 }
 
-// The tick by which the node or the message of an offence was due, or before which it was not.
-fn offence_bound(
+/// The tick by which the node or the message of an offence was due, or before which it was not.
+pub fn offence_bound(
     shape: &Shape,
     timing: &Timing,
     last: Option<u64>,
@@ -159,8 +159,8 @@ fn unsent(shape: &Shape, channel: u32) -> Wrong
     }
 }
 
-// Where an event stands out.
-fn wrong_by(
+/// Where an event stands out.
+pub fn wrong_by(
     shape: &Shape,
     last: Option<u64>,
     oldest: u64,
@@ -196,8 +196,9 @@ fn row_of(alloc: Global, shape: &Shape, e: &Event) -> Result<List<u8>, Memory>
     Ok(without_last(row))
 }
 
+/// A row without its line feed.
 #[tactic(auto, using(crate::proofs::Sent::popped))]
-fn without_last(row: List<u8>) -> List<u8>
+pub fn without_last(row: List<u8>) -> List<u8>
     ensures { (text : Items ℕ) (last : ℕ) → row ≡ text ++ last ∷ [] → result ≡ text }
 {
     let mut bytes = row.into_vec();

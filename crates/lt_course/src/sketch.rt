@@ -13,7 +13,8 @@ use lt_diagram::{Arrow, Fate, Ink, Mark, Sign};
 use lt_net_node::is_crossed;
 use lt_place::Crossing;
 
-fn sign_of(deed: Deed, executed: u32) -> Sign
+/// The sign of a deed of a node that has executed so many instants.
+pub fn sign_of(deed: Deed, executed: u32) -> Sign
     ensures { result ≡ sign_of deed executed }
 {
     match deed {
@@ -29,7 +30,8 @@ fn data_ink(crossed: bool) -> Ink
     if crossed { Ink::Strong } else { Ink::Pale }
 }
 
-fn ink_by(kind: ChanKind, crossed: bool) -> Ink
+/// The ink of a message on a channel of this kind, where it brings something or nothing.
+pub fn ink_by(kind: ChanKind, crossed: bool) -> Ink
     ensures { result ≡ ink_by kind crossed }
 {
     match kind {
@@ -40,7 +42,7 @@ fn ink_by(kind: ChanKind, crossed: bool) -> Ink
 
 /// A channel of a shape.
 #[tactic(auto, using(crate::proofs::Ends::channel_ends))]
-pub(crate) fn chan_at(shape: &Shape, channel: u32) -> Chan
+pub fn chan_at(shape: &Shape, channel: u32) -> Chan
     requires { channel < chan_count shape.now }
     ensures chan { result ≡ chan_of shape.now channel }
     ensures ends { HasEnds (node_count shape.now) result }

@@ -12,3 +12,4 @@ mod sending;
 mod words;
 
 pub use recording::lose;
+pub use row::extend_lossy_event;

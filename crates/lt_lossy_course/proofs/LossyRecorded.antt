@@ -1,0 +1,143 @@
+-- A recorder after one event more, and at an offence.
+use Rattle.std.proofs.Common.{◌≡◌, ◌∙◌, ℕ, ◌+◌, ◌<◌, ◌≤◌, List, [], ◌∷◌, ◌++◌, length, map, All, Some, None, Result, Ok, Err, refl, sym, ap, subst, arith, slice_index_or}
+use Rattle.std.specs.Prelude.{IfErr, OnOk, option_map}
+use Rattle.std.proofs.lemmas.List.Elements.{All-push}
+use Rattle.lt_arch.specs.declared.event.Deed.{Deed}
+use Rattle.lt_arch.specs.declared.event.Event.TheVariants.{Act, Del, End}
+use Rattle.lt_arch.specs.declared.event.Offence.{Offence}
+use Rattle.lt_arch.specs.declared.event.Offence.TheVariants.{AfterEnd, Backwards, NodeOverdue, ChannelOverdue, TooSoon, NothingSent, TooEarly, NoEnd}
+use Rattle.lt_arch.specs.declared.limits.TheConstants.{GREATEST_TIME}
+use Rattle.lt_arch.specs.declared.shape.Shape.{Shape}
+use Rattle.lt_arch.specs.declared.timing.Timing.{Timing}
+use Rattle.lt_arch.specs.Readers.{chan_count}
+use Rattle.lt_arch.specs.Shapes.{HaveSameNodes}
+use Rattle.lt_lossy.specs.declared.event.LossyEvent.{LossyEvent}
+use Rattle.lt_lossy.specs.declared.event.LossyEvent.TheVariants.{Plain, Lose}
+use Rattle.lt_lossy.specs.declared.event.LossyOffence.{LossyOffence}
+use Rattle.lt_lossy.specs.declared.event.LossyOffence.TheVariants.{Common, TooManyLost}
+use Rattle.lt_lossy.specs.Events.{IsLossyEventOf}
+use Rattle.lt_lossy.specs.State.{LinkState, LossyState, Message, lossy_start, plain_of}
+use Rattle.lt_lossy.specs.Schedule.{lossy_reached}
+use Rattle.lt_lossy.specs.Step.{lossy_offence}
+use Rattle.lt_lossy.specs.Times.{lossy_time_of}
+use Rattle.lt_place_reads.specs.declared.crossing.Crossing.{Crossing}
+use Rattle.lt_schedule.specs.declared.halt.Stop.{Stop}
+use Rattle.lt_schedule.specs.declared.halt.Stop.TheVariants as stop
+use Rattle.lt_audit.specs.Acts.{next_number}
+use Rattle.lt_diagram.specs.declared.picture.Arrow.{Arrow}
+use Rattle.lt_course.specs.declared.course.RefusedEvent.{RefusedEvent}
+use Rattle.lt_course.specs.declared.course.Stopped.{Stopped}
+use Rattle.lt_course.specs.declared.stroke.Stroke.{Stroke}
+use Rattle.lt_course.specs.Courses.{last_for, oldest_for}
+use Rattle.lt_course.specs.Lasts.{last_mark, last_mark_for}
+use Rattle.lt_course.specs.Placed.{IsPlacedOffence, IsTimelyStroke}
+use Rattle.lt_course.specs.Strokes.{first_sent_or}
+use Rattle.lt_lossy_audit.specs.Links.{link_seen, link_send_times}
+use Rattle.lt_lossy_audit.specs.LossyAudit.{KnowsLossyDeed, LossyAuditState, LossyAuditStands}
+use Rattle.lt_lossy_course.specs.declared.sketch.Leaving.{Leaving}
+use Rattle.lt_lossy_course.specs.LossyCourses.{lossy_drawing_rules, lossy_last_for, lossy_oldest_for, lossy_refused_by, lossy_stopped_at}
+use Rattle.lt_lossy_course.specs.LossyLasts.{IsLossyPlacedOffence, common_oldest_read, first_time_on, lossy_mark_for, lossy_oldest_read}
+use Rattle.lt_lossy_course.specs.LossyNoted.{IsLossyNotedSoFar, JudgesNextLossy}
+use Rattle.lt_lossy_course.specs.LossySketches.{IsLossyDeedDone, IsLossyExecuted, TakesLeaving, lossy_stroke_by}
+use Rattle.lt_lossy_course.specs.LossyStrokes.{lossy_pending_below, lossy_pending_of, lossy_stroke_of, lossy_strokes_of}
+use Rattle.lt_lossy_course.proofs.LossyStrokes.{last_seen, pending_same, stroke_same, strokes_count, strokes_push}
+
+-- an event is drawn within the range of times
+timely_stroke : (cross : List Crossing) (s : Shape) (number executed : ℕ) (x : Leaving) (deed : Deed) (e : LossyEvent) → lossy_time_of e ≤ GREATEST_TIME → IsTimelyStroke (lossy_stroke_by cross s number deed executed x e)
+timely_stroke cross s number executed x deed (Plain (Act n at)) is = is
+timely_stroke cross s number executed x deed (Plain (Del c at)) is = is
+timely_stroke cross s number executed x deed (Plain (End at)) is = is
+timely_stroke cross s number executed x deed (Lose c at) is = is
+
+module _ (a b : LossyAuditState) (cross : List Crossing) (t : Timing) (limit : ℕ) (strokes : List Stroke) (es : List LossyEvent) (e : LossyEvent) (before : IsLossyNotedSoFar a cross t limit strokes es) (event : IsLossyEventOf a.shape e) where
+  -- so many events came before
+  count_is : length strokes ≡ 0 + length es
+  count_is = ap (λ (xs : List Stroke). length xs) before.strokes_are ∙ strokes_count cross a.shape t a.rows lossy_start 0 es ∙ omega arith
+
+  pub recorded_on : (deed : Deed) (executed : ℕ) (x : Leaving) (after : List Stroke) → b.shape ≡ a.shape → LossyAuditStands b a.shape t limit a.rows (es ++ e ∷ []) → KnowsLossyDeed b a.shape a.rows (lossy_reached a.shape t a.rows es) e
+      → IsLossyExecuted a e executed → TakesLeaving a e x → IsLossyDeedDone b e deed → after ≡ strokes ++ lossy_stroke_by cross b.shape (next_number (length strokes)) deed executed x e ∷ [] → IsLossyNotedSoFar b cross t limit after (es ++ e ∷ [])
+  recorded_on deed executed x after shape stands knows ex takes done is =
+      let st = lossy_reached a.shape t a.rows es in
+      let here : lossy_stroke_by cross b.shape (next_number (length strokes)) deed executed x e ≡ lossy_stroke_of cross a.shape a.rows st (next_number (0 + length es)) e =
+      (λ i. lossy_stroke_by cross (shape i) (next_number (count_is i)) deed executed x e) ∙ stroke_same a b cross a.shape t limit a.rows es (next_number (0 + length es)) executed x deed before.stands e event.placed knows ex takes done in
+      let strokes_are : after ≡ lossy_strokes_of cross a.shape t a.rows (es ++ e ∷ []) =
+      is ∙ (λ i. before.strokes_are i ++ here i ∷ []) ∙ sym (strokes_push cross a.shape t a.rows lossy_start 0 es e) in
+      record {
+        stands = subst (λ (q : Shape). LossyAuditStands b q t limit b.rows (es ++ e ∷ [])) (sym shape) (subst (λ (n : ℕ). LossyAuditStands b a.shape t limit n (es ++ e ∷ [])) (sym stands.rows_are) stands);
+        same = subst (λ (q : Shape). HaveSameNodes q t) (sym shape) before.same;
+        strokes_are = strokes_are ∙ (λ i. lossy_strokes_of cross (sym shape i) t (sym stands.rows_are i) (es ++ e ∷ []));
+        timely = subst (All IsTimelyStroke) (sym is) (All-push IsTimelyStroke strokes _ before.timely (timely_stroke cross b.shape (next_number (length strokes)) executed x deed e event.timely));
+      }
+
+first_is : (ms : List Message) → slice_index_or (map (λ (m : Message). m.sent_at) ms) 0 0 ≡ first_sent_or 0 (map (λ (m : Message). m.sent_at) ms)
+first_is [] = refl
+first_is (m ∷ later) = refl
+
+-- what is read for an offence
+
+module _ (a : LossyAuditState) (cross : List Crossing) (t : Timing) (limit : ℕ) (strokes : List Stroke) (es : List LossyEvent) (before : IsLossyNotedSoFar a cross t limit strokes es) where
+  abbrev st : LossyState
+  st = lossy_reached a.shape t a.rows es
+
+  last_of : (n : ℕ) → last_mark n strokes ≡ (st.node n).last
+  last_of n = ap (λ (xs : List Stroke). last_mark n xs) before.strokes_are ∙ last_seen cross a.shape t a.rows n es
+
+  common_last : (o : Offence) → last_mark_for strokes o ≡ last_for (plain_of st) o
+  common_last AfterEnd = refl
+  common_last Backwards = refl
+  common_last (NodeOverdue n) = last_of n
+  common_last (ChannelOverdue c) = refl
+  common_last (TooSoon n) = last_of n
+  common_last (NothingSent c) = refl
+  common_last (TooEarly c) = refl
+  common_last NoEnd = refl
+
+  last_same : (o : LossyOffence) → lossy_mark_for strokes o ≡ lossy_last_for st o
+  last_same (Common o) = common_last o
+  last_same (TooManyLost c) = refl
+
+  oldest_of : (c : ℕ) → c < chan_count a.shape → first_time_on a c ≡ first_sent_or 0 ((plain_of st).chan c).transit
+  oldest_of c lc = ap (λ (l : LinkState). slice_index_or (link_send_times l) 0 0) (before.stands.state.link c lc) ∙ first_is (st.link c).transit
+
+  common_oldest : (o : Offence) → IsPlacedOffence a.shape o → common_oldest_read a o ≡ oldest_for (plain_of st) o
+  common_oldest AfterEnd placed = refl
+  common_oldest Backwards placed = refl
+  common_oldest (NodeOverdue n) placed = refl
+  common_oldest (ChannelOverdue c) placed = oldest_of c placed
+  common_oldest (TooSoon n) placed = refl
+  common_oldest (NothingSent c) placed = refl
+  common_oldest (TooEarly c) placed = oldest_of c placed
+  common_oldest NoEnd placed = refl
+
+  oldest_same : (o : LossyOffence) → IsLossyPlacedOffence a.shape o → lossy_oldest_read a o ≡ lossy_oldest_for st o
+  oldest_same (Common o) placed = common_oldest o placed
+  oldest_same (TooManyLost c) placed = oldest_of c placed
+
+  pub pending_is : lossy_pending_below cross a.shape t (link_seen a.links) (chan_count a.shape) ≡ lossy_pending_of cross a.shape t st
+  pending_is = pending_same cross a.shape t (link_seen a.links) st.link (chan_count a.shape) (λ c lc. before.stands.state.link c lc)
+
+  pub stopped_is : (e : LossyEvent) (o : LossyOffence) (pending : List Arrow) (refused : RefusedEvent) → IsLossyPlacedOffence a.shape o → pending ≡ lossy_pending_below cross a.shape t (link_seen a.links) (chan_count a.shape)
+      → refused ≡ lossy_refused_by a.shape t (lossy_mark_for strokes o) (lossy_oldest_read a o) e o → record { strokes = strokes; pending = pending; refused = refused; miss = None } ≡ lossy_stopped_at cross a.shape t a.rows es e o
+  stopped_is e o pending refused placed waits is =
+      λ i. record { strokes = before.strokes_are i; pending = (waits ∙ pending_is) i; refused = (is ∙ (λ j. lossy_refused_by a.shape t (last_same o j) (oldest_same o placed j) e o)) i; miss = None }
+
+-- the same by equal auditors, crossings, bounds of time and limits
+pub moved : (a b : LossyAuditState) (cross cross' : List Crossing) (t t' : Timing) (limit limit' : ℕ) (xs : List Stroke) (es : List LossyEvent) → b ≡ a → cross' ≡ cross → t' ≡ t → limit' ≡ limit → IsLossyNotedSoFar a cross t limit xs es → IsLossyNotedSoFar b cross' t' limit' xs es
+moved a b cross cross' t t' limit limit' xs es p q r l rec =
+    subst (λ (x : LossyAuditState). IsLossyNotedSoFar x cross' t' limit' xs es) (sym p) (subst (λ (c : List Crossing). IsLossyNotedSoFar a c t' limit' xs es) (sym q)
+    (subst (λ (u : Timing). IsLossyNotedSoFar a cross u limit' xs es) (sym r) (subst (λ (n : ℕ). IsLossyNotedSoFar a cross t n xs es) (sym l) rec)))
+
+-- what is judged of the next event
+
+module _ (cross : List Crossing) (s : Shape) (t : Timing) (limit rows : ℕ) (before : List LossyEvent) (e : LossyEvent) where
+  pub judged_taken : (r : Result (Unit {0}) (Stop Stopped)) → IfErr r (λ x. x ≡ stop.Memory) → lossy_offence s t limit (lossy_reached s t rows before) e ≡ None → JudgesNextLossy (lossy_drawing_rules cross s t limit rows) before e r
+  judged_taken (Ok done) short none = ap (option_map (lossy_stopped_at cross s t rows before e)) none
+  judged_taken (Err x) short none = subst (λ (y : Stop Stopped). JudgesNextLossy (lossy_drawing_rules cross s t limit rows) before e (Err y)) (sym short) tt
+
+  pub judged_stopped : (o : LossyOffence) (x : Stopped) → lossy_offence s t limit (lossy_reached s t rows before) e ≡ Some o → x ≡ lossy_stopped_at cross s t rows before e o
+      → option_map (lossy_stopped_at cross s t rows before e) (lossy_offence s t limit (lossy_reached s t rows before) e) ≡ Some x
+  judged_stopped o x found is = ap (option_map (lossy_stopped_at cross s t rows before e)) found ∙ ap (λ (y : Stopped). Some y) (sym is)
+
+pub on_ok : {P Q : Type 0} (r : Result (Unit {0}) (Stop Stopped)) → (P → Q) → OnOk r P → OnOk r Q
+on_ok (Ok done) f p = f p
+on_ok (Err x) f p = tt
