@@ -4,3 +4,4 @@ pub mod Printed
 pub mod Coded
 pub mod Run
 pub mod Errands
+pub mod Drawn

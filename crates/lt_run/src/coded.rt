@@ -14,7 +14,7 @@ use lt_machine::{Machine, Operators, StepMachine};
 use std::alloc::Global;
 
 // A machine of step code for each node.
-fn code_machines<G: Operators + Copy>(
+pub(crate) fn code_machines<G: Operators + Copy>(
     alloc: Global,
     loaded: &Loaded,
     operators: G,

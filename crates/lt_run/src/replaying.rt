@@ -194,7 +194,7 @@ fn take_lossy<F: Files, W: Fabric, M: Machine>(
 }
 
 // The number of inputs of a flat function.
-fn width_of(flat: &Flat) -> u32
+pub(crate) fn width_of(flat: &Flat) -> u32
     ensures { result ≡ flat.now.func.n_in }
 {
     flat.func.n_in
