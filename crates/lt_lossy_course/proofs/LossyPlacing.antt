@@ -1,5 +1,5 @@
 -- An offence is at a node or a channel of the shape.
-use Rattle.std.proofs.Common.{◌≡◌, ℕ, ◌==◌, Bool, true, false, Option, Some, None, if◌then◌else◌, refl, sym, ◌∙◌, ap, subst}
+use Rattle.std.proofs.Common.{◌≡◌, ℕ, ◌==◌, Bool, true, false, Option, Some, None, if◌then◌else◌, refl, subst}
 use Rattle.lt_arch.specs.declared.event.Event.TheVariants.{Del}
 use Rattle.lt_arch.specs.declared.event.Offence.{Offence}
 use Rattle.lt_arch.specs.declared.event.Offence.TheVariants.{AfterEnd, Backwards, NodeOverdue, ChannelOverdue, TooSoon, NothingSent, TooEarly, NoEnd}
@@ -14,7 +14,6 @@ use Rattle.lt_lossy.specs.Events.{IsLossyPlacedIn}
 use Rattle.lt_lossy.specs.State.{LossyState, plain_of}
 use Rattle.lt_lossy.specs.Step.{at_any_time, common_or, lossy_offence, too_many_lost}
 use Rattle.lt_course.proofs.Placing.{offence_placed}
-use Rattle.lt_course.specs.Placed.{IsPlacedOffence}
 use Rattle.lt_lossy_course.specs.LossyLasts.{IsLossyPlacedOffence}
 
 same_lossy : (a b : LossyOffence) → Some a ≡ Some b → a ≡ b

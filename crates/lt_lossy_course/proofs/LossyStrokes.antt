@@ -10,7 +10,7 @@ use Rattle.lt_arch.specs.Step.{woken}
 use Rattle.lt_lossy.specs.declared.event.LossyEvent.{LossyEvent}
 use Rattle.lt_lossy.specs.declared.event.LossyEvent.TheVariants.{Plain, Lose}
 use Rattle.lt_lossy.specs.Events.{IsLossyPlacedIn}
-use Rattle.lt_lossy.specs.State.{LinkState, LossyState, Message, lossy_start, plain_of}
+use Rattle.lt_lossy.specs.State.{LinkState, LossyState, lossy_start, plain_of}
 use Rattle.lt_lossy.specs.Schedule.{lossy_after_all, lossy_reached}
 use Rattle.lt_lossy.specs.Step.{lossy_after}
 use Rattle.lt_place_reads.specs.declared.crossing.Crossing.{Crossing}
@@ -23,7 +23,6 @@ use Rattle.lt_course.specs.Lasts.{last_mark, last_mark_from, later_mark}
 use Rattle.lt_course.specs.Strokes.{sign_of}
 use Rattle.lt_lossy_audit.specs.Links.{link_seen}
 use Rattle.lt_lossy_audit.specs.LossyAudit.{KnowsLossyDeed, LossyAuditState, LossyAuditStands}
-use Rattle.lt_lossy_audit.specs.Nodes.{node_seen}
 use Rattle.lt_lossy_course.specs.declared.sketch.Leaving.{Leaving}
 use Rattle.lt_lossy_course.specs.LossySketches.{IsLeaving, IsLossyDeedDone, IsLossyExecuted, TakesLeaving, left_message, lossy_stroke_by}
 use Rattle.lt_lossy_course.specs.LossyStrokes.{leaving_arrow, lossy_pending_below, lossy_stroke_of, lossy_strokes_from, lossy_strokes_of, message_arrow, pending_message, placed_message}

@@ -1,6 +1,5 @@
 -- All right refusals of a schedule's course are of one kind, whatever crosses, and then no course is right.
 use Rattle.std.proofs.Common.{◌≡◌, ◌∙◌, ℕ, List, Option, Some, None, Result, Ok, Err, refl, sym}
-use Rattle.std.specs.Prelude.{option_map}
 use Rattle.lt_lossy.specs.declared.event.LossyEvent.{LossyEvent}
 use Rattle.lt_arch.specs.declared.shape.Shape.{Shape}
 use Rattle.lt_arch.specs.declared.timing.Timing.{Timing}
@@ -8,13 +7,10 @@ use Rattle.lt_lossy.specs.Schedule.{lossy_reached}
 use Rattle.lt_lossy.specs.Step.{lossy_offence}
 use Rattle.lt_place_reads.specs.declared.crossing.Crossing.{Crossing}
 use Rattle.lt_schedule.specs.declared.halt.ScheduleRefusal.{ScheduleRefusal}
-use Rattle.lt_schedule.specs.declared.halt.ScheduleRefusal.TheVariants as refusal
 use Rattle.lt_schedule.specs.Rules.{file_judged_by}
 use Rattle.lt_load_fit.specs.declared.fault.CommandFault.{CommandFault}
-use Rattle.lt_load_fit.specs.declared.fault.CommandFault.TheVariants as fault
 use Rattle.lt_course.specs.declared.course.Course.{Course}
 use Rattle.lt_course.specs.declared.course.Stopped.{Stopped}
-use Rattle.lt_course.specs.Courses.{course_or_fault}
 use Rattle.lt_lossy_course.specs.LossyCourses.{LossyCourseBy, lossy_course_verdict, lossy_drawing_rules, lossy_stopped_at}
 use Rattle.lt_course.proofs.Alike.{AreAlikeReads, alike_file}
 use Rattle.lt_course.proofs.OneCourse.{both_mapped, no_row, same_refusal, wrong_of_row}

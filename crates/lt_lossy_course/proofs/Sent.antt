@@ -1,10 +1,9 @@
 -- The messages in transit at places of a channel.
-use Rattle.std.proofs.Common.{◌≡◌, ◌∙◌, ℕ, zero, suc, ◌+◌, ◌<◌, List, [], ◌∷◌, ◌++◌, length, map, take, slice_index_or, append_assoc, add-one, arith, ap, Option, Some, None, refl, sym}
+use Rattle.std.proofs.Common.{◌≡◌, ◌∙◌, ℕ, zero, suc, ◌+◌, ◌<◌, List, [], ◌∷◌, ◌++◌, length, map, take, slice_index_or, append_assoc, add-one, arith, ap, Some, None, refl, sym}
 use Rattle.std.specs.Prelude.{slice_get}
 use Rattle.std.proofs.lemmas.List.{map-append}
 use Rattle.lt_lossy.specs.State.{LinkState, Message}
 use Rattle.lt_lossy_audit.specs.Links.{link_numbers, link_send_times}
-use Rattle.lt_lossy_course.specs.declared.sketch.Leaving.{Leaving}
 use Rattle.lt_lossy_course.specs.LossySketches.{left_message}
 use Rattle.lt_lossy_course.specs.LossyStrokes.{placed_message}
 

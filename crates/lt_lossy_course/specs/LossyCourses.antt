@@ -1,5 +1,5 @@
 -- A schedule over links that lose messages as it is drawn: what its events are drawn as up to its first offence, and that offence.
-use Rattle.std.specs.Prelude.{◌≡◌, ℕ, List, Option, Some, None, Result, Ok, Err, option_map}
+use Rattle.std.specs.Prelude.{◌≡◌, ℕ, List, Option, None, Result, Ok, Err, option_map}
 use Rattle.lt_arch.specs.declared.shape.Shape.{Shape}
 use Rattle.lt_arch.specs.declared.timing.Timing.{Timing}
 use Rattle.lt_arch.specs.Readers.{from_of, to_of}
@@ -7,7 +7,7 @@ use Rattle.lt_lossy.specs.declared.event.LossyEvent.{LossyEvent}
 use Rattle.lt_lossy.specs.declared.event.LossyOffence.{LossyOffence}
 use Rattle.lt_lossy.specs.declared.event.LossyOffence.TheVariants.{Common, TooManyLost}
 use Rattle.lt_lossy.specs.Events.{lossy_event_of}
-use Rattle.lt_lossy.specs.State.{LossyState, Message, plain_of}
+use Rattle.lt_lossy.specs.State.{LossyState, plain_of}
 use Rattle.lt_lossy.specs.Schedule.{lossy_reached}
 use Rattle.lt_lossy.specs.Step.{lossy_offence}
 use Rattle.lt_lossy.specs.Times.{lossy_time_of}
