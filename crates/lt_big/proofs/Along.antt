@@ -1,66 +1,97 @@
 -- What was loaded, along the list of events that is drawn for it.
-use Rattle.std.proofs.Common.{◌≡◌, ℕ, List, [], length, Some, Result, Ok, Err, sym, ◌∙◌, ap, subst}
+use Rattle.std.proofs.Common.{◌≡◌, ◌<◌, ◌≤◌, ℕ, List, [], length, Some, Result, Ok, Err, IsTrue, refl, sym, ◌∙◌, ap, subst, arith}
 use Rattle.std.specs.Prelude.{IsErrAnd}
 use Rattle.lt_base.specs.declared.memory.Or.{Or}
 use Rattle.lt_base.specs.declared.memory.Or.TheVariants.{Fault, Memory}
 use Rattle.lt_base.specs.Inputs.{InputTable}
 use Rattle.lt_arch.specs.declared.event.Event.{Event}
 use Rattle.lt_arch.specs.declared.timing.Timing.{Timing}
-use Rattle.lt_io.specs.FabricState.{FabricState}
-use Rattle.lt_answer.specs.World.{Blames, world}
-use Rattle.lt_answer.specs.Answered.{Refuses, Settles}
-use Rattle.lt_answer.proofs.Stages.{calm_itself, refuses, runs_short, settles, widened}
+use Rattle.lt_io.specs.FabricState.{FabricState, KeepsPromises}
+use Rattle.lt_io.specs.FilesState.{FilesState}
+use Rattle.lt_io.specs.declared.fault.LinkErr.TheVariants as link
+use Rattle.lt_io.specs.declared.fault.LinkErr.TheVariants.{Failed}
+use Rattle.lt_io.proofs.Visiting.{visited_none}
+use Rattle.lt_answer.specs.World.{Blames, KeepsWorld, world}
+use Rattle.lt_answer.specs.Answered.{Settles}
+use Rattle.lt_answer.proofs.Stages.{calm_itself, refuses, runs_short_by, settles}
 use Rattle.lt_arch.specs.declared.pace.Pace.{Pace}
-use Rattle.lt_arch.specs.declared.pace.Pace.TheVariants.{Plain}
+use Rattle.lt_arch.specs.Schedule.{EndsAt}
 use Rattle.lt_lead.specs.Paced.{IsShapeBy}
 use Rattle.lt_front.specs.Examined.{ExaminedText}
-use Rattle.lt_schedule.specs.declared.fault.ScheduleFault.{ScheduleFault}
+use Rattle.lt_rows.specs.Limits.{most_events}
 use Rattle.lt_load_fit.specs.declared.fault.CommandFault.{CommandFault}
+use Rattle.lt_load_fit.specs.declared.fault.CommandFault.TheVariants as fault
 use Rattle.lt_load.specs.Blamed.{command_blame}
-use Rattle.lt_load.specs.Plan.{Plan, LoadedPlan, IsLoadedFrom, Loads}
+use Rattle.lt_load.specs.Plan.{Plan, LoadedPlan, IsLoaded, IsLoadedFrom, Loads}
+use Rattle.lt_net_replay.specs.Sound.{PlansAreSound}
+use Rattle.lt_sim.proofs.Ending.{drawn-sound}
+use Rattle.lt_arch.specs.declared.limits.TheConstants.{GREATEST_TIME}
 use Rattle.lt_load.proofs.Onward.{not_loaded, then_loaded}
 use Rattle.lt_load.proofs.Steps.{untouched}
 use Rattle.lt_evaluate.specs.declared.outputs.Outputs.{Outputs}
-use Rattle.lt_run.specs.Fault.{of_schedule}
-use Rattle.lt_run.specs.Kinds.{RunEndsBy, run_file_verdict}
-use Rattle.lt_run.specs.Run.{IsLaidOutBy, OutputsShow, placed_run_verdict}
+use Rattle.lt_run.specs.Drawn.{HasRunList}
+use Rattle.lt_run.specs.Run.{IsLaidOutBy}
 use Rattle.lt_big_texts.specs.Texts.{horizon_of}
-use Rattle.lt_big.specs.Big.{events_of, played_verdict, big_loaded_verdict, big_along_verdict, big_verdict}
-use Rattle.lt_big.specs.Stage.{AnsweredAlone, ReadsAsList, drawn_verdict, along_list, along_bytes}
+use Rattle.lt_big.specs.Big.{events_of, too_many_events, played_verdict, big_loaded_verdict, big_along_verdict, big_verdict}
+use Rattle.lt_big.specs.Stage.{AnsweredAlone, along_list}
 use Rattle.lt_big.proofs.Contents.{loaded_content}
+use Rattle.lt_big.proofs.Drawn.{loaded_sound}
 
 one_horizon : (h g : ℕ) → Some h ≡ Some g → h ≡ g
 one_horizon h g is = cc is
+
+-- the list of what was loaded ends at the horizon
+pub ends_there : (k j : LoadedPlan) → k ≡ j → IsLoaded k → PlansAreSound → (instants horizon : ℕ) → horizon ≡ horizon_of instants → horizon ≤ GREATEST_TIME →
+    EndsAt j.shape j.timing (length j.inputs.rows) (events_of instants j.shape j.timing (length j.inputs.rows)) (horizon_of instants)
+ends_there k j view kept sound instants horizon until near =
+    subst (λ (q : LoadedPlan). EndsAt q.shape q.timing (length q.inputs.rows) (events_of instants q.shape q.timing (length q.inputs.rows)) (horizon_of instants)) view
+    (drawn-sound k.shape k.timing (length k.inputs.rows) instants (horizon_of instants) (loaded_sound k kept sound).one_place (subst (λ (h : ℕ). h ≤ GREATEST_TIME) until near)).ends
 
 module _ (instants : ℕ) (k : LoadedPlan) where
   abbrev events : List Event
   events = events_of instants k.shape k.timing (length k.inputs.rows)
 
-  abbrev shows : FabricState → List Event → Outputs → Type 0
-  shows fabric es outputs = OutputsShow k.checked.program k.layout k.shape k.timing Plain k.inputs.rows fabric es outputs
+  -- the network took the list to its end
 
-  -- the bytes read as the list
-  wider_plain : (fabric : FabricState) (bytes : List ℕ) → ReadsAsList instants k bytes → (o : Result Outputs CommandFault) → placed_run_verdict k.checked.program k.layout k.shape k.timing Plain k.inputs.rows fabric (Some bytes) o → along_list instants fabric k o
-  unfolding run_file_verdict
-  wider_plain fabric bytes is (Ok x) right =
-      let shown : shows fabric events x = subst (λ (v : Result (List Event) ScheduleFault). RunEndsBy of_schedule (shows fabric) v (Ok x)) is.reads right in
-      record { few = is.few; shows = shown; at_horizon = one_horizon shown.horizon (horizon_of instants) (sym shown.told.run.ends ∙ is.ends) }
-  wider_plain fabric bytes is (Err e) (f, right, raised) = absurd (subst (λ (v : Result (List Event) ScheduleFault). RunEndsBy of_schedule (shows fabric) v (Err f)) is.reads right)
+  module _ (w w' : FabricState) where
+    keeps_alone : KeepsPromises w w' → (IsTrue w.sound → w'.faults ≡ w.faults) → (files : FilesState) → KeepsWorld (world files w) (world files w')
+    keeps_alone keeps steady files = record { files = record { sound = refl; told = refl; named = refl }; fabric = keeps; steady = steady }
 
-  wider : k.pace ≡ Plain → (fabric : FabricState) (bytes : List ℕ) → ReadsAsList instants k bytes → (o : Result Outputs CommandFault) → along_bytes bytes fabric k o → along_list instants fabric k o
-  wider plain fabric bytes is o right = wider_plain fabric bytes is o (subst (λ (p : Pace). placed_run_verdict k.checked.program k.layout k.shape k.timing p k.inputs.rows fabric (Some bytes) o) plain right)
+    pub taken_along : length events ≤ most_events → EndsAt k.shape k.timing (length k.inputs.rows) events (horizon_of instants) → (x : Outputs) → HasRunList k events w w' (Ok x) → AnsweredAlone (along_list instants w' k) w w' (Ok x)
+    taken_along few ends x run files = record {
+      keeps = keeps_alone run.keeps run.sound files;
+      visits = visited_none files.visits _;
+      cause = record { files = refl; fabric = run.cause };
+      exact = λ told calm. record { few = few; shows = run.comes_to; at_horizon = one_horizon run.comes_to.horizon (horizon_of instants) (sym run.comes_to.told.run.ends ∙ ends) };
+      sound = λ told sound rose. absurd (omega (arith, rose));
+    }
 
-  pub drawn_along : k.pace ≡ Plain → (bytes : List ℕ) (w w' : FabricState) (r : Result Outputs (Or CommandFault)) → drawn_verdict instants k (Ok bytes) → AnsweredAlone (along_bytes bytes w' k) w w' r → AnsweredAlone (along_list instants w' k) w w' r
-  drawn_along plain bytes w w' r is answered files = widened (along_bytes bytes w' k) (along_list instants w' k) (world files w) (world files w') r (wider plain w' bytes is) (answered files)
+    -- a call on the fabric failed, or memory was wanting
+    pub link_along : HasRunList k events w w' (Err Failed) → AnsweredAlone (along_list instants w' k) w w' (Err (Fault fault.Link))
+    link_along run files = record {
+      keeps = keeps_alone run.keeps run.sound files;
+      visits = visited_none files.visits _;
+      cause = (refl, run.cause);
+      exact = λ told calm. absurd (let same = calm.fabric in let rose = run.cause in omega (arith, rose, same));
+      sound = λ told sound rose. absurd (omega (arith, rose));
+    }
 
-  -- the list is refused, or no memory was found for it
-  refused_along : (w : FabricState) (e : Or CommandFault) → Refuses (drawn_verdict instants k) e → AnsweredAlone (along_list instants w k) w w (Err e)
-  refused_along w (Fault f) (many, is) files = refuses (world files w) f (subst (Blames (world files w) (world files w)) (sym (ap command_blame is)) (calm_itself (world files w))) (many, is)
-  refused_along w Memory right files = runs_short (world files w)
+    pub memory_along : HasRunList k events w w' (Err link.Memory) → AnsweredAlone (along_list instants w' k) w w' (Err Memory)
+    memory_along run files = record {
+      keeps = keeps_alone run.keeps run.sound files;
+      visits = visited_none files.visits _;
+      cause = record { files = refl; fabric = run.cause };
+      exact = λ told calm. tt;
+      sound = λ told sound rose. absurd (omega (arith, rose));
+    }
 
-  pub not_drawn : (w : FabricState) (e : Or CommandFault) (r : Result Outputs (Or CommandFault)) → IsErrAnd r (λ f. f ≡ e) → Refuses (drawn_verdict instants k) e → AnsweredAlone (along_list instants w k) w w r
-  not_drawn w e (Ok x) is right = absurd is
-  not_drawn w e (Err f) is right = subst (λ (g : Or CommandFault). AnsweredAlone (along_list instants w k) w w (Err g)) (sym is) (refused_along w e right)
+  -- the list has too many events
+  pub refused_along : (w : FabricState) (e : CommandFault) → most_events < length events → e ≡ too_many_events → AnsweredAlone (along_list instants w k) w w (Err (Fault e))
+  refused_along w e many is files = refuses (world files w) e (subst (Blames (world files w) (world files w)) (sym (ap command_blame is)) (calm_itself (world files w))) (many, is)
+
+  -- no memory was found to count its events
+  pub uncounted : (w : FabricState) (r : Result Outputs (Or CommandFault)) → IsErrAnd r (λ f. f ≡ Memory) → AnsweredAlone (along_list instants w k) w w r
+  uncounted w r is files = runs_short_by (world files w) r is
 
   -- so it is of whatever plan it was loaded from
   plan_along : (fabric : FabricState) (p : Plan) → IsLoadedFrom p k → (o : Result Outputs CommandFault) → along_list instants fabric k o → big_along_verdict instants fabric p o

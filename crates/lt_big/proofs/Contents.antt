@@ -2,24 +2,12 @@
 use Rattle.std.proofs.Common.{◌≡◌, ◌∙◌, ℕ, List, length, Option, Some, Result, Ok, Err, refl, sym, ap, subst}
 use Rattle.std.specs.Prelude.{codes}
 use Rattle.lt_base.specs.Program.{WholeProgram}
-use Rattle.lt_arch.specs.declared.event.Event.{Event}
-use Rattle.lt_arch.specs.declared.event.Offence.{Offence}
-use Rattle.lt_arch.specs.declared.shape.Shape.{Shape}
-use Rattle.lt_arch.specs.declared.timing.Timing.{Timing}
-use Rattle.lt_io.specs.FabricState.{FabricState}
 use Rattle.lt_answer.specs.World.{Content}
 use Rattle.lt_answer.specs.Rules.{Exactly, Raised}
 use Rattle.lt_front.specs.Examined.{ExaminedText}
 use Rattle.lt_front.specs.Front.{examine_verdict}
 use Rattle.lt_inputs.specs.Inputs.{inputs_of}
 use Rattle.lt_config.specs.declared.config.Config.{Config}
-use Rattle.lt_arch.specs.declared.pace.Pace.{Pace}
-use Rattle.lt_arch.specs.declared.pace.Pace.TheVariants.{Plain, Lossy, Leader}
-use Rattle.lt_schedule.specs.declared.halt.ScheduleRefusal.{ScheduleRefusal}
-use Rattle.lt_schedule.specs.declared.halt.ScheduleRefusal.TheVariants as refusal
-use Rattle.lt_schedule.specs.Verdict.{or_fault}
-use Rattle.lt_lossy.specs.declared.event.LossyEvent.{LossyEvent}
-use Rattle.lt_lossy.specs.declared.event.LossyOffence.{LossyOffence}
 use Rattle.lt_load_fit.specs.declared.fault.What.{What}
 use Rattle.lt_load_fit.specs.declared.fault.What.TheVariants.{ProgramBytes, ConfigBytes, InputsBytes}
 use Rattle.lt_load_fit.specs.declared.fault.CommandFault.TheVariants as fault
@@ -31,14 +19,8 @@ use Rattle.lt_load.specs.Plan.{LoadedPlan, Loads, fitting_plan_verdict, inputs_p
 use Rattle.lt_load.specs.Pacing.{unpaced_verdict, plain_config_verdict, plain_setup_plan_verdict, plain_load_verdict}
 use Rattle.lt_load.proofs.Contents.{fitting_content}
 use Rattle.lt_load.proofs.Steps.{IsContent, content_then, content_raised}
-use Rattle.lt_run.specs.declared.fault.RunFault.{RunFault}
-use Rattle.lt_run.specs.declared.fault.RunFault.TheVariants as run
-use Rattle.lt_run.specs.Fault.{of_refusal, of_schedule}
-use Rattle.lt_run.specs.Kinds.{EventsBy, RunEndsBy, fault_by, run_file_verdict, verdict_by}
-use Rattle.lt_run.specs.Run.{run_command_fault}
 use Rattle.lt_big.specs.Big.{named_of, big_loaded_verdict}
 use Rattle.lt_big_texts.specs.Texts.{program_text, setup_text, inputs_text}
-use Rattle.lt_big.specs.Stage.{along_bytes}
 
 -- one file
 
@@ -104,27 +86,3 @@ pub loaded_content : (instants : ℕ) → IsContent command_blame (Loads (big_lo
 unfolding big_loaded_verdict
 loaded_content instants e right =
     plain_load_content (named_of instants) (codes "inputs") (inputs_text instants) refl (codes "setup") setup_text refl (codes "program") program_text refl e right
-
--- the bytes of a schedule file
-
-ends_content : {T : Type 0} (end : List Event → T → Type 0) (s : Shape) (judged : Result (List Event) (ScheduleRefusal Offence)) (f : RunFault) → RunEndsBy of_schedule end (or_fault judged) (Err f) → command_blame (run_command_fault s f) ≡ Content
-ends_content end s (Ok events) f is = absurd is
-ends_content end s (Err (refusal.Row row e)) f is = let same : f ≡ run.Row row e = cc is in ap (λ (g : RunFault). command_blame (run_command_fault s g)) same
-ends_content end s (Err (refusal.Offence event e)) f is = let same : f ≡ run.Offence event e = cc is in ap (λ (g : RunFault). command_blame (run_command_fault s g)) same
-ends_content end s (Err refusal.Bytes) f is = let same : f ≡ run.Bytes = cc is in ap (λ (g : RunFault). command_blame (run_command_fault s g)) same
-
--- where links lose messages
-lossy_content : {T : Type 0} (end : List LossyEvent → T → Type 0) (s : Shape) (judged : Result (List LossyEvent) (ScheduleRefusal LossyOffence)) (f : RunFault) → RunEndsBy of_refusal end judged (Err f) → command_blame (run_command_fault s f) ≡ Content
-lossy_content end s (Ok events) f is = absurd is
-lossy_content end s (Err (refusal.Row row e)) f is = let same : f ≡ run.Row row e = cc is in ap (λ (g : RunFault). command_blame (run_command_fault s g)) same
-lossy_content end s (Err (refusal.Offence event e)) f is = let same : f ≡ run.Lossy event e = cc is in ap (λ (g : RunFault). command_blame (run_command_fault s g)) same
-lossy_content end s (Err refusal.Bytes) f is = let same : f ≡ run.Bytes = cc is in ap (λ (g : RunFault). command_blame (run_command_fault s g)) same
-
-paced_content : {T : Type 0} (pace : Pace) (end : EventsBy pace → T → Type 0) (s : Shape) (t : Timing) (rows : ℕ) (bytes : List ℕ) (f : RunFault) → RunEndsBy (fault_by pace) end (verdict_by pace s t rows bytes) (Err f) → command_blame (run_command_fault s f) ≡ Content
-paced_content Plain end s t rows bytes f is = ends_content end s _ f is
-paced_content (Lossy losses) end s t rows bytes f is = lossy_content end s _ f is
-paced_content (Leader leader) end s t rows bytes f is = ends_content end s _ f is
-
-pub bytes_content : (bytes : List ℕ) (fabric : FabricState) (k : LoadedPlan) → IsContent command_blame (along_bytes bytes fabric k)
-unfolding run_file_verdict
-bytes_content bytes fabric k e (f, right, is) = ap command_blame is ∙ paced_content k.pace _ k.shape k.timing (length k.inputs.rows) bytes f right

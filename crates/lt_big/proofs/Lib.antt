@@ -4,4 +4,5 @@ pub mod Along
 pub mod Plainly
 pub mod Held
 pub mod Drawn
+pub mod Short
 pub mod Undrawn

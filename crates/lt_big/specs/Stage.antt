@@ -1,7 +1,6 @@
 -- The stages of a run of the large input.
-use Rattle.std.specs.Prelude.{◌≡◌, ◌<◌, ◌≤◌, ℕ, IsTrue, List, [], length, Ok, Err, Result, Some}
+use Rattle.std.specs.Prelude.{◌≡◌, ◌<◌, ◌≤◌, ℕ, Bool, true, false, IsTrue, List, [], length, Result}
 use Rattle.lt_base.specs.declared.memory.Or.{Or}
-use Rattle.lt_arch.specs.Schedule.{EndsAt}
 use Rattle.lt_io.specs.FilesState.{FilesState}
 use Rattle.lt_io.specs.FabricState.{FabricState}
 use Rattle.lt_io.specs.MemFiles.{lookup}
@@ -9,14 +8,11 @@ use Rattle.lt_io.specs.declared.mem_files.MemFile.{MemFile}
 use Rattle.lt_rows.specs.Limits.{most_events}
 use Rattle.lt_answer.specs.Answered.{Answered, Verdict}
 use Rattle.lt_answer.specs.World.{world}
-use Rattle.lt_schedule.specs.Verdict.{verdict}
 use Rattle.lt_load_fit.specs.declared.fault.CommandFault.{CommandFault}
 use Rattle.lt_load.specs.Blamed.{command_blame}
 use Rattle.lt_load.specs.Plan.{LoadedPlan}
 use Rattle.lt_evaluate.specs.declared.outputs.Outputs.{Outputs}
-use Rattle.lt_run.specs.Run.{along_loaded}
-use Rattle.lt_big_texts.specs.Texts.{horizon_of}
-use Rattle.lt_big.specs.Big.{events_of, too_many_events, played_verdict}
+use Rattle.lt_big.specs.Big.{events_of, played_verdict}
 
 -- files that tell these bytes, and of which only a missing one fails
 pub record FilesHold (files : List MemFile) (s : FilesState) : Type 0 where
@@ -29,24 +25,18 @@ pub record FilesHold (files : List MemFile) (s : FilesState) : Type 0 where
 abbrev pub AnsweredAlone : {T : Type 0} → Verdict T CommandFault → (old new : FabricState) → Result T (Or CommandFault) → Type 0
 AnsweredAlone V old new result = (files : FilesState) → Answered command_blame [] V (world files old) (world files new) result
 
--- these bytes are a schedule file of the list that is drawn for what was loaded
-pub record ReadsAsList (instants : ℕ) (k : LoadedPlan) (bytes : List ℕ) : Type 0 where
-  pub few : length (events_of instants k.shape k.timing (length k.inputs.rows)) ≤ most_events
-  pub ends : EndsAt k.shape k.timing (length k.inputs.rows) (events_of instants k.shape k.timing (length k.inputs.rows)) (horizon_of instants)
-  pub reads : verdict k.shape k.timing (length k.inputs.rows) bytes ≡ Ok (events_of instants k.shape k.timing (length k.inputs.rows))
+-- whether a number of events is within the limit
+abbrev pub IsWithinMost : (number : ℕ) → Bool → Type 0
+IsWithinMost number true = number ≤ most_events
+IsWithinMost number false = most_events < number
 
--- a schedule file of that list, unless it has too many events
-abbrev pub drawn_verdict : (instants : ℕ) → LoadedPlan → Verdict (List ℕ) CommandFault
-drawn_verdict instants k (Ok bytes) = ReadsAsList instants k bytes
-drawn_verdict instants k (Err e) = (most_events < length (events_of instants k.shape k.timing (length k.inputs.rows))) × (e ≡ too_many_events)
+-- whether the list that is drawn for what was loaded is
+abbrev pub TellsFew : (instants : ℕ) → LoadedPlan → Bool → Type 0
+TellsFew instants k few = IsWithinMost (length (events_of instants k.shape k.timing (length k.inputs.rows))) few
 
 -- what was loaded, along the list
 abbrev pub along_list : (instants : ℕ) → FabricState → LoadedPlan → Verdict Outputs CommandFault
 along_list instants fabric k = played_verdict instants fabric k.checked.program k.layout k.shape k.timing k.inputs.rows
-
--- and along the bytes of a schedule file
-abbrev pub along_bytes : (bytes : List ℕ) → FabricState → LoadedPlan → Verdict Outputs CommandFault
-along_bytes bytes fabric k = along_loaded fabric k (Some bytes)
 
 -- where the list has too many events, the fabric is as it was
 abbrev pub LeavesUndrawn : (instants : ℕ) → LoadedPlan → (old new : FabricState) → Type 0

@@ -22,20 +22,15 @@ fn file(alloc: Global, name: &str, bytes: List<u8>) -> Result<MemFile, Memory>
     })
 }
 
-/// These files, on which no call fails but the opening of a missing one.
-pub(crate) fn held(alloc: Global, files: List<MemFile>) -> MemFiles
+// These files, on which no call fails but the opening of a missing one.
+fn held(alloc: Global, files: List<MemFile>) -> MemFiles
     ensures { FilesHold files (mem_files_state result) }
 {
     MemFiles::new(files, List::new(alloc))
 }
 
-/// Adds a file of this name.
-pub(crate) fn add(
-    alloc: Global,
-    files: &mut List<MemFile>,
-    name: &str,
-    bytes: List<u8>,
-) -> Result<(), Memory>
+// Adds a file of this name.
+fn add(alloc: Global, files: &mut List<MemFile>, name: &str, bytes: List<u8>) -> Result<(), Memory>
     ensures { OnOk result (files.new ≡ files.old ++ record { name = name.now; bytes = bytes } ∷ []) }
 {
     let file = file(alloc, name, bytes)?;

@@ -1,12 +1,18 @@
-use Rattle.std.proofs.Common.{arith}
-use Rattle.lt_big.proofs.Along.{drawn_along, not_drawn}
+use Rattle.std.proofs.Common.{◌≡◌, ◌<◌, ◌≤◌, Bool, true, length, subst, arith}
+use Rattle.lt_big.specs.Stage.{TellsFew}
+use Rattle.lt_big.proofs.Along.{refused_along, uncounted}
 use Rattle.lt_big.proofs.running.run.Goals as goal
 
-pub returns-in_err-schedule-clause-answered : goal.returns-in_err-schedule-clause-answered
-returns-in_err-schedule-clause-answered g c = not_drawn c.args.instants c.args.loaded.now _ _ _ c.from_residual.ensures.1 c.in_err-schedule.ensures
+pub returns-in_err-few-clause-answered : goal.returns-in_err-few-clause-answered
+returns-in_err-few-clause-answered g c = uncounted c.args.instants c.args.loaded.now _ c.from_residual.result c.from_residual.ensures.1
 
-pub returns-clause-answered : goal.returns-clause-answered
-returns-clause-answered g c = drawn_along c.args.instants c.args.loaded.now c.requires.plain c.in_ok-schedule.schedule _ _ _ c.in_ok-schedule.ensures c.play.ensures.answered
+pub play-requires-clause-few : goal.play-requires-clause-few
+play-requires-clause-few g c = subst (λ (b : Bool). TellsFew c.args.instants c.args.loaded.now b) c.if-few.true c.in_ok-few.ensures
 
-pub returns-clause-untouched : goal.returns-clause-untouched
-returns-clause-untouched g c long = let few = c.in_ok-schedule.ensures.few in absurd (omega (arith, few, long))
+pub returns-else-few-clause-answered : goal.returns-else-few-clause-answered
+returns-else-few-clause-answered g c = refused_along c.args.instants c.args.loaded.now _ c.too_many_events.result (subst (λ (b : Bool). TellsFew c.args.instants c.args.loaded.now b) c.if-few.false c.in_ok-few.ensures) c.too_many_events.ensures
+
+pub returns-then-few-clause-untouched : goal.returns-then-few-clause-untouched
+returns-then-few-clause-untouched g c long =
+    let few : TellsFew c.args.instants c.args.loaded.now true = subst (λ (b : Bool). TellsFew c.args.instants c.args.loaded.now b) c.if-few.true c.in_ok-few.ensures in
+    absurd (omega (arith, few, long))
