@@ -1,17 +1,14 @@
 -- A step on files of which none fails, as one that needs none.
-use Rattle.std.proofs.Common.{◌≡◌, ◌<◌, List, Result, Ok, Err, MatchResult, IsTrue, refl, sym, ◌∙◌, arith}
+use Rattle.std.proofs.Common.{◌≡◌, ◌<◌, List, Result, Ok, Err, IsTrue, sym, ◌∙◌, arith}
 use Rattle.lt_base.specs.declared.memory.Or.{Or}
 use Rattle.lt_base.specs.declared.memory.Or.TheVariants.{Fault, Memory}
 use Rattle.lt_io.specs.Visits.{Errand}
 use Rattle.lt_io.specs.FilesState.{FilesState}
-use Rattle.lt_io.specs.FabricState.{FabricState}
-use Rattle.lt_io.proofs.Visiting.{visited_none}
-use Rattle.lt_answer.specs.World.{IsCalm, Blame, Content, Reading, Linking, Blames, alone, world}
-use Rattle.lt_answer.specs.Answered.{Answered, Verdict, Settles, OrBlames, RefusesReading}
+use Rattle.lt_answer.specs.World.{IsCalm, Blame, Content, Reading, Linking, Blames, alone}
+use Rattle.lt_answer.specs.Answered.{Answered, Verdict, Settles, RefusesReading}
 use Rattle.lt_load_fit.specs.declared.fault.CommandFault.{CommandFault}
 use Rattle.lt_load.specs.Blamed.{command_blame}
 use Rattle.lt_load.proofs.Steps.{IsContent}
-use Rattle.lt_big.specs.Stage.{AnsweredAlone}
 
 module _ {T : Type 0} (V : Verdict T CommandFault) (content : IsContent command_blame V) where
   -- no fault of the files is right

@@ -1,8 +1,7 @@
 -- Where all files are there, what is right of them blames what was read.
-use Rattle.std.proofs.Common.{◌≡◌, ◌∙◌, ℕ, List, length, Option, Some, Result, Ok, Err, refl, sym, ap, subst}
+use Rattle.std.proofs.Common.{◌≡◌, ◌∙◌, ℕ, List, Option, Some, Ok, refl, sym, ap, subst}
 use Rattle.std.specs.Prelude.{codes}
 use Rattle.lt_base.specs.Program.{WholeProgram}
-use Rattle.lt_answer.specs.World.{Content}
 use Rattle.lt_answer.specs.Rules.{Exactly, Raised}
 use Rattle.lt_front.specs.Examined.{ExaminedText}
 use Rattle.lt_front.specs.Front.{examine_verdict}
@@ -15,7 +14,7 @@ use Rattle.lt_load_fit.specs.Main.{main_in}
 use Rattle.lt_load_fit.specs.Fits.{fitting_verdict}
 use Rattle.lt_load.specs.Blamed.{command_blame}
 use Rattle.lt_load.specs.Loaded.{setup_verdict, whole_verdict, program_verdict, config_verdict, inputs_verdict}
-use Rattle.lt_load.specs.Plan.{LoadedPlan, Loads, fitting_plan_verdict, inputs_plan_verdict}
+use Rattle.lt_load.specs.Plan.{Loads, fitting_plan_verdict, inputs_plan_verdict}
 use Rattle.lt_load.specs.Pacing.{unpaced_verdict, plain_config_verdict, plain_setup_plan_verdict, plain_load_verdict}
 use Rattle.lt_load.proofs.Contents.{fitting_content}
 use Rattle.lt_load.proofs.Steps.{IsContent, content_then, content_raised}

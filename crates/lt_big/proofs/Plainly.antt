@@ -1,9 +1,8 @@
 -- In what the large input is loaded as the protocol is no more than its timing.
-use Rattle.std.proofs.Common.{◌≡◌, ◌∙◌, ℕ, List, Option, Ok, Err, inl, inr, sym, ap}
+use Rattle.std.proofs.Common.{◌≡◌, ◌∙◌, ℕ, List, Option, Ok, inl, inr, ap}
 use Rattle.lt_front.specs.Examined.{ExaminedText}
 use Rattle.lt_config.specs.declared.config.Config.{Config}
 use Rattle.lt_arch.specs.declared.pace.Pace.TheVariants.{Plain}
-use Rattle.lt_answer.specs.Answered.{AndThen}
 use Rattle.lt_load_fit.specs.Fits.{accepted_verdict, fitting_verdict, placed_verdict, timed_verdict, windowed_verdict}
 use Rattle.lt_load.specs.Plan.{Plan, LoadedPlan, Loads, fitting_plan_verdict, inputs_plan_verdict}
 use Rattle.lt_load.specs.Pacing.{plain_config_verdict, plain_load_verdict, plain_setup_plan_verdict, unpaced_verdict}

@@ -1,5 +1,5 @@
 -- What a network along a drawn list comes to, from what its net did.
-use Rattle.std.proofs.Common.{◌≡◌, ◌∙◌, ◌≤◌, ℕ, suc, List, [], length, Option, Some, None, Result, Ok, Err, IsTrue, refl, sym, ap, subst, arith}
+use Rattle.std.proofs.Common.{◌≡◌, ◌∙◌, ◌≤◌, ℕ, suc, List, [], length, Option, Some, None, Result, Ok, Err, IsTrue, refl, sym, subst, arith}
 use Rattle.std.specs.Prelude.{IsErrAnd, OnOk, is_some, if◌then◌else◌}
 use Rattle.lt_base.specs.declared.value.Value.{Value}
 use Rattle.lt_base.specs.Behaviour.{RowsFit}
@@ -11,7 +11,7 @@ use Rattle.lt_arch.specs.Schedule.{OnePlace, reached}
 use Rattle.lt_arch.specs.declared.event.Offence as arch
 use Rattle.lt_arch.specs.declared.event.Offence.TheVariants.{NoEnd}
 use Rattle.lt_io.specs.declared.fault.LinkErr.{LinkErr}
-use Rattle.lt_io.specs.declared.fault.LinkErr.TheVariants.{Failed, Memory}
+use Rattle.lt_io.specs.declared.fault.LinkErr.TheVariants.{Memory}
 use Rattle.lt_io.specs.Counts.{LinkCounted, LinkCountedBy}
 use Rattle.lt_io.specs.FabricState.{FabricState, KeepsPromises, OpensAtMostOnce}
 use Rattle.lt_io.proofs.Keeps.{promises_kept, promises_refl, promises_trans}
@@ -23,7 +23,6 @@ use Rattle.lt_net.specs.NetModel.{NetState}
 use Rattle.lt_net.specs.Kept.{IsSized}
 use Rattle.lt_net.specs.Starts.{IsMadeOf}
 use Rattle.lt_net.specs.declared.replayed.Replayed.{Replayed}
-use Rattle.lt_net_start.proofs.Onward.{at_error}
 use Rattle.lt_net_replay.specs.Plays.{Plays, KeepsPlay}
 use Rattle.lt_net_replay.specs.Played.{IsAtEnd}
 use Rattle.lt_net_replay.specs.Sound.{PlanIsSound}

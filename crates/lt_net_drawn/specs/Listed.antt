@@ -1,5 +1,5 @@
 -- What a net along a list of events keeps to, and what it comes to.
-use Rattle.std.specs.Prelude.{◌≡◌, ℕ, List, Option, None, IsTrue, Result, Ok, Err, IfOk}
+use Rattle.std.specs.Prelude.{◌≡◌, ℕ, List, None, IsTrue, Result, Ok, Err, IfOk}
 use Rattle.lt_base.specs.declared.value.Value.{Value}
 use Rattle.lt_arch.specs.declared.event.Event.{Event}
 use Rattle.lt_arch.specs.declared.shape.Shape.{Shape}

@@ -1,4 +1,4 @@
-use Rattle.std.proofs.Common.{◌≡◌, ◌∙◌, ◌+◌, ◌*◌, ◌/◌, ◌<◌, ◌^◌, ℕ, arith, leb-true}
+use Rattle.std.proofs.Common.{◌≡◌, ◌∙◌, ◌+◌, ◌*◌, ◌/◌, ◌<◌, ◌^◌, arith, leb-true}
 use Rattle.lt_arch.specs.Readers.{node_count, chan_count}
 use Rattle.lt_load.specs.Plan.{LoadedPlan}
 use Rattle.lt_big.proofs.Drawn.{loaded_sound}

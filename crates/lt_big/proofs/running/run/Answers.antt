@@ -1,4 +1,4 @@
-use Rattle.std.proofs.Common.{◌≡◌, ◌<◌, ◌≤◌, Bool, true, length, subst, arith}
+use Rattle.std.proofs.Common.{◌≡◌, ◌<◌, ◌≤◌, Bool, true, subst, arith}
 use Rattle.lt_big.specs.Stage.{TellsFew}
 use Rattle.lt_big.proofs.Along.{refused_along, uncounted}
 use Rattle.lt_big.proofs.running.run.Goals as goal

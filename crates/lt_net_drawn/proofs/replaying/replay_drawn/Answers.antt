@@ -1,5 +1,4 @@
-use Rattle.std.proofs.Common.{◌≡◌, length, refl, sym}
-use Rattle.lt_net_replay.specs.Sound.{PlanIsSound}
+use Rattle.std.proofs.Common.{◌≡◌, length, refl}
 use Rattle.lt_net_replay.proofs.SoundNetworks.{sound_of_equals}
 use Rattle.lt_sim.specs.Standing.{DrawingStarts, DrawsFewEvents}
 use Rattle.lt_net_drawn.proofs.Comes.{no_memory, of_equals}
