@@ -1,6 +1,11 @@
 -- A schedule as one SVG: what is right, and what is answered over files.
 use Rattle.std.specs.Prelude.{ℕ, List, ◌++◌, Option, Some, Result}
 use Rattle.lt_base.specs.declared.memory.Or.{Or}
+use Rattle.lt_arch.specs.declared.pace.Pace.{Pace}
+use Rattle.lt_arch.specs.declared.pace.Pace.TheVariants.{Plain, Lossy, Leader}
+use Rattle.lt_arch.specs.declared.shape.Shape.{Shape}
+use Rattle.lt_arch.specs.declared.timing.Timing.{Timing}
+use Rattle.lt_place_reads.specs.declared.crossing.Crossing.{Crossing}
 use Rattle.lt_io.specs.FilesState.{FilesState}
 use Rattle.lt_io.specs.Visits.{Errand}
 use Rattle.lt_schedule.specs.Errand.{schedule_errand}
@@ -13,15 +18,23 @@ use Rattle.lt_load.specs.Errands.{load_errands}
 use Rattle.lt_load.specs.Plan.{Plan}
 use Rattle.lt_draw.specs.PictureText.{picture_text}
 use Rattle.lt_course.specs.declared.course.Course.{Course}
+use Rattle.lt_drawing.specs.declared.stage.Ground.{Ground}
 use Rattle.lt_drawing.specs.declared.stage.Stage.{Stage}
 use Rattle.lt_drawing.specs.declared.view.DrawView.{DrawView}
 use Rattle.lt_course.specs.Courses.{course_verdict}
+use Rattle.lt_lossy_course.specs.LossyCourses.{lossy_course_verdict}
 use Rattle.lt_drawing.specs.Pictures.{picture_of}
 use Rattle.lt_drawing.specs.Stages.{IsStageOf, stage_verdict}
 
--- what is drawn over a stage of a schedule's file
+-- what is drawn of a schedule's file by the pace of the protocol: where links lose messages, with the losses that are allowed in a row
+abbrev pub course_verdict_by : Pace → List Crossing → Shape → Timing → (rows : ℕ) → (file : Option (List ℕ)) → Verdict Course CommandFault
+course_verdict_by Plain cross s t rows file = course_verdict cross s t rows file
+course_verdict_by (Lossy losses) cross s t rows file = lossy_course_verdict cross s t losses rows file
+course_verdict_by (Leader leader) cross s t rows file = course_verdict cross s t rows file
+
+-- and over a stage
 abbrev pub stage_course_verdict : Stage → (file : Option (List ℕ)) → Verdict Course CommandFault
-stage_course_verdict k file = course_verdict k.ground.cross k.ground.shape k.ground.timing k.rows file
+stage_course_verdict k file = course_verdict_by k.ground.pace k.ground.cross k.ground.shape k.ground.timing k.rows file
 
 -- its text, by the names of the two files that the title has
 abbrev pub along_stage : (schedule config : List ℕ) → DrawView → Stage → (file : Option (List ℕ)) → Verdict (List ℕ) CommandFault
@@ -49,3 +62,7 @@ DrawsOnFiles program inputs schedule config node view old new result =
 abbrev pub DrawsStage : Stage → (schedule config : List ℕ) → DrawView → (old new : FilesState) → Result (List ℕ) (Or CommandFault) → Type 0
 DrawsStage k schedule config view old new result =
     AnsweredOnFiles command_blame (schedule_errand schedule) (along_stage schedule config view k (old.named schedule)) old new result
+
+-- what is drawn over these nodes and so many rows of inputs of the schedule file of this name
+abbrev pub ReadsGroundCourse : Ground → (rows : ℕ) → (schedule : List ℕ) → (old new : FilesState) → Result Course (Or CommandFault) → Type 0
+ReadsGroundCourse g rows schedule old new result = AnsweredOnFiles command_blame (schedule_errand schedule) (course_verdict_by g.pace g.cross g.shape g.timing rows (old.named schedule)) old new result

@@ -1,6 +1,7 @@
 -- The picture of a schedule.
-use Rattle.std.specs.Prelude.{ℕ, ◌-◌, List, ◌++◌, length, Option, Some, None, false, unwrap_or, if◌then◌else◌}
+use Rattle.std.specs.Prelude.{ℕ, ◌-◌, List, ◌++◌, length, Option, Some, None, is_some, unwrap_or, if◌then◌else◌}
 use Rattle.lt_arch.specs.declared.shape.Shape.{Shape}
+use Rattle.lt_arch.specs.Paced.{allowed_of}
 use Rattle.lt_audit.specs.Acts.{next_number}
 use Rattle.lt_audit.specs.declared.miss.Miss.{Miss}
 use Rattle.lt_text_lines.specs.ScheduleLines.{lossy_line}
@@ -57,7 +58,7 @@ picture_in schedule config view k c w = record {
   names = k.ground.shape.nodes;
   marks = marks_in w c.strokes;
   arrows = arrows_in w k.ground.node c.refused c.strokes ++ arrows_if w k.ground.node c.refused c.pending;
-  again = false;
+  again = is_some (allowed_of k.ground.pace);
   offence = refusal_in k.ground.shape (next_number (length c.strokes)) c.refused;
   ring = ring_in k.ground.shape w c.strokes c.miss;
 }

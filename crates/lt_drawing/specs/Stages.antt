@@ -2,7 +2,6 @@
 use Rattle.std.specs.Prelude.{◌≡◌, ℕ, List, length, Option, Some, None, Ok, Err, Result, ◌++◌}
 use Rattle.lt_base.specs.declared.memory.Or.{Or}
 use Rattle.lt_io.specs.FilesState.{FilesState}
-use Rattle.lt_arch.specs.Paced.{allowed_of}
 use Rattle.lt_place.specs.declared.layout.Layout.{Layout}
 use Rattle.lt_place.specs.Layout.{IsLayoutOf}
 use Rattle.lt_lead.specs.Paced.{IsShapeBy}
@@ -11,27 +10,22 @@ use Rattle.lt_front.specs.Flattened.{flat_of}
 use Rattle.lt_config.specs.declared.config.Config.{Config}
 use Rattle.lt_answer.specs.Answered.{Verdict, AndThen}
 use Rattle.lt_load_fit.specs.declared.fault.CommandFault.{CommandFault}
-use Rattle.lt_load_fit.specs.Fits.{SetupPasses}
+use Rattle.lt_load_fit.specs.Fits.{windowed_verdict}
 use Rattle.lt_load.specs.Errands.{config_errand, inputs_errand, load_errands}
 use Rattle.lt_load.specs.Loaded.{program_verdict, config_verdict}
 use Rattle.lt_load.specs.OnFiles.{OnFiles}
 use Rattle.lt_load.specs.Plan.{Plan}
-use Rattle.lt_scheduling.specs.Scheduled.{losses_fault}
 use Rattle.lt_inspect.specs.Scenes.{named_node, named_place_verdict, placed_plan_verdict}
 use Rattle.lt_drawing.specs.declared.stage.Ground.{Ground}
 use Rattle.lt_drawing.specs.declared.stage.Stage.{Stage}
 
--- a setup whose links lose no messages
-unfoldable pub lossless_verdict : Config → Verdict Config CommandFault
-lossless_verdict setup = SetupPasses setup (allowed_of setup.pace ≡ None) (λ e. e ≡ losses_fault)
+-- the setup of a file, which has the window that its pace asks for
+unfoldable pub windowed_config_verdict : Option (List ℕ) → Verdict Config CommandFault
+windowed_config_verdict file = AndThen (config_verdict file) (λ setup. windowed_verdict setup)
 
--- that of a file
-unfoldable pub lossless_config_verdict : Option (List ℕ) → Verdict Config CommandFault
-lossless_config_verdict file = AndThen (config_verdict file) (λ setup. lossless_verdict setup)
-
--- a program: its setup, whose links lose no messages, the placement, the node that is named, and the rows of inputs
+-- a program: its setup with the window that its pace asks for, the placement, the node that is named, and the rows of inputs
 unfoldable pub setup_stage_verdict : (named : List ℕ → Option (List ℕ)) (inputs config : List ℕ) (node : Option (List ℕ)) → ExaminedText → Verdict Plan CommandFault
-setup_stage_verdict named inputs config node checked = AndThen (lossless_config_verdict (named config)) (λ setup. placed_plan_verdict named inputs node checked setup)
+setup_stage_verdict named inputs config node checked = AndThen (windowed_config_verdict (named config)) (λ setup. placed_plan_verdict named inputs node checked setup)
 
 -- the program, the setup, the placement, the node that is named, and the inputs, in this order
 unfoldable pub stage_verdict : (named : List ℕ → Option (List ℕ)) (program inputs config : List ℕ) (node : Option (List ℕ)) → Verdict Plan CommandFault

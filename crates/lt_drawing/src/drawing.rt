@@ -2,20 +2,22 @@
 ghost use Rattle.std.specs.Prelude.{◌≡◌};
 ghost use Rattle.lt_io.specs.Counts.{MayFail};
 ghost use Rattle.lt_answer.specs.Alone.{given_word};
-ghost use Rattle.lt_drawing.specs.Drawn.{DrawsOnFiles, DrawsStage};
+ghost use Rattle.lt_drawing.specs.Drawn.{DrawsOnFiles, DrawsStage, ReadsGroundCourse};
 
 use crate::loading::load_stage;
 use crate::picturing::draw_course;
-use crate::stage::Stage;
+use crate::stage::{Ground, Stage};
 use crate::view::DrawView;
+use lt_arch::Pace;
 use lt_base::{List, Or};
-use lt_course::read_course;
+use lt_course::{Course, read_course};
 use lt_io::Files;
 use lt_load::CommandFault;
+use lt_lossy_course::read_lossy_course;
 use std::alloc::Global;
 
-/// One SVG of a schedule over a program's setup, whose timing need not be accepted and in which a node may lead, with any number of messages in
-/// transit on a channel; where a node is named, of the messages from it and to it alone. A schedule with an offence is drawn up to that. The files
+/// One SVG of a schedule over a program's setup, whose timing need not be accepted and in which a node may lead or links may lose messages, with any
+/// number of messages in transit on a channel; where a node is named, of the messages from it and to it alone. A schedule with an offence is drawn up to that. The files
 /// are read in this order: the program, the setup, the inputs and the schedule; that the name is one of a node is seen after the placement.
 pub fn draw<F: Files>(
     alloc: Global,
@@ -36,6 +38,30 @@ pub fn draw<F: Files>(
     text
 }
 
+// What a schedule file is drawn as, by the pace of the protocol.
+fn read_course_by<F: Files>(
+    alloc: Global,
+    files: &mut F,
+    ground: &Ground,
+    rows: u32,
+    schedule: &str,
+) -> Result<Course, Or<CommandFault>>
+    requires { MayFail (F.state files.old).faults }
+    ensures { ReadsGroundCourse ground.now rows schedule.now (F.state files.old) (F.state files.new) result }
+{
+    let shape = &ground.shape;
+    let timing = &ground.timing;
+    let cross = &ground.cross;
+    match ground.pace {
+        Pace::Lossy(losses) => {
+            read_lossy_course(alloc, files, schedule, shape, timing, cross, losses, rows)
+        }
+        Pace::Plain | Pace::Leader(_) => {
+            read_course(alloc, files, schedule, shape, timing, cross, rows)
+        }
+    }
+}
+
 // The same over what was loaded.
 fn draw_stage<F: Files>(
     alloc: Global,
@@ -48,16 +74,7 @@ fn draw_stage<F: Files>(
     requires { MayFail (F.state files.old).faults }
     ensures { DrawsStage stage.now schedule.now config.now view (F.state files.old) (F.state files.new) result }
 {
-    let ground = &stage.ground;
-    let course = read_course(
-        alloc,
-        files,
-        schedule,
-        &ground.shape,
-        &ground.timing,
-        &ground.cross,
-        stage.rows,
-    )?;
+    let course = read_course_by(alloc, files, &stage.ground, stage.rows, schedule)?;
     let text = draw_course(
         alloc,
         schedule.as_bytes(),

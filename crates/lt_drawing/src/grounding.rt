@@ -3,6 +3,7 @@ ghost use Rattle.std.specs.Prelude.{◌≡◌};
 ghost use Rattle.lt_answer.specs.Alone.{given_word};
 ghost use Rattle.lt_answer.specs.Answered.{Settles};
 ghost use Rattle.lt_front.specs.Checked.{examined_part};
+ghost use Rattle.lt_load_fit.specs.Fits.{HasWindowBy};
 ghost use Rattle.lt_drawing.specs.Stages.{ground_verdict};
 
 use crate::stage::Ground;
@@ -23,6 +24,7 @@ pub(crate) fn find_ground(
     setup: Config,
     node: Option<&str>,
 ) -> Result<Ground, Or<CommandFault>>
+    requires { HasWindowBy setup.pace setup.timing }
     ensures { Settles (ground_verdict (examined_part checked.now) setup (given_word node.entry)) result }
 {
     shapes_fit();

@@ -1,23 +1,27 @@
 // What a schedule is drawn over, from its files.
-ghost use Rattle.std.specs.Prelude.{◌≡◌};
+ghost use Rattle.std.specs.Prelude.{◌≡◌, IfOk};
 ghost use Rattle.lt_io.specs.Counts.{MayFail};
 ghost use Rattle.lt_answer.specs.Alone.{given_word};
 ghost use Rattle.lt_answer.specs.Answered.{Settles};
 ghost use Rattle.lt_front.specs.Checked.{examined_part};
+ghost use Rattle.lt_lossy.specs.Window.{HasWindow};
+ghost use Rattle.lt_load_fit.specs.Fits.{HasWindowBy, IsOutsideWindow, SetupPasses, windowed_verdict};
 ghost use Rattle.lt_load.specs.Errands.{config_errand};
 ghost use Rattle.lt_load.specs.OnFiles.{ReadsFile};
-ghost use Rattle.lt_drawing.specs.Stages.{LoadsPlacedStage, LoadsSetupStage, LoadsStage, lossless_config_verdict, lossless_verdict};
+ghost use Rattle.lt_drawing.specs.Stages.{LoadsPlacedStage, LoadsSetupStage, LoadsStage, windowed_config_verdict};
 
 use crate::grounding::find_ground;
 use crate::stage::Stage;
-use lt_base::{Name, Or};
-use lt_config::{Config, ConfigFault, ConfigKind, Pace};
+use lt_base::Or;
+use lt_config::{Config, Pace};
 use lt_front::Checked;
 use lt_io::Files;
 use lt_load::{CommandFault, load_config, load_flat, load_inputs};
+use lt_lossy::window;
 use std::alloc::Global;
 
-/// Loads what a schedule is drawn over. The program passes all checks, the setup's links lose no messages, its placement by the setup is legal,
+/// Loads what a schedule is drawn over. The program passes all checks, where links lose messages the setup has the window, its placement
+/// by it is legal,
 /// the node that is named, if one is, is one of the setup's, and the inputs are those of `main`. The files are read in this order: the program,
 /// the setup and the inputs.
 pub(crate) fn load_stage<F: Files>(
@@ -49,38 +53,50 @@ fn load_setup<F: Files>(
     requires { MayFail (F.state files.old).faults }
     ensures { LoadsSetupStage inputs.now config.now (given_word node.entry) (examined_part checked.now) (F.state files.old) (F.state files.new) result }
 {
-    let setup = load_lossless(alloc, files, config)?;
+    let setup = load_windowed(alloc, files, config)?;
     load_placed(alloc, files, checked, setup, inputs, node)
 }
 
-// The setup of a file whose links lose no messages.
-fn load_lossless<F: Files>(
+// The setup of a file, if it has the window that its pace asks for.
+fn load_windowed<F: Files>(
     alloc: Global,
     files: &mut F,
     name: &str,
 ) -> Result<Config, Or<CommandFault>>
     requires { MayFail (F.state files.old).faults }
-    ensures { ReadsFile name.now config_errand lossless_config_verdict (F.state files.old) (F.state files.new) result }
+    ensures reads { ReadsFile name.now config_errand windowed_config_verdict (F.state files.old) (F.state files.new) result }
+    ensures windowed { IfOk result (λ setup. HasWindowBy setup.pace setup.timing) }
 {
     let setup = load_config(alloc, files, name)?;
-    refuse_losses(alloc, setup)
+    accept_window(alloc, setup)
 }
 
-// The setup, if its links lose no messages.
-#[tactic(auto, unfolding(crate::specs::Stages::lossless_verdict))]
-fn refuse_losses(alloc: Global, setup: Config) -> Result<Config, Or<CommandFault>>
-    ensures { Settles (lossless_verdict setup) result }
+// The setup, if it has the window that its pace asks for.
+#[tactic(auto, unfolding(lt_load_fit::specs::Fits::windowed_verdict))]
+fn accept_window(alloc: Global, setup: Config) -> Result<Config, Or<CommandFault>>
+    ensures settles { Settles (windowed_verdict setup) result }
+    ensures windowed { IfOk result (λ setup. HasWindowBy setup.pace setup.timing) }
 {
     match setup.pace {
+        Pace::Lossy(_) => in_window(alloc, setup),
         Pace::Plain | Pace::Leader(_) => Ok(setup),
-        Pace::Lossy(_) => {
-            let key = Name::from_str(alloc, "losses")?;
-            Err(Or::Fault(CommandFault::Config(ConfigFault {
-                kind: ConfigKind::OutOfRange,
-                key,
-            })))
-        }
     }
+}
+
+// The setup, if a channel has room for all messages that are in transit.
+#[tactic(auto, using(lt_load_fit::proofs::Windows::no_window))]
+fn in_window(alloc: Global, setup: Config) -> Result<Config, Or<CommandFault>>
+    ensures settles { Settles (SetupPasses setup (HasWindow setup.timing) (IsOutsideWindow setup)) result }
+    ensures same { IfOk result (λ passed. passed ≡ setup) }
+    ensures window { IfOk result (λ passed. HasWindow passed.timing) }
+{
+    if let Err(fault) = window(&setup.timing) {
+        let named = setup.placement.names(alloc);
+        drop(setup);
+        let names = named?;
+        return Err(Or::Fault(CommandFault::Window { fault, names }));
+    }
+    Ok(setup)
 }
 
 // Loads a program's inputs, if the setup places it.
@@ -92,7 +108,8 @@ fn load_placed<F: Files>(
     inputs: &str,
     node: Option<&str>,
 ) -> Result<Stage, Or<CommandFault>>
-    requires { MayFail (F.state files.old).faults }
+    requires count { MayFail (F.state files.old).faults }
+    requires windowed { HasWindowBy setup.pace setup.timing }
     ensures { LoadsPlacedStage inputs.now (given_word node.entry) (examined_part checked.now) setup (F.state files.old) (F.state files.new) result }
 {
     let ground = find_ground(alloc, checked, setup, node)?;

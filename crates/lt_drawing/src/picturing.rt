@@ -1,5 +1,6 @@
 // The picture of a schedule.
-ghost use Rattle.std.specs.Prelude.{◌≡◌, ◌≤◌, length, unwrap_or, IfOk};
+ghost use Rattle.std.specs.Prelude.{◌≡◌, ◌≤◌, is_some, length, unwrap_or, IfOk};
+ghost use Rattle.lt_arch.specs.Paced.{allowed_of};
 ghost use Rattle.lt_audit.specs.Acts.{next_number};
 ghost use Rattle.lt_draw.specs.PictureText.{picture_text};
 ghost use Rattle.lt_text_lines.specs.ScheduleLines.{lossy_line};
@@ -12,7 +13,7 @@ use crate::titles::{
 };
 use crate::view::DrawView;
 use crate::window::{Window, window_of};
-use lt_arch::Shape;
+use lt_arch::{Pace, Shape};
 use lt_audit::Miss;
 use lt_base::{List, Memory};
 use lt_course::{Course, RefusedEvent, Stroke, last_time, stroke_time_at, time_or_zero};
@@ -172,10 +173,20 @@ fn picture_in(
         names: shape.nodes.copy()?,
         marks: marks_in(alloc, window, strokes)?,
         arrows: kept_arrows(alloc, window, node, &course.refused, strokes, pending)?,
-        again: false,
+        again: loses(stage.ground.pace),
         offence: refusal_in(alloc, shape, number, &course.refused)?,
         ring: ring_in(alloc, shape, window, strokes, course.miss)?,
     })
+}
+
+// Whether links lose messages.
+fn loses(pace: Pace) -> bool
+    ensures { result ≡ is_some (allowed_of pace) }
+{
+    match pace {
+        Pace::Lossy(_) => true,
+        Pace::Plain | Pace::Leader(_) => false,
+    }
 }
 
 fn width_of(view: DrawView) -> u32

@@ -1,4 +1,7 @@
 // What a schedule is drawn over.
+ghost use Rattle.std.specs.Prelude.{◌≡◌, ℕ};
+ghost use Rattle.lt_arch.specs.declared.pace.Pace.TheVariants.{Lossy};
+ghost use Rattle.lt_lossy.specs.Window.{HasWindow};
 ghost use Rattle.lt_drawing.specs.Grounds.{IsDrawable};
 
 use lt_arch::{Pace, Shape, Timing};
@@ -14,6 +17,7 @@ pub struct Ground {
     pub pace: Pace,
     pub node: Option<u32>,
     ghost drawable: { IsDrawable shape timing },
+    ghost windowed: { (losses : ℕ) → pace ≡ Lossy losses → HasWindow timing },
 }
 
 /// The same with the count of rows of inputs.

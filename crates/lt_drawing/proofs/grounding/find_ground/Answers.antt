@@ -1,4 +1,6 @@
-use Rattle.std.proofs.Common.{refl}
+use Rattle.std.proofs.Common.{refl, subst}
+use Rattle.lt_arch.specs.declared.pace.Pace.{Pace}
+use Rattle.lt_load_fit.specs.Fits.{HasWindowBy}
 use Rattle.std.specs.Prelude.{option_map}
 use Rattle.lt_front.specs.Checked.{examined_part}
 use Rattle.lt_load_fit.proofs.Settled.{memory_settled}
@@ -32,6 +34,7 @@ pub invariant_of-result : goal.invariant_of-result
 invariant_of-result c = record {
   drawable = drawable (examined_part c.args.checked.now) c.args.setup (option_map (λ s. s.now) c.args.node) c.in_ok-layout.layout c.in_ok-layout.ensures.answered c.in_ok-shape.shape c.in_ok-shape.ensures
       c.shapes_fit.ensures c.lead_shapes_fit.ensures c.args.checked.now.flat c.in_ok-layout.ensures.placed;
+  windowed = λ losses is. subst (λ (q : Pace). HasWindowBy q c.args.setup.timing) is c.requires;
 }
 
 pub returns : goal.returns
