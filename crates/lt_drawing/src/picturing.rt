@@ -71,13 +71,13 @@ fn shown_refusal(
     shape: &Shape,
     number: u32,
     refused: &RefusedEvent,
-) -> Result<lt_draw::Offence, Memory>
+) -> Result<lt_diagram::Offence, Memory>
     ensures { IfOk result (λ drawn. drawn ≡ shown_refusal shape.now number refused.now) }
 {
     let refusal = refusal_line(alloc, shape, number, refused.offence)?;
     let row = refused_row_text(alloc, number, refused.row.as_slice(), refused.offence)?;
     let note = note_text(alloc, time_or_zero(refused.bound), refused.offence)?;
-    Ok(lt_draw::Offence {
+    Ok(lt_diagram::Offence {
         time: refused.time,
         refusal,
         row,
@@ -91,7 +91,7 @@ fn refusal_in(
     shape: &Shape,
     number: u32,
     refused: &Option<RefusedEvent>,
-) -> Result<Option<lt_draw::Offence>, Memory>
+) -> Result<Option<lt_diagram::Offence>, Memory>
     ensures { IfOk result (λ drawn. drawn ≡ refusal_in shape.now number refused.now) }
 {
     match refused {
