@@ -22,14 +22,14 @@ _lttac() {
     # What each command takes: the endings of its files in order, `node` for the name of a node, and its options.
     case ${COMP_WORDS[1]} in
         emit) files='lus toml node' options='--header' ;;
-        schedule) files='lus csv toml' options='--seed --horizon --jitter' ;;
+        schedule) files='lus csv toml' options='--seed --horizon --jitter --loss' ;;
         draw) files='lus csv csv toml' options='--node --from --to --width' ;;
         plot) files='lus csv csv toml' options='--observer --from --to --width' ;;
     esac
     # In `--node=x` bash takes the sign for a word of its own.
     [[ $before == '=' ]] && before=${COMP_WORDS[COMP_CWORD - 2]}
     [[ $current == '=' ]] && current=''
-    [[ " --seed --horizon --jitter --from --to --width " == *" $before "* ]] && return
+    [[ " --seed --horizon --jitter --loss --from --to --width " == *" $before "* ]] && return
     if [[ $current == -* ]]; then
         mapfile -t COMPREPLY < <(compgen -W "$options" -- "$current")
         return

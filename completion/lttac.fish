@@ -48,6 +48,7 @@ complete -c lttac -n '__lttac_command emit' -l header -d 'print its header alone
 complete -c lttac -n '__lttac_command schedule' -x -l seed -d 'which schedule'
 complete -c lttac -n '__lttac_command schedule' -x -l horizon -d 'the tick at which it ends'
 complete -c lttac -n '__lttac_command schedule' -x -l jitter -d 'thousandths of the intervals of periods'
+complete -c lttac -n '__lttac_command schedule' -x -l loss -d 'how many of a thousand messages are lost'
 complete -c lttac -n '__lttac_command draw' -x -l node -a '(__lttac_nodes)' -d 'only arrows of this node'
 complete -c lttac -n '__lttac_command plot' -x -l observer -k -a '(__fish_complete_suffix .obs)' -d 'what is to hold'
 complete -c lttac -n '__lttac_command draw plot' -x -l from -d 'the first tick or instant'

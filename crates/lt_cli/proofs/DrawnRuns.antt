@@ -1,9 +1,7 @@
--- That a run along the text of a drawn schedule is not refused, where no link loses messages.
+-- That a run along the text of a drawn schedule is not refused.
 use Rattle.std.proofs.Common.{◌≡◌, ◌≤◌, ◌∙◌, ℕ, nat_lt, Bool, true, false, List, length, Option, Some, None, Result, Ok, Err, refl, sym, ap, subst, arith, inl, inr}
 use Rattle.std.specs.Prelude.{if◌then◌else◌}
-use Rattle.lt_arch.specs.declared.event.Event.{Event}
 use Rattle.lt_arch.specs.declared.pace.Pace.{Pace}
-use Rattle.lt_arch.specs.declared.pace.Pace.TheVariants.{Plain, Lossy, Leader}
 use Rattle.lt_arch.specs.declared.shape.Shape.{Shape}
 use Rattle.lt_arch.specs.declared.timing.Timing.{Timing}
 use Rattle.lt_io.specs.FabricState.{FabricState}
@@ -13,19 +11,12 @@ use Rattle.lt_front.specs.Flattened.{flat_of}
 use Rattle.lt_load_fit.specs.declared.fault.CommandFault.{CommandFault}
 use Rattle.lt_load.specs.Plan.{Plan, load_verdict}
 use Rattle.lt_load.proofs.OneShape.{one_shape}
-use Rattle.lt_schedule.specs.Verdict.{verdict}
 use Rattle.lt_run.specs.declared.fault.RunFault.{RunFault}
 use Rattle.lt_run.specs.Kinds.{EventsBy, RunEndsBy, fault_by, run_file_verdict, verdict_by}
 use Rattle.lt_run.specs.Run.{IsLaidOutBy, ordered_verdict, run_along_verdict}
 use Rattle.lt_run.proofs.Unloaded.{one_plan}
-use Rattle.lt_text_answers.specs.Draws.{Drawing, too_many_rows}
+use Rattle.lt_text_answers.specs.Draws.{too_many_rows}
 use Rattle.lt_cli.specs.DrawnShown.{RunsOnText}
-
--- no link loses messages
-abbrev pub IsUnlossy : Pace → Type 0
-IsUnlossy Plain = Unit {0}
-IsUnlossy (Lossy losses) = ⊥
-IsUnlossy (Leader leader) = Unit {0}
 
 -- a schedule file that reads as events is not refused
 
@@ -41,20 +32,13 @@ file_reads pace end s t rows bytes events reads (Some others) held e refused =
     let same : others ≡ bytes = cc in
     reads_to_end (fault_by pace) end (verdict_by pace s t rows others) events (ap (λ (b : List ℕ). verdict_by pace s t rows b) same ∙ reads) e refused
 
--- by a pace under which links lose nothing
-reads_by : (pace : Pace) → IsUnlossy pace → (s : Shape) (t : Timing) (rows : ℕ) (bytes : List ℕ) (es : List Event) → verdict s t rows bytes ≡ Ok es → (events : EventsBy pace) × (verdict_by pace s t rows bytes ≡ Ok events)
-reads_by Plain is s t rows bytes es reads = (es, reads)
-reads_by (Lossy losses) is s t rows bytes es reads = absurd is
-reads_by (Leader leader) is s t rows bytes es reads = (es, reads)
-
-module _ (plan : Plan) (l : Layout) (s : Shape) (laid : IsLaidOutBy plan l s) (unlossy : IsUnlossy plan.setup.pace) (es : List Event) (text : List ℕ) (reads : verdict s plan.setup.timing (length plan.inputs.rows) text ≡ Ok es) where
+module _ (plan : Plan) (l : Layout) (s : Shape) (laid : IsLaidOutBy plan l s) (events : EventsBy plan.setup.pace) (text : List ℕ) (reads : verdict_by plan.setup.pace s plan.setup.timing (length plan.inputs.rows) text ≡ Ok events) where
   along_runs : (fabric : FabricState) (file : Option (List ℕ)) → file ≡ Some text → (e : CommandFault) → run_along_verdict fabric file plan (Err e) → ⊥
   unfolding run_along_verdict
   along_runs fabric file held e (m, z, other, failed) =
       let same : z ≡ s = one_shape (flat_of plan.checked.program) plan.setup.placement m l other.layout laid.layout plan.setup.pace plan.setup.timing z s other.shape laid.shape in
-      let read = ap (λ (y : Shape). verdict y plan.setup.timing (length plan.inputs.rows) text) same ∙ reads in
-      let by = reads_by plan.setup.pace unlossy z plan.setup.timing (length plan.inputs.rows) text es read in
-      file_reads plan.setup.pace _ z plan.setup.timing (length plan.inputs.rows) text by.0 by.1 file held failed.0 failed.1
+      let read = ap (λ (y : Shape). verdict_by plan.setup.pace y plan.setup.timing (length plan.inputs.rows) text) same ∙ reads in
+      file_reads plan.setup.pace _ z plan.setup.timing (length plan.inputs.rows) text events read file held failed.0 failed.1
 
   pub runs_on : RunsOnText plan text
   unfolding ordered_verdict
@@ -67,9 +51,8 @@ module _ (plan : Plan) (l : Layout) (s : Shape) (laid : IsLaidOutBy plan l s) (u
           along_runs new.fabric (named schedule) held e (subst (λ (q : Plan). run_along_verdict new.fabric (named schedule) q (Err e)) same along)
 
 -- a list that was not refused is not too long
-pub within : (b : Bool) (s : Shape) (es : List Event) (d : Drawing) → nat_lt 5000000 (length es) ≡ b → (if b then Err too_many_rows else Ok (record { shape = s; events = es })) ≡ Ok d
-    → (length es ≤ 5000000) × (d ≡ record { shape = s; events = es })
-within true s es d many is = cc
-within false s es d few is =
-    let same : record { shape = s; events = es } ≡ d = cc in
+pub within : {D : Type 0} (b : Bool) (size : ℕ) (whole d : D) → nat_lt 5000000 size ≡ b → (if b then Err too_many_rows else Ok whole) ≡ Ok d → (size ≤ 5000000) × (d ≡ whole)
+within true size whole d many is = cc
+within false size whole d few is =
+    let same : whole ≡ d = cc in
     (grind (arith, few), sym same)

@@ -1,6 +1,6 @@
 -- All that holds of a call of `lttac`, from what it printed and whose count rose.
 use Rattle.std.proofs.Common.{◌≡◌, ◌≢◌, ℕ, IsTrue, List, ◌++◌, Bool, Option, Some, None, Result, Err, refl, sym, ◌∙◌, ap, subst, append-nil, arith, inl, inr}
-use Rattle.std.specs.Prelude.{codes}
+use Rattle.std.specs.Prelude.{codes, unwrap_or}
 use Rattle.lt_io.specs.FabricState.{FabricState}
 use Rattle.lt_answer.specs.World.{Reading}
 use Rattle.lt_answer.specs.Answered.{Verdict}
@@ -50,9 +50,9 @@ emit_kinds : (named : List ℕ → Option (List ℕ)) (header : Bool) (program c
 emit_kinds named header program config node =
     emit_decided named program config header node (λ e. refusal_status (emit_refusal e)) tells_limits (λ f g main main'. refl) (λ f g names names' mixed mixed'. refl)
 
-schedule_kinds : (named : List ℕ → Option (List ℕ)) (program inputs config : List ℕ) (seed horizon : ℕ) (jitter : Option ℕ) → HasOneKind (λ e. refusal_status (Command e)) (schedule_verdict named program inputs config seed horizon jitter)
-schedule_kinds named program inputs config seed horizon jitter =
-    schedule_decided (λ e. refusal_status (Command e)) tells_limits (λ f g main main'. refl) (λ f g names names' mixed mixed'. refl) named program inputs config seed horizon jitter
+schedule_kinds : (named : List ℕ → Option (List ℕ)) (program inputs config : List ℕ) (loss seed horizon : ℕ) (jitter : Option ℕ) → HasOneKind (λ e. refusal_status (Command e)) (schedule_verdict named program inputs config loss seed horizon jitter)
+schedule_kinds named program inputs config loss seed horizon jitter =
+    schedule_decided (λ e. refusal_status (Command e)) tells_limits (λ f g main main'. refl) (λ f g names names' mixed mixed'. refl) named program inputs config loss seed horizon jitter
 
 draw_kinds : (named : List ℕ → Option (List ℕ)) (program inputs events config : List ℕ) (node : Option (List ℕ)) (view : DrawView) → HasOneKind (λ e. refusal_status (Command e)) (draw_verdict named program inputs events config node view)
 draw_kinds named program inputs events config node view =
@@ -136,17 +136,18 @@ module _ (asked : List (List ℕ)) (old new : Objects) (ends : Status) (did : Lt
   emitted_exact header program config node =
       command_exact emit_refusal (λ text. text) (emit_verdict old.files.named header program config node) (emit_kinds old.files.named header program config node) (emit header program config node) refl
 
-  scheduled_exact : (program inputs config : List ℕ) (seed horizon : ℕ) (jitter : Option ℕ) → LttacAsks asked (schedule program inputs config seed horizon jitter) old new ends
-      (IsExact (λ text. text) (schedule_verdict old.files.named program inputs config seed horizon jitter) old new ends)
-  scheduled_exact program inputs config seed horizon jitter =
-      command_exact (λ f. Command f) (λ text. text) (schedule_verdict old.files.named program inputs config seed horizon jitter) (schedule_kinds old.files.named program inputs config seed horizon jitter)
-      (schedule program inputs config seed horizon jitter) refl
+  scheduled_exact : (program inputs config : List ℕ) (seed horizon : ℕ) (jitter loss : Option ℕ) → LttacAsks asked (schedule program inputs config seed horizon jitter loss) old new ends
+      (IsExact (λ text. text) (schedule_verdict old.files.named program inputs config (unwrap_or loss 0) seed horizon jitter) old new ends)
+  scheduled_exact program inputs config seed horizon jitter loss =
+      let lost : ℕ = unwrap_or loss 0 in
+      command_exact (λ f. Command f) (λ text. text) (schedule_verdict old.files.named program inputs config lost seed horizon jitter) (schedule_kinds old.files.named program inputs config lost seed horizon jitter)
+      (schedule program inputs config seed horizon jitter loss) refl
 
-  shown_schedule : (program inputs config : List ℕ) (seed horizon : ℕ) (jitter : Option ℕ) → lttac_command_of asked ≡ Some (schedule program inputs config seed horizon jitter) → IsTrue old.files.told → IsQuiet old new → ends ≡ status.Ok
-      → IsScheduleShown old.files.named program inputs config seed horizon jitter old new
-  shown_schedule program inputs config seed horizon jitter is tells quiet at =
-      let told = (scheduled_exact program inputs config seed horizon jitter is tells quiet (λ none. let wrong : status.Ok ≡ status.Memory = sym at ∙ none in cc)).text at in
-      shown_by old.files.named program inputs config seed horizon jitter old new told.0 told.2 told.1
+  shown_schedule : (program inputs config : List ℕ) (seed horizon : ℕ) (jitter loss : Option ℕ) → lttac_command_of asked ≡ Some (schedule program inputs config seed horizon jitter loss) → IsTrue old.files.told → IsQuiet old new → ends ≡ status.Ok
+      → IsScheduleShown old.files.named program inputs config (unwrap_or loss 0) seed horizon jitter old new
+  shown_schedule program inputs config seed horizon jitter loss is tells quiet at =
+      let told = (scheduled_exact program inputs config seed horizon jitter loss is tells quiet (λ none. let wrong : status.Ok ≡ status.Memory = sym at ∙ none in cc)).text at in
+      shown_by old.files.named program inputs config (unwrap_or loss 0) seed horizon jitter old new told.0 told.2 told.1
 
   read_failed : IsOutsideCaused old new → IsCallFailed (codes "fault: read") old.files.faults new.files.faults old new
   read_failed (inl failed) = failed
@@ -178,9 +179,10 @@ module _ (asked : List (List ℕ)) (old new : Objects) (ends : Status) (did : Lt
     emit_missing = λ header program config node.
         command_missing emit_refusal (λ text. text) (emit_verdict old.files.named header program config node) (emit_kinds old.files.named header program config node) (emit header program config node) refl
         (fault.Command Read) refl only_read tells;
-    schedule_missing = λ program inputs config seed horizon jitter.
-        command_missing (λ f. Command f) (λ text. text) (schedule_verdict old.files.named program inputs config seed horizon jitter) (schedule_kinds old.files.named program inputs config seed horizon jitter)
-        (schedule program inputs config seed horizon jitter) refl Read refl blamed_reads tells;
+    schedule_missing = λ program inputs config seed horizon jitter loss.
+        let lost : ℕ = unwrap_or loss 0 in
+        command_missing (λ f. Command f) (λ text. text) (schedule_verdict old.files.named program inputs config lost seed horizon jitter) (schedule_kinds old.files.named program inputs config lost seed horizon jitter)
+        (schedule program inputs config seed horizon jitter loss) refl Read refl blamed_reads tells;
     draw_missing = λ program inputs events config node from to width.
         let view = draw_view from to width in
         command_missing (λ f. Command f) (λ text. text) (draw_verdict old.files.named program inputs events config node view) (draw_kinds old.files.named program inputs events config node view)

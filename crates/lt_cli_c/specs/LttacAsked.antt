@@ -1,5 +1,5 @@
 -- What a call of `lttac` does for its words.
-use Rattle.std.specs.Prelude.{◌≡◌, ◌⊎◌, ℕ, List, [], Option, Some, None, Result, Err, String, map, string_bytes}
+use Rattle.std.specs.Prelude.{◌≡◌, ◌⊎◌, ℕ, List, [], Option, Some, None, Result, Err, String, map, string_bytes, unwrap_or}
 use Rattle.std.specs.declared.alloc.Global.{Global}
 use Rattle.lt_base.specs.declared.memory.Or.{Or}
 use Rattle.lt_io.specs.FilesState.{FilesState}
@@ -38,17 +38,17 @@ BetweenFiles files out err does old new ends = does (without_fabric (files old.0
 
 -- ---- commands
 
--- a command on these files
+-- a command on these files; without a loss nothing is lost
 abbrev pub lttac_verdict : (named : List ℕ → Option (List ℕ)) → LttacSaid → Verdict (List ℕ) Refusal
 lttac_verdict named (emit header program config node) = answer_verdict emit_refusal (λ text. text) (emit_verdict named header program config node)
-lttac_verdict named (schedule program inputs config seed horizon jitter) = text_verdict (λ text. text) (schedule_verdict named program inputs config seed horizon jitter)
+lttac_verdict named (schedule program inputs config seed horizon jitter loss) = text_verdict (λ text. text) (schedule_verdict named program inputs config (unwrap_or loss 0) seed horizon jitter)
 lttac_verdict named (draw program inputs events config node from to width) = text_verdict (λ text. text) (draw_verdict named program inputs events config node (draw_view from to width))
 lttac_verdict named (plot program inputs along observer from to width) = answer_verdict watch_refusal (λ text. text) (plot_verdict named program inputs along observer (plot_view from to width))
 
 -- the files of a command, in their order, and how far each may be read
 abbrev pub lttac_said_errands : LttacSaid → List Errand
 lttac_said_errands (emit header program config node) = check_errands program (Some config)
-lttac_said_errands (schedule program inputs config seed horizon jitter) = load_errands program inputs (Some config)
+lttac_said_errands (schedule program inputs config seed horizon jitter loss) = load_errands program inputs (Some config)
 lttac_said_errands (draw program inputs events config place from to width) = draw_errands program inputs events config
 lttac_said_errands (plot program inputs along observer from to width) = plot_errands program inputs along observer
 

@@ -1,5 +1,5 @@
 -- What holds of a call of `lttac`, fact by fact.
-use Rattle.std.specs.Prelude.{◌≡◌, ◌≢◌, ◌<◌, ◌↔◌, ℕ, Bool, IsTrue, List, [], Option, Some, None, Result, Err, IfOk, IfErr, String, Vec, codes, drop, map, string_bytes}
+use Rattle.std.specs.Prelude.{◌≡◌, ◌≢◌, ◌<◌, ◌↔◌, ℕ, Bool, IsTrue, List, [], Option, Some, None, Result, Err, IfOk, IfErr, String, Vec, codes, drop, map, string_bytes, unwrap_or}
 use Rattle.std.specs.declared.io.Error.{Error}
 use Rattle.std.specs.declared.io.ErrorKind.TheVariants.{OutOfMemory}
 use Rattle.std.specs.declared.alloc.Global.{Global}
@@ -59,15 +59,15 @@ pub record LttacPerforms (asked : List (List ℕ)) (old new : Objects) (ends : S
       (IsExactFor emit_refusal (λ text. text) (emit_verdict old.files.named header program config node) old new ends)
   pub no_node : (header : Bool) (program config node : List ℕ) → LttacAsks asked (emit header program config node) old new ends
       (IsNodeExact old.files.named header program config node old new ends)
-  pub scheduled : (program inputs config : List ℕ) (seed horizon : ℕ) (jitter : Option ℕ) → LttacAsks asked (schedule program inputs config seed horizon jitter) old new ends
-      (IsExact (λ text. text) (schedule_verdict old.files.named program inputs config seed horizon jitter) old new ends)
+  pub scheduled : (program inputs config : List ℕ) (seed horizon : ℕ) (jitter loss : Option ℕ) → LttacAsks asked (schedule program inputs config seed horizon jitter loss) old new ends
+      (IsExact (λ text. text) (schedule_verdict old.files.named program inputs config (unwrap_or loss 0) seed horizon jitter) old new ends)
   pub drawn : (program inputs events config : List ℕ) (node : Option (List ℕ)) (from to width : Option ℕ) → LttacAsks asked (draw program inputs events config node from to width) old new ends
       (IsExact (λ text. text) (draw_verdict old.files.named program inputs events config node (draw_view from to width)) old new ends)
   pub plotted : (program inputs : List ℕ) (along : Option (List ℕ × List ℕ)) (observer : Option (List ℕ)) (from to width : Option ℕ) → LttacAsks asked (plot program inputs along observer from to width) old new ends
       (IsExactFor watch_refusal (λ text. text) (plot_verdict old.files.named program inputs along observer (plot_view from to width)) old new ends)
   -- a schedule keeps to the setup's bounds, and the text that was printed reads as its events, so a run along it is not refused
-  pub schedule_shown : (program inputs config : List ℕ) (seed horizon : ℕ) (jitter : Option ℕ) → LttacEndsWell asked (schedule program inputs config seed horizon jitter) old new ends
-      (IsScheduleShown old.files.named program inputs config seed horizon jitter old new)
+  pub schedule_shown : (program inputs config : List ℕ) (seed horizon : ℕ) (jitter loss : Option ℕ) → LttacEndsWell asked (schedule program inputs config seed horizon jitter loss) old new ends
+      (IsScheduleShown old.files.named program inputs config (unwrap_or loss 0) seed horizon jitter old new)
   -- what a status says of the outside
   pub outside : ends ≡ status.Outside → IsCallFailed (codes "fault: read") old.files.faults new.files.faults old new
   pub failed : old.files.faults < new.files.faults → IsOfFailure ends
@@ -80,8 +80,8 @@ pub record LttacPerforms (asked : List (List ℕ)) (old new : Objects) (ends : S
   -- over sound files a call on them fails exactly where the first file in order that is refused is missing
   pub emit_missing : (header : Bool) (program config node : List ℕ) → LttacAsksSound asked (emit header program config node) old ends
       (IsMissingFor (fault.Command Read) (emit_verdict old.files.named header program config node) old new)
-  pub schedule_missing : (program inputs config : List ℕ) (seed horizon : ℕ) (jitter : Option ℕ) → LttacAsksSound asked (schedule program inputs config seed horizon jitter) old ends
-      (IsMissingExact (schedule_verdict old.files.named program inputs config seed horizon jitter) old new)
+  pub schedule_missing : (program inputs config : List ℕ) (seed horizon : ℕ) (jitter loss : Option ℕ) → LttacAsksSound asked (schedule program inputs config seed horizon jitter loss) old ends
+      (IsMissingExact (schedule_verdict old.files.named program inputs config (unwrap_or loss 0) seed horizon jitter) old new)
   pub draw_missing : (program inputs events config : List ℕ) (node : Option (List ℕ)) (from to width : Option ℕ) → LttacAsksSound asked (draw program inputs events config node from to width) old ends
       (IsMissingExact (draw_verdict old.files.named program inputs events config node (draw_view from to width)) old new)
   pub plot_missing : (program inputs : List ℕ) (along : Option (List ℕ × List ℕ)) (observer : Option (List ℕ)) (from to width : Option ℕ) → LttacAsksSound asked (plot program inputs along observer from to width) old ends

@@ -10,6 +10,6 @@ use Rattle.lt_text_answers.specs.Blamed.{blame_of}
 use Rattle.lt_cli.specs.Answers.{text_verdict}
 
 -- the program, the setup and the inputs are read: the text of the schedule, or the first refusal
-abbrev pub AnswersSchedule : (program inputs config : List ℕ) (seed horizon : ℕ) (jitter : Option ℕ) (old new : FilesState) → Result (List ℕ) (Or Refusal) → Type 0
-AnswersSchedule program inputs config seed horizon jitter old new result =
-    AnsweredOnFiles blame_of (load_errands program inputs (Some config)) (text_verdict (λ text. text) (schedule_verdict old.named program inputs config seed horizon jitter)) old new result
+abbrev pub AnswersSchedule : (program inputs config : List ℕ) (loss seed horizon : ℕ) (jitter : Option ℕ) (old new : FilesState) → Result (List ℕ) (Or Refusal) → Type 0
+AnswersSchedule program inputs config loss seed horizon jitter old new result =
+    AnsweredOnFiles blame_of (load_errands program inputs (Some config)) (text_verdict (λ text. text) (schedule_verdict old.named program inputs config loss seed horizon jitter)) old new result

@@ -94,7 +94,13 @@ fn answer<F: Files>(
             seed,
             horizon,
             jitter,
-        } => schedule(alloc, files, program, inputs, config, seed, horizon, jitter),
+            loss,
+        } => {
+            let lost = loss.unwrap_or(0);
+            schedule(
+                alloc, files, program, inputs, config, lost, seed, horizon, jitter,
+            )
+        }
         LttacCommand::Draw {
             program,
             inputs,

@@ -1,5 +1,5 @@
--- A text of `sim` is one of a schedule with no jitter given.
-use Rattle.std.proofs.Common.{ℕ, List, Option, Some, None, Ok, inl, inr, refl, sym, subst}
+-- A text of `sim` is one of a schedule with no loss and no jitter given.
+use Rattle.std.proofs.Common.{◌≡◌, ℕ, List, Option, Some, None, Ok, inl, inr, refl, sym, subst}
 use Rattle.lt_arch.specs.declared.pace.Pace.{Pace}
 use Rattle.lt_arch.specs.declared.pace.Pace.TheVariants.{Plain}
 use Rattle.lt_front.specs.Examined.{ExaminedText}
@@ -9,6 +9,7 @@ use Rattle.lt_load.specs.Plan.{Plan, load_verdict, setup_plan_verdict}
 use Rattle.lt_load.specs.Pacing.{plain_config_verdict, plain_load_verdict, plain_setup_plan_verdict, unpaced_verdict}
 use Rattle.lt_big.proofs.Plainly.{plain_pace}
 use Rattle.lt_text_answers.specs.Draws.{Drawing, plan_drawn_verdict, sim_verdict}
+use Rattle.lt_text_answers.specs.Texts.{drawing_text}
 use Rattle.lt_scheduling.specs.Scheduled.{plan_schedule_verdict, schedule_verdict, schedule_verdict_by}
 use Rattle.lt_scheduling.specs.Laws.{DrawsAsSim}
 
@@ -28,9 +29,9 @@ unfolding plain_load_verdict load_verdict
 load_planned named program inputs config p (inl refused) = absurd refused
 load_planned named program inputs config p (inr (checked, examined, is)) = inr (checked, examined, setup_planned named inputs config checked p is)
 
-plan_scheduled : (seed horizon : ℕ) (p : Plan) (d : Drawing) → plan_drawn_verdict seed horizon p (Ok d) → schedule_verdict_by Plain seed horizon None p (Ok d)
+plan_scheduled : (seed horizon : ℕ) (p : Plan) (d : Drawing) (text : List ℕ) → text ≡ drawing_text d → plan_drawn_verdict seed horizon p (Ok d) → schedule_verdict_by Plain 0 seed horizon None p (Ok text)
 unfolding plan_drawn_verdict
-plan_scheduled seed horizon p d (l, s, laid, is, shows) = (l, s, p.setup.timing, laid, refl, is, shows)
+plan_scheduled seed horizon p d text shown (l, s, laid, is, shows) = (l, s, p.setup.timing, laid, refl, (d, (is, shows), shown))
 
 pub as_sim : DrawsAsSim
 unfolding sim_verdict schedule_verdict plan_schedule_verdict
@@ -38,5 +39,5 @@ as_sim named program inputs config seed horizon text (d, inl refused, shown) = a
 as_sim named program inputs config seed horizon text (d, inr (p, loaded, right), shown) = inr (
   p,
   load_planned named program inputs config p loaded,
-  (d, subst (λ (pace : Pace). schedule_verdict_by pace seed horizon None p (Ok d)) (sym (plain_pace named program inputs config p loaded)) (plan_scheduled seed horizon p d right), shown),
+  subst (λ (pace : Pace). schedule_verdict_by pace 0 seed horizon None p (Ok text)) (sym (plain_pace named program inputs config p loaded)) (plan_scheduled seed horizon p d text shown right),
 )

@@ -1,9 +1,9 @@
 -- What is drawn for what was loaded, written into a sink that fails nowhere.
-use Rattle.std.proofs.Common.{◌≡◌, ◌<◌, ◌≤◌, ℕ, Bool, if◌then◌else◌, List, [], ◌++◌, length, Some, Result, Ok, Err, IsTrue, refl, sym, ◌∙◌, ap, subst, arith, le-ltb, lt-ltb}
-use Rattle.lt_base.specs.Or.{ForFault, MapsFault}
+use Rattle.std.proofs.Common.{◌≡◌, ◌<◌, ◌≤◌, ℕ, nat_lt, Bool, if◌then◌else◌, List, [], ◌++◌, length, Some, Result, Ok, Err, OnOk, IsTrue, ◌∙◌, ap, subst, arith, le-ltb, lt-ltb}
 use Rattle.lt_base.specs.declared.memory.Or.{Or}
 use Rattle.lt_base.specs.declared.memory.Or.TheVariants.{Fault, Memory}
 use Rattle.lt_arch.specs.declared.event.Event.{Event}
+use Rattle.lt_arch.specs.declared.limits.TheConstants.{GREATEST_TIME}
 use Rattle.lt_arch.specs.declared.shape.Shape.{Shape}
 use Rattle.lt_arch.specs.declared.timing.Timing.{Timing}
 use Rattle.lt_arch.specs.State.{State}
@@ -11,23 +11,27 @@ use Rattle.lt_narrow.specs.Narrow.{HasBoundsWithin}
 use Rattle.lt_narrow.proofs.Within.{reached_same, admissible_within}
 use Rattle.lt_io.specs.SinkState.{SinkState}
 use Rattle.lt_rows.specs.Limits.{most_events}
-use Rattle.lt_answer.specs.Answered.{Refuses}
+use Rattle.lt_answer.specs.Answered.{Settles}
 use Rattle.lt_answer.specs.Rules.{Shown}
 use Rattle.lt_load_fit.specs.declared.fault.CommandFault.{CommandFault}
-use Rattle.lt_load.specs.Plan.{LoadedPlan}
+use Rattle.lt_lossy.specs.declared.event.LossyEvent.{LossyEvent}
 use Rattle.lt_sim.specs.declared.fault.SimFault.{SimFault}
 use Rattle.lt_sim.specs.declared.fault.SimFault.TheVariants.{Write, TooMany}
 use Rattle.lt_sim.specs.Drawn.{drawn}
-use Rattle.lt_sim.specs.File.{file_text}
 use Rattle.lt_sim.specs.Laws.{IsSimShown}
-use Rattle.lt_sim.specs.Recorded.{IsRecorded, IsBroken, Records}
+use Rattle.lt_sim.specs.Recorded.{FailsAfter, Records, WritesWhole}
 use Rattle.lt_sim.proofs.FileRows.{file_accepted}
-use Rattle.lt_text_answers.specs.Draws.{Drawing, ShowsDrawing, drawing, too_many_rows}
+use Rattle.lt_losing.specs.Losing.{lossy_drawn}
+use Rattle.lt_losing.specs.LossyRecorded.{LossyRecords}
+use Rattle.lt_losing.proofs.Shown.{shown_within}
+use Rattle.lt_text_answers.specs.Draws.{Drawing, ShowsDrawing, too_many_rows}
 use Rattle.lt_text_answers.specs.Texts.{drawing_text}
-use Rattle.lt_scheduling.specs.Stage.{drawn_timed_verdict}
+use Rattle.lt_scheduling.specs.Losses.{LossyListing, ShowsListing, listing_text}
+use Rattle.lt_scheduling.specs.Scheduled.{arriving_verdict, losing_verdict}
+use Rattle.lt_scheduling.specs.Stage.{IsUnbroken, recorded_text}
 
 -- what narrower bounds show the wider ones show
-pub shown_wider : (s : Shape) (t narrow : Timing) (rows horizon : ℕ) (es : List Event) → HasBoundsWithin t narrow → length es ≤ most_events → IsSimShown s narrow rows horizon es → IsSimShown s t rows horizon es
+shown_wider : (s : Shape) (t narrow : Timing) (rows horizon : ℕ) (es : List Event) → HasBoundsWithin t narrow → length es ≤ most_events → IsSimShown s narrow rows horizon es → IsSimShown s t rows horizon es
 shown_wider s t narrow rows horizon es within few shown =
     let admissible = admissible_within s t narrow rows es within shown.sound.admissible in
     record {
@@ -40,45 +44,64 @@ shown_wider s t narrow rows horizon es within few shown =
     }
 
 -- a sink that fails nowhere is not broken
-unbroken : (s : Shape) (es : List Event) (old new : SinkState) → new.faults ≡ old.faults → IsBroken s es old new → ⊥
-unbroken s es old new steady is = omega (arith, is.written.counted, steady)
+unbroken : (text : List ℕ) (old new : SinkState) → new.faults ≡ old.faults → FailsAfter text old new → ⊥
+unbroken text old new steady is = let rose = is.counted in omega (arith, rose, steady)
 
-module _ (k j : LoadedPlan) (view : k ≡ j) (narrow : Timing) (rows seed horizon : ℕ) (counted : rows ≡ length k.inputs.rows) where
-  abbrev list : List Event
-  list = drawn k.shape narrow rows seed horizon
+-- and has taken what was written
+taken_is : (text : List ℕ) (old new : SinkState) → IsTrue old.told → old.taken ≡ [] → WritesWhole text old new → new.taken ≡ text
+taken_is text old new told empty written = written.taken told ∙ ap (λ (t : List ℕ). t ++ text) empty
 
-  -- a text or a refusal for so many rows
-  abbrev Right : (rows : ℕ) → Result (List ℕ) CommandFault → Type 0
-  Right n o = Shown drawing_text (λ outcome. (drawing k.shape narrow n seed horizon ≡ outcome) × ShowsDrawing k.shape k.timing n horizon outcome) o
+-- so many events, where they are not too many
+module _ {D : Type 0} (text : D → List ℕ) (d : D) (size : ℕ) (Shows : Result D CommandFault → Type 0) where
+  abbrev Lists : Result (List ℕ) CommandFault → Type 0
+  Lists o = Shown text (λ (outcome : Result D CommandFault). ((if nat_lt 5000000 size then Err too_many_rows else Ok d) ≡ outcome) × Shows outcome) o
 
-  settled : (o : Result (List ℕ) CommandFault) → Right rows o → Shown drawing_text (drawn_timed_verdict seed horizon j narrow) o
-  settled o right = subst (λ (p : LoadedPlan). Shown drawing_text (drawn_timed_verdict seed horizon p narrow) o) view (subst (λ (n : ℕ). Right n o) counted right)
+  are_held : size ≤ 5000000 → Shows (Ok d) → (bytes : List ℕ) → bytes ≡ text d → Lists (Ok bytes)
+  are_held few shows bytes is = (d, (ap (λ (b : Bool). if b then Err too_many_rows else Ok d) (le-ltb 5000000 size few), shows), is)
 
-  -- it was written, and reads back
-  pub drawn_file : HasBoundsWithin k.timing narrow → (old new : SinkState) → IsTrue old.told → old.taken ≡ [] → (count : ℕ) → IsRecorded k.shape list old new count → IsSimShown k.shape narrow rows horizon list → (bytes : List ℕ) → bytes ≡ new.taken
-      → Shown drawing_text (drawn_timed_verdict seed horizon j narrow) (Ok bytes)
-  drawn_file within old new told empty count is shown bytes taken =
-      let d : Drawing = record { shape = k.shape; events = list } in
-      let text : bytes ≡ file_text k.shape list = taken ∙ is.written.taken told ∙ ap (λ (t : List ℕ). t ++ file_text k.shape list) empty in
-      let right : drawing k.shape narrow rows seed horizon ≡ Ok d = ap (λ (b : Bool). if b then Err too_many_rows else Ok d) (le-ltb 5000000 (length list) is.few) in
-      settled (Ok bytes) (d, (right, shown_wider k.shape k.timing narrow rows horizon list within is.few shown), text)
+  are_many : 5000000 < size → Shows (Err too_many_rows) → Lists (Err too_many_rows)
+  are_many many shows = (ap (λ (b : Bool). if b then Err too_many_rows else Ok d) (lt-ltb 5000000 size many), shows)
 
-  -- it has too many events
-  drawn_too_many : most_events < length list → (fault : CommandFault) → fault ≡ too_many_rows → Shown drawing_text (drawn_timed_verdict seed horizon j narrow) (Err fault)
-  drawn_too_many many fault same =
-      let right : drawing k.shape narrow rows seed horizon ≡ Err too_many_rows = ap (λ (b : Bool). if b then Err too_many_rows else Ok (record { shape = k.shape; events = list })) (lt-ltb 5000000 (length list) many) in
-      settled (Err fault) (right ∙ ap (λ (f : CommandFault). Err f) (sym same), tt)
+-- where each message arrives
+module _ (s : Shape) (own narrow : Timing) (rows seed horizon : ℕ) (old new : SinkState) (steady : new.faults ≡ old.faults) where
+  abbrev events : List Event
+  events = drawn s narrow rows seed horizon
 
-  module _ (old new : SinkState) (steady : new.faults ≡ old.faults) where
-    -- into a sink that fails nowhere it is refused for too many events alone
-    pub only_many : (e : Or SimFault) → Records k.shape list old new (Err e) → ForFault e (λ f. f ≡ TooMany)
-    only_many (Fault Write) is = absurd (unbroken k.shape list old new steady is)
-    only_many (Fault TooMany) is = refl
-    only_many Memory is = tt
+  abbrev drawing_of : Drawing
+  drawing_of = record { shape = s; events = events }
 
-    pub not_drawn : (e : Or SimFault) (g : Or CommandFault) → MapsFault e g (λ f h. h ≡ too_many_rows) → Records k.shape list old new (Err e) → Refuses (Shown drawing_text (drawn_timed_verdict seed horizon j narrow)) g
-    not_drawn (Fault Write) g is broken = absurd (unbroken k.shape list old new steady broken)
-    not_drawn (Fault TooMany) (Fault h) is many = drawn_too_many many.many h is
-    not_drawn (Fault TooMany) Memory is many = absurd is
-    not_drawn Memory (Fault h) is front = absurd is
-    not_drawn Memory Memory is front = tt
+  pub arriving_unbroken : (recorded : Result ℕ (Or SimFault)) → Records s events old new recorded → IsUnbroken recorded
+  arriving_unbroken (Ok count) is = tt
+  arriving_unbroken (Err (Fault Write)) is = unbroken _ old new steady is.written
+  arriving_unbroken (Err (Fault TooMany)) is = tt
+  arriving_unbroken (Err Memory) is = tt
+
+  pub arriving_settles : HasBoundsWithin own narrow → IsTrue old.told → old.taken ≡ [] → (recorded : Result ℕ (Or SimFault)) → Records s events old new recorded → OnOk recorded (IsSimShown s narrow rows horizon events)
+      → Settles (Shown drawing_text (arriving_verdict s own narrow rows seed horizon)) (recorded_text recorded new.taken)
+  arriving_settles within told empty (Ok count) is shown =
+      are_held drawing_text drawing_of (length events) (λ o. ShowsDrawing s own rows horizon o) is.few (shown_wider s own narrow rows horizon events within is.few shown) new.taken (taken_is _ old new told empty is.written)
+  arriving_settles within told empty (Err (Fault Write)) is shown = absurd (unbroken _ old new steady is.written)
+  arriving_settles within told empty (Err (Fault TooMany)) is shown = are_many drawing_text drawing_of (length events) (λ o. ShowsDrawing s own rows horizon o) is.many tt
+  arriving_settles within told empty (Err Memory) is shown = tt
+
+-- where links lose messages
+module _ (s : Shape) (own narrow : Timing) (limit loss rows seed horizon : ℕ) (old new : SinkState) (steady : new.faults ≡ old.faults) where
+  abbrev lossy_events : List LossyEvent
+  lossy_events = lossy_drawn s narrow limit rows loss seed horizon
+
+  abbrev listing_of : LossyListing
+  listing_of = record { shape = s; events = lossy_events }
+
+  pub losing_unbroken : (recorded : Result ℕ (Or SimFault)) → LossyRecords s lossy_events old new recorded → IsUnbroken recorded
+  losing_unbroken (Ok count) is = tt
+  losing_unbroken (Err (Fault Write)) is = unbroken _ old new steady is.written
+  losing_unbroken (Err (Fault TooMany)) is = tt
+  losing_unbroken (Err Memory) is = tt
+
+  pub losing_settles : HasBoundsWithin own narrow → horizon ≤ GREATEST_TIME → IsTrue old.told → old.taken ≡ [] → (recorded : Result ℕ (Or SimFault)) → LossyRecords s lossy_events old new recorded
+      → Settles (Shown listing_text (losing_verdict limit loss s own narrow rows seed horizon)) (recorded_text recorded new.taken)
+  losing_settles within near told empty (Ok count) is =
+      are_held listing_text listing_of (length lossy_events) (λ o. ShowsListing s own limit rows horizon o) is.few (shown_within s own narrow limit rows loss seed horizon within near is.few) new.taken (taken_is _ old new told empty is.written)
+  losing_settles within near told empty (Err (Fault Write)) is = absurd (unbroken _ old new steady is.written)
+  losing_settles within near told empty (Err (Fault TooMany)) is = are_many listing_text listing_of (length lossy_events) (λ o. ShowsListing s own limit rows horizon o) is.many tt
+  losing_settles within near told empty (Err Memory) is = tt

@@ -1,5 +1,6 @@
 pub mod Drawn
 pub mod Paced
 pub mod AsSim
+pub mod OneTiming
 pub mod OneSchedule
 pub mod Loaded

@@ -1,17 +1,11 @@
 -- At most one schedule is right, or all right refusals are of one kind.
-use Rattle.std.proofs.Common.{◌≡◌, ◌≤◌, ◌<◌, ◌^◌, ◌∙◌, ℕ, List, length, Option, Some, None, Result, Ok, Err, sym, ap, subst, get_or}
-use Rattle.std.proofs.lemmas.List.{ext_get_or}
-use Rattle.lt_arch.specs.declared.limits.TheConstants.{GREATEST_BOUND, GREATEST_COUNTDOWN}
+use Rattle.std.proofs.Common.{◌≡◌, ◌∙◌, ℕ, Bool, true, false, List, length, Option, Some, Result, Ok, Err, sym, ap, subst}
 use Rattle.lt_arch.specs.declared.pace.Pace.{Pace}
 use Rattle.lt_arch.specs.declared.pace.Pace.TheVariants.{Plain, Lossy, Leader}
-use Rattle.lt_arch.specs.declared.times.NodeTime.{NodeTime}
-use Rattle.lt_arch.specs.declared.times.PairTime.{PairTime}
+use Rattle.lt_arch.specs.declared.shape.Shape.{Shape}
 use Rattle.lt_arch.specs.declared.timing.Timing.{Timing}
-use Rattle.lt_arch.specs.declared.timing.Protocol.{Protocol}
-use Rattle.lt_arch.specs.Pairs.{ends_of, ordered_pairs, HasNoneAbove}
-use Rattle.lt_arch.specs.Readers.{no_time, tmin_of, tmax_of, send_of, execute_of}
-use Rattle.lt_narrow.specs.Narrow.{IsNarrowed}
 use Rattle.lt_front.specs.Flattened.{flat_of}
+use Rattle.lt_answer.specs.Answered.{Verdict}
 use Rattle.lt_answer.specs.Rules.{Shown}
 use Rattle.lt_answer.proofs.Decided.{HasOneKind, and_then}
 use Rattle.lt_load_fit.specs.declared.fault.CommandFault.{CommandFault}
@@ -20,105 +14,60 @@ use Rattle.lt_load.proofs.OneCheck.{MergesPlaces, MergesTimings}
 use Rattle.lt_load.proofs.OneLoad.{TellsLimits}
 use Rattle.lt_load.proofs.OnePlan.{load_decided}
 use Rattle.lt_load.proofs.OneShape.{one_shape}
-use Rattle.lt_text_answers.specs.Draws.{Drawing, drawing, too_many_rows}
+use Rattle.lt_text_answers.specs.Draws.{ShowsDrawing, drawing, too_many_rows}
 use Rattle.lt_text_answers.specs.Texts.{drawing_text}
-use Rattle.lt_scheduling.specs.Scheduled.{IsDrawnBy, paced_verdict, plan_schedule_verdict, schedule_verdict, schedule_verdict_by}
-use denote.Struct.Props.{props}
-
--- Timings with the same numbers are equal.
-
-record TimeNumbers : Type 0 where
-  tmin : ℕ
-  tmax : ℕ
-  send : ℕ
-  execute : ℕ
-
-abbrev time_numbers : NodeTime → TimeNumbers
-time_numbers a = record { tmin = a.tmin; tmax = a.tmax; send = a.send; execute = a.execute }
-
-abbrev TimeFacts : TimeNumbers → Type 0
-TimeFacts n =
-    ((1 ≤ n.tmin) × (n.tmin ≤ n.tmax) × (n.tmax ≤ GREATEST_BOUND))
-    × ((1 ≤ n.send) × (n.send ≤ GREATEST_COUNTDOWN))
-    × ((1 ≤ n.execute) × (n.execute ≤ GREATEST_COUNTDOWN))
-
-abbrev time_made : (n : TimeNumbers) → TimeFacts n → NodeTime
-time_made n f = record { tmin = n.tmin; tmax = n.tmax; send = n.send; execute = n.execute; period = f.0; sends = f.1; executes = f.2 }
-
-time_facts : (n : TimeNumbers) → IsProp (TimeFacts n)
-time_facts n = hlevel props
-
-same_time : (a b : NodeTime) → a.tmin ≡ b.tmin → a.tmax ≡ b.tmax → a.send ≡ b.send → a.execute ≡ b.execute → a ≡ b
-same_time a b tmin tmax send execute =
-    let numbers : time_numbers a ≡ time_numbers b = λ i. record { tmin = tmin i; tmax = tmax i; send = send i; execute = execute i } in
-    subst (λ n. (q : TimeFacts n) → a ≡ time_made n q) numbers (λ q. ap (time_made (time_numbers a)) (time_facts (time_numbers a) (a.period, a.sends, a.executes) q)) (b.period, b.sends, b.executes)
-
-record TimingParts : Type 0 where
-  nodes : List NodeTime
-  pairs : List PairTime
-  most : ℕ
-  protocol : Protocol
-
-abbrev timing_parts : Timing → TimingParts
-timing_parts t = record { nodes = t.nodes; pairs = t.pairs; most = t.most; protocol = t.protocol }
-
-abbrev PartsFacts : TimingParts → Type 0
-PartsFacts t = (ends_of t.pairs ≡ ordered_pairs (length t.nodes)) × HasNoneAbove t.pairs t.most × (t.most ≤ GREATEST_BOUND) × (length t.nodes < 2 ^ 32)
-
-abbrev parts_made : (t : TimingParts) → PartsFacts t → Timing
-parts_made t f = record { nodes = t.nodes; pairs = t.pairs; most = t.most; protocol = t.protocol; pairs_are = f.0; none_above = f.1; most_range = f.2; numbered = f.3 }
-
-parts_facts : (t : TimingParts) → IsProp (PartsFacts t)
-parts_facts t = hlevel props
-
-same_timing : (a b : Timing) → a.nodes ≡ b.nodes → a.pairs ≡ b.pairs → a.most ≡ b.most → a.protocol ≡ b.protocol → a ≡ b
-same_timing a b nodes pairs most protocol =
-    let parts : timing_parts a ≡ timing_parts b = λ i. record { nodes = nodes i; pairs = pairs i; most = most i; protocol = protocol i } in
-    subst (λ t. (q : PartsFacts t) → a ≡ parts_made t q) parts (λ q. ap (parts_made (timing_parts a)) (parts_facts (timing_parts a) (a.pairs_are, a.none_above, a.most_range, a.numbered) q))
-    (b.pairs_are, b.none_above, b.most_range, b.numbered)
-
--- A timing is narrowed in one way.
-
-one_narrowed : (jitter : ℕ) (own a b : Timing) → IsNarrowed jitter own a → IsNarrowed jitter own b → a ≡ b
-unfolding tmin_of tmax_of send_of execute_of
-one_narrowed jitter own a b h g =
-    same_timing a b
-    (ext_get_or no_time a.nodes b.nodes (h.count ∙ sym g.count) (λ n lt.
-    let within : n < length own.nodes = subst (λ (k : ℕ). n < k) h.count lt in
-    same_time (get_or a.nodes n no_time) (get_or b.nodes n no_time) (h.least n within ∙ sym (g.least n within)) (h.greatest n within ∙ sym (g.greatest n within)) (h.send n within ∙ sym (g.send n within)) (h.execute n within ∙ sym (g.execute n within))))
-    (h.pairs ∙ sym g.pairs) (h.most ∙ sym g.most) (h.protocol ∙ sym g.protocol)
-
-one_by : (jitter : Option ℕ) (own a b : Timing) → IsDrawnBy jitter own a → IsDrawnBy jitter own b → a ≡ b
-one_by None own a b h g = h ∙ sym g
-one_by (Some jitter) own a b h g = one_narrowed jitter own a b h g
-
--- So one schedule is drawn.
-
-one_paced : (seed horizon : ℕ) (jitter : Option ℕ) (plan : Plan) (r r' : Result Drawing CommandFault) → paced_verdict seed horizon jitter plan r → paced_verdict seed horizon jitter plan r' → r ≡ r'
-one_paced seed horizon jitter plan r r' (l, s, narrow, laid, by, is, shows) (m, z, tight, other, also, it, too) =
-    let shape : z ≡ s = one_shape (flat_of plan.checked.program) plan.setup.placement m l other.layout laid.layout plan.setup.pace plan.setup.timing z s other.shape laid.shape in
-    let timing : tight ≡ narrow = one_by jitter plan.setup.timing tight narrow also by in
-    sym is ∙ (λ i. drawing (sym shape i) (sym timing i) (length plan.inputs.rows) seed horizon) ∙ it
-
-one_drawing : (pace : Pace) (seed horizon : ℕ) (jitter : Option ℕ) (plan : Plan) (r r' : Result Drawing CommandFault) → schedule_verdict_by pace seed horizon jitter plan r → schedule_verdict_by pace seed horizon jitter plan r' → r ≡ r'
-one_drawing Plain seed horizon jitter plan r r' p q = one_paced seed horizon jitter plan r r' p q
-one_drawing (Lossy losses) seed horizon jitter plan r r' p q = sym p ∙ q
-one_drawing (Leader leader) seed horizon jitter plan r r' p q = one_paced seed horizon jitter plan r r' p q
+use Rattle.lt_scheduling.specs.Losses.{ShowsListing, listing_text, lossy_listing}
+use Rattle.lt_scheduling.specs.Scheduled.{asks_losses, paced_verdict, plan_schedule_verdict, schedule_verdict, text_by_pace, unless_asked}
+use Rattle.lt_scheduling.proofs.OneTiming.{one_by}
 
 -- the fault of an outcome
-abbrev error_in : Result Drawing CommandFault → CommandFault
-error_in (Ok d) = too_many_rows
+abbrev error_in : {T : Type 0} → Result T CommandFault → CommandFault
+error_in (Ok x) = too_many_rows
 error_in (Err e) = e
 
+-- of two right outcomes of a plan both are drawn over the same channels, by the same timing
+aligned : (pace : Pace) (loss seed horizon : ℕ) (jitter : Option ℕ) (plan : Plan) (o o' : Result (List ℕ) CommandFault) → paced_verdict pace loss seed horizon jitter plan o → paced_verdict pace loss seed horizon jitter plan o'
+    → (s : Shape) × (narrow : Timing) × text_by_pace pace loss s plan.setup.timing narrow (length plan.inputs.rows) seed horizon o × text_by_pace pace loss s plan.setup.timing narrow (length plan.inputs.rows) seed horizon o'
+aligned pace loss seed horizon jitter plan o o' (l, s, narrow, laid, by, text) (m, z, tight, other, also, too) =
+    let shape : z ≡ s = one_shape (flat_of plan.checked.program) plan.setup.placement m l other.layout laid.layout plan.setup.pace plan.setup.timing z s other.shape laid.shape in
+    let timing : tight ≡ narrow = one_by jitter plan.setup.timing tight narrow also by in
+    (s, narrow, text, subst (λ (q : Shape × Timing). text_by_pace pace loss q.0 plan.setup.timing q.1 (length plan.inputs.rows) seed horizon o') (λ i. (shape i, timing i)) too)
+
 module _ {K : Type 0} (kind : CommandFault → K) where
-  plan_decided : (seed horizon : ℕ) (jitter : Option ℕ) (plan : Plan) → HasOneKind kind (Shown drawing_text (plan_schedule_verdict seed horizon jitter plan))
-  unfolding plan_schedule_verdict
-  plan_decided seed horizon jitter plan = record {
-    one_kind = λ e f p q. ap (λ (r : Result Drawing CommandFault). kind (error_in r)) (one_drawing plan.setup.pace seed horizon jitter plan (Err e) (Err f) p q);
-    not_both = λ e text p q. (let same = one_drawing plan.setup.pace seed horizon jitter plan (Err e) (Ok q.0) p q.1 in cc);
+  -- one outcome, and its text
+  one_shown : {D : Type 0} (text : D → List ℕ) (found : Result D CommandFault) (Shows : Result D CommandFault → Type 0) → HasOneKind kind (Shown text (λ outcome. (found ≡ outcome) × Shows outcome))
+  one_shown {D} text found Shows = record {
+    one_kind = λ e f p q. ap (λ (r : Result D CommandFault). kind (error_in r)) (sym p.0 ∙ q.0);
+    not_both = λ e shown p q. (let same = sym p.0 ∙ q.1.0 in cc);
   }
 
-  pub schedule_decided : TellsLimits kind → MergesPlaces kind → MergesTimings kind → (named : List ℕ → Option (List ℕ)) (program inputs config : List ℕ) (seed horizon : ℕ) (jitter : Option ℕ) → HasOneKind kind (schedule_verdict named program inputs config seed horizon jitter)
+  text_decided : (pace : Pace) (loss : ℕ) (s : Shape) (own narrow : Timing) (rows seed horizon : ℕ) → HasOneKind kind (text_by_pace pace loss s own narrow rows seed horizon)
+  text_decided Plain loss s own narrow rows seed horizon = one_shown drawing_text (drawing s narrow rows seed horizon) (λ o. ShowsDrawing s own rows horizon o)
+  text_decided (Lossy limit) loss s own narrow rows seed horizon = one_shown listing_text (lossy_listing s narrow limit rows loss seed horizon) (λ o. ShowsListing s own limit rows horizon o)
+  text_decided (Leader leader) loss s own narrow rows seed horizon = one_shown drawing_text (drawing s narrow rows seed horizon) (λ o. ShowsDrawing s own rows horizon o)
+
+  paced_decided : (pace : Pace) (loss seed horizon : ℕ) (jitter : Option ℕ) (plan : Plan) → HasOneKind kind (paced_verdict pace loss seed horizon jitter plan)
+  paced_decided pace loss seed horizon jitter plan = record {
+    one_kind = λ e f p q.
+        let h = aligned pace loss seed horizon jitter plan (Err e) (Err f) p q in
+        (text_decided pace loss h.0 plan.setup.timing h.1 (length plan.inputs.rows) seed horizon).one_kind e f h.2 h.3;
+    not_both = λ e text p q.
+        let h = aligned pace loss seed horizon jitter plan (Err e) (Ok text) p q in
+        (text_decided pace loss h.0 plan.setup.timing h.1 (length plan.inputs.rows) seed horizon).not_both e text h.2 h.3;
+  }
+
+  unless_decided : (asked : Bool) (V : Verdict (List ℕ) CommandFault) → HasOneKind kind V → HasOneKind kind (unless_asked asked V)
+  unless_decided true V one = record {
+    one_kind = λ e f p q. ap (λ (r : Result (List ℕ) CommandFault). kind (error_in r)) (sym p ∙ q);
+    not_both = λ e text p q. (let same = sym p ∙ q in cc);
+  }
+  unless_decided false V one = record { one_kind = one.one_kind; not_both = one.not_both }
+
+  plan_decided : (loss seed horizon : ℕ) (jitter : Option ℕ) (plan : Plan) → HasOneKind kind (plan_schedule_verdict loss seed horizon jitter plan)
+  unfolding plan_schedule_verdict
+  plan_decided loss seed horizon jitter plan = unless_decided (asks_losses plan.setup.pace loss) (paced_verdict plan.setup.pace loss seed horizon jitter plan) (paced_decided plan.setup.pace loss seed horizon jitter plan)
+
+  pub schedule_decided : TellsLimits kind → MergesPlaces kind → MergesTimings kind → (named : List ℕ → Option (List ℕ)) (program inputs config : List ℕ) (loss seed horizon : ℕ) (jitter : Option ℕ) → HasOneKind kind (schedule_verdict named program inputs config loss seed horizon jitter)
   unfolding schedule_verdict
-  schedule_decided along places timings named program inputs config seed horizon jitter =
-      and_then kind (load_verdict named program inputs (Some config)) _ (load_decided kind along places timings named program inputs (Some config)) (λ plan. plan_decided seed horizon jitter plan)
+  schedule_decided along places timings named program inputs config loss seed horizon jitter =
+      and_then kind (load_verdict named program inputs (Some config)) _ (load_decided kind along places timings named program inputs (Some config)) (λ plan. plan_decided loss seed horizon jitter plan)

@@ -1,3 +1,4 @@
+pub mod Losses
 pub mod Scheduled
 pub mod Stage
 pub mod Laws

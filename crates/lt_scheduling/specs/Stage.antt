@@ -1,31 +1,38 @@
 -- The schedule of what was loaded.
-use Rattle.std.specs.Prelude.{◌≡◌, ℕ, List, length, Option, Err}
+use Rattle.std.specs.Prelude.{ℕ, List, length, Option, Result, Ok, Err}
+use Rattle.lt_base.specs.declared.memory.Or.{Or}
+use Rattle.lt_base.specs.declared.memory.Or.TheVariants.{Fault, Memory}
 use Rattle.lt_arch.specs.declared.pace.Pace.{Pace}
-use Rattle.lt_arch.specs.declared.pace.Pace.TheVariants.{Plain, Lossy, Leader}
 use Rattle.lt_arch.specs.declared.timing.Timing.{Timing}
 use Rattle.lt_answer.specs.Answered.{Verdict}
-use Rattle.lt_answer.specs.Rules.{Exactly, Shown}
 use Rattle.lt_load_fit.specs.declared.fault.CommandFault.{CommandFault}
 use Rattle.lt_load.specs.Plan.{LoadedPlan}
-use Rattle.lt_text_answers.specs.Draws.{Drawing, ShowsDrawing, drawing}
-use Rattle.lt_text_answers.specs.Texts.{drawing_text}
-use Rattle.lt_scheduling.specs.Scheduled.{IsDrawnBy, losses_fault}
+use Rattle.lt_sim.specs.declared.fault.SimFault.{SimFault}
+use Rattle.lt_sim.specs.declared.fault.SimFault.TheVariants.{Write, TooMany}
+use Rattle.lt_text_answers.specs.Draws.{too_many_rows}
+use Rattle.lt_scheduling.specs.Scheduled.{IsDrawnBy, asks_losses, text_by_pace, unless_asked}
 
--- what the seed draws by this timing, which the timing of what was loaded shows
-abbrev pub drawn_timed_verdict : (seed horizon : ℕ) → LoadedPlan → (narrow : Timing) → Verdict Drawing CommandFault
-drawn_timed_verdict seed horizon k narrow outcome =
-    (drawing k.shape narrow (length k.inputs.rows) seed horizon ≡ outcome) × ShowsDrawing k.shape k.timing (length k.inputs.rows) horizon outcome
+-- the text of what the seed draws by a timing
+abbrev pub drawn_by_verdict : Pace → (loss seed horizon : ℕ) → LoadedPlan → (narrow : Timing) → Verdict (List ℕ) CommandFault
+drawn_by_verdict pace loss seed horizon k narrow = text_by_pace pace loss k.shape k.timing narrow (length k.inputs.rows) seed horizon
 
 -- and by some timing with this jitter
-abbrev pub jittered_verdict : (seed horizon : ℕ) (jitter : Option ℕ) → LoadedPlan → Verdict Drawing CommandFault
-jittered_verdict seed horizon jitter k outcome = (narrow : Timing) × IsDrawnBy jitter k.timing narrow × drawn_timed_verdict seed horizon k narrow outcome
-
--- by the pace of what was loaded
-abbrev pub drawn_by_pace : Pace → (seed horizon : ℕ) (jitter : Option ℕ) → LoadedPlan → Verdict Drawing CommandFault
-drawn_by_pace Plain seed horizon jitter k = jittered_verdict seed horizon jitter k
-drawn_by_pace (Lossy losses) seed horizon jitter k = Exactly (Err losses_fault)
-drawn_by_pace (Leader leader) seed horizon jitter k = jittered_verdict seed horizon jitter k
+abbrev pub jittered_verdict : (loss seed horizon : ℕ) (jitter : Option ℕ) → LoadedPlan → Verdict (List ℕ) CommandFault
+jittered_verdict loss seed horizon jitter k outcome = (narrow : Timing) × IsDrawnBy jitter k.timing narrow × drawn_by_verdict k.pace loss seed horizon k narrow outcome
 
 -- the text of the schedule of what was loaded
-abbrev pub loaded_schedule_verdict : (seed horizon : ℕ) (jitter : Option ℕ) → LoadedPlan → Verdict (List ℕ) CommandFault
-loaded_schedule_verdict seed horizon jitter k = Shown drawing_text (drawn_by_pace k.pace seed horizon jitter k)
+abbrev pub loaded_schedule_verdict : (loss seed horizon : ℕ) (jitter : Option ℕ) → LoadedPlan → Verdict (List ℕ) CommandFault
+loaded_schedule_verdict loss seed horizon jitter k = unless_asked (asks_losses k.pace loss) (jittered_verdict loss seed horizon jitter k)
+
+-- a list was recorded without a failure of the sink
+abbrev pub IsUnbroken : Result ℕ (Or SimFault) → Type 0
+IsUnbroken (Ok count) = Unit {0}
+IsUnbroken (Err (Fault Write)) = ⊥
+IsUnbroken (Err (Fault TooMany)) = Unit {0}
+IsUnbroken (Err Memory) = Unit {0}
+
+-- then these bytes that the sink took are the answer, or the refusal of the first row past the limit
+abbrev pub recorded_text : (recorded : Result ℕ (Or SimFault)) → (taken : List ℕ) → Result (List ℕ) (Or CommandFault)
+recorded_text (Ok count) taken = Ok taken
+recorded_text (Err (Fault fault)) taken = Err (Fault too_many_rows)
+recorded_text (Err Memory) taken = Err Memory

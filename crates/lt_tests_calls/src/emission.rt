@@ -17,6 +17,7 @@ lttac emit --header --header p c all
 lttac emit --header=true p c all
 lttac schedule p i c --seed 0
 lttac schedule p i c --seed 0 --horizon 7 --jitter 1001
+lttac schedule p i c --seed 0 --horizon 7 --loss 1001
 lttac draw p i s
 lttac draw p i s c --width 399
 lttac draw p i s c --to 1000000000000001
@@ -28,7 +29,7 @@ lttac plot p i --from 4294967296
 ";
 
 const USAGE: &str =
-    "words: usage: lttac emit [--header] P C NODE | schedule P I C --seed N --horizon H [--jitter J] | draw P I S C [--node NAME] [--from T] [--to T] [--width W] | plot P I [S C] [--observer O] [--from K] [--to K] [--width W]/";
+    "words: usage: lttac emit [--header] P C NODE | schedule P I C --seed N --horizon H [--jitter J] [--loss R] | draw P I S C [--node NAME] [--from T] [--to T] [--width W] | plot P I [S C] [--observer O] [--from K] [--to K] [--width W]/";
 
 const OUTSIDE: &str = "\
 - what is to be printed is written by one call, which fails with nothing written
@@ -110,10 +111,14 @@ c protocol = 'leader'/leader = 'a'/period = [9, 11]/delay = [1, 4]/send = 5/exec
 c protocol = 'backpressure'/period = [3, 3]/delay = [0, 0]/[nodes]/a = ['x', 'u']/b = ['v']/
 > lttac schedule p i c --seed 0 --horizon 7
 0 time,event,place/0,act,b/0,ack,b>a/3,act,a/3,act,b/3,ack,a>b/6,act,a/6,act,b/6,data,a>b/6,data,b>a/7,end,/
-- links that lose messages
-c protocol = 'lossy'/losses = 1/period = [9, 11]/delay = [1, 4]/[nodes]/a = ['x', 'u']/b = ['v']/
-> lttac schedule p i c --seed 1 --horizon 100
+> lttac schedule p i c --seed 0 --horizon 7 --loss 1
 3 config 5 OutOfRange: losses/
+- links that lose one message in a row: none is lost, and some are
+c protocol = 'lossy'/losses = 1/period = [9, 11]/delay = [1, 4]/[nodes]/a = ['x', 'u']/b = ['v']/
+> lttac schedule p i c --seed 1 --horizon 30
+0 time,event,place/5,act,a/7,act,b/8,ack,b>a/9,ack,a>b/14,act,a/16,act,b/16,ack,a>b/17,data,a>b/17,data,b>a/19,ack,b>a/23,act,a/24,data,a>b/26,act,b/26,ack,a>b/27,data,b>a/30,ack,b>a/30,end,/
+> lttac schedule p i c --seed 1 --horizon 45 --loss 500
+0 time,event,place/5,act,a/7,act,b/8,loseack,b>a/9,ack,a>b/14,act,a/16,act,b/17,ack,a>b/17,ack,b>a/19,data,b>a/23,act,a/25,act,b/25,losedata,a>b/26,ack,a>b/26,ack,b>a/28,losedata,b>a/32,act,a/34,act,b/35,data,b>a/36,data,a>b/36,ack,a>b/37,ack,b>a/42,act,a/43,ack,a>b/44,data,a>b/45,act,b/45,end,/
 ";
 
 // Each of these words has to be refused by the usage line.

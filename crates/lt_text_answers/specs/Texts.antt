@@ -58,7 +58,7 @@ no_node_line name = codes "words: no node " ++ name
 abbrev pub refusal_line : Refusal → List ℕ
 refusal_line Words =
     codes "words: usage: ltta check P [C] | meaning P I | run P I S [C] | plan C [--horizon H] | sim P I C --seed N --horizon H | big N | watch P I S O [C] | audit P I S C | trace P I S C [--node NAME] [--from T] [--to T]"
-refusal_line LttacWords = codes "words: usage: lttac emit [--header] P C NODE | schedule P I C --seed N --horizon H [--jitter J] | draw P I S C [--node NAME] [--from T] [--to T] [--width W] | plot P I [S C] [--observer O] [--from K] [--to K] [--width W]"
+refusal_line LttacWords = codes "words: usage: lttac emit [--header] P C NODE | schedule P I C --seed N --horizon H [--jitter J] [--loss R] | draw P I S C [--node NAME] [--from T] [--to T] [--width W] | plot P I [S C] [--observer O] [--from K] [--to K] [--width W]"
 refusal_line (NoNode name) = no_node_line name
 refusal_line (Command f) = fault_line f
 refusal_line (Observer f) = observer_line f

@@ -126,7 +126,7 @@ fn append_refusal(alloc: Global, line: &mut List<u8>, refusal: &Refusal) -> Resu
             )
         }
         Refusal::LttacWords => line.extend(
-            b"words: usage: lttac emit [--header] P C NODE | schedule P I C --seed N --horizon H [--jitter J] | draw P I S C [--node NAME] [--from T] [--to T] [--width W] | plot P I [S C] [--observer O] [--from K] [--to K] [--width W]",
+            b"words: usage: lttac emit [--header] P C NODE | schedule P I C --seed N --horizon H [--jitter J] [--loss R] | draw P I S C [--node NAME] [--from T] [--to T] [--width W] | plot P I [S C] [--observer O] [--from K] [--to K] [--width W]",
         ),
         Refusal::NoNode(name) => append_no_node(line, name),
         Refusal::Command(fault) => append_fault(alloc, line, fault),

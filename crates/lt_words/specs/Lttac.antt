@@ -14,8 +14,14 @@ emit_app = with_rule (with_rule (with_rule (with_rule (new_app (codes "emit")) (
 abbrev pub whole_jitter : ℕ
 whole_jitter = 1000
 
+-- the greatest loss, in thousandths of messages
+abbrev pub whole_loss : ℕ
+whole_loss = 1000
+
 abbrev pub schedule_app : App
-schedule_app = with_rule (with_rule (with_rule (placed_app (codes "schedule")) (needed_number_rule (codes "seed") greatest_seed)) (needed_number_rule (codes "horizon") greatest_time)) (number_rule (codes "jitter") whole_jitter)
+schedule_app =
+    with_rule (with_rule (with_rule (with_rule (placed_app (codes "schedule")) (needed_number_rule (codes "seed") greatest_seed)) (needed_number_rule (codes "horizon") greatest_time)) (number_rule (codes "jitter") whole_jitter))
+    (number_rule (codes "loss") whole_loss)
 
 -- the least and the greatest width of a picture
 abbrev pub least_width : ℕ
@@ -46,7 +52,8 @@ lttac_app = with_subcommand (with_subcommand (with_subcommand (with_subcommand (
 pub data LttacSaid : Type 0 where
   -- whether the header alone is wanted, the two files, and the name of the node
   emit : (header : Bool) → (program config node : Text) → LttacSaid
-  schedule : (program inputs config : Text) → (seed horizon : ℕ) → (jitter : Option ℕ) → LttacSaid
+  -- the files, which schedule, the tick at which it ends, of how much of their intervals periods are drawn, and how many messages are lost
+  schedule : (program inputs config : Text) → (seed horizon : ℕ) → (jitter loss : Option ℕ) → LttacSaid
   -- the files, the node that is drawn alone, the first and the last tick, and the width
   draw : (program inputs events config : Text) → (node : Option Text) → (from to width : Option ℕ) → LttacSaid
   -- the files, of these the schedule and the setup together, the first and the last instant, and the width
@@ -54,14 +61,14 @@ pub data LttacSaid : Type 0 where
 
 abbrev pub lttac_said_of : LttacCommand → LttacSaid
 lttac_said_of (Emit header program config node) = emit header program.now config.now node.now
-lttac_said_of (Schedule program inputs config seed horizon jitter) = schedule program.now inputs.now config.now seed horizon jitter
+lttac_said_of (Schedule program inputs config seed horizon jitter loss) = schedule program.now inputs.now config.now seed horizon jitter loss
 lttac_said_of (Draw program inputs events config node from to width) = draw program.now inputs.now events.now config.now (option_map (λ s. s.now) node) from to width
 lttac_said_of (Plot program inputs along observer from to width) = plot program.now inputs.now (option_map (λ p. (p.0.now, p.1.now)) along) (option_map (λ s. s.now) observer) from to width
 
--- a horizon and a tick are up to the greatest time, a jitter and a width up to the greatest one
+-- a horizon and a tick are up to the greatest time, a jitter, a loss and a width up to the greatest one
 abbrev pub HasLttacRanges : LttacCommand → Type 0
 HasLttacRanges (Emit header program config node) = Unit {0}
-HasLttacRanges (Schedule program inputs config seed horizon jitter) = (horizon ≤ greatest_time) × IfSome jitter (λ part. part ≤ whole_jitter)
+HasLttacRanges (Schedule program inputs config seed horizon jitter loss) = (horizon ≤ greatest_time) × IfSome jitter (λ part. part ≤ whole_jitter) × IfSome loss (λ rate. rate ≤ whole_loss)
 HasLttacRanges (Draw program inputs events config place from to width) = IfSome from (λ tick. tick ≤ greatest_time) × IfSome to (λ tick. tick ≤ greatest_time) × IfSome width (λ wide. wide ≤ most_width)
 HasLttacRanges (Plot program inputs along observer from to width) = IfSome width (λ wide. wide ≤ most_width)
 
@@ -74,7 +81,7 @@ abbrev pub lttac_said_by : (name : Text) → List Row → LttacSaid
 lttac_said_by name rows =
     if bytes_eq name (codes "emit") then emit (flag_at (codes "header") rows) (text_at (codes "program") rows) (text_at (codes "config") rows) (text_at (codes "node") rows)
     else if bytes_eq name (codes "schedule") then schedule (text_at (codes "program") rows) (text_at (codes "inputs") rows) (text_at (codes "config") rows) (unwrap_or (number_at (codes "seed") greatest_seed rows) 0) (unwrap_or (number_at (codes "horizon") greatest_time rows) 0)
-    (number_at (codes "jitter") whole_jitter rows)
+    (number_at (codes "jitter") whole_jitter rows) (number_at (codes "loss") whole_loss rows)
     else if bytes_eq name (codes "draw") then draw (text_at (codes "program") rows) (text_at (codes "inputs") rows) (text_at (codes "schedule") rows) (text_at (codes "config") rows) (first_of (codes "node") rows)
     (number_at (codes "from") greatest_time rows) (number_at (codes "to") greatest_time rows) (number_at (codes "width") most_width rows)
     else plot (text_at (codes "program") rows) (text_at (codes "inputs") rows) (both_at (codes "along") rows) (first_of (codes "observer") rows)

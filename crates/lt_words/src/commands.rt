@@ -18,6 +18,9 @@ use std::alloc::Global;
 /// The greatest jitter, which leaves the whole of an interval.
 pub(crate) const WHOLE_JITTER: u64 = 1_000;
 
+/// The greatest loss, by which each message is lost that may be lost.
+pub(crate) const WHOLE_LOSS: u64 = 1_000;
+
 // The least width of a picture.
 const LEAST_WIDTH: u64 = 400;
 
@@ -112,7 +115,8 @@ fn schedule<'a>(alloc: Global) -> Result<Command<'a>, Memory>
         needed_number(alloc, "seed", u64::MAX),
     );
     let command = with_argument(command, needed_number(alloc, "horizon", GREATEST_TIME));
-    with_argument(command, number(alloc, "jitter", WHOLE_JITTER))
+    let command = with_argument(command, number(alloc, "jitter", WHOLE_JITTER));
+    with_argument(command, number(alloc, "loss", WHOLE_LOSS))
 }
 
 fn big<'a>(alloc: Global) -> Result<Command<'a>, Memory>

@@ -10,8 +10,8 @@ pub enum LttacCommand<'a> {
         config: &'a str,
         node: &'a str,
     },
-    /// Print a schedule of a program on these inputs in a setup, with a leader or without, drawn from a seed up to a horizon in ticks; with a
-    /// jitter, periods are drawn from so many thousandths of their intervals.
+    /// Print a schedule of a program on these inputs in a setup, drawn from a seed up to a horizon in ticks; with a jitter, periods are drawn from so
+    /// many thousandths of their intervals, and with a loss so many of a thousand messages are lost where links may lose them.
     Schedule {
         program: &'a str,
         inputs: &'a str,
@@ -19,6 +19,7 @@ pub enum LttacCommand<'a> {
         seed: u64,
         horizon: u64,
         jitter: Option<u64>,
+        loss: Option<u64>,
     },
     /// Print a picture of a schedule: its activations and messages, those of one node alone where it is named, between two ticks.
     Draw {

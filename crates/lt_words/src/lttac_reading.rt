@@ -6,7 +6,7 @@ ghost use Rattle.lt_words.specs.Lttac.{lttac_app, lttac_said_of, lttac_said_by, 
 ghost use Rattle.lt_words.specs.Told.{ToldLttac};
 
 use crate::LttacCommand;
-use crate::commands::{LAST_INSTANT, MOST_WIDTH, WHOLE_JITTER, second_program};
+use crate::commands::{LAST_INSTANT, MOST_WIDTH, WHOLE_JITTER, WHOLE_LOSS, second_program};
 use crate::reading::{both_at, number_at, refuse_words, small_number_at, text_at, text_or_empty};
 use clap::{ArgMatches, Command};
 use lt_base::Memory;
@@ -41,6 +41,7 @@ fn schedule<'a>(matches: &ArgMatches<'a>) -> LttacCommand<'a>
         seed: number_at(matches, "seed", u64::MAX).unwrap_or(0),
         horizon: number_at(matches, "horizon", GREATEST_TIME).unwrap_or(0),
         jitter: number_at(matches, "jitter", WHOLE_JITTER),
+        loss: number_at(matches, "loss", WHOLE_LOSS),
     }
 }
 

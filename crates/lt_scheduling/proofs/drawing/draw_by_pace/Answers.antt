@@ -1,7 +1,10 @@
 use Rattle.lt_scheduling.proofs.drawing.draw_by_pace.Goals as goal
 
 pub returns-in-Plain : goal.returns-in-Plain
-returns-in-Plain c = rw c.in-Plain.is c.draw_jittered.ensures
+returns-in-Plain c = rw c.in-Plain.is c.draw_arriving.ensures
+
+pub returns-in-Lossy : goal.returns-in-Lossy
+returns-in-Lossy c = rw c.in-Lossy.is c.draw_losing.ensures
 
 pub returns-in-Leader : goal.returns-in-Leader
-returns-in-Leader c = rw c.in-Leader.is c.draw_jittered-in-Leader.ensures
+returns-in-Leader c = rw c.in-Leader.is c.draw_arriving-in-Leader.ensures

@@ -12,4 +12,4 @@ draw_by-text-requires-clause-within c =
 pub returns : goal.returns
 returns c =
     let k : LoadedPlan = record { checked = c.loaded.inside.checked; layout = c.loaded.inside.layout; shape = c.loaded.inside.shape; timing = c.loaded.inside.timing; inputs = c.loaded.inside.inputs; pace = c.loaded.inside.pace } in
-    jittered c.args.seed c.args.horizon (Some c.args.part) c.args.loaded.now c.in_ok-timing.timing c.draw_by-text.result (subst (λ (p : LoadedPlan). IsNarrowed c.args.part p.timing c.in_ok-timing.timing) c.loaded.view_is c.in_ok-timing.ensures) c.draw_by-text.ensures
+    jittered c.args.loss c.args.seed c.args.horizon (Some c.args.part) c.args.loaded.now c.in_ok-timing.timing c.draw_by-text.result (subst (λ (p : LoadedPlan). IsNarrowed c.args.part p.timing c.in_ok-timing.timing) c.loaded.view_is c.in_ok-timing.ensures) c.draw_by-text.ensures

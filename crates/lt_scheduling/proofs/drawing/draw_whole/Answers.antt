@@ -12,4 +12,4 @@ draw_by-requires-clause-within c =
 pub returns : goal.returns
 returns c =
     let k : LoadedPlan = record { checked = c.loaded.inside.checked; layout = c.loaded.inside.layout; shape = c.loaded.inside.shape; timing = c.loaded.inside.timing; inputs = c.loaded.inside.inputs; pace = c.loaded.inside.pace } in
-    jittered c.args.seed c.args.horizon None c.args.loaded.now k.timing c.draw_by.result (ap (λ (p : LoadedPlan). p.timing) c.loaded.view_is) c.draw_by.ensures
+    jittered c.args.loss c.args.seed c.args.horizon None c.args.loaded.now k.timing c.draw_by.result (ap (λ (p : LoadedPlan). p.timing) c.loaded.view_is) c.draw_by.ensures

@@ -1,9 +1,7 @@
--- At most one schedule is right, or all right refusals are of one kind.
-use Rattle.std.proofs.Common.{◌≡◌, ◌≤◌, ◌<◌, ◌^◌, ◌∙◌, ℕ, List, length, Option, Some, None, Result, Ok, Err, sym, ap, subst, get_or}
+-- A timing is drawn by in one way: timings with the same numbers are equal.
+use Rattle.std.proofs.Common.{◌≡◌, ◌≤◌, ◌<◌, ◌^◌, ◌∙◌, ℕ, List, length, Option, Some, None, sym, ap, subst, get_or}
 use Rattle.std.proofs.lemmas.List.{ext_get_or}
 use Rattle.lt_arch.specs.declared.limits.TheConstants.{GREATEST_BOUND, GREATEST_COUNTDOWN}
-use Rattle.lt_arch.specs.declared.pace.Pace.{Pace}
-use Rattle.lt_arch.specs.declared.pace.Pace.TheVariants.{Plain, Lossy, Leader}
 use Rattle.lt_arch.specs.declared.times.NodeTime.{NodeTime}
 use Rattle.lt_arch.specs.declared.times.PairTime.{PairTime}
 use Rattle.lt_arch.specs.declared.timing.Timing.{Timing}
@@ -11,22 +9,8 @@ use Rattle.lt_arch.specs.declared.timing.Protocol.{Protocol}
 use Rattle.lt_arch.specs.Pairs.{ends_of, ordered_pairs, HasNoneAbove}
 use Rattle.lt_arch.specs.Readers.{no_time, tmin_of, tmax_of, send_of, execute_of}
 use Rattle.lt_narrow.specs.Narrow.{IsNarrowed}
-use Rattle.lt_front.specs.Flattened.{flat_of}
-use Rattle.lt_answer.specs.Rules.{Shown}
-use Rattle.lt_answer.proofs.Decided.{HasOneKind, and_then}
-use Rattle.lt_load_fit.specs.declared.fault.CommandFault.{CommandFault}
-use Rattle.lt_load.specs.Plan.{Plan, load_verdict}
-use Rattle.lt_load.proofs.OneCheck.{MergesPlaces, MergesTimings}
-use Rattle.lt_load.proofs.OneLoad.{TellsLimits}
-use Rattle.lt_load.proofs.OnePlan.{load_decided}
-use Rattle.lt_load.proofs.OneShape.{one_shape}
-use Rattle.lt_text_answers.specs.Draws.{too_many_rows}
 use Rattle.lt_scheduling.specs.Scheduled.{IsDrawnBy}
-use Rattle.lt_lossy_scheduling.specs.Losses.{LossyListing, listing_text, lossy_listing}
-use Rattle.lt_lossy_scheduling.specs.Lost.{lost_verdict, plan_lost_verdict, lossy_schedule_verdict, lost_verdict_by}
 use denote.Struct.Props.{props}
-
--- Timings with the same numbers are equal.
 
 record TimeNumbers : Type 0 where
   tmin : ℕ
@@ -89,37 +73,6 @@ one_narrowed jitter own a b h g =
     same_time (get_or a.nodes n no_time) (get_or b.nodes n no_time) (h.least n within ∙ sym (g.least n within)) (h.greatest n within ∙ sym (g.greatest n within)) (h.send n within ∙ sym (g.send n within)) (h.execute n within ∙ sym (g.execute n within))))
     (h.pairs ∙ sym g.pairs) (h.most ∙ sym g.most) (h.protocol ∙ sym g.protocol)
 
-one_by : (jitter : Option ℕ) (own a b : Timing) → IsDrawnBy jitter own a → IsDrawnBy jitter own b → a ≡ b
+pub one_by : (jitter : Option ℕ) (own a b : Timing) → IsDrawnBy jitter own a → IsDrawnBy jitter own b → a ≡ b
 one_by None own a b h g = h ∙ sym g
 one_by (Some jitter) own a b h g = one_narrowed jitter own a b h g
-
--- So one schedule is drawn.
-
-one_paced : (limit rate seed horizon : ℕ) (jitter : Option ℕ) (plan : Plan) (r r' : Result LossyListing CommandFault) → lost_verdict limit rate seed horizon jitter plan r → lost_verdict limit rate seed horizon jitter plan r' → r ≡ r'
-one_paced limit rate seed horizon jitter plan r r' (l, s, narrow, laid, by, is, shows) (m, z, tight, other, also, it, too) =
-    let shape : z ≡ s = one_shape (flat_of plan.checked.program) plan.setup.placement m l other.layout laid.layout plan.setup.pace plan.setup.timing z s other.shape laid.shape in
-    let timing : tight ≡ narrow = one_by jitter plan.setup.timing tight narrow also by in
-    sym is ∙ (λ i. lossy_listing (sym shape i) (sym timing i) limit (length plan.inputs.rows) rate seed horizon) ∙ it
-
-one_drawing : (pace : Pace) (rate seed horizon : ℕ) (jitter : Option ℕ) (plan : Plan) (r r' : Result LossyListing CommandFault) → lost_verdict_by pace rate seed horizon jitter plan r → lost_verdict_by pace rate seed horizon jitter plan r' → r ≡ r'
-one_drawing Plain rate seed horizon jitter plan r r' p q = sym p ∙ q
-one_drawing (Lossy limit) rate seed horizon jitter plan r r' p q = one_paced limit rate seed horizon jitter plan r r' p q
-one_drawing (Leader leader) rate seed horizon jitter plan r r' p q = sym p ∙ q
-
--- the fault of an outcome
-abbrev error_in : Result LossyListing CommandFault → CommandFault
-error_in (Ok d) = too_many_rows
-error_in (Err e) = e
-
-module _ {K : Type 0} (kind : CommandFault → K) where
-  plan_decided : (rate seed horizon : ℕ) (jitter : Option ℕ) (plan : Plan) → HasOneKind kind (Shown listing_text (plan_lost_verdict rate seed horizon jitter plan))
-  unfolding plan_lost_verdict
-  plan_decided rate seed horizon jitter plan = record {
-    one_kind = λ e f p q. ap (λ (r : Result LossyListing CommandFault). kind (error_in r)) (one_drawing plan.setup.pace rate seed horizon jitter plan (Err e) (Err f) p q);
-    not_both = λ e text p q. (let same = one_drawing plan.setup.pace rate seed horizon jitter plan (Err e) (Ok q.0) p q.1 in cc);
-  }
-
-  pub lossy_schedule_decided : TellsLimits kind → MergesPlaces kind → MergesTimings kind → (named : List ℕ → Option (List ℕ)) (program inputs config : List ℕ) (rate seed horizon : ℕ) (jitter : Option ℕ) → HasOneKind kind (lossy_schedule_verdict named program inputs config rate seed horizon jitter)
-  unfolding lossy_schedule_verdict
-  lossy_schedule_decided along places timings named program inputs config rate seed horizon jitter =
-      and_then kind (load_verdict named program inputs (Some config)) _ (load_decided kind along places timings named program inputs (Some config)) (λ plan. plan_decided rate seed horizon jitter plan)

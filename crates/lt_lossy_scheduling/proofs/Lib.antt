@@ -1,4 +1,0 @@
-pub mod Drawn
-pub mod Paced
-pub mod Loaded
-pub mod OneSchedule

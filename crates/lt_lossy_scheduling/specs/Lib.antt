@@ -1,3 +1,0 @@
-pub mod Losses
-pub mod Lost
-pub mod LostStage
