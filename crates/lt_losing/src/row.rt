@@ -38,8 +38,8 @@ pub fn put_row<O: Sink>(
     write_full(alloc, page, sink)
 }
 
-// Appends the event's row with its line feed. An error leaves a part of it appended.
-fn extend_lossy_event(rows: &mut List<u8>, e: &LossyEvent, shape: &Shape) -> Result<(), Memory>
+/// Appends the event's row with its line feed. An error leaves a part of it appended.
+pub fn extend_lossy_event(rows: &mut List<u8>, e: &LossyEvent, shape: &Shape) -> Result<(), Memory>
     requires { IsLossyEventOf shape.now e.now }
     ensures { OnOk result (rows.new ≡ rows.old ++ (lossy_event_text shape.now e.now ++ 10 ∷ [])) }
 {
