@@ -24,6 +24,7 @@ use Rattle.lt_schedule.specs.Rules.{Rules, file_judged_by}
 use Rattle.lt_load_fit.specs.declared.fault.CommandFault.{CommandFault}
 use Rattle.lt_load_fit.specs.declared.fault.CommandFault.TheVariants as fault
 use Rattle.lt_load.specs.Blamed.{command_blame}
+use Rattle.lt_tape.specs.declared.asked.Asked.{Asked}
 use Rattle.lt_course.specs.declared.course.Course.{Course}
 use Rattle.lt_course.specs.declared.course.Stopped.{Stopped}
 use Rattle.lt_course.specs.Courses.{CourseBy, IsCourseOf, course_or_fault, course_verdict, drawing_rules, halted_course, or_course, stopped_course}
@@ -32,32 +33,32 @@ use Rattle.lt_course.specs.Reading.{VisitsUnlessRead}
 keeps_alone : (a b : FilesState) → KeepsNames a b → KeepsWorld (alone a) (alone b)
 keeps_alone a b keeps = record { files = keeps; fabric = (keeps_itself (alone a)).fabric; steady = λ sound. refl }
 
-module _ (cross : List Crossing) (s : Shape) (t : Timing) (rows : ℕ) where
+module _ (asked : Asked) (cross : List Crossing) (s : Shape) (t : Timing) (rows : ℕ) where
   abbrev rules : Rules Event Stopped
-  rules = drawing_rules cross s t rows
+  rules = drawing_rules asked cross s t rows
 
   module _ (file : Option (List ℕ)) (bytes : List ℕ) (is : file ≡ Some bytes) where
-    on_bytes : (read : Result (List Event) (ScheduleRefusal Stopped)) (o : Result Course CommandFault) → file_judged_by rules bytes ≡ read → CourseBy cross s t rows read o → course_verdict cross s t rows file o
+    on_bytes : (read : Result (List Event) (ScheduleRefusal Stopped)) (o : Result Course CommandFault) → file_judged_by rules bytes ≡ read → CourseBy asked cross s t rows read o → course_verdict asked cross s t rows file o
     unfolding course_verdict
     on_bytes read o reads right =
-        subst (λ (f : Option (List ℕ)). OfFile fault.Read f (λ bytes outcome. CourseBy cross s t rows (file_judged_by rules bytes) outcome) o) (sym is)
-        (subst (λ (r : Result (List Event) (ScheduleRefusal Stopped)). CourseBy cross s t rows r o) (sym reads) right)
+        subst (λ (f : Option (List ℕ)). OfFile fault.Read f (λ bytes outcome. CourseBy asked cross s t rows (file_judged_by rules bytes) outcome) o) (sym is)
+        (subst (λ (r : Result (List Event) (ScheduleRefusal Stopped)). CourseBy asked cross s t rows r o) (sym reads) right)
 
-    refused_by : (refused : ScheduleRefusal Stopped) (o : Result Course CommandFault) → file_judged_by rules bytes ≡ Err refused → course_or_fault refused ≡ o → course_verdict cross s t rows file o
+    refused_by : (refused : ScheduleRefusal Stopped) (o : Result Course CommandFault) → file_judged_by rules bytes ≡ Err refused → course_or_fault refused ≡ o → course_verdict asked cross s t rows file o
     refused_by refused o reads same = on_bytes (Err refused) o reads same
 
-  missing : (before now : ℕ) (file : Option (List ℕ)) → (IsSome file → now ≡ before) → before < now → RefusesReading command_blame (course_verdict cross s t rows file)
+  missing : (before now : ℕ) (file : Option (List ℕ)) → (IsSome file → now ≡ before) → before < now → RefusesReading command_blame (course_verdict asked cross s t rows file)
   unfolding course_verdict
   missing before now None found rose = (fault.Read, refl, refl)
   missing before now (Some bytes) found rose = absurd (omega (arith, found refl, rose))
 
   module _ (old new : FilesState) (name : List ℕ) (keeps : KeepsNames old new) where
     abbrev Right : Verdict Course CommandFault
-    Right = course_verdict cross s t rows (old.named name)
+    Right = course_verdict asked cross s t rows (old.named name)
 
     -- all rows were taken
     module _ (P : List Event → Type 0) (visits : Visited (schedule_errand name) old.visits new.visits true) (calm : new.faults ≡ old.faults) where
-      pub took_all : (steps : ℕ) × TakesFile rules P old.told (old.named name) → (c : Course) → ((es : List Event) → P es → IsCourseOf cross s t rows es c) → Answered command_blame (schedule_errand name) Right (alone old) (alone new) (Ok c)
+      pub took_all : (steps : ℕ) × TakesFile rules P old.told (old.named name) → (c : Course) → ((es : List Event) → P es → IsCourseOf asked cross s t rows es c) → Answered command_blame (schedule_errand name) Right (alone old) (alone new) (Ok c)
       took_all takes c right = record {
         keeps = keeps_alone old new keeps;
         visits = visits;

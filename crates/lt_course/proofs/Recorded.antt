@@ -1,17 +1,15 @@
 -- A recorder after one event more, and at an offence.
-use Rattle.std.proofs.Common.{◌≡◌, ◌∙◌, ℕ, ◌+◌, ◌-◌, ◌^◌, ◌<◌, ◌≤◌, min, List, [], ◌∷◌, ◌++◌, length, All, Option, Some, None, Result, Ok, Err, refl, sym, ap, subst, arith, length-append}
+use Rattle.std.proofs.Common.{◌≡◌, ◌∙◌, ℕ, ◌+◌, ◌-◌, ◌^◌, ◌<◌, ◌≤◌, min, List, [], ◌∷◌, ◌++◌, length, Option, Some, None, Result, Ok, Err, refl, sym, ap, subst, arith, length-append}
 use Rattle.std.specs.Prelude.{IfErr, OnOk, option_map}
-use Rattle.std.proofs.lemmas.List.Elements.{All-push}
 use Rattle.lt_arch.specs.declared.event.Deed.{Deed}
 use Rattle.lt_arch.specs.declared.event.Event.{Event}
-use Rattle.lt_arch.specs.declared.event.Event.TheVariants.{Act, Del, End}
 use Rattle.lt_arch.specs.declared.event.Offence.{Offence}
 use Rattle.lt_arch.specs.declared.event.Offence.TheVariants.{AfterEnd, Backwards, NodeOverdue, ChannelOverdue, TooSoon, NothingSent, TooEarly, NoEnd}
 use Rattle.lt_arch.specs.declared.limits.TheConstants.{GREATEST_TIME}
 use Rattle.lt_arch.specs.declared.shape.Shape.{Shape}
 use Rattle.lt_arch.specs.declared.timing.Timing.{Timing}
 use Rattle.lt_arch.specs.State.{ChanState, State, start}
-use Rattle.lt_arch.specs.Readers.{chan_count}
+use Rattle.lt_arch.specs.Readers.{chan_count, node_count}
 use Rattle.lt_arch.specs.Schedule.{IsEventOf, reached}
 use Rattle.lt_arch.specs.Shapes.{HaveSameNodes}
 use Rattle.lt_arch.specs.Step.{offence_of, time_of}
@@ -22,55 +20,70 @@ use Rattle.lt_audit.specs.declared.miss.Miss.{Miss}
 use Rattle.lt_audit.specs.Audit.{AuditState, chan_at}
 use Rattle.lt_audit.specs.Acts.{next_number}
 use Rattle.lt_audit.specs.Standing.{AuditStands, KnowsDeed}
+use Rattle.lt_audit.proofs.Longer.{after_push}
 use Rattle.lt_audit.proofs.Seen.{chan_seen}
 use Rattle.lt_diagram.specs.declared.picture.Arrow.{Arrow}
 use Rattle.lt_course.specs.declared.course.RefusedEvent.{RefusedEvent}
 use Rattle.lt_course.specs.declared.course.Stopped.{Stopped}
-use Rattle.lt_course.specs.declared.stroke.Stroke.{Stroke}
-use Rattle.lt_course.specs.Courses.{drawing_rules, last_for, oldest_for, refused_by, stopped_at}
-use Rattle.lt_course.specs.Lasts.{last_mark, last_mark_for, oldest_read}
+use Rattle.lt_tape.specs.declared.asked.Asked.{Asked}
+use Rattle.lt_tape.specs.declared.excerpt.Excerpt.{Excerpt}
+use Rattle.lt_tape.specs.declared.tape.Tape.{Tape}
+use Rattle.lt_tape.specs.Excerpts.{excerpt_of}
+use Rattle.lt_tape.specs.Tapes.{IsTapeOf}
+use Rattle.lt_tape.specs.Times.{last_mark, last_time, stroke_time, time_or_zero}
+use Rattle.lt_tape.proofs.Tallying.{last_push}
+use Rattle.lt_tape.specs.declared.stroke.Stroke.{Stroke}
+use Rattle.lt_course.specs.Courses.{drawing_rules, last_for, oldest_for, refused_at, refused_by, stop_time, stopped_at}
+use Rattle.lt_course.specs.Lasts.{last_mark_for, oldest_read}
 use Rattle.lt_course.specs.Missed.{first_miss}
-use Rattle.lt_course.specs.Placed.{IsPlacedOffence, IsTimelyStroke}
+use Rattle.lt_course.specs.Placed.{IsPlacedOffence}
 use Rattle.lt_course.specs.Recorded.{IsNotedSoFar, JudgesNextEvent}
+use Rattle.lt_course.specs.Recording.{TapesStroke}
 use Rattle.lt_course.specs.Sketches.{IsDeedDone, IsExecuted, IsSent, stroke_by}
 use Rattle.lt_course.specs.Strokes.{first_sent_or, pending_below, pending_of, stroke_of, strokes_of}
-use Rattle.lt_course.proofs.Strokes.{last_seen, pending_same, stroke_same, strokes_push}
-
--- an event is drawn within the range of times
-timely_stroke : (cross : List Crossing) (s : Shape) (number executed sent : ℕ) (deed : Deed) (e : Event) → time_of e ≤ GREATEST_TIME → IsTimelyStroke (stroke_by cross s number deed executed sent e)
-timely_stroke cross s number executed sent deed (Act n at) is = is
-timely_stroke cross s number executed sent deed (Del c at) is = is
-timely_stroke cross s number executed sent deed (End at) is = is
+use Rattle.lt_course.proofs.Strokes.{comes_later, last_seen, latest_after, pending_same, stroke_at, stroke_same, strokes_push}
 
 -- the number of the event that was taken last
 number_after : (n : ℕ) → min (n + 1) (2 ^ 32 - 1) ≡ next_number (0 + n)
 number_after n = let same : n ≡ 0 + n = omega arith in ap next_number same
 
-module _ (a b : AuditState) (cross : List Crossing) (t : Timing) (strokes : List Stroke) (es : List Event) (e : Event) (before : IsNotedSoFar a cross t strokes es) (event : IsEventOf a.shape e) where
-  pub recorded_on : (deed : Deed) (executed sent : ℕ) (after : List Stroke) → b.shape ≡ a.shape → AuditStands b a.shape t a.rows (es ++ e ∷ []) → KnowsDeed b a.shape a.rows (reached a.shape t a.rows es) e
-      → IsExecuted a e executed → IsSent a e sent → IsDeedDone b e deed → after ≡ strokes ++ stroke_by cross b.shape b.taken deed executed sent e ∷ [] → IsNotedSoFar b cross t after (es ++ e ∷ [])
-  recorded_on deed executed sent after shape stands knows ex se done is =
+module _ (a b : AuditState) (asked : Asked) (cross : List Crossing) (t : Timing) (tape : Tape) (es : List Event) (e : Event) (before : IsNotedSoFar a asked cross t tape es) (event : IsEventOf a.shape e) where
+  pub recorded_on : (deed : Deed) (executed sent : ℕ) (after : Tape) → b.shape ≡ a.shape → AuditStands b a.shape t a.rows (es ++ e ∷ []) → KnowsDeed b a.shape a.rows (reached a.shape t a.rows es) e
+      → offence_of a.shape t (reached a.shape t a.rows es) e ≡ None → IsExecuted a e executed → IsSent a e sent → IsDeedDone b e deed → TapesStroke tape after (stroke_by cross b.shape b.taken deed executed sent e)
+      → IsNotedSoFar b asked cross t after (es ++ e ∷ [])
+  recorded_on deed executed sent after shape stands knows none ex se done tapes =
       let st = reached a.shape t a.rows es in
       let number : b.taken ≡ next_number (0 + length es) = stands.taken_is ∙ ap (λ (n : ℕ). min n (2 ^ 32 - 1)) (length-append es (e ∷ [])) ∙ number_after (length es) in
-      let here : stroke_by cross b.shape b.taken deed executed sent e ≡ stroke_of cross a.shape a.rows st (next_number (0 + length es)) e =
+      let x = stroke_of cross a.shape a.rows st (next_number (0 + length es)) e in
+      let here : stroke_by cross b.shape b.taken deed executed sent e ≡ x =
       (λ i. stroke_by cross (shape i) (number i) deed executed sent e) ∙ stroke_same a b cross a.shape t a.rows es (next_number (0 + length es)) executed sent deed e before.stands event.placed knows ex se done in
-      let strokes_are : after ≡ strokes_of cross a.shape t a.rows (es ++ e ∷ []) =
-      is ∙ (λ i. before.strokes_are i ++ here i ∷ []) ∙ sym (strokes_push cross a.shape t a.rows (start t.protocol) 0 es e) in
+      let xs = strokes_of cross a.shape t a.rows es in
+      let more : strokes_of cross a.shape t a.rows (es ++ e ∷ []) ≡ xs ++ x ∷ [] = strokes_push cross a.shape t a.rows (start t.protocol) 0 es e in
+      let at : stroke_time x ≡ time_of e = stroke_at cross a.shape a.rows st (next_number (0 + length es)) e in
+      let later : last_time xs ≤ stroke_time x = subst (λ (k : ℕ). k ≤ stroke_time x) (sym before.latest) (subst (λ (k : ℕ). time_or_zero st.latest ≤ k) (sym at) (comes_later a.shape t st e none)) in
+      let timely : stroke_time x ≤ GREATEST_TIME = subst (λ (k : ℕ). k ≤ GREATEST_TIME) (sym at) event.timely in
+      let taped : IsTapeOf after asked (node_count a.shape) (xs ++ x ∷ []) = subst (λ (y : Stroke). TapesStroke tape after y) here tapes asked (node_count a.shape) xs before.taped later timely in
       record {
         stands = subst (λ (q : Shape). AuditStands b q t b.rows (es ++ e ∷ [])) (sym shape) (subst (λ (n : ℕ). AuditStands b a.shape t n (es ++ e ∷ [])) (sym stands.rows_are) stands);
         same = subst (λ (q : Shape). HaveSameNodes q t) (sym shape) before.same;
-        strokes_are = strokes_are ∙ (λ i. strokes_of cross (sym shape i) t (sym stands.rows_are i) (es ++ e ∷ []));
-        timely = subst (All IsTimelyStroke) (sym is) (All-push IsTimelyStroke strokes _ before.timely (timely_stroke cross b.shape b.taken executed sent deed e event.timely));
+        taped = subst (λ (q : Shape). IsTapeOf after asked (node_count q) (strokes_of cross q t b.rows (es ++ e ∷ []))) (sym shape)
+            (subst (λ (n : ℕ). IsTapeOf after asked (node_count a.shape) (strokes_of cross a.shape t n (es ++ e ∷ []))) (sym stands.rows_are) (subst (λ (ys : List Stroke). IsTapeOf after asked (node_count a.shape) ys) (sym more) taped));
+        latest = subst (λ (q : Shape). last_time (strokes_of cross q t b.rows (es ++ e ∷ [])) ≡ time_or_zero (reached q t b.rows (es ++ e ∷ [])).latest) (sym shape)
+            (subst (λ (n : ℕ). last_time (strokes_of cross a.shape t n (es ++ e ∷ [])) ≡ time_or_zero (reached a.shape t n (es ++ e ∷ [])).latest) (sym stands.rows_are)
+            (ap (λ (ys : List Stroke). last_time ys) more ∙ last_push xs x ∙ at ∙ sym (ap (λ (q : State). time_or_zero q.latest) (after_push a.shape t a.rows (start t.protocol) es e) ∙ ap time_or_zero (latest_after a.shape t a.rows st e))));
       }
 
 -- what is read for an offence
 
-module _ (a : AuditState) (cross : List Crossing) (t : Timing) (strokes : List Stroke) (es : List Event) (before : IsNotedSoFar a cross t strokes es) where
+module _ (a : AuditState) (asked : Asked) (cross : List Crossing) (t : Timing) (tape : Tape) (es : List Event) (before : IsNotedSoFar a asked cross t tape es) where
   abbrev st : State
   st = reached a.shape t a.rows es
 
+  abbrev strokes : List Stroke
+  strokes = strokes_of cross a.shape t a.rows es
+
   last_of : (n : ℕ) → last_mark n strokes ≡ (st.node n).last
-  last_of n = ap (λ (xs : List Stroke). last_mark n xs) before.strokes_are ∙ last_seen cross a.shape t a.rows n es
+  last_of n = last_seen cross a.shape t a.rows n es
 
   last_same : (o : Offence) → last_mark_for strokes o ≡ last_for st o
   last_same AfterEnd = refl
@@ -98,25 +111,28 @@ module _ (a : AuditState) (cross : List Crossing) (t : Timing) (strokes : List S
   pub pending_is : pending_below cross a.shape t (chan_at a.chans) (chan_count a.shape) ≡ pending_of cross a.shape t st
   pending_is = pending_same cross a.shape t (chan_at a.chans) st.chan (chan_count a.shape) (λ c lc. chan_seen a a.shape t a.rows es before.stands c lc)
 
-  pub stopped_is : (e : Event) (o : Offence) (pending : List Arrow) (refused : RefusedEvent) (miss : Option Miss) → IsPlacedOffence a.shape o → pending ≡ pending_below cross a.shape t (chan_at a.chans) (chan_count a.shape)
-      → refused ≡ refused_by a.shape t (last_mark_for strokes o) (oldest_read a o) e o → miss ≡ first_miss a.shape t a.rows es → record { strokes = strokes; pending = pending; refused = refused; miss = miss } ≡ stopped_at cross a.shape t a.rows es e o
-  stopped_is e o pending refused miss placed waits is missed =
-      λ i. record { strokes = before.strokes_are i; pending = (waits ∙ pending_is) i; refused = (is ∙ (λ j. refused_by a.shape t (last_same o j) (oldest_same o placed j) e o)) i; miss = missed i }
+  pub stopped_is : (e : Event) (o : Offence) (excerpt : Excerpt) (pending : List Arrow) (refused : RefusedEvent) (miss : Option Miss) → IsPlacedOffence a.shape o → excerpt ≡ excerpt_of asked (node_count a.shape) (Some (stop_time refused)) strokes
+      → pending ≡ pending_below cross a.shape t (chan_at a.chans) (chan_count a.shape) → refused ≡ refused_by a.shape t (last_mark_for strokes o) (oldest_read a o) e o → miss ≡ first_miss a.shape t a.rows es
+      → record { excerpt = excerpt; pending = pending; refused = refused; miss = miss } ≡ stopped_at asked cross a.shape t a.rows es e o
+  stopped_is e o excerpt pending refused miss placed shown waits is missed =
+      let there : refused ≡ refused_at a.shape t st e o = is ∙ (λ j. refused_by a.shape t (last_same o j) (oldest_same o placed j) e o) in
+      λ i. record { excerpt = (shown ∙ (λ j. excerpt_of asked (node_count a.shape) (Some (stop_time (there j))) strokes)) i; pending = (waits ∙ pending_is) i; refused = there i; miss = missed i }
 
 -- the same by equal auditors, crossings and bounds of time
-pub moved : (a b : AuditState) (cross cross' : List Crossing) (t t' : Timing) (xs : List Stroke) (es : List Event) → b ≡ a → cross' ≡ cross → t' ≡ t → IsNotedSoFar a cross t xs es → IsNotedSoFar b cross' t' xs es
-moved a b cross cross' t t' xs es p q r rec =
-    subst (λ (x : AuditState). IsNotedSoFar x cross' t' xs es) (sym p) (subst (λ (c : List Crossing). IsNotedSoFar a c t' xs es) (sym q) (subst (λ (u : Timing). IsNotedSoFar a cross u xs es) (sym r) rec))
+pub moved : (a b : AuditState) (asked asked' : Asked) (cross cross' : List Crossing) (t t' : Timing) (tape : Tape) (es : List Event) → b ≡ a → asked' ≡ asked → cross' ≡ cross → t' ≡ t → IsNotedSoFar a asked cross t tape es → IsNotedSoFar b asked' cross' t' tape es
+moved a b asked asked' cross cross' t t' tape es p d q r rec =
+    subst (λ (x : AuditState). IsNotedSoFar x asked' cross' t' tape es) (sym p) (subst (λ (x : Asked). IsNotedSoFar a x cross' t' tape es) (sym d)
+    (subst (λ (c : List Crossing). IsNotedSoFar a asked c t' tape es) (sym q) (subst (λ (u : Timing). IsNotedSoFar a asked cross u tape es) (sym r) rec)))
 
 -- what is judged of the next event
 
-module _ (cross : List Crossing) (s : Shape) (t : Timing) (rows : ℕ) (before : List Event) (e : Event) where
-  pub judged_taken : (r : Result (Unit {0}) (Stop Stopped)) → IfErr r (λ x. x ≡ stop.Memory) → offence_of s t (reached s t rows before) e ≡ None → JudgesNextEvent (drawing_rules cross s t rows) before e r
-  judged_taken (Ok done) short none = ap (option_map (stopped_at cross s t rows before e)) none
-  judged_taken (Err x) short none = subst (λ (y : Stop Stopped). JudgesNextEvent (drawing_rules cross s t rows) before e (Err y)) (sym short) tt
+module _ (asked : Asked) (cross : List Crossing) (s : Shape) (t : Timing) (rows : ℕ) (before : List Event) (e : Event) where
+  pub judged_taken : (r : Result (Unit {0}) (Stop Stopped)) → IfErr r (λ x. x ≡ stop.Memory) → offence_of s t (reached s t rows before) e ≡ None → JudgesNextEvent (drawing_rules asked cross s t rows) before e r
+  judged_taken (Ok done) short none = ap (option_map (stopped_at asked cross s t rows before e)) none
+  judged_taken (Err x) short none = subst (λ (y : Stop Stopped). JudgesNextEvent (drawing_rules asked cross s t rows) before e (Err y)) (sym short) tt
 
-  pub judged_stopped : (o : Offence) (x : Stopped) → offence_of s t (reached s t rows before) e ≡ Some o → x ≡ stopped_at cross s t rows before e o → option_map (stopped_at cross s t rows before e) (offence_of s t (reached s t rows before) e) ≡ Some x
-  judged_stopped o x found is = ap (option_map (stopped_at cross s t rows before e)) found ∙ ap (λ (y : Stopped). Some y) (sym is)
+  pub judged_stopped : (o : Offence) (x : Stopped) → offence_of s t (reached s t rows before) e ≡ Some o → x ≡ stopped_at asked cross s t rows before e o → option_map (stopped_at asked cross s t rows before e) (offence_of s t (reached s t rows before) e) ≡ Some x
+  judged_stopped o x found is = ap (option_map (stopped_at asked cross s t rows before e)) found ∙ ap (λ (y : Stopped). Some y) (sym is)
 
 pub on_ok : {P Q : Type 0} (r : Result (Unit {0}) (Stop Stopped)) → (P → Q) → OnOk r P → OnOk r Q
 on_ok (Ok done) f p = f p

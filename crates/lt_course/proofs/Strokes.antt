@@ -1,21 +1,23 @@
 -- One event more, as it is drawn.
-use Rattle.std.proofs.Common.{◌≡◌, ◌∙◌, ℕ, zero, suc, ◌+◌, ◌<◌, ◌==◌, List, [], ◌∷◌, ◌++◌, length, map, Bool, true, false, Option, if◌then◌else◌, refl, sym, ap, arith}
+use Rattle.std.proofs.Common.{◌≡◌, ◌∙◌, ℕ, zero, suc, ◌+◌, ◌<◌, ◌≤◌, ◌==◌, List, [], ◌∷◌, ◌++◌, length, map, Bool, true, false, Option, Some, None, is_some, if◌then◌else◌, refl, sym, ap, arith, ltb-false}
 use Rattle.lt_arch.specs.declared.event.Deed.{Deed}
 use Rattle.lt_arch.specs.declared.event.Event.{Event}
 use Rattle.lt_arch.specs.declared.event.Event.TheVariants.{Act, Del, End}
+use Rattle.lt_arch.specs.declared.event.Offence.{Offence}
+use Rattle.lt_arch.specs.declared.event.Offence.TheVariants.{AfterEnd, Backwards}
 use Rattle.lt_arch.specs.declared.shape.Shape.{Shape}
 use Rattle.lt_arch.specs.declared.timing.Timing.{Timing}
 use Rattle.lt_arch.specs.State.{ChanState, State, NodeState, start}
 use Rattle.lt_arch.specs.Schedule.{IsPlacedIn, after_all, reached}
-use Rattle.lt_arch.specs.Step.{after, woken}
+use Rattle.lt_arch.specs.Step.{after, is_backwards, offence_of, offence_or_else, time_of, where_true, woken}
 use Rattle.lt_place_reads.specs.declared.crossing.Crossing.{Crossing}
 use Rattle.lt_audit.specs.Audit.{AuditState}
 use Rattle.lt_audit.specs.Acts.{next_number}
 use Rattle.lt_audit.specs.Standing.{AuditStands, KnowsDeed}
 use Rattle.lt_audit.proofs.Seen.{chan_seen, executed_seen}
-use Rattle.lt_course.specs.declared.stroke.Stroke.{Stroke}
-use Rattle.lt_course.specs.declared.stroke.Stroke.TheVariants.{Point}
-use Rattle.lt_course.specs.Lasts.{last_mark, last_mark_from, later_mark}
+use Rattle.lt_tape.specs.declared.stroke.Stroke.{Stroke}
+use Rattle.lt_tape.specs.declared.stroke.Stroke.TheVariants.{Point}
+use Rattle.lt_tape.specs.Times.{last_mark, last_mark_from, later_mark, stroke_time, time_or_zero}
 use Rattle.lt_course.specs.Sketches.{IsDeedDone, IsExecuted, IsSent, stroke_by}
 use Rattle.lt_course.specs.Strokes.{first_sent_or, pending_arrow, pending_below, sign_of, stroke_of, strokes_from, strokes_of}
 
@@ -70,3 +72,39 @@ module _ (cross : List Crossing) (s : Shape) (t : Timing) (rows n : ℕ) where
 
   pub last_seen : (es : List Event) → last_mark n (strokes_of cross s t rows es) ≡ ((reached s t rows es).node n).last
   last_seen es = last_seen_from (start t.protocol) 0 es
+
+-- a stroke happens when its event does
+pub stroke_at : (cross : List Crossing) (s : Shape) (rows : ℕ) (st : State) (number : ℕ) (e : Event) → stroke_time (stroke_of cross s rows st number e) ≡ time_of e
+stroke_at cross s rows st number (Act n at) = refl
+stroke_at cross s rows st number (Del c at) = refl
+stroke_at cross s rows st number (End at) = refl
+
+-- the state knows when its last event happened
+pub latest_after : (s : Shape) (t : Timing) (rows : ℕ) (st : State) (e : Event) → (after s t rows st e).latest ≡ Some (time_of e)
+unfolding after
+latest_after s t rows st (Act n at) = refl
+latest_after s t rows st (Del c at) = refl
+latest_after s t rows st (End at) = refl
+
+-- an event without an offence is no earlier
+
+none_left : (a b : Option Offence) → offence_or_else a b ≡ None → a ≡ None
+none_left None b is = refl
+none_left (Some o) b is = cc
+
+none_right : (a b : Option Offence) → offence_or_else a b ≡ None → b ≡ None
+none_right None b is = is
+none_right (Some o) b is = cc
+
+not_where : (test : Bool) (o : Offence) → where_true test o ≡ None → test ≡ false
+not_where true o is = cc
+not_where false o is = refl
+
+pub no_earlier : (latest : Option ℕ) (at : ℕ) → is_backwards at latest ≡ false → time_or_zero latest ≤ at
+no_earlier None at is = omega arith
+no_earlier (Some last) at is = ltb-false at last is
+
+pub comes_later : (s : Shape) (t : Timing) (st : State) (e : Event) → offence_of s t st e ≡ None → time_or_zero st.latest ≤ time_of e
+unfolding offence_of
+comes_later s t st e none =
+    no_earlier st.latest (time_of e) (not_where (is_backwards (time_of e) st.latest) Backwards (none_left _ _ (none_right (where_true (is_some st.horizon) AfterEnd) _ none)))

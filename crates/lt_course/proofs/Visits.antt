@@ -10,6 +10,7 @@ use Rattle.lt_place_reads.specs.declared.crossing.Crossing.{Crossing}
 use Rattle.lt_schedule.specs.declared.halt.Halt.{Halt}
 use Rattle.lt_schedule.specs.declared.halt.Halt.TheVariants.{Refused, Read, Link}
 use Rattle.lt_schedule.specs.Errand.{schedule_errand}
+use Rattle.lt_tape.specs.declared.asked.Asked.{Asked}
 use Rattle.lt_course.specs.declared.course.Course.{Course}
 use Rattle.lt_course.specs.declared.course.Stopped.{Stopped}
 use Rattle.lt_io.specs.FilesState.{FilesState}
@@ -26,18 +27,18 @@ visits_by name old new (Err (Fault Read)) visits = visits false
 visits_by name old new (Err (Fault Link)) visits = visits true
 visits_by name old new (Err Memory) visits = visits true
 
-pub kept_course : (a b : Recorder) (es : List Event) (c : Course) → KeepsRecorder a b → IsCourseOf b.cross b.auditor.shape b.timing b.auditor.rows es c → IsCourseOf a.cross a.auditor.shape a.timing a.auditor.rows es c
+pub kept_course : (a b : Recorder) (es : List Event) (c : Course) → KeepsRecorder a b → IsCourseOf b.asked b.cross b.auditor.shape b.timing b.auditor.rows es c → IsCourseOf a.asked a.cross a.auditor.shape a.timing a.auditor.rows es c
 kept_course a b es c keeps is =
-    subst (λ (x : List Crossing). IsCourseOf x a.auditor.shape a.timing a.auditor.rows es c) keeps.0
-    (subst (λ (x : Timing). IsCourseOf b.cross a.auditor.shape x a.auditor.rows es c) keeps.1
-    (subst (λ (x : Shape). IsCourseOf b.cross x b.timing a.auditor.rows es c) keeps.2
-    (subst (λ (x : ℕ). IsCourseOf b.cross b.auditor.shape b.timing x es c) keeps.3 is)))
+    subst (λ (x : List Crossing). IsCourseOf a.asked x a.auditor.shape a.timing a.auditor.rows es c) keeps.0
+    (subst (λ (x : Timing). IsCourseOf a.asked b.cross a.auditor.shape x a.auditor.rows es c) keeps.1
+    (subst (λ (x : Shape). IsCourseOf a.asked b.cross x b.timing a.auditor.rows es c) keeps.2
+    (subst (λ (x : ℕ). IsCourseOf a.asked b.cross b.auditor.shape b.timing x es c) keeps.3 (subst (λ (x : Asked). IsCourseOf x b.cross b.auditor.shape b.timing b.auditor.rows es c) keeps.4 is))))
 
 -- over a recorder of these
-pub recorded_over : (cross : List Crossing) (s : Shape) (t : Timing) (rows : ℕ) (r : Recorder) → r.cross ≡ cross → r.auditor.shape ≡ s → r.timing ≡ t → r.auditor.rows ≡ rows → (schedule : List ℕ) (a b : FilesState) (x : Result Course (Or CommandFault))
-    → RecordsCourse r schedule a b x → ReadsCourse cross s t rows schedule a b x
-recorded_over cross s t rows r cross_is shape timing rows_are schedule a b x read =
-    subst (λ (c : List Crossing). ReadsCourse c s t rows schedule a b x) cross_is
-    (subst (λ (q : Shape). ReadsCourse r.cross q t rows schedule a b x) shape
-    (subst (λ (u : Timing). ReadsCourse r.cross r.auditor.shape u rows schedule a b x) timing
-    (subst (λ (n : ℕ). ReadsCourse r.cross r.auditor.shape r.timing n schedule a b x) rows_are read)))
+pub recorded_over : (asked : Asked) (cross : List Crossing) (s : Shape) (t : Timing) (rows : ℕ) (r : Recorder) → r.cross ≡ cross → r.auditor.shape ≡ s → r.timing ≡ t → r.auditor.rows ≡ rows → r.asked ≡ asked → (schedule : List ℕ) (a b : FilesState)
+    (x : Result Course (Or CommandFault)) → RecordsCourse r schedule a b x → ReadsCourse asked cross s t rows schedule a b x
+recorded_over asked cross s t rows r cross_is shape timing rows_are asked_is schedule a b x read =
+    subst (λ (c : List Crossing). ReadsCourse asked c s t rows schedule a b x) cross_is
+    (subst (λ (q : Shape). ReadsCourse asked r.cross q t rows schedule a b x) shape
+    (subst (λ (u : Timing). ReadsCourse asked r.cross r.auditor.shape u rows schedule a b x) timing
+    (subst (λ (n : ℕ). ReadsCourse asked r.cross r.auditor.shape r.timing n schedule a b x) rows_are (subst (λ (d : Asked). ReadsCourse d r.cross r.auditor.shape r.timing r.auditor.rows schedule a b x) asked_is read))))

@@ -1,5 +1,5 @@
 -- A schedule as it is drawn: what its events are drawn as up to its first offence, and that offence.
-use Rattle.std.specs.Prelude.{◌≡◌, ℕ, ◌+◌, List, [], Option, Some, None, Result, Ok, Err, option_map, is_some, if◌then◌else◌}
+use Rattle.std.specs.Prelude.{◌≡◌, ℕ, ◌+◌, max, List, [], Option, Some, None, Result, Ok, Err, option_map, is_some, if◌then◌else◌}
 use Rattle.lt_base.specs.declared.memory.Or.{Or}
 use Rattle.lt_base.specs.declared.memory.Or.TheVariants.{Fault, Memory}
 use Rattle.lt_arch.specs.declared.event.Event.{Event}
@@ -8,7 +8,7 @@ use Rattle.lt_arch.specs.declared.event.Offence.TheVariants.{AfterEnd, Backwards
 use Rattle.lt_arch.specs.declared.shape.Shape.{Shape}
 use Rattle.lt_arch.specs.declared.timing.Timing.{Timing}
 use Rattle.lt_arch.specs.State.{State}
-use Rattle.lt_arch.specs.Readers.{from_of, to_of, tmin_of, tmax_of, dmin_of, dmax_of}
+use Rattle.lt_arch.specs.Readers.{node_count, from_of, to_of, tmin_of, tmax_of, dmin_of, dmax_of}
 use Rattle.lt_arch.specs.Deadline.{after_last}
 use Rattle.lt_arch.specs.Schedule.{reached}
 use Rattle.lt_arch.specs.Step.{offence_of, time_of}
@@ -27,11 +27,14 @@ use Rattle.lt_load_fit.specs.declared.fault.CommandFault.{CommandFault}
 use Rattle.lt_load_fit.specs.declared.fault.CommandFault.TheVariants as fault
 use Rattle.lt_diagram.specs.declared.picture.Wrong.{Wrong}
 use Rattle.lt_diagram.specs.declared.picture.Wrong.TheVariants.{Moment, Absent, Soon, Untimely, Unsent}
+use Rattle.lt_tape.specs.declared.asked.Asked.{Asked}
+use Rattle.lt_tape.specs.Excerpts.{excerpt_of}
+use Rattle.lt_tape.specs.Times.{last_time, time_or_zero}
 use Rattle.lt_course.specs.declared.course.Course.{Course}
 use Rattle.lt_course.specs.declared.course.RefusedEvent.{RefusedEvent}
 use Rattle.lt_course.specs.declared.course.Stopped.{Stopped}
 use Rattle.lt_course.specs.Missed.{first_miss}
-use Rattle.lt_course.specs.Strokes.{first_sent_or, last_time, pending_of, strokes_of, time_or_zero}
+use Rattle.lt_course.specs.Strokes.{first_sent_or, pending_of, strokes_of}
 
 -- when the node of an offence was activated last
 abbrev pub last_for : State → Offence → Option ℕ
@@ -91,20 +94,24 @@ refused_by s t last oldest e o = record {
 abbrev pub refused_at : Shape → Timing → State → Event → Offence → RefusedEvent
 refused_at s t st e o = refused_by s t (last_for st o) (oldest_for st o) e o
 
--- what is drawn of a list that has this offence at an event behind these
-abbrev pub stopped_at : List Crossing → Shape → Timing → (rows : ℕ) → (before : List Event) → Event → Offence → Stopped
-stopped_at cross s t rows before e o = record {
-  strokes = strokes_of cross s t rows before;
+-- the latest time that matters of an event that is refused
+abbrev pub stop_time : RefusedEvent → ℕ
+stop_time r = max r.time (time_or_zero r.bound)
+
+-- what is drawn of a list that has this offence at an event behind these, where it is asked which ticks are
+abbrev pub stopped_at : Asked → List Crossing → Shape → Timing → (rows : ℕ) → (before : List Event) → Event → Offence → Stopped
+stopped_at asked cross s t rows before e o = record {
+  excerpt = excerpt_of asked (node_count s) (Some (stop_time (refused_at s t (reached s t rows before) e o))) (strokes_of cross s t rows before);
   pending = pending_of cross s t (reached s t rows before);
   refused = refused_at s t (reached s t rows before) e o;
   miss = first_miss s t rows before;
 }
 
 -- how lines and events are judged for a picture: as for a run, but with an offence what is drawn of the list is told, and one that stops is no refusal
-abbrev pub drawing_rules : List Crossing → Shape → Timing → (rows : ℕ) → Rules Event Stopped
-drawing_rules cross s t rows = record {
+abbrev pub drawing_rules : Asked → List Crossing → Shape → Timing → (rows : ℕ) → Rules Event Stopped
+drawing_rules asked cross s t rows = record {
   reads = event_of s;
-  offence = λ before e. option_map (stopped_at cross s t rows before e) (offence_of s t (reached s t rows before) e);
+  offence = λ before e. option_map (stopped_at asked cross s t rows before e) (offence_of s t (reached s t rows before) e);
   missing = λ before. None;
 }
 
@@ -117,15 +124,15 @@ abbrev pub unended_by : (horizon : Option ℕ) → (last : ℕ) → Option Refus
 unended_by horizon last = if is_some horizon then None else Some (no_end_at last)
 
 -- what is drawn of these events, none of which has an offence
-pub record IsCourseOf (cross : List Crossing) (s : Shape) (t : Timing) (rows : ℕ) (es : List Event) (c : Course) : Type 0 where
-  pub strokes : c.strokes ≡ strokes_of cross s t rows es
+pub record IsCourseOf (asked : Asked) (cross : List Crossing) (s : Shape) (t : Timing) (rows : ℕ) (es : List Event) (c : Course) : Type 0 where
+  pub excerpt : c.excerpt ≡ excerpt_of asked (node_count s) (option_map stop_time c.refused) (strokes_of cross s t rows es)
   pub pending : c.pending ≡ pending_of cross s t (reached s t rows es)
-  pub refused : c.refused ≡ unended_by (reached s t rows es).horizon (last_time c.strokes)
+  pub refused : c.refused ≡ unended_by (reached s t rows es).horizon (last_time (strokes_of cross s t rows es))
   pub miss : c.miss ≡ first_miss s t rows es
 
 -- what is drawn of a list with an offence
 abbrev pub stopped_course : Stopped → Course
-stopped_course x = record { strokes = x.strokes; pending = x.pending; refused = Some x.refused; miss = x.miss }
+stopped_course x = record { excerpt = x.excerpt; pending = x.pending; refused = Some x.refused; miss = x.miss }
 
 -- what a refusal of rows is for a picture: an offence is drawn
 abbrev pub course_or_fault : ScheduleRefusal Stopped → Result Course CommandFault
@@ -145,11 +152,11 @@ halted_course (Fault halt.Link) = Err (Fault fault.Link)
 halted_course Memory = Err Memory
 
 -- what is right of the rows that read so
-abbrev pub CourseBy : List Crossing → Shape → Timing → (rows : ℕ) → Result (List Event) (ScheduleRefusal Stopped) → Verdict Course CommandFault
-CourseBy cross s t rows (Ok es) (Ok c) = IsCourseOf cross s t rows es c
-CourseBy cross s t rows (Ok es) (Err e) = ⊥
-CourseBy cross s t rows (Err refused) outcome = course_or_fault refused ≡ outcome
+abbrev pub CourseBy : Asked → List Crossing → Shape → Timing → (rows : ℕ) → Result (List Event) (ScheduleRefusal Stopped) → Verdict Course CommandFault
+CourseBy asked cross s t rows (Ok es) (Ok c) = IsCourseOf asked cross s t rows es c
+CourseBy asked cross s t rows (Ok es) (Err e) = ⊥
+CourseBy asked cross s t rows (Err refused) outcome = course_or_fault refused ≡ outcome
 
 -- of a schedule file
-unfoldable pub course_verdict : List Crossing → Shape → Timing → (rows : ℕ) → (file : Option (List ℕ)) → Verdict Course CommandFault
-course_verdict cross s t rows file = OfFile fault.Read file (λ bytes outcome. CourseBy cross s t rows (file_judged_by (drawing_rules cross s t rows) bytes) outcome)
+unfoldable pub course_verdict : Asked → List Crossing → Shape → Timing → (rows : ℕ) → (file : Option (List ℕ)) → Verdict Course CommandFault
+course_verdict asked cross s t rows file = OfFile fault.Read file (λ bytes outcome. CourseBy asked cross s t rows (file_judged_by (drawing_rules asked cross s t rows) bytes) outcome)

@@ -1,26 +1,13 @@
 -- When a node was activated last, by what events are drawn as, and what is read of an auditor for an offence.
-use Rattle.std.specs.Prelude.{ℕ, ◌==◌, List, [], ◌∷◌, Option, Some, None, if◌then◌else◌}
+use Rattle.std.specs.Prelude.{ℕ, List, Option, None}
 use Rattle.lt_arch.specs.declared.event.Offence.{Offence}
 use Rattle.lt_arch.specs.declared.event.Offence.TheVariants.{AfterEnd, Backwards, NodeOverdue, ChannelOverdue, TooSoon, NothingSent, TooEarly, NoEnd}
 use Rattle.lt_audit.specs.Audit.{AuditState, chan_at}
-use Rattle.lt_course.specs.declared.stroke.Stroke.{Stroke}
-use Rattle.lt_course.specs.declared.stroke.Stroke.TheVariants.{Point, Line, Edge}
+use Rattle.lt_tape.specs.declared.stroke.Stroke.{Stroke}
+use Rattle.lt_tape.specs.Times.{last_mark}
 use Rattle.lt_course.specs.Strokes.{first_sent_or}
 
--- the time of node n's last activation, where there was this one before
-abbrev pub later_mark : (n : ℕ) → (found : Option ℕ) → Stroke → Option ℕ
-later_mark n found (Point m) = if n == m.node then Some m.time else found
-later_mark n found (Line a) = found
-later_mark n found (Edge at) = found
-
-abbrev pub last_mark_from : (n : ℕ) → (found : Option ℕ) → List Stroke → Option ℕ
-last_mark_from n found [] = found
-last_mark_from n found (x ∷ xs) = last_mark_from n (later_mark n found x) xs
-
-abbrev pub last_mark : (n : ℕ) → List Stroke → Option ℕ
-last_mark n xs = last_mark_from n None xs
-
--- that of the node of an offence
+-- when the node of an offence was activated last
 abbrev pub last_mark_for : List Stroke → Offence → Option ℕ
 last_mark_for xs AfterEnd = None
 last_mark_for xs Backwards = None

@@ -12,6 +12,7 @@ use Rattle.lt_schedule.specs.declared.halt.ScheduleRefusal.TheVariants as refusa
 use Rattle.lt_schedule.specs.Rules.{file_judged_by}
 use Rattle.lt_schedule.specs.Verdict.{rules_of}
 use Rattle.lt_audit.specs.Misses.{FirstMiss}
+use Rattle.lt_tape.specs.declared.asked.Asked.{Asked}
 use Rattle.lt_course.specs.declared.course.Stopped.{Stopped}
 use Rattle.lt_course.specs.Courses.{drawing_rules}
 use Rattle.lt_course.specs.Missed.{first_miss}
@@ -49,7 +50,7 @@ AgreesWith (Err r) (Err q) = AgreesRefused r q
 -- of every file what is drawn agrees with what a run makes of it
 abbrev pub DrawsAsJudged : Type 0
 DrawsAsJudged =
-    (cross : List Crossing) (s : Shape) (t : Timing) (rows : ℕ) (bytes : List ℕ) → AgreesWith (file_judged_by (rules_of s t rows) bytes) (file_judged_by (drawing_rules cross s t rows) bytes)
+    (asked : Asked) (cross : List Crossing) (s : Shape) (t : Timing) (rows : ℕ) (bytes : List ℕ) → AgreesWith (file_judged_by (rules_of s t rows) bytes) (file_judged_by (drawing_rules asked cross s t rows) bytes)
 
 -- as far as events can be numbered, what is told of a list is the first event at which a node executes with a message too few or too many
 abbrev pub TellsFirstMiss : Type 0

@@ -1,12 +1,10 @@
 -- Offences at places of a shape.
-use Rattle.std.specs.Prelude.{◌<◌, ◌≤◌, ℕ, Option, Some, None}
+use Rattle.std.specs.Prelude.{◌<◌, ◌≤◌, ℕ, Option, IfSome}
 use Rattle.lt_arch.specs.declared.event.Offence.{Offence}
 use Rattle.lt_arch.specs.declared.event.Offence.TheVariants.{AfterEnd, Backwards, NodeOverdue, ChannelOverdue, TooSoon, NothingSent, TooEarly, NoEnd}
 use Rattle.lt_arch.specs.declared.limits.TheConstants.{GREATEST_TIME}
 use Rattle.lt_arch.specs.declared.shape.Shape.{Shape}
 use Rattle.lt_arch.specs.Readers.{node_count, chan_count}
-use Rattle.lt_course.specs.declared.stroke.Stroke.{Stroke}
-use Rattle.lt_course.specs.Strokes.{stroke_time}
 
 -- the node or the channel of an offence is one of the shape
 abbrev pub IsPlacedOffence : Shape → Offence → Type 0
@@ -20,9 +18,5 @@ IsPlacedOffence s (TooEarly c) = c < chan_count s
 IsPlacedOffence s NoEnd = Unit {0}
 
 -- within the range of times
-abbrev pub IsTimelyStroke : Stroke → Type 0
-IsTimelyStroke x = stroke_time x ≤ GREATEST_TIME
-
 abbrev pub IsTimelyLast : Option ℕ → Type 0
-IsTimelyLast None = Unit {0}
-IsTimelyLast (Some at) = at ≤ GREATEST_TIME
+IsTimelyLast last = IfSome last (λ at. at ≤ GREATEST_TIME)

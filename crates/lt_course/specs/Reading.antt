@@ -12,6 +12,7 @@ use Rattle.lt_schedule.specs.declared.halt.Halt.TheVariants.{Refused, Read, Link
 use Rattle.lt_schedule.specs.Errand.{schedule_errand}
 use Rattle.lt_load_fit.specs.declared.fault.CommandFault.{CommandFault}
 use Rattle.lt_load.specs.OnFiles.{OnFiles}
+use Rattle.lt_tape.specs.declared.asked.Asked.{Asked}
 use Rattle.lt_course.specs.declared.course.Course.{Course}
 use Rattle.lt_course.specs.declared.course.Stopped.{Stopped}
 use Rattle.lt_course.specs.declared.recorder.Recorder.{Recorder}
@@ -26,9 +27,9 @@ VisitsUnlessRead name old new (Err (Fault Link)) = Visited (schedule_errand name
 VisitsUnlessRead name old new (Err Memory) = Visited (schedule_errand name) old new true
 
 -- what is drawn of the schedule file of this name
-abbrev pub ReadsCourse : List Crossing → Shape → Timing → (rows : ℕ) → (schedule : List ℕ) → (old new : FilesState) → Result Course (Or CommandFault) → Type 0
-ReadsCourse cross s t rows schedule old new result = OnFiles (schedule_errand schedule) (course_verdict cross s t rows (old.named schedule)) old new result
+abbrev pub ReadsCourse : Asked → List Crossing → Shape → Timing → (rows : ℕ) → (schedule : List ℕ) → (old new : FilesState) → Result Course (Or CommandFault) → Type 0
+ReadsCourse asked cross s t rows schedule old new result = OnFiles (schedule_errand schedule) (course_verdict asked cross s t rows (old.named schedule)) old new result
 
 -- a recorder takes that file
 abbrev pub RecordsCourse : Recorder → (schedule : List ℕ) → (old new : FilesState) → Result Course (Or CommandFault) → Type 0
-RecordsCourse r schedule old new result = ReadsCourse r.cross r.auditor.shape r.timing r.auditor.rows schedule old new result
+RecordsCourse r schedule old new result = ReadsCourse r.asked r.cross r.auditor.shape r.timing r.auditor.rows schedule old new result

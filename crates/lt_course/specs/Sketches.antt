@@ -7,8 +7,8 @@ use Rattle.lt_arch.specs.declared.shape.Shape.{Shape}
 use Rattle.lt_place_reads.specs.declared.crossing.Crossing.{Crossing}
 use Rattle.lt_audit.specs.Audit.{AuditState, chan_at, member_at}
 use Rattle.lt_diagram.specs.declared.picture.Fate.TheVariants.{Delivered}
-use Rattle.lt_course.specs.declared.stroke.Stroke.{Stroke}
-use Rattle.lt_course.specs.declared.stroke.Stroke.TheVariants.{Point, Line, Edge}
+use Rattle.lt_tape.specs.declared.stroke.Stroke.{Stroke}
+use Rattle.lt_tape.specs.declared.stroke.Stroke.TheVariants.{Point, Line, Edge}
 use Rattle.lt_course.specs.Strokes.{arrow_of, first_sent_or, sign_of}
 
 -- by its deed, how many instants its node has executed, and the send time of the message that it hands over

@@ -1,5 +1,5 @@
 -- What the events of a schedule are drawn as.
-use Rattle.std.specs.Prelude.{ℕ, ◌+◌, ◌-◌, Bool, true, false, List, [], ◌∷◌, ◌++◌, length, map, slice_index_or, suc, zero, Option, Some, None}
+use Rattle.std.specs.Prelude.{ℕ, ◌+◌, Bool, true, false, List, [], ◌∷◌, ◌++◌, map, suc, zero}
 use Rattle.std.specs.List.{list_any}
 use Rattle.lt_arch.specs.declared.chan.ChanKind.{ChanKind}
 use Rattle.lt_arch.specs.declared.chan.ChanKind.TheVariants.{Data, Ack}
@@ -23,8 +23,8 @@ use Rattle.lt_diagram.specs.declared.picture.Ink.{Ink}
 use Rattle.lt_diagram.specs.declared.picture.Ink.TheVariants.{Strong, Pale, Dashed}
 use Rattle.lt_diagram.specs.declared.picture.Sign.{Sign}
 use Rattle.lt_diagram.specs.declared.picture.Sign.TheVariants as sign
-use Rattle.lt_course.specs.declared.stroke.Stroke.{Stroke}
-use Rattle.lt_course.specs.declared.stroke.Stroke.TheVariants.{Point, Line, Edge}
+use Rattle.lt_tape.specs.declared.stroke.Stroke.{Stroke}
+use Rattle.lt_tape.specs.declared.stroke.Stroke.TheVariants.{Point, Line, Edge}
 
 -- the sign of a deed of a node that has executed so many instants: its next instant, or its message of that number, counted from 1
 abbrev pub sign_of : Deed → (executed : ℕ) → Sign
@@ -78,22 +78,3 @@ pending_below cross s t chan (suc c) = pending_below cross s t chan c ++ map (pe
 -- and on all channels
 abbrev pub pending_of : List Crossing → Shape → Timing → State → List Arrow
 pending_of cross s t st = pending_below cross s t st.chan (chan_count s)
-
--- when an event happened, by what it is drawn as
-abbrev pub stroke_time : Stroke → ℕ
-stroke_time (Point m) = m.time
-stroke_time (Line a) = a.come
-stroke_time (Edge at) = at
-
--- that of the event at this place, and 0 past the last one
-abbrev pub stroke_time_at : List Stroke → (place : ℕ) → ℕ
-stroke_time_at xs place = stroke_time (slice_index_or xs place (Edge 0))
-
--- that of the last event
-abbrev pub last_time : List Stroke → ℕ
-last_time xs = stroke_time_at xs (length xs - 1)
-
--- a time, or 0 where there is none
-abbrev pub time_or_zero : Option ℕ → ℕ
-time_or_zero None = 0
-time_or_zero (Some at) = at

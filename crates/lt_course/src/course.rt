@@ -1,9 +1,9 @@
 // What a schedule is drawn as, as far as it goes without an offence.
-use crate::stroke::Stroke;
 use lt_audit::Miss;
 use lt_base::List;
 use lt_diagram::{Arrow, Wrong};
 use lt_lossy::LossyOffence;
+use lt_tape::Excerpt;
 
 /// An event that is refused, with its row, the tick by which it was due or before which it was not, and where it stands out.
 #[derive(Drop)]
@@ -15,21 +15,21 @@ pub struct RefusedEvent {
     pub wrong: Wrong,
 }
 
-/// What the events before one with an offence are drawn as, what is in transit behind them, that event, and the first execution before it with
+/// What is drawn of the events before one with an offence, what is in transit behind them, that event, and the first execution before it with
 /// a message too few or too many.
 #[derive(Drop)]
 pub struct Stopped {
-    pub strokes: List<Stroke>,
+    pub excerpt: Excerpt,
     pub pending: List<Arrow>,
     pub refused: RefusedEvent,
     pub miss: Option<Miss>,
 }
 
-/// What the events of a schedule are drawn as, what is in transit behind them, the event at which it is refused, if it is, and the first
+/// What is drawn of the events of a schedule, what is in transit behind them, the event at which it is refused, if it is, and the first
 /// execution with a message too few or too many.
 #[derive(Drop)]
 pub struct Course {
-    pub strokes: List<Stroke>,
+    pub excerpt: Excerpt,
     pub pending: List<Arrow>,
     pub refused: Option<RefusedEvent>,
     pub miss: Option<Miss>,

@@ -1,4 +1,4 @@
-//! What the events of a schedule are drawn as, up to its first offence: it is replayed with any number of messages in transit.
+//! What is drawn of the events of a schedule, up to its first offence: it is replayed with any number of messages in transit.
 #![tactic(auto)]
 
 mod course;
@@ -8,10 +8,8 @@ mod recorder;
 mod recording;
 mod refusing;
 mod sketch;
-mod stroke;
 
 pub use course::{Course, RefusedEvent, Stopped};
 pub use recording::{halted_course, read_course};
-pub use refusing::{last_mark_for, offence_bound, without_last, wrong_by};
+pub use refusing::{last_mark_for, offence_bound, stop_time, without_last, wrong_by};
 pub use sketch::{chan_at, ink_by, sign_of};
-pub use stroke::{Stroke, last_time, stroke_time, stroke_time_at, time_or_zero};

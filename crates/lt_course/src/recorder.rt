@@ -11,22 +11,21 @@ ghost use Rattle.lt_schedule.specs.Long.{long_line};
 ghost use Rattle.lt_schedule.specs.declared.halt.Stop.TheVariants as stops;
 ghost use Rattle.lt_course.specs.Courses.{drawing_rules, stopped_at};
 ghost use Rattle.lt_course.specs.Recorded.{JudgesNextEvent};
-ghost use Rattle.lt_course.specs.Recording.{HasRecorded, KeepsRecorder, offence_behind, recorder_rules};
+ghost use Rattle.lt_course.specs.Recording.{HasRecorded, KeepsRecorder, TapesStroke, offence_behind, recorder_rules};
 ghost use Rattle.lt_course.specs.Sketches.{IsDeedDone, stroke_by};
 
 use crate::course::Stopped;
 use crate::reading::{done_at, executed_at, first_miss, pending_of, sent_before};
-use crate::refusing::{last_mark_for, oldest_read, refused_by};
+use crate::refusing::{last_mark_for, oldest_read, refused_by, stop_time};
 use crate::sketch::stroke_by;
-use crate::stroke::Stroke;
 use lt_arch::{Event, Offence, Shape, Timing};
 use lt_audit::{AuditFault, Auditor};
 use lt_base::{List, Memory, Steps};
 use lt_place::Crossing;
 use lt_rows::PlaceTable;
 use lt_schedule::{Replica, Stop};
+use lt_tape::{Asked, Tape};
 use std::alloc::Global;
-use std::mem::replace;
 use std::sync::ledger::Ledger;
 
 /// An auditor with the names by which events are read, and what the events that it has taken are drawn as.
@@ -36,18 +35,20 @@ pub struct Recorder {
     places: PlaceTable,
     pub cross: List<Crossing>,
     pub timing: Timing,
-    pub strokes: List<Stroke>,
+    pub asked: Asked,
+    pub tape: Tape,
     alloc: Global,
 }
 
 impl Recorder {
-    /// Before the first event, where these variables cross and there are so many rows of inputs.
+    /// Before the first event, where these variables cross, there are so many rows of inputs, and it is asked which ticks are drawn.
     pub fn over(
         alloc: Global,
         shape: &Shape,
         timing: &Timing,
         cross: &List<Crossing>,
         rows: u32,
+        asked: Asked,
     ) -> Result<Recorder, Memory>
         requires same { HaveSameNodes shape.now timing.now }
         requires numbered { 2 * (node_count shape.now + chan_count shape.now) < 2 ^ 32 }
@@ -56,6 +57,7 @@ impl Recorder {
         ensures timing { IfOk result (λ r. r.timing ≡ timing.now) }
         ensures shape { IfOk result (λ r. r.auditor.shape ≡ shape.now) }
         ensures rows { IfOk result (λ r. r.auditor.rows ≡ rows) }
+        ensures asked { IfOk result (λ r. r.asked ≡ asked) }
     {
         let places = PlaceTable::new(alloc, shape)?;
         let auditor = Auditor::start(alloc, shape.copy()?, timing.copy()?, rows)?;
@@ -64,7 +66,8 @@ impl Recorder {
             places,
             cross: cross.copy()?,
             timing: timing.copy()?,
-            strokes: List::new(alloc),
+            asked,
+            tape: Tape::new(alloc, asked, shape.nodes.len()),
             alloc,
         })
     }
@@ -79,6 +82,7 @@ impl Recorder {
         ensures timing { self.new.timing ≡ self.old.timing }
         ensures shape { self.new.auditor.shape ≡ self.old.auditor.shape }
         ensures rows { self.new.auditor.rows ≡ self.old.auditor.rows }
+        ensures asked { self.new.asked ≡ self.old.asked }
     {
         let executed = executed_at(&self.auditor, &e);
         let sent = sent_before(&self.auditor, &e);
@@ -94,9 +98,9 @@ impl Recorder {
         ensures auditor { self.new.auditor ≡ self.old.auditor }
         ensures cross { self.new.cross ≡ self.old.cross }
         ensures timing { self.new.timing ≡ self.old.timing }
-        ensures strokes { OnOk result ((deed : Deed) × IsDeedDone self.old.auditor e.now deed
-            × (self.new.strokes ≡ self.old.strokes
-            ++ stroke_by self.old.cross self.old.auditor.shape self.old.auditor.taken deed executed sent e.now ∷ [])) }
+        ensures asked { self.new.asked ≡ self.old.asked }
+        ensures tapes { OnOk result ((deed : Deed) × IsDeedDone self.old.auditor e.now deed
+            × TapesStroke self.old.tape self.new.tape (stroke_by self.old.cross self.old.auditor.shape self.old.auditor.taken deed executed sent e.now)) }
         ensures short { IfErr result (λ stop. stop ≡ stops.Memory) }
     {
         let deed = done_at(&self.auditor, e);
@@ -110,7 +114,7 @@ impl Recorder {
             sent,
             e,
         );
-        match self.strokes.push(stroke) {
+        match self.tape.push(stroke) {
             Ok(()) => Ok(()),
             Err(_) => Err(Stop::Memory),
         }
@@ -125,6 +129,7 @@ impl Recorder {
         ensures auditor { self.new.auditor ≡ self.old.auditor }
         ensures cross { self.new.cross ≡ self.old.cross }
         ensures timing { self.new.timing ≡ self.old.timing }
+        ensures asked { self.new.asked ≡ self.old.asked }
     {
         match fault {
             AuditFault::Offence(offence) => self.stop(e, offence),
@@ -141,6 +146,7 @@ impl Recorder {
         ensures auditor { self.new.auditor ≡ self.old.auditor }
         ensures cross { self.new.cross ≡ self.old.cross }
         ensures timing { self.new.timing ≡ self.old.timing }
+        ensures asked { self.new.asked ≡ self.old.asked }
     {
         match self.stopped(e, offence) {
             Ok(stopped) => Stop::Offence(stopped),
@@ -154,20 +160,21 @@ impl Recorder {
         requires stands { (before : Items OfEvent) × HasRecorded self.old before }
         requires offence { (before : Items OfEvent) → HasRecorded self.old before → offence_behind self.old before e.now ≡ Some offence }
         ensures stopped { IfOk result (λ x. (before : Items OfEvent) → HasRecorded self.old before
-            → x ≡ stopped_at self.old.cross self.old.auditor.shape self.old.timing self.old.auditor.rows before e.now offence) }
+            → x ≡ stopped_at self.old.asked self.old.cross self.old.auditor.shape self.old.timing self.old.auditor.rows before e.now offence) }
         ensures auditor { self.new.auditor ≡ self.old.auditor }
         ensures cross { self.new.cross ≡ self.old.cross }
         ensures timing { self.new.timing ≡ self.old.timing }
+        ensures asked { self.new.asked ≡ self.old.asked }
     {
-        let last = last_mark_for(self.strokes.as_slice(), offence);
+        let last = last_mark_for(&self.tape, offence);
         let oldest = oldest_read(&self.auditor, offence);
         let shape = self.auditor.shape();
         let refused = refused_by(self.alloc, shape, &self.timing, last, oldest, e, offence)?;
         let cross = self.cross.as_slice();
         let pending = pending_of(self.alloc, &self.auditor, cross, &self.timing)?;
-        let strokes = replace(&mut self.strokes, List::new(self.alloc));
+        let excerpt = self.tape.excerpt(Some(stop_time(&refused)))?;
         Ok(Stopped {
-            strokes,
+            excerpt,
             pending,
             refused,
             miss: first_miss(&self.auditor),
@@ -209,11 +216,11 @@ impl Replica<()> for Recorder {
 
     ghost long = { λ r line long. long_line r.auditor.shape line long };
 
-    ghost keeps_same = { λ r w. (refl, refl, refl, refl) };
+    ghost keeps_same = { λ r w. (refl, refl, refl, refl, refl) };
 
-    ghost keeps_on = { λ a u b v c w x y. (y.0 ∙ x.0, y.1 ∙ x.1, y.2 ∙ x.2, y.3 ∙ x.3) };
+    ghost keeps_on = { λ a u b v c w x y. (y.0 ∙ x.0, y.1 ∙ x.1, y.2 ∙ x.2, y.3 ∙ x.3, y.4 ∙ x.4) };
 
-    ghost keeps_rules = { λ a v b w x. λ i. drawing_rules (x.0 i) (x.2 i) (x.1 i) (x.3 i) };
+    ghost keeps_rules = { λ a v b w x. λ i. drawing_rules (x.4 i) (x.0 i) (x.2 i) (x.1 i) (x.3 i) };
 
     ghost keeps_prompt = { λ a v b w x prompt. prompt };
 }

@@ -1,5 +1,5 @@
 // What a schedule file is drawn as.
-ghost use Rattle.std.specs.Prelude.{◌≡◌, ◌<◌, ◌≤◌, ◌+◌, ◌*◌, ◌^◌, [], List as Items, IfOk, IsSome, IsTrue};
+ghost use Rattle.std.specs.Prelude.{◌≡◌, ◌<◌, ◌≤◌, ◌+◌, ◌*◌, ◌^◌, [], List as Items, option_map, IfOk, IsSome, IsTrue};
 ghost use Rattle.lt_io.specs.Counts.{MayFail};
 ghost use Rattle.lt_io.specs.FilesState.{KeepsFiles, KeepsNames};
 ghost use Rattle.lt_io.specs.Visits.{taken_of};
@@ -10,14 +10,14 @@ ghost use Rattle.lt_arch.specs.Readers.{chan_count, node_count};
 ghost use Rattle.lt_arch.specs.Shapes.{HaveSameNodes};
 ghost use Rattle.lt_schedule.specs.Halted.{HaltCounted, ReadCounted};
 ghost use Rattle.lt_schedule.specs.Replayed.{JudgesFile, JudgesOpen};
-ghost use Rattle.lt_course.specs.Courses.{IsCourseOf, course_or_fault, halted_course, or_course, unended_by};
+ghost use Rattle.lt_course.specs.Courses.{IsCourseOf, course_or_fault, halted_course, or_course, stop_time, unended_by};
 ghost use Rattle.lt_course.specs.Reading.{ReadsCourse, RecordsCourse, VisitsUnlessRead};
 ghost use Rattle.lt_course.specs.Recording.{HasRecorded, KeepsRecorder, recorder_rules};
 
 use crate::course::{Course, RefusedEvent, Stopped};
 use crate::reading::{first_miss, pending_of};
 use crate::recorder::Recorder;
-use crate::stroke::last_time;
+use crate::refusing::stop_time;
 use lt_arch::{Offence, Shape, Timing};
 use lt_audit::Auditor;
 use lt_base::{List, Memory, Or, Steps};
@@ -28,12 +28,13 @@ use lt_lossy::LossyOffence;
 use lt_place::Crossing;
 use lt_rows::Lines;
 use lt_schedule::{Halt, ScheduleRefusal, replay_lines};
+use lt_tape::Asked;
 use std::alloc::Global;
 use std::marker::Brand;
-use std::mem::replace;
 use std::sync::ledger::{Blank, Ledger};
 
-/// What a schedule file is drawn as over these nodes and channels, with these bounds of time, variables that cross and rows of inputs.
+/// What is drawn of a schedule file over these nodes and channels, with these bounds of time, variables that cross and rows of inputs, where it is
+/// asked which ticks are.
 pub fn read_course<F: Files>(
     alloc: Global,
     files: &mut F,
@@ -42,13 +43,14 @@ pub fn read_course<F: Files>(
     timing: &Timing,
     cross: &List<Crossing>,
     rows: u32,
+    asked: Asked,
 ) -> Result<Course, Or<CommandFault>>
     requires count { MayFail (F.state files.old).faults }
     requires same { HaveSameNodes shape.now timing.now }
     requires numbered { 2 * (node_count shape.now + chan_count shape.now) < 2 ^ 32 }
-    ensures { ReadsCourse cross.now shape.now timing.now rows schedule.now (F.state files.old) (F.state files.new) result }
+    ensures { ReadsCourse asked cross.now shape.now timing.now rows schedule.now (F.state files.old) (F.state files.new) result }
 {
-    let mut recorder = Recorder::over(alloc, shape, timing, cross, rows)?;
+    let mut recorder = Recorder::over(alloc, shape, timing, cross, rows, asked)?;
     let course = replay_course(alloc, files, schedule, &mut recorder);
     drop(recorder);
     course
@@ -132,23 +134,28 @@ fn replay_open<F: Files, L: Ledger>(
 fn course_of(alloc: Global, recorder: &mut Recorder) -> Result<Course, Memory>
     requires { (es : Items OfEvent) × HasRecorded recorder.old es }
     ensures { IfOk result (λ course. (es : Items OfEvent) → HasRecorded recorder.old es
-        → IsCourseOf recorder.old.cross recorder.old.auditor.shape recorder.old.timing recorder.old.auditor.rows es course) }
+        → IsCourseOf recorder.old.asked recorder.old.cross recorder.old.auditor.shape recorder.old.timing recorder.old.auditor.rows es course) }
 {
     let cross = recorder.cross.as_slice();
     let pending = pending_of(alloc, &recorder.auditor, cross, &recorder.timing)?;
-    let refused = unended(
-        alloc,
-        &recorder.auditor,
-        last_time(recorder.strokes.as_slice()),
-    );
+    let refused = unended(alloc, &recorder.auditor, recorder.tape.last_time());
+    let excerpt = recorder.tape.excerpt(stop_of(&refused))?;
     let miss = first_miss(&recorder.auditor);
-    let strokes = replace(&mut recorder.strokes, List::new(alloc));
     Ok(Course {
-        strokes,
+        excerpt,
         pending,
         refused,
         miss,
     })
+}
+
+fn stop_of(refused: &Option<RefusedEvent>) -> Option<u64>
+    ensures { result ≡ option_map stop_time refused.now }
+{
+    match refused {
+        None => None,
+        Some(refused) => Some(stop_time(refused)),
+    }
 }
 
 // Where a list stops whose last event has this time.
@@ -185,7 +192,7 @@ fn refused_course(refusal: ScheduleRefusal<Stopped>) -> Result<Course, Or<Comman
     match refusal {
         ScheduleRefusal::Row { row, fault } => Err(Or::Fault(CommandFault::Row { row, fault })),
         ScheduleRefusal::Offence { event: _, offence } => Ok(Course {
-            strokes: offence.strokes,
+            excerpt: offence.excerpt,
             pending: offence.pending,
             refused: Some(offence.refused),
             miss: offence.miss,

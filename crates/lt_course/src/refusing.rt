@@ -1,5 +1,5 @@
 // An event with an offence, as it is drawn.
-ghost use Rattle.std.specs.Prelude.{◌≡◌, ◌<◌, ◌≤◌, ◌++◌, ◌∷◌, [], ℕ, List as Items, All, IfOk, IfSome};
+ghost use Rattle.std.specs.Prelude.{◌≡◌, ◌<◌, ◌≤◌, ◌++◌, ◌∷◌, [], ℕ, List as Items, IfOk};
 ghost use Rattle.lt_arch.specs.declared.limits.TheConstants.{GREATEST_BOUND, GREATEST_TIME};
 ghost use Rattle.lt_arch.specs.Deadline.{after_last};
 ghost use Rattle.lt_arch.specs.Readers.{chan_count, from_of, to_of};
@@ -7,63 +7,34 @@ ghost use Rattle.lt_arch.specs.Schedule.{IsEventOf};
 ghost use Rattle.lt_arch.specs.Shapes.{HaveSameNodes};
 ghost use Rattle.lt_rows.specs.Texts.{event_text};
 ghost use Rattle.lt_diagram.specs.declared.picture.Wrong.TheVariants as wrongs;
-ghost use Rattle.lt_course.specs.Courses.{offence_bound, refused_by, wrong_by};
-ghost use Rattle.lt_course.specs.Lasts.{last_mark, last_mark_for, later_mark, oldest_read};
-ghost use Rattle.lt_course.specs.Placed.{IsPlacedOffence, IsTimelyLast, IsTimelyStroke};
+ghost use Rattle.lt_tape.specs.declared.asked.Asked.{Asked as OfAsked};
+ghost use Rattle.lt_tape.specs.declared.stroke.Stroke.{Stroke as OfStroke};
+ghost use Rattle.lt_tape.specs.Tapes.{IsTapeOf};
+ghost use Rattle.lt_course.specs.Courses.{offence_bound, refused_by, stop_time, wrong_by};
+ghost use Rattle.lt_course.specs.Lasts.{last_mark_for, oldest_read};
+ghost use Rattle.lt_course.specs.Placed.{IsPlacedOffence, IsTimelyLast};
 
 use crate::course::RefusedEvent;
 use crate::reading::first_sent_or;
 use crate::sketch::chan_at;
-use crate::stroke::{Stroke, time_or_zero};
 use lt_arch::{Event, Offence, Shape, Timing};
 use lt_audit::Auditor;
 use lt_base::{List, Memory};
 use lt_diagram::Wrong;
 use lt_lossy::LossyOffence;
 use lt_rows::print_event;
+use lt_tape::{Tape, time_or_zero};
 use std::alloc::Global;
 
-fn later_mark(node: u32, found: Option<u64>, stroke: &Stroke) -> Option<u64>
-    requires found { IsTimelyLast found }
-    requires timely { IsTimelyStroke stroke.now }
-    ensures value { result ≡ later_mark node found stroke.now }
-    ensures timely { IsTimelyLast result }
-{
-    match stroke {
-        Stroke::Point(mark) => {
-            if node == mark.node {
-                Some(mark.time)
-            } else {
-                found
-            }
-        }
-        Stroke::Line(_) => found,
-        Stroke::Edge(_) => found,
-    }
-}
-
-// When a node was activated last.
-fn last_mark(node: u32, strokes: &[Stroke]) -> Option<u64>
-    requires { All IsTimelyStroke strokes.now }
-    ensures value { result ≡ last_mark node strokes.now }
-    ensures timely { IsTimelyLast result }
-{
-    let mut found = None;
-    'strokes: for stroke in strokes {
-        found = later_mark(node, found, stroke);
-    }
-    found
-}
-
-/// When the node of an offence was activated last.
-pub fn last_mark_for(strokes: &[Stroke], offence: Offence) -> Option<u64>
-    requires { All IsTimelyStroke strokes.now }
-    ensures value { result ≡ last_mark_for strokes.now offence }
+/// When the node of an offence was activated last, by a tape of the strokes before it.
+pub fn last_mark_for(tape: &Tape, offence: Offence) -> Option<u64>
+    requires { (asked : OfAsked) × (nodes : ℕ) × (xs : Items OfStroke) × IsTapeOf tape.now asked nodes xs }
+    ensures value { (asked : OfAsked) (nodes : ℕ) (xs : Items OfStroke) → IsTapeOf tape.now asked nodes xs → result ≡ last_mark_for xs offence }
     ensures timely { IsTimelyLast result }
 {
     match offence {
-        Offence::NodeOverdue(node) => last_mark(node, strokes),
-        Offence::TooSoon(node) => last_mark(node, strokes),
+        Offence::NodeOverdue(node) => tape.last_mark(node),
+        Offence::TooSoon(node) => tape.last_mark(node),
         Offence::AfterEnd => None,
         Offence::Backwards => None,
         Offence::ChannelOverdue(_) => None,
@@ -71,6 +42,13 @@ pub fn last_mark_for(strokes: &[Stroke], offence: Offence) -> Option<u64>
         Offence::TooEarly(_) => None,
         Offence::NoEnd => None,
     }
+}
+
+/// The latest time that matters of an event that is refused.
+pub fn stop_time(refused: &RefusedEvent) -> u64
+    ensures { result ≡ stop_time refused.now }
+{
+    refused.time.max(time_or_zero(refused.bound))
 }
 
 /// When the oldest message in transit on the channel of an offence was sent.

@@ -7,11 +7,11 @@ ghost use Rattle.lt_arch.specs.Schedule.{IsPlacedIn};
 ghost use Rattle.lt_course.specs.Strokes.{arrow_of, ink_by, ink_of, sign_of};
 ghost use Rattle.lt_course.specs.Sketches.{stroke_by};
 
-use crate::stroke::Stroke;
 use lt_arch::{Chan, ChanKind, Deed, Event, Shape};
 use lt_diagram::{Arrow, Fate, Ink, Mark, Sign};
 use lt_net_node::is_crossed;
 use lt_place::Crossing;
+use lt_tape::Stroke;
 
 /// The sign of a deed of a node that has executed so many instants.
 pub fn sign_of(deed: Deed, executed: u32) -> Sign

@@ -1,5 +1,5 @@
 -- All right refusals of a picture are of one kind, and then no picture is right.
-use Rattle.std.proofs.Common.{◌≡◌, ◌∙◌, ℕ, List, Option, Some, None, Result, Ok, Err, refl, sym, ap, subst}
+use Rattle.std.proofs.Common.{◌≡◌, ◌∙◌, ℕ, List, Option, Result, Ok, Err, sym, ap, subst}
 use Rattle.lt_arch.specs.declared.shape.Shape.{Shape}
 use Rattle.lt_arch.specs.declared.timing.Timing.{Timing}
 use Rattle.lt_arch.specs.declared.pace.Pace.{Pace}
@@ -22,7 +22,8 @@ use Rattle.lt_inspect.proofs.OneScene.{placed_once}
 use Rattle.lt_course.specs.declared.course.Course.{Course}
 use Rattle.lt_drawing.specs.declared.stage.Stage.{Stage}
 use Rattle.lt_drawing.specs.declared.view.DrawView.{DrawView}
-use Rattle.lt_drawing.specs.Drawn.{course_verdict_by, draw_verdict, plan_drawn, stage_course_verdict}
+use Rattle.lt_tape.specs.declared.asked.Asked.{Asked}
+use Rattle.lt_drawing.specs.Drawn.{asked_of, course_verdict_by, draw_verdict, plan_drawn, stage_course_verdict}
 use Rattle.lt_drawing.specs.Stages.{IsStageOf, setup_stage_verdict, stage_verdict, windowed_config_verdict}
 use Rattle.lt_course.proofs.OneCourse.{no_course, one_fault}
 use Rattle.lt_lossy_course.proofs.OneLossyCourse as lossy
@@ -44,23 +45,23 @@ alike_stages plan _ k j is it = record {
 }
 
 -- what is right of one stage's file is right of the other's, but for what crosses
-course_too : (k j : Stage) → AreAlikeStages k j → (file : Option (List ℕ)) (r : Result Course CommandFault) → stage_course_verdict j file r → course_verdict_by k.ground.pace j.ground.cross k.ground.shape k.ground.timing k.rows file r
-course_too k j same file r h =
-    subst (λ (n : ℕ). course_verdict_by k.ground.pace j.ground.cross k.ground.shape k.ground.timing n file r) same.rows
-    (subst (λ (t : Timing). course_verdict_by k.ground.pace j.ground.cross k.ground.shape t j.rows file r) same.timing
-    (subst (λ (s : Shape). course_verdict_by k.ground.pace j.ground.cross s j.ground.timing j.rows file r) same.shape
-    (subst (λ (p : Pace). course_verdict_by p j.ground.cross j.ground.shape j.ground.timing j.rows file r) same.pace h)))
+course_too : (view : DrawView) (k j : Stage) → AreAlikeStages k j → (file : Option (List ℕ)) (r : Result Course CommandFault) → stage_course_verdict view j file r → course_verdict_by (asked_of view) k.ground.pace j.ground.cross k.ground.shape k.ground.timing k.rows file r
+course_too view k j same file r h =
+    subst (λ (n : ℕ). course_verdict_by (asked_of view) k.ground.pace j.ground.cross k.ground.shape k.ground.timing n file r) same.rows
+    (subst (λ (t : Timing). course_verdict_by (asked_of view) k.ground.pace j.ground.cross k.ground.shape t j.rows file r) same.timing
+    (subst (λ (s : Shape). course_verdict_by (asked_of view) k.ground.pace j.ground.cross s j.ground.timing j.rows file r) same.shape
+    (subst (λ (p : Pace). course_verdict_by (asked_of view) p j.ground.cross j.ground.shape j.ground.timing j.rows file r) same.pace h)))
 
 -- so is a refusal, whatever crosses, and then no course is right
-one_fault_by : (pace : Pace) (cross other : List Crossing) (s : Shape) (t : Timing) (rows : ℕ) (file : Option (List ℕ)) (e f : CommandFault) → course_verdict_by pace cross s t rows file (Err e) → course_verdict_by pace other s t rows file (Err f) → e ≡ f
-one_fault_by Plain cross other s t rows file e f p q = one_fault cross other s t rows file e f p q
-one_fault_by (Lossy losses) cross other s t rows file e f p q = lossy.one_fault cross other s t losses rows file e f p q
-one_fault_by (Leader leader) cross other s t rows file e f p q = one_fault cross other s t rows file e f p q
+one_fault_by : (asked : Asked) (pace : Pace) (cross other : List Crossing) (s : Shape) (t : Timing) (rows : ℕ) (file : Option (List ℕ)) (e f : CommandFault) → course_verdict_by asked pace cross s t rows file (Err e) → course_verdict_by asked pace other s t rows file (Err f) → e ≡ f
+one_fault_by asked Plain cross other s t rows file e f p q = one_fault asked cross other s t rows file e f p q
+one_fault_by asked (Lossy losses) cross other s t rows file e f p q = lossy.one_fault asked cross other s t losses rows file e f p q
+one_fault_by asked (Leader leader) cross other s t rows file e f p q = one_fault asked cross other s t rows file e f p q
 
-no_course_by : (pace : Pace) (cross other : List Crossing) (s : Shape) (t : Timing) (rows : ℕ) (file : Option (List ℕ)) (e : CommandFault) (c : Course) → course_verdict_by pace cross s t rows file (Err e) → course_verdict_by pace other s t rows file (Ok c) → ⊥
-no_course_by Plain cross other s t rows file e c p q = no_course cross other s t rows file e c p q
-no_course_by (Lossy losses) cross other s t rows file e c p q = lossy.no_course cross other s t losses rows file e c p q
-no_course_by (Leader leader) cross other s t rows file e c p q = no_course cross other s t rows file e c p q
+no_course_by : (asked : Asked) (pace : Pace) (cross other : List Crossing) (s : Shape) (t : Timing) (rows : ℕ) (file : Option (List ℕ)) (e : CommandFault) (c : Course) → course_verdict_by asked pace cross s t rows file (Err e) → course_verdict_by asked pace other s t rows file (Ok c) → ⊥
+no_course_by asked Plain cross other s t rows file e c p q = no_course asked cross other s t rows file e c p q
+no_course_by asked (Lossy losses) cross other s t rows file e c p q = lossy.no_course asked cross other s t losses rows file e c p q
+no_course_by asked (Leader leader) cross other s t rows file e c p q = no_course asked cross other s t rows file e c p q
 
 -- a setup has only one fault of its window
 one_window : (setup : Config) (e f : CommandFault) → IsOutsideWindow setup e → IsOutsideWindow setup f → e ≡ f
@@ -75,9 +76,9 @@ module _ {K : Type 0} (kind : CommandFault → K) where
   plan_once : (schedule config : List ℕ) (node : Option (List ℕ)) (view : DrawView) (file : Option (List ℕ)) (plan : Plan) → HasOneKind kind (plan_drawn schedule config node view file plan)
   plan_once schedule config node view file plan = record {
     one_kind = λ e f p q.
-        ap kind (one_fault_by p.0.ground.pace p.0.ground.cross q.0.ground.cross p.0.ground.shape p.0.ground.timing p.0.rows file e f p.2 (course_too p.0 q.0 (alike_stages plan node p.0 q.0 p.1 q.1) file (Err f) q.2));
+        ap kind (one_fault_by (asked_of view) p.0.ground.pace p.0.ground.cross q.0.ground.cross p.0.ground.shape p.0.ground.timing p.0.rows file e f p.2 (course_too view p.0 q.0 (alike_stages plan node p.0 q.0 p.1 q.1) file (Err f) q.2));
     not_both = λ e text p q.
-        no_course_by p.0.ground.pace p.0.ground.cross q.0.ground.cross p.0.ground.shape p.0.ground.timing p.0.rows file e q.2.0 p.2 (course_too p.0 q.0 (alike_stages plan node p.0 q.0 p.1 q.1) file (Ok q.2.0) q.2.1);
+        no_course_by (asked_of view) p.0.ground.pace p.0.ground.cross q.0.ground.cross p.0.ground.shape p.0.ground.timing p.0.rows file e q.2.0 p.2 (course_too view p.0 q.0 (alike_stages plan node p.0 q.0 p.1 q.1) file (Ok q.2.0) q.2.1);
   }
 
   windowed_once : (setup : Config) → HasOneOutcome kind (windowed_verdict setup)

@@ -17,6 +17,7 @@ use Rattle.lt_load.specs.Blamed.{command_blame}
 use Rattle.lt_load.specs.Errands.{load_errands}
 use Rattle.lt_load.specs.Plan.{Plan}
 use Rattle.lt_draw.specs.PictureText.{picture_text}
+use Rattle.lt_tape.specs.declared.asked.Asked.{Asked}
 use Rattle.lt_course.specs.declared.course.Course.{Course}
 use Rattle.lt_drawing.specs.declared.stage.Ground.{Ground}
 use Rattle.lt_drawing.specs.declared.stage.Stage.{Stage}
@@ -26,19 +27,23 @@ use Rattle.lt_lossy_course.specs.LossyCourses.{lossy_course_verdict}
 use Rattle.lt_drawing.specs.Pictures.{picture_of}
 use Rattle.lt_drawing.specs.Stages.{IsStageOf, stage_verdict}
 
+-- which ticks a view asks for
+abbrev pub asked_of : DrawView → Asked
+asked_of view = record { from = view.from; to = view.to }
+
 -- what is drawn of a schedule's file by the pace of the protocol: where links lose messages, with the losses that are allowed in a row
-abbrev pub course_verdict_by : Pace → List Crossing → Shape → Timing → (rows : ℕ) → (file : Option (List ℕ)) → Verdict Course CommandFault
-course_verdict_by Plain cross s t rows file = course_verdict cross s t rows file
-course_verdict_by (Lossy losses) cross s t rows file = lossy_course_verdict cross s t losses rows file
-course_verdict_by (Leader leader) cross s t rows file = course_verdict cross s t rows file
+abbrev pub course_verdict_by : Asked → Pace → List Crossing → Shape → Timing → (rows : ℕ) → (file : Option (List ℕ)) → Verdict Course CommandFault
+course_verdict_by asked Plain cross s t rows file = course_verdict asked cross s t rows file
+course_verdict_by asked (Lossy losses) cross s t rows file = lossy_course_verdict asked cross s t losses rows file
+course_verdict_by asked (Leader leader) cross s t rows file = course_verdict asked cross s t rows file
 
 -- and over a stage
-abbrev pub stage_course_verdict : Stage → (file : Option (List ℕ)) → Verdict Course CommandFault
-stage_course_verdict k file = course_verdict_by k.ground.pace k.ground.cross k.ground.shape k.ground.timing k.rows file
+abbrev pub stage_course_verdict : DrawView → Stage → (file : Option (List ℕ)) → Verdict Course CommandFault
+stage_course_verdict view k file = course_verdict_by (asked_of view) k.ground.pace k.ground.cross k.ground.shape k.ground.timing k.rows file
 
 -- its text, by the names of the two files that the title has
 abbrev pub along_stage : (schedule config : List ℕ) → DrawView → Stage → (file : Option (List ℕ)) → Verdict (List ℕ) CommandFault
-along_stage schedule config view k file = Shown (λ course. picture_text (picture_of schedule config view k course)) (stage_course_verdict k file)
+along_stage schedule config view k file = Shown (λ course. picture_text (picture_of schedule config view k course)) (stage_course_verdict view k file)
 
 -- a plan along a schedule's file
 abbrev pub plan_drawn : (schedule config : List ℕ) (node : Option (List ℕ)) → DrawView → (file : Option (List ℕ)) → Plan → Verdict (List ℕ) CommandFault
@@ -63,6 +68,6 @@ abbrev pub DrawsStage : Stage → (schedule config : List ℕ) → DrawView → 
 DrawsStage k schedule config view old new result =
     AnsweredOnFiles command_blame (schedule_errand schedule) (along_stage schedule config view k (old.named schedule)) old new result
 
--- what is drawn over these nodes and so many rows of inputs of the schedule file of this name
-abbrev pub ReadsGroundCourse : Ground → (rows : ℕ) → (schedule : List ℕ) → (old new : FilesState) → Result Course (Or CommandFault) → Type 0
-ReadsGroundCourse g rows schedule old new result = AnsweredOnFiles command_blame (schedule_errand schedule) (course_verdict_by g.pace g.cross g.shape g.timing rows (old.named schedule)) old new result
+-- what is drawn over these nodes and so many rows of inputs of the schedule file of this name, where it is asked which ticks are
+abbrev pub ReadsGroundCourse : Asked → Ground → (rows : ℕ) → (schedule : List ℕ) → (old new : FilesState) → Result Course (Or CommandFault) → Type 0
+ReadsGroundCourse asked g rows schedule old new result = AnsweredOnFiles command_blame (schedule_errand schedule) (course_verdict_by asked g.pace g.cross g.shape g.timing rows (old.named schedule)) old new result

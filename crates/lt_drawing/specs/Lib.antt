@@ -1,6 +1,5 @@
 pub mod Grounds
 pub mod Stages
-pub mod Windows
 pub mod Kept
 pub mod Titles
 pub mod Pictures

@@ -13,7 +13,7 @@ use Rattle.lt_lossy.specs.declared.event.LossyOffence.TheVariants.{Common, TooMa
 use Rattle.lt_svg.specs.Pieces.{filled_template}
 use Rattle.lt_text_lines.specs.ScheduleLines.{channel_text, name_of_node}
 use Rattle.lt_course.specs.declared.course.RefusedEvent.{RefusedEvent}
-use Rattle.lt_drawing.specs.declared.window.Window.{Window}
+use Rattle.lt_tape.specs.declared.window.Window.{Window}
 
 -- what stands behind the last slash of a name
 abbrev pub base_from : (base : List ℕ) → List ℕ → List ℕ

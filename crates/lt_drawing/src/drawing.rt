@@ -14,6 +14,7 @@ use lt_course::{Course, read_course};
 use lt_io::Files;
 use lt_load::CommandFault;
 use lt_lossy_course::read_lossy_course;
+use lt_tape::Asked;
 use std::alloc::Global;
 
 /// One SVG of a schedule over a program's setup, whose timing need not be accepted and in which a node may lead or links may lose messages, with any
@@ -38,26 +39,29 @@ pub fn draw<F: Files>(
     text
 }
 
-// What a schedule file is drawn as, by the pace of the protocol.
+// What is drawn of a schedule file, by the pace of the protocol.
 fn read_course_by<F: Files>(
     alloc: Global,
     files: &mut F,
     ground: &Ground,
     rows: u32,
     schedule: &str,
+    asked: Asked,
 ) -> Result<Course, Or<CommandFault>>
     requires { MayFail (F.state files.old).faults }
-    ensures { ReadsGroundCourse ground.now rows schedule.now (F.state files.old) (F.state files.new) result }
+    ensures { ReadsGroundCourse asked ground.now rows schedule.now (F.state files.old) (F.state files.new) result }
 {
     let shape = &ground.shape;
     let timing = &ground.timing;
     let cross = &ground.cross;
     match ground.pace {
         Pace::Lossy(losses) => {
-            read_lossy_course(alloc, files, schedule, shape, timing, cross, losses, rows)
+            read_lossy_course(
+                alloc, files, schedule, shape, timing, cross, losses, rows, asked,
+            )
         }
         Pace::Plain | Pace::Leader(_) => {
-            read_course(alloc, files, schedule, shape, timing, cross, rows)
+            read_course(alloc, files, schedule, shape, timing, cross, rows, asked)
         }
     }
 }
@@ -74,7 +78,11 @@ fn draw_stage<F: Files>(
     requires { MayFail (F.state files.old).faults }
     ensures { DrawsStage stage.now schedule.now config.now view (F.state files.old) (F.state files.new) result }
 {
-    let course = read_course_by(alloc, files, &stage.ground, stage.rows, schedule)?;
+    let asked = Asked {
+        from: view.from,
+        to: view.to,
+    };
+    let course = read_course_by(alloc, files, &stage.ground, stage.rows, schedule, asked)?;
     let text = draw_course(
         alloc,
         schedule.as_bytes(),

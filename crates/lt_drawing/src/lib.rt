@@ -9,7 +9,6 @@ mod picturing;
 mod stage;
 mod titles;
 mod view;
-mod window;
 
 pub use drawing::draw;
 pub use view::DrawView;

@@ -1,40 +1,35 @@
 // The picture of a schedule.
-ghost use Rattle.std.specs.Prelude.{◌≡◌, ◌≤◌, is_some, length, unwrap_or, IfOk};
+ghost use Rattle.std.specs.Prelude.{◌≡◌, ◌==◌, ◌++◌, find, is_some, unwrap_or, IfOk};
 ghost use Rattle.lt_arch.specs.Paced.{allowed_of};
 ghost use Rattle.lt_audit.specs.Acts.{next_number};
 ghost use Rattle.lt_draw.specs.PictureText.{picture_text};
 ghost use Rattle.lt_text_lines.specs.ScheduleLines.{lossy_line};
-ghost use Rattle.lt_drawing.specs.Pictures.{shown_refusal, facts_text, picture_in, picture_of, refusal_in, ring_at, ring_in};
+ghost use Rattle.lt_drawing.specs.Kept.{arrows_if};
+ghost use Rattle.lt_drawing.specs.Pictures.{shown_refusal, facts_text, picture_of, refusal_in, ring_at, ring_in, ring_of};
 
-use crate::keeping::{count_in, is_in_window, kept_arrows, marks_in};
+use crate::keeping::kept_arrows;
 use crate::stage::Stage;
 use crate::titles::{
     append_extent, append_setting, note_text, refused_row_text, ring_text, title_text,
 };
 use crate::view::DrawView;
-use crate::window::{Window, window_of};
 use lt_arch::{Pace, Shape};
 use lt_audit::Miss;
 use lt_base::{List, Memory};
-use lt_course::{Course, RefusedEvent, Stroke, last_time, stroke_time_at, time_or_zero};
-use lt_diagram::{Picture, Ring};
+use lt_course::{Course, RefusedEvent};
+use lt_diagram::{Arrow, Mark, Picture, Ring};
 use lt_draw::write_picture;
 use lt_lossy::LossyOffence;
+use lt_tape::{Window, is_in_window, time_or_zero};
 use lt_text_lines::append_lossy;
 use std::alloc::Global;
 
 // The line below the title.
-fn facts_text(
-    alloc: Global,
-    stage: &Stage,
-    window: Window,
-    course: &Course,
-) -> Result<List<u8>, Memory>
-    ensures { IfOk result (λ text. text ≡ facts_text stage.now window course.now) }
+fn facts_text(alloc: Global, stage: &Stage, course: &Course) -> Result<List<u8>, Memory>
+    ensures { IfOk result (λ text. text ≡ facts_text stage.now course.now) }
 {
     let ground = &stage.ground;
-    let strokes = course.strokes.as_slice();
-    let shown = count_in(window, strokes);
+    let excerpt = &course.excerpt;
     let nodes = ground.shape.nodes.len();
     let mut out = List::new(alloc);
     append_setting(&mut out, ground.pace, ground.timing.protocol, nodes)?;
@@ -42,10 +37,10 @@ fn facts_text(
         &mut out,
         &ground.shape,
         ground.node,
-        window,
-        shown,
-        strokes.len(),
-        last_time(strokes),
+        excerpt.window,
+        excerpt.shown,
+        excerpt.count,
+        excerpt.last,
         &course.refused,
     )?;
     Ok(out)
@@ -121,22 +116,41 @@ fn ring_at(
     }))
 }
 
+// The mark of the event of this number.
+fn mark_of(event: u32, marks: &[Mark]) -> Option<Mark>
+    ensures { result ≡ find (λ k. k.event == event) marks.now }
+{
+    marks.iter().copied().find(|mark| mark.event == event)
+}
+
+fn ring_of(
+    alloc: Global,
+    shape: &Shape,
+    window: Window,
+    mark: Option<Mark>,
+    miss: Miss,
+) -> Result<Option<Ring>, Memory>
+    ensures { IfOk result (λ ring. ring ≡ ring_of shape.now window mark miss) }
+{
+    match mark {
+        None => Ok(None),
+        Some(mark) => ring_at(alloc, shape, window, mark.time, miss),
+    }
+}
+
 // The first execution with a message too few or too many, where its event is drawn.
 fn ring_in(
     alloc: Global,
     shape: &Shape,
     window: Window,
-    strokes: &[Stroke],
+    marks: &[Mark],
     miss: Option<Miss>,
 ) -> Result<Option<Ring>, Memory>
-    ensures { IfOk result (λ ring. ring ≡ ring_in shape.now window strokes.now miss) }
+    ensures { IfOk result (λ ring. ring ≡ ring_in shape.now window marks.now miss) }
 {
     match miss {
         None => Ok(None),
-        Some(miss) => {
-            let time = stroke_time_at(strokes, miss.event.saturating_sub(1) as usize);
-            ring_at(alloc, shape, window, time, miss)
-        }
+        Some(miss) => ring_of(alloc, shape, window, mark_of(miss.event, marks), miss),
     }
 }
 
@@ -145,38 +159,6 @@ fn next_number(count: usize) -> u32
     ensures { result ≡ next_number count }
 {
     count.saturating_add(1).min(4_294_967_295) as u32
-}
-
-// The picture in this window.
-fn picture_in(
-    alloc: Global,
-    schedule: &[u8],
-    config: &[u8],
-    view: DrawView,
-    stage: &Stage,
-    course: &Course,
-    window: Window,
-) -> Result<Picture, Memory>
-    ensures { IfOk result (λ picture. picture ≡ picture_in schedule.now config.now view stage.now course.now window) }
-{
-    let shape = &stage.ground.shape;
-    let node = stage.ground.node;
-    let strokes = course.strokes.as_slice();
-    let pending = course.pending.as_slice();
-    let number = next_number(strokes.len());
-    Ok(Picture {
-        width: width_of(view),
-        from: window.from,
-        to: window.to,
-        title: title_text(alloc, schedule, config)?,
-        facts: facts_text(alloc, stage, window, course)?,
-        names: shape.nodes.copy()?,
-        marks: marks_in(alloc, window, strokes)?,
-        arrows: kept_arrows(alloc, window, node, &course.refused, strokes, pending)?,
-        again: loses(stage.ground.pace),
-        offence: refusal_in(alloc, shape, number, &course.refused)?,
-        ring: ring_in(alloc, shape, window, strokes, course.miss)?,
-    })
 }
 
 // Whether links lose messages.
@@ -209,9 +191,40 @@ fn picture_of(
 ) -> Result<Picture, Memory>
     ensures { IfOk result (λ picture. picture ≡ picture_of schedule.now config.now view stage.now course.now) }
 {
-    let nodes = stage.ground.shape.nodes.len();
-    let window = window_of(view, nodes, course.strokes.as_slice(), &course.refused);
-    picture_in(alloc, schedule, config, view, stage, course, window)
+    let shape = &stage.ground.shape;
+    let excerpt = &course.excerpt;
+    let window = excerpt.window;
+    let marks = excerpt.marks.as_slice();
+    let number = next_number(excerpt.count);
+    Ok(Picture {
+        width: width_of(view),
+        from: window.from,
+        to: window.to,
+        title: title_text(alloc, schedule, config)?,
+        facts: facts_text(alloc, stage, course)?,
+        names: shape.nodes.copy()?,
+        marks: List::from_slice(alloc, marks)?,
+        arrows: drawn_arrows(alloc, stage.ground.node, course)?,
+        again: loses(stage.ground.pace),
+        offence: refusal_in(alloc, shape, number, &course.refused)?,
+        ring: ring_in(alloc, shape, window, marks, course.miss)?,
+    })
+}
+
+// The messages of a course, of a node that is named or of all.
+fn drawn_arrows(alloc: Global, node: Option<u32>, course: &Course) -> Result<List<Arrow>, Memory>
+    ensures { IfOk result (λ arrows. arrows ≡ arrows_if course.now.excerpt.window node course.now.refused course.now.excerpt.lines
+        ++ arrows_if course.now.excerpt.window node course.now.refused course.now.pending) }
+{
+    let excerpt = &course.excerpt;
+    kept_arrows(
+        alloc,
+        excerpt.window,
+        node,
+        &course.refused,
+        excerpt.lines.as_slice(),
+        course.pending.as_slice(),
+    )
 }
 
 /// The text of the picture of a schedule over its stage.

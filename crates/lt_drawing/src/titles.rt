@@ -3,13 +3,13 @@ ghost use Rattle.std.specs.Prelude.{◌≡◌, ◌++◌, ◌≤◌, decimal, dro
 ghost use Rattle.lt_arch.specs.declared.pace.Pace.TheVariants as paces;
 ghost use Rattle.lt_drawing.specs.Titles.{alone_text, base_name, common_note_text, common_row_text, delivered_text, events_text, execution_text, messages_of_text, nodes_text, note_text, numbered_row, protocol_text, reach_text, ring_text, refused_row_text, ticks_text, title_text};
 
-use crate::window::Window;
 use lt_arch::{Offence, Pace, Protocol, Shape};
 use lt_audit::Miss;
 use lt_base::{List, Memory, append_number};
 use lt_course::RefusedEvent;
 use lt_lossy::LossyOffence;
 use lt_svg::fill;
+use lt_tape::Window;
 use lt_text_lines::{append_channel, append_node_name};
 use std::alloc::Global;
 

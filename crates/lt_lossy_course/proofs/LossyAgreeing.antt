@@ -19,6 +19,7 @@ use Rattle.lt_schedule.specs.declared.halt.ScheduleRefusal.{ScheduleRefusal}
 use Rattle.lt_schedule.specs.declared.halt.ScheduleRefusal.TheVariants as refusal
 use Rattle.lt_schedule.specs.Rules.{file_judged_by, header_refusal, judged_behind, row_event, row_zero, unless_fault, unless_missing, unless_offence, unless_refused}
 use Rattle.lt_net_lossy.specs.Rules.{lossy_rules_of}
+use Rattle.lt_tape.specs.declared.asked.Asked.{Asked}
 use Rattle.lt_course.specs.declared.course.Stopped.{Stopped}
 use Rattle.lt_lossy_course.specs.LossyCourses.{lossy_drawing_rules, lossy_stopped_at}
 use Rattle.lt_lossy_course.specs.LossyLaws.{AgreesLossyWith}
@@ -41,12 +42,12 @@ agrees_fault : (n : ℕ) (read : Result LossyEvent RowFault) (f : LossyEvent →
 agrees_fault n (Err fault) f g later = (refl, refl)
 agrees_fault n (Ok e) f g later = later e
 
-module _ (cross : List Crossing) (s : Shape) (t : Timing) (limit rows : ℕ) where
-  agrees_offence : (n : ℕ) (before : List LossyEvent) (e : LossyEvent) (o : Option LossyOffence) (r : Judged) (q : Drawn) → AgreesLossyWith r q → AgreesLossyWith (unless_offence n o r) (unless_offence n (option_map (lossy_stopped_at cross s t rows before e) o) q)
+module _ (asked : Asked) (cross : List Crossing) (s : Shape) (t : Timing) (limit rows : ℕ) where
+  agrees_offence : (n : ℕ) (before : List LossyEvent) (e : LossyEvent) (o : Option LossyOffence) (r : Judged) (q : Drawn) → AgreesLossyWith r q → AgreesLossyWith (unless_offence n o r) (unless_offence n (option_map (lossy_stopped_at asked cross s t rows before e) o) q)
   agrees_offence n before e None r q later = later
   agrees_offence n before e (Some o) r q later = (refl, refl)
 
-  agrees_behind : (left : List FileRow) (before : List LossyEvent) (n end : ℕ) → n ≡ length before + 1 → AgreesLossyWith (judged_behind (lossy_rules_of s t limit rows) before n end left) (judged_behind (lossy_drawing_rules cross s t limit rows) before n end left)
+  agrees_behind : (left : List FileRow) (before : List LossyEvent) (n end : ℕ) → n ≡ length before + 1 → AgreesLossyWith (judged_behind (lossy_rules_of s t limit rows) before n end left) (judged_behind (lossy_drawing_rules asked cross s t limit rows) before n end left)
   unfolding judged_behind
   agrees_behind [] before n end number = agrees_bytes (nat_lt most_bytes end) _ _ (agrees_missing (is_some (lossy_reached s t rows before).horizon) n before number)
   agrees_behind (row ∷ later) before n end number =
@@ -67,5 +68,5 @@ module _ (cross : List Crossing) (s : Shape) (t : Timing) (limit rows : ℕ) whe
   agrees_header end [] r q later = agrees_past (nat_lt most_bytes end) (Some Header) r q later
   agrees_header end (row ∷ left) r q later = agrees_past (nat_lt most_bytes row.ends) (header_fault row.line) r q later
 
-  pub agrees_file : (bytes : List ℕ) → AgreesLossyWith (file_judged_by (lossy_rules_of s t limit rows) bytes) (file_judged_by (lossy_drawing_rules cross s t limit rows) bytes)
+  pub agrees_file : (bytes : List ℕ) → AgreesLossyWith (file_judged_by (lossy_rules_of s t limit rows) bytes) (file_judged_by (lossy_drawing_rules asked cross s t limit rows) bytes)
   agrees_file bytes = agrees_header (length bytes) (rows_of bytes) _ _ (agrees_behind (drop 1 (rows_of bytes)) [] 1 (length bytes) refl)

@@ -1,18 +1,15 @@
 -- A recorder after one event more, and at an offence.
-use Rattle.std.proofs.Common.{◌≡◌, ◌∙◌, ℕ, ◌+◌, ◌<◌, ◌≤◌, List, [], ◌∷◌, ◌++◌, length, map, All, Some, None, Result, Ok, Err, refl, sym, ap, subst, arith, slice_index_or}
+use Rattle.std.proofs.Common.{◌≡◌, ◌∙◌, ℕ, ◌+◌, ◌<◌, ◌≤◌, List, [], ◌∷◌, ◌++◌, length, map, Some, None, Result, Ok, Err, refl, sym, ap, subst, arith, slice_index_or}
 use Rattle.std.specs.Prelude.{IfErr, OnOk, option_map}
-use Rattle.std.proofs.lemmas.List.Elements.{All-push}
 use Rattle.lt_arch.specs.declared.event.Deed.{Deed}
-use Rattle.lt_arch.specs.declared.event.Event.TheVariants.{Act, Del, End}
 use Rattle.lt_arch.specs.declared.event.Offence.{Offence}
 use Rattle.lt_arch.specs.declared.event.Offence.TheVariants.{AfterEnd, Backwards, NodeOverdue, ChannelOverdue, TooSoon, NothingSent, TooEarly, NoEnd}
 use Rattle.lt_arch.specs.declared.limits.TheConstants.{GREATEST_TIME}
 use Rattle.lt_arch.specs.declared.shape.Shape.{Shape}
 use Rattle.lt_arch.specs.declared.timing.Timing.{Timing}
-use Rattle.lt_arch.specs.Readers.{chan_count}
+use Rattle.lt_arch.specs.Readers.{chan_count, node_count}
 use Rattle.lt_arch.specs.Shapes.{HaveSameNodes}
 use Rattle.lt_lossy.specs.declared.event.LossyEvent.{LossyEvent}
-use Rattle.lt_lossy.specs.declared.event.LossyEvent.TheVariants.{Plain, Lose}
 use Rattle.lt_lossy.specs.declared.event.LossyOffence.{LossyOffence}
 use Rattle.lt_lossy.specs.declared.event.LossyOffence.TheVariants.{Common, TooManyLost}
 use Rattle.lt_lossy.specs.Events.{IsLossyEventOf}
@@ -25,48 +22,59 @@ use Rattle.lt_schedule.specs.declared.halt.Stop.{Stop}
 use Rattle.lt_schedule.specs.declared.halt.Stop.TheVariants as stop
 use Rattle.lt_audit.specs.Acts.{next_number}
 use Rattle.lt_diagram.specs.declared.picture.Arrow.{Arrow}
+use Rattle.lt_tape.specs.declared.asked.Asked.{Asked}
+use Rattle.lt_tape.specs.declared.excerpt.Excerpt.{Excerpt}
+use Rattle.lt_tape.specs.declared.stroke.Stroke.{Stroke}
+use Rattle.lt_tape.specs.declared.tape.Tape.{Tape}
+use Rattle.lt_tape.specs.Excerpts.{excerpt_of}
+use Rattle.lt_tape.specs.Tapes.{IsTapeOf, tape_count}
+use Rattle.lt_tape.specs.Times.{last_mark, last_time, stroke_time, time_or_zero}
+use Rattle.lt_tape.proofs.Tallying.{last_push}
 use Rattle.lt_course.specs.declared.course.RefusedEvent.{RefusedEvent}
 use Rattle.lt_course.specs.declared.course.Stopped.{Stopped}
-use Rattle.lt_course.specs.declared.stroke.Stroke.{Stroke}
-use Rattle.lt_course.specs.Courses.{last_for, oldest_for}
-use Rattle.lt_course.specs.Lasts.{last_mark, last_mark_for}
-use Rattle.lt_course.specs.Placed.{IsPlacedOffence, IsTimelyStroke}
+use Rattle.lt_course.specs.Courses.{last_for, oldest_for, stop_time}
+use Rattle.lt_course.specs.Lasts.{last_mark_for}
+use Rattle.lt_course.specs.Placed.{IsPlacedOffence}
+use Rattle.lt_course.specs.Recording.{TapesStroke}
 use Rattle.lt_course.specs.Strokes.{first_sent_or}
 use Rattle.lt_lossy_audit.specs.Links.{link_seen, link_send_times}
 use Rattle.lt_lossy_audit.specs.LossyAudit.{KnowsLossyDeed, LossyAuditState, LossyAuditStands}
+use Rattle.lt_lossy_audit.proofs.SpaceSeen.{after_more}
 use Rattle.lt_lossy_course.specs.declared.sketch.Leaving.{Leaving}
-use Rattle.lt_lossy_course.specs.LossyCourses.{lossy_drawing_rules, lossy_last_for, lossy_oldest_for, lossy_refused_by, lossy_stopped_at}
+use Rattle.lt_lossy_course.specs.LossyCourses.{lossy_drawing_rules, lossy_last_for, lossy_oldest_for, lossy_refused_at, lossy_refused_by, lossy_stopped_at}
 use Rattle.lt_lossy_course.specs.LossyLasts.{IsLossyPlacedOffence, common_oldest_read, first_time_on, lossy_mark_for, lossy_oldest_read}
 use Rattle.lt_lossy_course.specs.LossyNoted.{IsLossyNotedSoFar, JudgesNextLossy}
 use Rattle.lt_lossy_course.specs.LossySketches.{IsLossyDeedDone, IsLossyExecuted, TakesLeaving, lossy_stroke_by}
 use Rattle.lt_lossy_course.specs.LossyStrokes.{lossy_pending_below, lossy_pending_of, lossy_stroke_of, lossy_strokes_of}
-use Rattle.lt_lossy_course.proofs.LossyStrokes.{last_seen, pending_same, stroke_same, strokes_count, strokes_push}
+use Rattle.lt_lossy_course.proofs.LossyStrokes.{last_seen, latest_after, lossy_comes_later, pending_same, stroke_at, stroke_same, strokes_count, strokes_push}
 
--- an event is drawn within the range of times
-timely_stroke : (cross : List Crossing) (s : Shape) (number executed : ℕ) (x : Leaving) (deed : Deed) (e : LossyEvent) → lossy_time_of e ≤ GREATEST_TIME → IsTimelyStroke (lossy_stroke_by cross s number deed executed x e)
-timely_stroke cross s number executed x deed (Plain (Act n at)) is = is
-timely_stroke cross s number executed x deed (Plain (Del c at)) is = is
-timely_stroke cross s number executed x deed (Plain (End at)) is = is
-timely_stroke cross s number executed x deed (Lose c at) is = is
-
-module _ (a b : LossyAuditState) (cross : List Crossing) (t : Timing) (limit : ℕ) (strokes : List Stroke) (es : List LossyEvent) (e : LossyEvent) (before : IsLossyNotedSoFar a cross t limit strokes es) (event : IsLossyEventOf a.shape e) where
+module _ (a b : LossyAuditState) (asked : Asked) (cross : List Crossing) (t : Timing) (limit : ℕ) (tape : Tape) (es : List LossyEvent) (e : LossyEvent) (before : IsLossyNotedSoFar a asked cross t limit tape es) (event : IsLossyEventOf a.shape e) where
   -- so many events came before
-  count_is : length strokes ≡ 0 + length es
-  count_is = ap (λ (xs : List Stroke). length xs) before.strokes_are ∙ strokes_count cross a.shape t a.rows lossy_start 0 es ∙ omega arith
+  count_is : tape_count tape ≡ 0 + length es
+  count_is = before.taped.front.tally.count ∙ strokes_count cross a.shape t a.rows lossy_start 0 es ∙ omega arith
 
-  pub recorded_on : (deed : Deed) (executed : ℕ) (x : Leaving) (after : List Stroke) → b.shape ≡ a.shape → LossyAuditStands b a.shape t limit a.rows (es ++ e ∷ []) → KnowsLossyDeed b a.shape a.rows (lossy_reached a.shape t a.rows es) e
-      → IsLossyExecuted a e executed → TakesLeaving a e x → IsLossyDeedDone b e deed → after ≡ strokes ++ lossy_stroke_by cross b.shape (next_number (length strokes)) deed executed x e ∷ [] → IsLossyNotedSoFar b cross t limit after (es ++ e ∷ [])
-  recorded_on deed executed x after shape stands knows ex takes done is =
+  pub recorded_on : (deed : Deed) (executed : ℕ) (x : Leaving) (after : Tape) → b.shape ≡ a.shape → LossyAuditStands b a.shape t limit a.rows (es ++ e ∷ []) → KnowsLossyDeed b a.shape a.rows (lossy_reached a.shape t a.rows es) e
+      → lossy_offence a.shape t limit (lossy_reached a.shape t a.rows es) e ≡ None → IsLossyExecuted a e executed → TakesLeaving a e x → IsLossyDeedDone b e deed
+      → TapesStroke tape after (lossy_stroke_by cross b.shape (next_number (tape_count tape)) deed executed x e) → IsLossyNotedSoFar b asked cross t limit after (es ++ e ∷ [])
+  recorded_on deed executed x after shape stands knows none ex takes done tapes =
       let st = lossy_reached a.shape t a.rows es in
-      let here : lossy_stroke_by cross b.shape (next_number (length strokes)) deed executed x e ≡ lossy_stroke_of cross a.shape a.rows st (next_number (0 + length es)) e =
+      let y = lossy_stroke_of cross a.shape a.rows st (next_number (0 + length es)) e in
+      let here : lossy_stroke_by cross b.shape (next_number (tape_count tape)) deed executed x e ≡ y =
       (λ i. lossy_stroke_by cross (shape i) (next_number (count_is i)) deed executed x e) ∙ stroke_same a b cross a.shape t limit a.rows es (next_number (0 + length es)) executed x deed before.stands e event.placed knows ex takes done in
-      let strokes_are : after ≡ lossy_strokes_of cross a.shape t a.rows (es ++ e ∷ []) =
-      is ∙ (λ i. before.strokes_are i ++ here i ∷ []) ∙ sym (strokes_push cross a.shape t a.rows lossy_start 0 es e) in
+      let xs = lossy_strokes_of cross a.shape t a.rows es in
+      let more : lossy_strokes_of cross a.shape t a.rows (es ++ e ∷ []) ≡ xs ++ y ∷ [] = strokes_push cross a.shape t a.rows lossy_start 0 es e in
+      let at : stroke_time y ≡ lossy_time_of e = stroke_at cross a.shape a.rows st (next_number (0 + length es)) e in
+      let later : last_time xs ≤ stroke_time y = subst (λ (k : ℕ). k ≤ stroke_time y) (sym before.latest) (subst (λ (k : ℕ). time_or_zero st.latest ≤ k) (sym at) (lossy_comes_later a.shape t limit st e none)) in
+      let timely : stroke_time y ≤ GREATEST_TIME = subst (λ (k : ℕ). k ≤ GREATEST_TIME) (sym at) event.timely in
+      let taped : IsTapeOf after asked (node_count a.shape) (xs ++ y ∷ []) = subst (λ (z : Stroke). TapesStroke tape after z) here tapes asked (node_count a.shape) xs before.taped later timely in
       record {
         stands = subst (λ (q : Shape). LossyAuditStands b q t limit b.rows (es ++ e ∷ [])) (sym shape) (subst (λ (n : ℕ). LossyAuditStands b a.shape t limit n (es ++ e ∷ [])) (sym stands.rows_are) stands);
         same = subst (λ (q : Shape). HaveSameNodes q t) (sym shape) before.same;
-        strokes_are = strokes_are ∙ (λ i. lossy_strokes_of cross (sym shape i) t (sym stands.rows_are i) (es ++ e ∷ []));
-        timely = subst (All IsTimelyStroke) (sym is) (All-push IsTimelyStroke strokes _ before.timely (timely_stroke cross b.shape (next_number (length strokes)) executed x deed e event.timely));
+        taped = subst (λ (q : Shape). IsTapeOf after asked (node_count q) (lossy_strokes_of cross q t b.rows (es ++ e ∷ []))) (sym shape)
+            (subst (λ (n : ℕ). IsTapeOf after asked (node_count a.shape) (lossy_strokes_of cross a.shape t n (es ++ e ∷ []))) (sym stands.rows_are) (subst (λ (ys : List Stroke). IsTapeOf after asked (node_count a.shape) ys) (sym more) taped));
+        latest = subst (λ (q : Shape). last_time (lossy_strokes_of cross q t b.rows (es ++ e ∷ [])) ≡ time_or_zero (lossy_reached q t b.rows (es ++ e ∷ [])).latest) (sym shape)
+            (subst (λ (n : ℕ). last_time (lossy_strokes_of cross a.shape t n (es ++ e ∷ [])) ≡ time_or_zero (lossy_reached a.shape t n (es ++ e ∷ [])).latest) (sym stands.rows_are)
+            (ap (λ (ys : List Stroke). last_time ys) more ∙ last_push xs y ∙ at ∙ sym (ap (λ (q : LossyState). time_or_zero q.latest) (after_more a.shape t a.rows lossy_start es e) ∙ ap time_or_zero (latest_after a.shape t a.rows st e))));
       }
 
 first_is : (ms : List Message) → slice_index_or (map (λ (m : Message). m.sent_at) ms) 0 0 ≡ first_sent_or 0 (map (λ (m : Message). m.sent_at) ms)
@@ -75,12 +83,15 @@ first_is (m ∷ later) = refl
 
 -- what is read for an offence
 
-module _ (a : LossyAuditState) (cross : List Crossing) (t : Timing) (limit : ℕ) (strokes : List Stroke) (es : List LossyEvent) (before : IsLossyNotedSoFar a cross t limit strokes es) where
+module _ (a : LossyAuditState) (asked : Asked) (cross : List Crossing) (t : Timing) (limit : ℕ) (tape : Tape) (es : List LossyEvent) (before : IsLossyNotedSoFar a asked cross t limit tape es) where
   abbrev st : LossyState
   st = lossy_reached a.shape t a.rows es
 
+  abbrev strokes : List Stroke
+  strokes = lossy_strokes_of cross a.shape t a.rows es
+
   last_of : (n : ℕ) → last_mark n strokes ≡ (st.node n).last
-  last_of n = ap (λ (xs : List Stroke). last_mark n xs) before.strokes_are ∙ last_seen cross a.shape t a.rows n es
+  last_of n = last_seen cross a.shape t a.rows n es
 
   common_last : (o : Offence) → last_mark_for strokes o ≡ last_for (plain_of st) o
   common_last AfterEnd = refl
@@ -116,27 +127,31 @@ module _ (a : LossyAuditState) (cross : List Crossing) (t : Timing) (limit : ℕ
   pub pending_is : lossy_pending_below cross a.shape t (link_seen a.links) (chan_count a.shape) ≡ lossy_pending_of cross a.shape t st
   pending_is = pending_same cross a.shape t (link_seen a.links) st.link (chan_count a.shape) (λ c lc. before.stands.state.link c lc)
 
-  pub stopped_is : (e : LossyEvent) (o : LossyOffence) (pending : List Arrow) (refused : RefusedEvent) → IsLossyPlacedOffence a.shape o → pending ≡ lossy_pending_below cross a.shape t (link_seen a.links) (chan_count a.shape)
-      → refused ≡ lossy_refused_by a.shape t (lossy_mark_for strokes o) (lossy_oldest_read a o) e o → record { strokes = strokes; pending = pending; refused = refused; miss = None } ≡ lossy_stopped_at cross a.shape t a.rows es e o
-  stopped_is e o pending refused placed waits is =
-      λ i. record { strokes = before.strokes_are i; pending = (waits ∙ pending_is) i; refused = (is ∙ (λ j. lossy_refused_by a.shape t (last_same o j) (oldest_same o placed j) e o)) i; miss = None }
+  pub stopped_is : (e : LossyEvent) (o : LossyOffence) (excerpt : Excerpt) (pending : List Arrow) (refused : RefusedEvent) → IsLossyPlacedOffence a.shape o → excerpt ≡ excerpt_of asked (node_count a.shape) (Some (stop_time refused)) strokes
+      → pending ≡ lossy_pending_below cross a.shape t (link_seen a.links) (chan_count a.shape) → refused ≡ lossy_refused_by a.shape t (lossy_mark_for strokes o) (lossy_oldest_read a o) e o
+      → record { excerpt = excerpt; pending = pending; refused = refused; miss = None } ≡ lossy_stopped_at asked cross a.shape t a.rows es e o
+  stopped_is e o excerpt pending refused placed shown waits is =
+      let there : refused ≡ lossy_refused_at a.shape t st e o = is ∙ (λ j. lossy_refused_by a.shape t (last_same o j) (oldest_same o placed j) e o) in
+      λ i. record { excerpt = (shown ∙ (λ j. excerpt_of asked (node_count a.shape) (Some (stop_time (there j))) strokes)) i; pending = (waits ∙ pending_is) i; refused = there i; miss = None }
 
--- the same by equal auditors, crossings, bounds of time and limits
-pub moved : (a b : LossyAuditState) (cross cross' : List Crossing) (t t' : Timing) (limit limit' : ℕ) (xs : List Stroke) (es : List LossyEvent) → b ≡ a → cross' ≡ cross → t' ≡ t → limit' ≡ limit → IsLossyNotedSoFar a cross t limit xs es → IsLossyNotedSoFar b cross' t' limit' xs es
-moved a b cross cross' t t' limit limit' xs es p q r l rec =
-    subst (λ (x : LossyAuditState). IsLossyNotedSoFar x cross' t' limit' xs es) (sym p) (subst (λ (c : List Crossing). IsLossyNotedSoFar a c t' limit' xs es) (sym q)
-    (subst (λ (u : Timing). IsLossyNotedSoFar a cross u limit' xs es) (sym r) (subst (λ (n : ℕ). IsLossyNotedSoFar a cross t n xs es) (sym l) rec)))
+-- the same by equal auditors, crossings, bounds of time and limits, where the same is asked
+pub moved : (a b : LossyAuditState) (asked asked' : Asked) (cross cross' : List Crossing) (t t' : Timing) (limit limit' : ℕ) (tape : Tape) (es : List LossyEvent) → b ≡ a → asked' ≡ asked → cross' ≡ cross → t' ≡ t → limit' ≡ limit
+    → IsLossyNotedSoFar a asked cross t limit tape es → IsLossyNotedSoFar b asked' cross' t' limit' tape es
+moved a b asked asked' cross cross' t t' limit limit' tape es p d q r l rec =
+    subst (λ (x : LossyAuditState). IsLossyNotedSoFar x asked' cross' t' limit' tape es) (sym p) (subst (λ (k : Asked). IsLossyNotedSoFar a k cross' t' limit' tape es) (sym d)
+    (subst (λ (c : List Crossing). IsLossyNotedSoFar a asked c t' limit' tape es) (sym q) (subst (λ (u : Timing). IsLossyNotedSoFar a asked cross u limit' tape es) (sym r)
+    (subst (λ (n : ℕ). IsLossyNotedSoFar a asked cross t n tape es) (sym l) rec))))
 
 -- what is judged of the next event
 
-module _ (cross : List Crossing) (s : Shape) (t : Timing) (limit rows : ℕ) (before : List LossyEvent) (e : LossyEvent) where
-  pub judged_taken : (r : Result (Unit {0}) (Stop Stopped)) → IfErr r (λ x. x ≡ stop.Memory) → lossy_offence s t limit (lossy_reached s t rows before) e ≡ None → JudgesNextLossy (lossy_drawing_rules cross s t limit rows) before e r
-  judged_taken (Ok done) short none = ap (option_map (lossy_stopped_at cross s t rows before e)) none
-  judged_taken (Err x) short none = subst (λ (y : Stop Stopped). JudgesNextLossy (lossy_drawing_rules cross s t limit rows) before e (Err y)) (sym short) tt
+module _ (asked : Asked) (cross : List Crossing) (s : Shape) (t : Timing) (limit rows : ℕ) (before : List LossyEvent) (e : LossyEvent) where
+  pub judged_taken : (r : Result (Unit {0}) (Stop Stopped)) → IfErr r (λ x. x ≡ stop.Memory) → lossy_offence s t limit (lossy_reached s t rows before) e ≡ None → JudgesNextLossy (lossy_drawing_rules asked cross s t limit rows) before e r
+  judged_taken (Ok done) short none = ap (option_map (lossy_stopped_at asked cross s t rows before e)) none
+  judged_taken (Err x) short none = subst (λ (y : Stop Stopped). JudgesNextLossy (lossy_drawing_rules asked cross s t limit rows) before e (Err y)) (sym short) tt
 
-  pub judged_stopped : (o : LossyOffence) (x : Stopped) → lossy_offence s t limit (lossy_reached s t rows before) e ≡ Some o → x ≡ lossy_stopped_at cross s t rows before e o
-      → option_map (lossy_stopped_at cross s t rows before e) (lossy_offence s t limit (lossy_reached s t rows before) e) ≡ Some x
-  judged_stopped o x found is = ap (option_map (lossy_stopped_at cross s t rows before e)) found ∙ ap (λ (y : Stopped). Some y) (sym is)
+  pub judged_stopped : (o : LossyOffence) (x : Stopped) → lossy_offence s t limit (lossy_reached s t rows before) e ≡ Some o → x ≡ lossy_stopped_at asked cross s t rows before e o
+      → option_map (lossy_stopped_at asked cross s t rows before e) (lossy_offence s t limit (lossy_reached s t rows before) e) ≡ Some x
+  judged_stopped o x found is = ap (option_map (lossy_stopped_at asked cross s t rows before e)) found ∙ ap (λ (y : Stopped). Some y) (sym is)
 
 pub on_ok : {P Q : Type 0} (r : Result (Unit {0}) (Stop Stopped)) → (P → Q) → OnOk r P → OnOk r Q
 on_ok (Ok done) f p = f p

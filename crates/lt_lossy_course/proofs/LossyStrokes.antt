@@ -1,26 +1,33 @@
 -- One event more, as it is drawn.
-use Rattle.std.proofs.Common.{◌≡◌, ◌∙◌, ℕ, zero, suc, ◌+◌, ◌<◌, ◌==◌, List, [], ◌∷◌, ◌++◌, length, map, Bool, true, false, Option, if◌then◌else◌, refl, sym, ap, subst, arith}
+use Rattle.std.proofs.Common.{◌≡◌, ◌∙◌, ℕ, zero, suc, ◌+◌, ◌<◌, ◌≤◌, ◌==◌, List, [], ◌∷◌, ◌++◌, length, map, Bool, true, false, is_some, Option, Some, None, if◌then◌else◌, refl, sym, ap, subst, arith}
 use Rattle.lt_arch.specs.declared.event.Deed.{Deed}
 use Rattle.lt_arch.specs.declared.event.Event.TheVariants.{Act, Del, End}
+use Rattle.lt_arch.specs.declared.event.Offence.{Offence}
+use Rattle.lt_arch.specs.declared.event.Offence.TheVariants.{AfterEnd, Backwards}
 use Rattle.lt_arch.specs.declared.shape.Shape.{Shape}
 use Rattle.lt_arch.specs.declared.timing.Timing.{Timing}
 use Rattle.lt_arch.specs.State.{NodeState}
 use Rattle.lt_arch.specs.Readers.{node_count, chan_count}
-use Rattle.lt_arch.specs.Step.{woken}
+use Rattle.lt_arch.specs.declared.event.Event.{Event}
+use Rattle.lt_arch.specs.Step.{is_backwards, offence_of, offence_or_else, overdue_by, own_offence, time_of, where_true, woken}
+use Rattle.lt_arch.specs.Deadline.{first_due}
 use Rattle.lt_lossy.specs.declared.event.LossyEvent.{LossyEvent}
 use Rattle.lt_lossy.specs.declared.event.LossyEvent.TheVariants.{Plain, Lose}
 use Rattle.lt_lossy.specs.Events.{IsLossyPlacedIn}
 use Rattle.lt_lossy.specs.State.{LinkState, LossyState, lossy_start, plain_of}
 use Rattle.lt_lossy.specs.Schedule.{lossy_after_all, lossy_reached}
-use Rattle.lt_lossy.specs.Step.{lossy_after}
+use Rattle.lt_lossy.specs.declared.event.LossyOffence.{LossyOffence}
+use Rattle.lt_lossy.specs.Step.{at_any_time, common_or, lossy_after, lossy_offence, too_many_lost}
+use Rattle.lt_lossy.specs.Times.{lossy_time_of}
 use Rattle.lt_place_reads.specs.declared.crossing.Crossing.{Crossing}
 use Rattle.lt_audit.specs.Acts.{next_number}
 use Rattle.lt_diagram.specs.declared.picture.Fate.{Fate}
 use Rattle.lt_diagram.specs.declared.picture.Fate.TheVariants.{Delivered, Lost}
-use Rattle.lt_course.specs.declared.stroke.Stroke.{Stroke}
-use Rattle.lt_course.specs.declared.stroke.Stroke.TheVariants.{Line, Point}
-use Rattle.lt_course.specs.Lasts.{last_mark, last_mark_from, later_mark}
+use Rattle.lt_tape.specs.declared.stroke.Stroke.{Stroke}
+use Rattle.lt_tape.specs.declared.stroke.Stroke.TheVariants.{Line, Point}
+use Rattle.lt_tape.specs.Times.{last_mark, last_mark_from, later_mark, stroke_time, time_or_zero}
 use Rattle.lt_course.specs.Strokes.{sign_of}
+use Rattle.lt_course.proofs.Strokes.{comes_later, no_earlier}
 use Rattle.lt_lossy_audit.specs.Links.{link_seen}
 use Rattle.lt_lossy_audit.specs.LossyAudit.{KnowsLossyDeed, LossyAuditState, LossyAuditStands}
 use Rattle.lt_lossy_course.specs.declared.sketch.Leaving.{Leaving}
@@ -87,3 +94,46 @@ module _ (cross : List Crossing) (s : Shape) (t : Timing) (rows n : ℕ) where
 
   pub last_seen : (es : List LossyEvent) → last_mark n (lossy_strokes_of cross s t rows es) ≡ ((lossy_reached s t rows es).node n).last
   last_seen es = last_seen_from lossy_start 0 es
+
+-- a stroke happens when its event does
+pub stroke_at : (cross : List Crossing) (s : Shape) (rows : ℕ) (st : LossyState) (number : ℕ) (e : LossyEvent) → stroke_time (lossy_stroke_of cross s rows st number e) ≡ lossy_time_of e
+stroke_at cross s rows st number (Plain (Act n at)) = refl
+stroke_at cross s rows st number (Plain (Del c at)) = refl
+stroke_at cross s rows st number (Plain (End at)) = refl
+stroke_at cross s rows st number (Lose c at) = refl
+
+-- the state knows when its last event happened
+pub latest_after : (s : Shape) (t : Timing) (rows : ℕ) (st : LossyState) (e : LossyEvent) → (lossy_after s t rows st e).latest ≡ Some (lossy_time_of e)
+unfolding lossy_after
+latest_after s t rows st (Plain (Act n at)) = refl
+latest_after s t rows st (Plain (Del c at)) = refl
+latest_after s t rows st (Plain (End at)) = refl
+latest_after s t rows st (Lose c at) = refl
+
+-- an event without an offence is no earlier
+
+none_common : (a : Option Offence) (b : Option LossyOffence) → common_or a b ≡ None → a ≡ None
+none_common None b is = refl
+none_common (Some o) b is = cc
+
+lost_forward : (ended back : Bool) (later : Option Offence) → at_any_time (offence_or_else (where_true ended AfterEnd) (offence_or_else (where_true back Backwards) later)) ≡ None → back ≡ false
+lost_forward true back later is = cc
+lost_forward false true later is = cc
+lost_forward false false later is = refl
+
+lost_later : (s : Shape) (t : Timing) (st : LossyState) (c at : ℕ) → at_any_time (offence_of s t (plain_of st) (Del c at)) ≡ None → time_or_zero st.latest ≤ at
+unfolding offence_of
+lost_later s t st c at none =
+    let later = offence_or_else (overdue_by s (Del c at) (first_due s t (plain_of st))) (own_offence s t (plain_of st) (Del c at)) in
+    no_earlier st.latest at (lost_forward (is_some st.horizon) (is_backwards at st.latest) later none)
+
+plain_time : (e : Event) → time_of e ≡ lossy_time_of (Plain e)
+plain_time (Act n at) = refl
+plain_time (Del c at) = refl
+plain_time (End at) = refl
+
+pub lossy_comes_later : (s : Shape) (t : Timing) (limit : ℕ) (st : LossyState) (e : LossyEvent) → lossy_offence s t limit st e ≡ None → time_or_zero st.latest ≤ lossy_time_of e
+unfolding lossy_offence
+lossy_comes_later s t limit st (Plain e) none =
+    subst (λ (k : ℕ). time_or_zero st.latest ≤ k) (plain_time e) (comes_later s t (plain_of st) e (none_common (offence_of s t (plain_of st) e) None none))
+lossy_comes_later s t limit st (Lose c at) none = lost_later s t st c at (none_common (at_any_time (offence_of s t (plain_of st) (Del c at))) (too_many_lost limit c (st.link c).losses) none)

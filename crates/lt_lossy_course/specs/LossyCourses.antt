@@ -1,8 +1,8 @@
 -- A schedule over links that lose messages as it is drawn: what its events are drawn as up to its first offence, and that offence.
-use Rattle.std.specs.Prelude.{◌≡◌, ℕ, List, Option, None, Result, Ok, Err, option_map}
+use Rattle.std.specs.Prelude.{◌≡◌, ℕ, List, Option, Some, None, Result, Ok, Err, option_map}
 use Rattle.lt_arch.specs.declared.shape.Shape.{Shape}
 use Rattle.lt_arch.specs.declared.timing.Timing.{Timing}
-use Rattle.lt_arch.specs.Readers.{from_of, to_of}
+use Rattle.lt_arch.specs.Readers.{node_count, from_of, to_of}
 use Rattle.lt_lossy.specs.declared.event.LossyEvent.{LossyEvent}
 use Rattle.lt_lossy.specs.declared.event.LossyOffence.{LossyOffence}
 use Rattle.lt_lossy.specs.declared.event.LossyOffence.TheVariants.{Common, TooManyLost}
@@ -20,11 +20,14 @@ use Rattle.lt_load_fit.specs.declared.fault.CommandFault.{CommandFault}
 use Rattle.lt_load_fit.specs.declared.fault.CommandFault.TheVariants as fault
 use Rattle.lt_diagram.specs.declared.picture.Wrong.{Wrong}
 use Rattle.lt_diagram.specs.declared.picture.Wrong.TheVariants.{Gone}
+use Rattle.lt_tape.specs.declared.asked.Asked.{Asked}
+use Rattle.lt_tape.specs.Excerpts.{excerpt_of}
+use Rattle.lt_tape.specs.Times.{last_time, time_or_zero}
 use Rattle.lt_course.specs.declared.course.Course.{Course}
 use Rattle.lt_course.specs.declared.course.RefusedEvent.{RefusedEvent}
 use Rattle.lt_course.specs.declared.course.Stopped.{Stopped}
-use Rattle.lt_course.specs.Courses.{course_or_fault, last_for, offence_bound, oldest_for, unended_by, wrong_by}
-use Rattle.lt_course.specs.Strokes.{first_sent_or, last_time, time_or_zero}
+use Rattle.lt_course.specs.Courses.{course_or_fault, last_for, offence_bound, oldest_for, stop_time, unended_by, wrong_by}
+use Rattle.lt_course.specs.Strokes.{first_sent_or}
 use Rattle.lt_lossy_course.specs.LossyStrokes.{lossy_pending_of, lossy_strokes_of}
 
 -- when the node of an offence was activated last
@@ -61,36 +64,36 @@ lossy_refused_by s t last oldest e o = record {
 abbrev pub lossy_refused_at : Shape → Timing → LossyState → LossyEvent → LossyOffence → RefusedEvent
 lossy_refused_at s t st e o = lossy_refused_by s t (lossy_last_for st o) (lossy_oldest_for st o) e o
 
--- What is drawn of a list that has this offence at an event behind these. Under back-pressure each execution has its messages, so that there is no miss.
-abbrev pub lossy_stopped_at : List Crossing → Shape → Timing → (rows : ℕ) → (before : List LossyEvent) → LossyEvent → LossyOffence → Stopped
-lossy_stopped_at cross s t rows before e o = record {
-  strokes = lossy_strokes_of cross s t rows before;
+-- What is drawn of a list that has this offence at an event behind these, where it is asked which ticks are. Under back-pressure each execution has its messages, so that there is no miss.
+abbrev pub lossy_stopped_at : Asked → List Crossing → Shape → Timing → (rows : ℕ) → (before : List LossyEvent) → LossyEvent → LossyOffence → Stopped
+lossy_stopped_at asked cross s t rows before e o = record {
+  excerpt = excerpt_of asked (node_count s) (Some (stop_time (lossy_refused_at s t (lossy_reached s t rows before) e o))) (lossy_strokes_of cross s t rows before);
   pending = lossy_pending_of cross s t (lossy_reached s t rows before);
   refused = lossy_refused_at s t (lossy_reached s t rows before) e o;
   miss = None;
 }
 
 -- how lines and events are judged for a picture: as for a run, but with an offence what is drawn of the list is told, and one that stops is no refusal
-abbrev pub lossy_drawing_rules : List Crossing → Shape → Timing → (limit rows : ℕ) → Rules LossyEvent Stopped
-lossy_drawing_rules cross s t limit rows = record {
+abbrev pub lossy_drawing_rules : Asked → List Crossing → Shape → Timing → (limit rows : ℕ) → Rules LossyEvent Stopped
+lossy_drawing_rules asked cross s t limit rows = record {
   reads = lossy_event_of s;
-  offence = λ before e. option_map (lossy_stopped_at cross s t rows before e) (lossy_offence s t limit (lossy_reached s t rows before) e);
+  offence = λ before e. option_map (lossy_stopped_at asked cross s t rows before e) (lossy_offence s t limit (lossy_reached s t rows before) e);
   missing = λ before. None;
 }
 
 -- what is drawn of these events, none of which has an offence
-pub record LossyIsCourseOf (cross : List Crossing) (s : Shape) (t : Timing) (rows : ℕ) (es : List LossyEvent) (c : Course) : Type 0 where
-  pub strokes : c.strokes ≡ lossy_strokes_of cross s t rows es
+pub record LossyIsCourseOf (asked : Asked) (cross : List Crossing) (s : Shape) (t : Timing) (rows : ℕ) (es : List LossyEvent) (c : Course) : Type 0 where
+  pub excerpt : c.excerpt ≡ excerpt_of asked (node_count s) (option_map stop_time c.refused) (lossy_strokes_of cross s t rows es)
   pub pending : c.pending ≡ lossy_pending_of cross s t (lossy_reached s t rows es)
-  pub refused : c.refused ≡ unended_by (lossy_reached s t rows es).horizon (last_time c.strokes)
+  pub refused : c.refused ≡ unended_by (lossy_reached s t rows es).horizon (last_time (lossy_strokes_of cross s t rows es))
   pub miss : c.miss ≡ None
 
 -- what is right of the rows that read so
-abbrev pub LossyCourseBy : List Crossing → Shape → Timing → (rows : ℕ) → Result (List LossyEvent) (ScheduleRefusal Stopped) → Verdict Course CommandFault
-LossyCourseBy cross s t rows (Ok es) (Ok c) = LossyIsCourseOf cross s t rows es c
-LossyCourseBy cross s t rows (Ok es) (Err e) = ⊥
-LossyCourseBy cross s t rows (Err refused) outcome = course_or_fault refused ≡ outcome
+abbrev pub LossyCourseBy : Asked → List Crossing → Shape → Timing → (rows : ℕ) → Result (List LossyEvent) (ScheduleRefusal Stopped) → Verdict Course CommandFault
+LossyCourseBy asked cross s t rows (Ok es) (Ok c) = LossyIsCourseOf asked cross s t rows es c
+LossyCourseBy asked cross s t rows (Ok es) (Err e) = ⊥
+LossyCourseBy asked cross s t rows (Err refused) outcome = course_or_fault refused ≡ outcome
 
 -- of a schedule file, where so many losses in a row are allowed
-unfoldable pub lossy_course_verdict : List Crossing → Shape → Timing → (limit rows : ℕ) → (file : Option (List ℕ)) → Verdict Course CommandFault
-lossy_course_verdict cross s t limit rows file = OfFile fault.Read file (λ bytes outcome. LossyCourseBy cross s t rows (file_judged_by (lossy_drawing_rules cross s t limit rows) bytes) outcome)
+unfoldable pub lossy_course_verdict : Asked → List Crossing → Shape → Timing → (limit rows : ℕ) → (file : Option (List ℕ)) → Verdict Course CommandFault
+lossy_course_verdict asked cross s t limit rows file = OfFile fault.Read file (λ bytes outcome. LossyCourseBy asked cross s t rows (file_judged_by (lossy_drawing_rules asked cross s t limit rows) bytes) outcome)

@@ -6,7 +6,7 @@ use Rattle.lt_arch.specs.declared.shape.Shape.{Shape}
 use Rattle.lt_arch.specs.Readers.{chan_count}
 use Rattle.lt_lossy.specs.declared.event.LossyOffence.{LossyOffence}
 use Rattle.lt_lossy.specs.declared.event.LossyOffence.TheVariants.{Common, TooManyLost}
-use Rattle.lt_course.specs.declared.stroke.Stroke.{Stroke}
+use Rattle.lt_tape.specs.declared.stroke.Stroke.{Stroke}
 use Rattle.lt_course.specs.Lasts.{last_mark_for}
 use Rattle.lt_course.specs.Placed.{IsPlacedOffence}
 use Rattle.lt_lossy_audit.specs.Links.{link_seen, link_send_times}

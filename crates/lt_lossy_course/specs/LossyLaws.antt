@@ -11,6 +11,7 @@ use Rattle.lt_place_reads.specs.declared.crossing.Crossing.{Crossing}
 use Rattle.lt_schedule.specs.declared.halt.ScheduleRefusal.{ScheduleRefusal}
 use Rattle.lt_schedule.specs.declared.halt.ScheduleRefusal.TheVariants as refusal
 use Rattle.lt_schedule.specs.Rules.{file_judged_by}
+use Rattle.lt_tape.specs.declared.asked.Asked.{Asked}
 use Rattle.lt_course.specs.declared.course.Stopped.{Stopped}
 use Rattle.lt_lossy_course.specs.LossyCourses.{lossy_drawing_rules}
 use Rattle.lt_lossy_course.specs.LossyStrokes.{lossy_strokes_of}
@@ -47,4 +48,4 @@ AgreesLossyWith (Err r) (Err q) = AgreesLossyRefused r q
 -- of every file what is drawn agrees with what a run makes of it
 abbrev pub DrawsAsLossyJudged : Type 0
 DrawsAsLossyJudged =
-    (cross : List Crossing) (s : Shape) (t : Timing) (limit rows : ℕ) (bytes : List ℕ) → AgreesLossyWith (file_judged_by (lossy_rules_of s t limit rows) bytes) (file_judged_by (lossy_drawing_rules cross s t limit rows) bytes)
+    (asked : Asked) (cross : List Crossing) (s : Shape) (t : Timing) (limit rows : ℕ) (bytes : List ℕ) → AgreesLossyWith (file_judged_by (lossy_rules_of s t limit rows) bytes) (file_judged_by (lossy_drawing_rules asked cross s t limit rows) bytes)

@@ -12,16 +12,16 @@ use Rattle.lt_lossy_course.specs.LossyNoted.{IsLossyNotedSoFar}
 
 -- it has taken these events
 abbrev pub HasLossyRecorded : LossyRecorder → List LossyEvent → Type 0
-HasLossyRecorded r es = IsLossyNotedSoFar r.auditor r.cross r.timing r.limit r.strokes es
+HasLossyRecorded r es = IsLossyNotedSoFar r.auditor r.asked r.cross r.timing r.limit r.tape es
 
 -- how it judges lines and events
 abbrev pub lossy_recorder_rules : LossyRecorder → Rules LossyEvent Stopped
-lossy_recorder_rules r = lossy_drawing_rules r.cross r.auditor.shape r.timing r.limit r.auditor.rows
+lossy_recorder_rules r = lossy_drawing_rules r.asked r.cross r.auditor.shape r.timing r.limit r.auditor.rows
 
 -- the offence of an event behind these
 abbrev pub lossy_offence_behind : LossyRecorder → List LossyEvent → LossyEvent → Option LossyOffence
 lossy_offence_behind r before e = lossy_offence r.auditor.shape r.timing r.limit (lossy_reached r.auditor.shape r.timing r.auditor.rows before) e
 
--- what no event changes: the crossings, the bounds of time, the losses that are allowed, the nodes and channels, and the rows of inputs
+-- what no event changes: what is asked, the crossings, the bounds of time, the losses that are allowed, the nodes and channels, and the rows of inputs
 abbrev pub KeepsLossyRecorder : (old new : LossyRecorder) → Type 0
-KeepsLossyRecorder old new = (new.cross ≡ old.cross) × (new.timing ≡ old.timing) × (new.limit ≡ old.limit) × (new.auditor.shape ≡ old.auditor.shape) × (new.auditor.rows ≡ old.auditor.rows)
+KeepsLossyRecorder old new = (new.cross ≡ old.cross) × (new.timing ≡ old.timing) × (new.limit ≡ old.limit) × (new.auditor.shape ≡ old.auditor.shape) × (new.auditor.rows ≡ old.auditor.rows) × (new.asked ≡ old.asked)

@@ -8,8 +8,8 @@ use Rattle.lt_lossy.specs.declared.event.LossyEvent.TheVariants.{Plain, Lose}
 use Rattle.lt_lossy.specs.State.{Message}
 use Rattle.lt_place_reads.specs.declared.crossing.Crossing.{Crossing}
 use Rattle.lt_diagram.specs.declared.picture.Fate.TheVariants.{Delivered, Lost}
-use Rattle.lt_course.specs.declared.stroke.Stroke.{Stroke}
-use Rattle.lt_course.specs.declared.stroke.Stroke.TheVariants.{Point, Line, Edge}
+use Rattle.lt_tape.specs.declared.stroke.Stroke.{Stroke}
+use Rattle.lt_tape.specs.declared.stroke.Stroke.TheVariants.{Point, Line, Edge}
 use Rattle.lt_course.specs.Strokes.{sign_of}
 use Rattle.lt_lossy_audit.specs.Links.{link_seen}
 use Rattle.lt_lossy_audit.specs.LossyAudit.{LossyAuditState}

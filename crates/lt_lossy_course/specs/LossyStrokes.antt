@@ -17,8 +17,8 @@ use Rattle.lt_diagram.specs.declared.picture.Arrow.{Arrow}
 use Rattle.lt_diagram.specs.declared.picture.Fate.{Fate}
 use Rattle.lt_diagram.specs.declared.picture.Fate.TheVariants.{Delivered, Lost, Pending}
 use Rattle.lt_diagram.specs.declared.picture.Ink.{Ink}
-use Rattle.lt_course.specs.declared.stroke.Stroke.{Stroke}
-use Rattle.lt_course.specs.declared.stroke.Stroke.TheVariants.{Point, Line, Edge}
+use Rattle.lt_tape.specs.declared.stroke.Stroke.{Stroke}
+use Rattle.lt_tape.specs.declared.stroke.Stroke.TheVariants.{Point, Line, Edge}
 use Rattle.lt_course.specs.Strokes.{ink_by, sign_of}
 
 -- that of a message of this number on channel c, which has delivered this one as its newest: acknowledgements are dashed, and data stand out where

@@ -1,5 +1,5 @@
 // The events of a schedule, as they are taken one after another and noted as what they are drawn as.
-ghost use Rattle.std.specs.Prelude.{◌≡◌, ◌<◌, ◌*◌, ◌+◌, ◌^◌, ◌++◌, ◌∷◌, [], List as Items, Some, Err, IfErr, IfOk, OnOk, length};
+ghost use Rattle.std.specs.Prelude.{◌≡◌, ◌<◌, ◌*◌, ◌+◌, ◌^◌, ◌++◌, ◌∷◌, [], List as Items, Some, Err, IfErr, IfOk, OnOk};
 ghost use Rattle.std.proofs.Common.{◌∙◌, refl};
 ghost use Rattle.lt_arch.specs.declared.event.Deed.{Deed};
 ghost use Rattle.lt_arch.specs.Readers.{chan_count, node_count};
@@ -10,6 +10,8 @@ ghost use Rattle.lt_lossy.specs.Events.{IsLossyEventOf};
 ghost use Rattle.lt_lossy.specs.Window.{HasWindow};
 ghost use Rattle.lt_schedule.specs.declared.halt.Stop.TheVariants as stops;
 ghost use Rattle.lt_net_lossy.specs.LossyKeeping.{long_lossy_line};
+ghost use Rattle.lt_tape.specs.Tapes.{tape_count};
+ghost use Rattle.lt_course.specs.Recording.{TapesStroke};
 ghost use Rattle.lt_lossy_course.specs.LossyCourses.{lossy_drawing_rules, lossy_stopped_at};
 ghost use Rattle.lt_lossy_course.specs.LossyNoted.{JudgesNextLossy};
 ghost use Rattle.lt_lossy_course.specs.LossyRecording.{HasLossyRecorded, KeepsLossyRecorder, lossy_offence_behind, lossy_recorder_rules};
@@ -20,13 +22,13 @@ use crate::refusing::{mark_for, oldest_read, refused_by};
 use crate::sketch::{Leaving, lossy_stroke_by};
 use lt_arch::{Shape, Timing};
 use lt_base::{List, Memory, Steps};
-use lt_course::{Stopped, Stroke};
+use lt_course::{Stopped, stop_time};
 use lt_lossy::{LossyEvent, LossyOffence, read_lossy};
 use lt_lossy_audit::LossyAuditor;
 use lt_place::Crossing;
 use lt_schedule::{Replica, Stop};
+use lt_tape::{Asked, Tape};
 use std::alloc::Global;
-use std::mem::replace;
 use std::sync::ledger::Ledger;
 
 /// An auditor, and what the events that it has taken are drawn as.
@@ -36,12 +38,14 @@ pub struct LossyRecorder {
     pub cross: List<Crossing>,
     pub timing: Timing,
     pub limit: u64,
-    pub strokes: List<Stroke>,
+    pub asked: Asked,
+    pub tape: Tape,
     alloc: Global,
 }
 
 impl LossyRecorder {
-    /// Before the first event, where these variables cross, so many losses in a row are allowed and there are so many rows of inputs.
+    /// Before the first event, where these variables cross, so many losses in a row are allowed, there are so many rows of inputs, and it is asked which ticks
+    /// are drawn.
     pub fn over(
         alloc: Global,
         shape: &Shape,
@@ -49,6 +53,7 @@ impl LossyRecorder {
         cross: &List<Crossing>,
         limit: u64,
         rows: u32,
+        asked: Asked,
     ) -> Result<LossyRecorder, Memory>
         requires same { HaveSameNodes shape.now timing.now }
         requires window { HasWindow timing.now }
@@ -59,6 +64,7 @@ impl LossyRecorder {
         ensures limit { IfOk result (λ r. r.limit ≡ limit) }
         ensures shape { IfOk result (λ r. r.auditor.shape ≡ shape.now) }
         ensures rows { IfOk result (λ r. r.auditor.rows ≡ rows) }
+        ensures asked { IfOk result (λ r. r.asked ≡ asked) }
     {
         let auditor = LossyAuditor::start(alloc, shape.copy()?, timing, limit, rows)?;
         Ok(LossyRecorder {
@@ -66,7 +72,8 @@ impl LossyRecorder {
             cross: cross.copy()?,
             timing: timing.copy()?,
             limit,
-            strokes: List::new(alloc),
+            asked,
+            tape: Tape::new(alloc, asked, shape.nodes.len()),
             alloc,
         })
     }
@@ -80,6 +87,7 @@ impl LossyRecorder {
         ensures cross { self.new.cross ≡ self.old.cross }
         ensures timing { self.new.timing ≡ self.old.timing }
         ensures limit { self.new.limit ≡ self.old.limit }
+        ensures asked { self.new.asked ≡ self.old.asked }
         ensures shape { self.new.auditor.shape ≡ self.old.auditor.shape }
         ensures rows { self.new.auditor.rows ≡ self.old.auditor.rows }
     {
@@ -98,13 +106,13 @@ impl LossyRecorder {
         ensures cross { self.new.cross ≡ self.old.cross }
         ensures timing { self.new.timing ≡ self.old.timing }
         ensures limit { self.new.limit ≡ self.old.limit }
-        ensures strokes { OnOk result ((deed : Deed) × IsLossyDeedDone self.old.auditor e.now deed
-            × (self.new.strokes ≡ self.old.strokes
-            ++ lossy_stroke_by self.old.cross self.old.auditor.shape (next_number (length self.old.strokes)) deed executed message e.now ∷ [])) }
+        ensures asked { self.new.asked ≡ self.old.asked }
+        ensures tapes { OnOk result ((deed : Deed) × IsLossyDeedDone self.old.auditor e.now deed
+            × TapesStroke self.old.tape self.new.tape (lossy_stroke_by self.old.cross self.old.auditor.shape (next_number (tape_count self.old.tape)) deed executed message e.now)) }
         ensures short { IfErr result (λ stop. stop ≡ stops.Memory) }
     {
         let deed = done_at(&self.auditor, e);
-        let number = number_behind(self.strokes.len());
+        let number = number_behind(self.tape.count());
         let stroke = lossy_stroke_by(
             self.cross.as_slice(),
             self.auditor.shape(),
@@ -114,7 +122,7 @@ impl LossyRecorder {
             message,
             e,
         );
-        match self.strokes.push(stroke) {
+        match self.tape.push(stroke) {
             Ok(()) => Ok(()),
             Err(_) => Err(Stop::Memory),
         }
@@ -130,6 +138,7 @@ impl LossyRecorder {
         ensures cross { self.new.cross ≡ self.old.cross }
         ensures timing { self.new.timing ≡ self.old.timing }
         ensures limit { self.new.limit ≡ self.old.limit }
+        ensures asked { self.new.asked ≡ self.old.asked }
     {
         match self.stopped(e, offence) {
             Ok(stopped) => Stop::Offence(stopped),
@@ -143,21 +152,22 @@ impl LossyRecorder {
         requires stands { (before : Items OfEvent) × HasLossyRecorded self.old before }
         requires offence { (before : Items OfEvent) → HasLossyRecorded self.old before → lossy_offence_behind self.old before e.now ≡ Some offence }
         ensures stopped { IfOk result (λ x. (before : Items OfEvent) → HasLossyRecorded self.old before
-            → x ≡ lossy_stopped_at self.old.cross self.old.auditor.shape self.old.timing self.old.auditor.rows before e.now offence) }
+            → x ≡ lossy_stopped_at self.old.asked self.old.cross self.old.auditor.shape self.old.timing self.old.auditor.rows before e.now offence) }
         ensures auditor { self.new.auditor ≡ self.old.auditor }
         ensures cross { self.new.cross ≡ self.old.cross }
         ensures timing { self.new.timing ≡ self.old.timing }
         ensures limit { self.new.limit ≡ self.old.limit }
+        ensures asked { self.new.asked ≡ self.old.asked }
     {
-        let last = mark_for(self.strokes.as_slice(), offence);
+        let last = mark_for(&self.tape, offence);
         let oldest = oldest_read(&self.auditor, offence);
         let shape = self.auditor.shape();
         let refused = refused_by(self.alloc, shape, &self.timing, last, oldest, e, offence)?;
         let cross = self.cross.as_slice();
         let pending = pending_of(self.alloc, &self.auditor, cross, &self.timing)?;
-        let strokes = replace(&mut self.strokes, List::new(self.alloc));
+        let excerpt = self.tape.excerpt(Some(stop_time(&refused)))?;
         Ok(Stopped {
-            strokes,
+            excerpt,
             pending,
             refused,
             miss: None,
@@ -210,11 +220,11 @@ impl Replica<()> for LossyRecorder {
 
     ghost long = { λ r line long. long_lossy_line r.auditor.shape line long };
 
-    ghost keeps_same = { λ r w. (refl, refl, refl, refl, refl) };
+    ghost keeps_same = { λ r w. (refl, refl, refl, refl, refl, refl) };
 
-    ghost keeps_on = { λ a u b v c w x y. (y.0 ∙ x.0, y.1 ∙ x.1, y.2 ∙ x.2, y.3 ∙ x.3, y.4 ∙ x.4) };
+    ghost keeps_on = { λ a u b v c w x y. (y.0 ∙ x.0, y.1 ∙ x.1, y.2 ∙ x.2, y.3 ∙ x.3, y.4 ∙ x.4, y.5 ∙ x.5) };
 
-    ghost keeps_rules = { λ a v b w x. λ i. lossy_drawing_rules (x.0 i) (x.3 i) (x.1 i) (x.2 i) (x.4 i) };
+    ghost keeps_rules = { λ a v b w x. λ i. lossy_drawing_rules (x.5 i) (x.0 i) (x.3 i) (x.1 i) (x.2 i) (x.4 i) };
 
     ghost keeps_prompt = { λ a v b w x prompt. prompt };
 }

@@ -1,5 +1,5 @@
 // What a schedule file is drawn as.
-ghost use Rattle.std.specs.Prelude.{◌≡◌, ◌<◌, ◌≤◌, ◌+◌, ◌*◌, ◌^◌, [], List as Items, IfOk, IsSome, IsTrue};
+ghost use Rattle.std.specs.Prelude.{◌≡◌, ◌<◌, ◌≤◌, ◌+◌, ◌*◌, ◌^◌, [], List as Items, option_map, IfOk, IsSome, IsTrue};
 ghost use Rattle.lt_io.specs.Counts.{MayFail};
 ghost use Rattle.lt_io.specs.FilesState.{KeepsFiles, KeepsNames};
 ghost use Rattle.lt_io.specs.Visits.{taken_of};
@@ -11,7 +11,7 @@ ghost use Rattle.lt_arch.specs.Readers.{chan_count, node_count};
 ghost use Rattle.lt_arch.specs.Shapes.{HaveSameNodes};
 ghost use Rattle.lt_schedule.specs.Halted.{HaltCounted, ReadCounted};
 ghost use Rattle.lt_schedule.specs.Replayed.{JudgesFile, JudgesOpen};
-ghost use Rattle.lt_course.specs.Courses.{unended_by};
+ghost use Rattle.lt_course.specs.Courses.{stop_time, unended_by};
 ghost use Rattle.lt_course.specs.Reading.{VisitsUnlessRead};
 ghost use Rattle.lt_lossy_course.specs.LossyCourses.{LossyIsCourseOf};
 ghost use Rattle.lt_lossy_course.specs.LossyReading.{ReadsLossyCourse, RecordsLossyCourse};
@@ -21,7 +21,7 @@ use crate::reading::pending_of;
 use crate::recorder::LossyRecorder;
 use lt_arch::{Offence, Shape, Timing};
 use lt_base::{List, Memory, Or, Steps};
-use lt_course::{Course, RefusedEvent, Stopped, halted_course, last_time};
+use lt_course::{Course, RefusedEvent, Stopped, halted_course, stop_time};
 use lt_diagram::Wrong;
 use lt_io::Files;
 use lt_load::CommandFault;
@@ -30,13 +30,13 @@ use lt_lossy_audit::LossyAuditor;
 use lt_place::Crossing;
 use lt_rows::Lines;
 use lt_schedule::{Halt, replay_lines};
+use lt_tape::Asked;
 use std::alloc::Global;
 use std::marker::Brand;
-use std::mem::replace;
 use std::sync::ledger::{Blank, Ledger};
 
-/// What a schedule file is drawn as over these nodes and channels, with these bounds of time, variables that
-/// cross and rows of inputs, where so many losses in a row are allowed on a channel.
+/// What is drawn of a schedule file over these nodes and channels, with these bounds of time, variables that
+/// cross and rows of inputs, where so many losses in a row are allowed on a channel and it is asked which ticks are.
 pub fn read_lossy_course<F: Files>(
     alloc: Global,
     files: &mut F,
@@ -46,14 +46,15 @@ pub fn read_lossy_course<F: Files>(
     cross: &List<Crossing>,
     limit: u64,
     rows: u32,
+    asked: Asked,
 ) -> Result<Course, Or<CommandFault>>
     requires count { MayFail (F.state files.old).faults }
     requires same { HaveSameNodes shape.now timing.now }
     requires window { HasWindow timing.now }
     requires numbered { 2 * (node_count shape.now + chan_count shape.now) < 2 ^ 32 }
-    ensures { ReadsLossyCourse cross.now shape.now timing.now limit rows schedule.now (F.state files.old) (F.state files.new) result }
+    ensures { ReadsLossyCourse asked cross.now shape.now timing.now limit rows schedule.now (F.state files.old) (F.state files.new) result }
 {
-    let mut recorder = LossyRecorder::over(alloc, shape, timing, cross, limit, rows)?;
+    let mut recorder = LossyRecorder::over(alloc, shape, timing, cross, limit, rows, asked)?;
     let course = replay_course(alloc, files, schedule, &mut recorder);
     drop(recorder);
     course
@@ -137,22 +138,27 @@ fn replay_open<F: Files, L: Ledger>(
 fn course_of(alloc: Global, recorder: &mut LossyRecorder) -> Result<Course, Memory>
     requires { (es : Items OfEvent) × HasLossyRecorded recorder.old es }
     ensures { IfOk result (λ course. (es : Items OfEvent) → HasLossyRecorded recorder.old es
-        → LossyIsCourseOf recorder.old.cross recorder.old.auditor.shape recorder.old.timing recorder.old.auditor.rows es course) }
+        → LossyIsCourseOf recorder.old.asked recorder.old.cross recorder.old.auditor.shape recorder.old.timing recorder.old.auditor.rows es course) }
 {
     let cross = recorder.cross.as_slice();
     let pending = pending_of(alloc, &recorder.auditor, cross, &recorder.timing)?;
-    let refused = unended(
-        alloc,
-        &recorder.auditor,
-        last_time(recorder.strokes.as_slice()),
-    );
-    let strokes = replace(&mut recorder.strokes, List::new(alloc));
+    let refused = unended(alloc, &recorder.auditor, recorder.tape.last_time());
+    let excerpt = recorder.tape.excerpt(stop_of(&refused))?;
     Ok(Course {
-        strokes,
+        excerpt,
         pending,
         refused,
         miss: None,
     })
+}
+
+fn stop_of(refused: &Option<RefusedEvent>) -> Option<u64>
+    ensures { result ≡ option_map stop_time refused.now }
+{
+    match refused {
+        None => None,
+        Some(refused) => Some(stop_time(refused)),
+    }
 }
 
 // Where a list stops whose last event has this time.

@@ -1,5 +1,5 @@
 // An event with an offence, as it is drawn.
-ghost use Rattle.std.specs.Prelude.{◌≡◌, ◌<◌, ◌≤◌, IfOk, All};
+ghost use Rattle.std.specs.Prelude.{◌≡◌, ◌<◌, ◌≤◌, ℕ, List as Items, IfOk};
 ghost use Rattle.lt_arch.specs.declared.limits.TheConstants.{GREATEST_TIME};
 ghost use Rattle.lt_arch.specs.Readers.{chan_count, from_of, to_of};
 ghost use Rattle.lt_arch.specs.Shapes.{HaveSameNodes};
@@ -7,31 +7,32 @@ ghost use Rattle.lt_lossy.specs.Events.{IsLossyEventOf};
 ghost use Rattle.lt_lossy.specs.Times.{lossy_time_of};
 ghost use Rattle.lt_losing.specs.LossyFile.{lossy_event_text};
 ghost use Rattle.lt_diagram.specs.declared.picture.Wrong.TheVariants as wrongs;
-ghost use Rattle.lt_course.specs.Placed.{IsPlacedOffence, IsTimelyLast, IsTimelyStroke};
+ghost use Rattle.lt_tape.specs.declared.asked.Asked.{Asked as OfAsked};
+ghost use Rattle.lt_tape.specs.declared.stroke.Stroke.{Stroke as OfStroke};
+ghost use Rattle.lt_tape.specs.Tapes.{IsTapeOf};
+ghost use Rattle.lt_course.specs.Placed.{IsPlacedOffence, IsTimelyLast};
 ghost use Rattle.lt_lossy_course.specs.LossyCourses.{lossy_offence_bound, lossy_refused_by, lossy_wrong_by};
 ghost use Rattle.lt_lossy_course.specs.LossyLasts.{IsLossyPlacedOffence, common_oldest_read, first_time_on, lossy_mark_for, lossy_oldest_read};
 
 use crate::reading::sent_at;
 use lt_arch::{Event, Offence, Shape, Timing};
 use lt_base::{List, Memory};
-use lt_course::{
-    RefusedEvent, Stroke, chan_at, last_mark_for, offence_bound, time_or_zero, without_last,
-    wrong_by,
-};
+use lt_course::{RefusedEvent, chan_at, last_mark_for, offence_bound, without_last, wrong_by};
 use lt_diagram::Wrong;
 use lt_losing::extend_lossy_event;
 use lt_lossy::{LossyEvent, LossyOffence};
 use lt_lossy_audit::LossyAuditor;
+use lt_tape::{Tape, time_or_zero};
 use std::alloc::Global;
 
-/// When the node of an offence was activated last.
-pub(crate) fn mark_for(strokes: &[Stroke], offence: LossyOffence) -> Option<u64>
-    requires { All IsTimelyStroke strokes.now }
-    ensures value { result ≡ lossy_mark_for strokes.now offence }
+/// When the node of an offence was activated last, by a tape of the strokes before it.
+pub(crate) fn mark_for(tape: &Tape, offence: LossyOffence) -> Option<u64>
+    requires { (asked : OfAsked) × (nodes : ℕ) × (xs : Items OfStroke) × IsTapeOf tape.now asked nodes xs }
+    ensures value { (asked : OfAsked) (nodes : ℕ) (xs : Items OfStroke) → IsTapeOf tape.now asked nodes xs → result ≡ lossy_mark_for xs offence }
     ensures timely { IsTimelyLast result }
 {
     match offence {
-        LossyOffence::Common(offence) => last_mark_for(strokes, offence),
+        LossyOffence::Common(offence) => last_mark_for(tape, offence),
         LossyOffence::TooManyLost(_) => None,
     }
 }

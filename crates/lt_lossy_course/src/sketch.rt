@@ -8,11 +8,12 @@ ghost use Rattle.lt_lossy_course.specs.LossySketches.{left_message, lossy_stroke
 ghost use Rattle.lt_lossy_course.specs.LossyStrokes.{message_arrow};
 
 use lt_arch::{Chan, Deed, Event, Shape};
-use lt_course::{Stroke, chan_at, ink_by, sign_of};
+use lt_course::{chan_at, ink_by, sign_of};
 use lt_diagram::{Arrow, Fate, Mark};
 use lt_lossy::LossyEvent;
 use lt_net_node::is_crossed;
 use lt_place::Crossing;
+use lt_tape::Stroke;
 
 /// A message that leaves its channel or is on its way: the newest number that the channel has delivered, its own number, and when it was sent.
 #[derive(Clone, Copy)]

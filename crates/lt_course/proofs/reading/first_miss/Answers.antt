@@ -1,5 +1,5 @@
 use Rattle.std.proofs.Common.{◌-◌, ◌<◌, ◌^◌, rules}
-use Rattle.lt_course.proofs.Missing.{known_miss, unknown_miss}
+use Rattle.lt_course.proofs.Missing.{known_miss}
 use Rattle.lt_course.proofs.reading.first_miss.Goals as goal
 
 pub returns : goal.returns

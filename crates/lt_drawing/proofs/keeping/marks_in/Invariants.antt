@@ -1,7 +1,0 @@
-use Rattle.std.proofs.Common.{◌≡◌, take}
-use Rattle.std.specs.List.{flat_map}
-use Rattle.lt_drawing.specs.Kept.{mark_in}
-use Rattle.lt_drawing.proofs.keeping.marks_in.Given as goal
-
-abbrev pub invariant-strokes : goal.invariant-strokes
-invariant-strokes l = l.marks ≡ flat_map (mark_in l.window) (take l.stroke-index l.strokes)

@@ -1,0 +1,5 @@
+pub mod Loud
+pub mod Tallying
+pub mod Fronting
+pub mod Tailing
+pub mod Taping

@@ -1,0 +1,5 @@
+pub mod Times
+pub mod Windows
+pub mod Kept
+pub mod Excerpts
+pub mod Tapes
