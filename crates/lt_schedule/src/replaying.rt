@@ -1,5 +1,5 @@
 // The rows of a schedule file, taken one by one.
-ghost use Rattle.std.specs.Prelude.{◌≡◌, ◌<◌, ◌≤◌, ◌-◌, ◌^◌, [], ℕ, List, IsTrue, IsSome, OnOk, IfOk, IfErr, MatchResult, is_ok};
+ghost use Rattle.std.specs.Prelude.{◌≡◌, ◌<◌, ◌≤◌, ◌-◌, ◌^◌, [], ℕ, List, IsTrue, IsSome, OnOk, IfOk, IfErr, MatchResult, is_ok, true};
 ghost use Rattle.lt_io.specs.Counts.{MayFail};
 ghost use Rattle.lt_io.specs.FilesState.{KeepsNames, KeepsFiles};
 ghost use Rattle.lt_io.specs.Visits.{Visited, taken_of};
@@ -42,6 +42,7 @@ pub fn replay_schedule<F: Files, W, R: Replica<W>>(
     ensures prompt { R.prompt outside.old → ¬ IsMemoryHalt result }
     ensures keeps_files { KeepsNames (F.state files.old) (F.state files.new) }
     ensures visits { Visited (schedule_errand name.now) (F.state files.old).visits (F.state files.new).visits (is_ok result) }
+    ensures visits_whole { Visited (schedule_errand name.now) (F.state files.old).visits (F.state files.new).visits true }
     ensures keeps { R.keeps replica.old outside.old replica.new outside.new }
 
     // The verdict on the file; a refused one is read to at most a piece past the row that is refused.

@@ -1,4 +1,4 @@
-use Rattle.std.proofs.Common.{ℕ, refl, ap, arith}
+use Rattle.std.proofs.Common.{ℕ, refl, ap, arith, true}
 use Rattle.lt_io.specs.Visits.{taken_of}
 use Rattle.lt_io.proofs.Visiting.{visited_one}
 use Rattle.lt_schedule.proofs.Headers.{judged_file}
@@ -15,3 +15,9 @@ returns-in-Ok-clause-visits g c = visited_one (record { name = c.args.name.now; 
 
 pub returns-in-Err-clause-visits : goal.returns-in-Err-clause-visits
 returns-in-Err-clause-visits g c = visited_one (record { name = c.args.name.now; most = 1073811456 }) _ _ _ c.open.ensures.visits refl (omega (arith, ap taken_of c.open.ensures.visits)) _
+
+pub returns-in-Ok-clause-visits_whole : goal.returns-in-Ok-clause-visits_whole
+returns-in-Ok-clause-visits_whole g c = visited_one (record { name = c.args.name.now; most = 1073811456 }) _ _ _ c.open.ensures.visits c.replay_open.ensures.keeps_files.visits c.replay_open.ensures.taken true
+
+pub returns-in-Err-clause-visits_whole : goal.returns-in-Err-clause-visits_whole
+returns-in-Err-clause-visits_whole g c = visited_one (record { name = c.args.name.now; most = 1073811456 }) _ _ _ c.open.ensures.visits refl (omega (arith, ap taken_of c.open.ensures.visits)) true
