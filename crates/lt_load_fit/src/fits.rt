@@ -1,8 +1,9 @@
 // Whether a setup fits a program.
+ghost use Rattle.std.specs.Prelude.{◌≡◌, IfOk};
 ghost use Rattle.lt_answer.specs.Answered.{Settles};
 ghost use Rattle.lt_front.specs.Checked.{examined_part};
 ghost use Rattle.lt_lossy.specs.Window.{HasWindow};
-ghost use Rattle.lt_load_fit.specs.Fits.{IsOutsideWindow, SetupPasses, accepted_verdict, fitting_verdict, placed_verdict, timed_verdict, windowed_verdict};
+ghost use Rattle.lt_load_fit.specs.Fits.{HasWindowBy, IsOutsideWindow, SetupPasses, accepted_verdict, fitting_verdict, placed_verdict, timed_verdict, windowed_verdict};
 
 use crate::placing::as_place;
 use crate::{CommandFault, main_of};
@@ -74,10 +75,11 @@ fn accept_timing(alloc: Global, setup: Config) -> Result<Config, Or<CommandFault
     }
 }
 
-// The setup, if it has the window that its pace asks for.
+/// The setup, if it has the window that its pace asks for.
 #[tactic(auto, unfolding(crate::specs::Fits::windowed_verdict))]
-fn accept_window(alloc: Global, setup: Config) -> Result<Config, Or<CommandFault>>
-    ensures { Settles (windowed_verdict setup) result }
+pub fn accept_window(alloc: Global, setup: Config) -> Result<Config, Or<CommandFault>>
+    ensures settles { Settles (windowed_verdict setup) result }
+    ensures windowed { IfOk result (λ setup. HasWindowBy setup.pace setup.timing) }
 {
     match setup.pace {
         Pace::Lossy(_) => in_window(alloc, setup),
@@ -88,7 +90,9 @@ fn accept_window(alloc: Global, setup: Config) -> Result<Config, Or<CommandFault
 // The setup, if a channel has room for all messages that are in transit.
 #[tactic(auto, using(crate::proofs::Windows::no_window))]
 fn in_window(alloc: Global, setup: Config) -> Result<Config, Or<CommandFault>>
-    ensures { Settles (SetupPasses setup (HasWindow setup.timing) (IsOutsideWindow setup)) result }
+    ensures settles { Settles (SetupPasses setup (HasWindow setup.timing) (IsOutsideWindow setup)) result }
+    ensures same { IfOk result (λ passed. passed ≡ setup) }
+    ensures window { IfOk result (λ passed. HasWindow passed.timing) }
 {
     if let Err(fault) = window(&setup.timing) {
         let named = setup.placement.names(alloc);

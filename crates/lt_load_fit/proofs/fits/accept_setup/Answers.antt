@@ -8,4 +8,4 @@ returns-in_err-timed c = stop_settled (timed_verdict c.args.setup) (λ timed. wi
 
 pub returns : goal.returns
 unfolding accepted_verdict
-returns c = then_settled (timed_verdict c.args.setup) (λ timed. windowed_verdict timed) c.in_ok-timed.timed c.accept_window.result c.in_ok-timed.ensures c.accept_window.ensures
+returns c = then_settled (timed_verdict c.args.setup) (λ timed. windowed_verdict timed) c.in_ok-timed.timed c.accept_window.result c.in_ok-timed.ensures c.accept_window.ensures.settles
