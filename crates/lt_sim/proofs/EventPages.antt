@@ -44,7 +44,7 @@ module _ (s : Shape) (front : List Event) (page : List ℕ) (old now : SinkState
 
   module _ (whole : List Event) (next : SinkState) where
     -- the last row was put and all was written, or not
-    pub last_writes : (result : Result (Unit {0}) (Or SimFault)) → whole ≡ front ++ e ∷ [] → WritesText (page ++ (event_text s e ++ 10 ∷ [])) now next result → WritesText (file_text s whole) old next result
+    pub last_writes : {T : Type 0} (result : Result T (Or SimFault)) → whole ≡ front ++ e ∷ [] → WritesText (page ++ (event_text s e ++ 10 ∷ [])) now next result → WritesText (file_text s whole) old next result
     last_writes result is w =
         let row : List ℕ = event_text s e ++ 10 ∷ [] in
         let text : List ℕ = header_text ++ rows_text s front in
@@ -52,7 +52,7 @@ module _ (s : Shape) (front : List Event) (page : List ℕ) (old now : SinkState
         (page_writes (text ++ row) (page ++ row) old now (put_on text page old now h row) told next result w)
 
     -- a row was not put
-    pub event_fails : (fault : Or SimFault) (later : List Event) (kept : List ℕ) → whole ≡ front ++ e ∷ later → WritesPart (event_text s e ++ 10 ∷ []) page kept now next (Err fault) → WritesText (file_text s whole) old next (Err fault)
+    pub event_fails : (fault : Or SimFault) (later : List Event) (kept : List ℕ) → whole ≡ front ++ e ∷ later → WritesPart (event_text s e ++ 10 ∷ []) page kept now next (Err fault) → WritesText {T = Unit {0}} (file_text s whole) old next (Err fault)
     event_fails fault later kept is w =
         row_fails (header_text ++ rows_text s front) page old now h told (event_text s e ++ 10 ∷ []) (rows_text s later) (file_text s whole) (text_split s front e later whole is) fault kept next w
 

@@ -10,7 +10,6 @@ use Rattle.lt_arch.specs.Schedule.{OnePlace, IsEventOf}
 use Rattle.lt_sim.specs.declared.drawing.Drawing.{Drawing}
 use Rattle.lt_sim.specs.Drawn.{Draw, next_due, due_event, beginning, drawn_on, unless_past, drawn}
 use Rattle.lt_sim.specs.Standing.{DrawingStands, DrawKeeps, IsDue, unless_later}
-use Rattle.lt_sim.specs.Recorded.{IsCountOf}
 use Rattle.lt_sim.proofs.Measure.{rest, rest-is, drawn-is}
 use Rattle.lt_sim.proofs.Keeping.{keeps_first, keeps_on}
 use Rattle.lt_sim.proofs.Ending.{placed-next}
@@ -102,13 +101,10 @@ module _ (s : Shape) (t : Timing) (rows seed horizon : ℕ) (one_place : OnePlac
     list_longer = let some = rest_some in let size = ap (λ (es : List Event). length es) h.list_is ∙ length-append front (rest s t rows seed horizon h.draw) in omega (arith, some, size)
 
     -- the number of events, at the end
-    pub counts : (number : ℕ) → length front ≡ number → number < 5000000 → unless_later horizon (next_due s h.draw) ≡ None → IsCountOf (drawn s t rows seed horizon) (Some (number + 1))
-    counts number size few is =
+    pub counts : (number : ℕ) → length front ≡ number → unless_later horizon (next_due s h.draw) ≡ None → number + 1 ≡ length (drawn s t rows seed horizon)
+    counts number size is =
         let whole = ap (λ (es : List Event). length es) (follows_end is) ∙ length-append front (End horizon ∷ []) in
-        (omega (arith, whole, size), omega (arith, whole, size, few))
-
-    pub counts_many : length front ≡ 5000000 → IsCountOf (drawn s t rows seed horizon) None
-    counts_many size = let more = list_longer in omega (arith, more, size)
+        omega (arith, whole, size)
 
 -- behind so many events
 pub record Passes (k : Drawing) (s : Shape) (t : Timing) (rows seed horizon number : ℕ) : Type 0 where

@@ -16,3 +16,4 @@ pub mod EventPages
 pub mod FileRows
 pub mod Walking
 pub mod Shown
+pub mod Short

@@ -60,7 +60,7 @@ module _ (text page : List ℕ) (old now : SinkState) (h : HasPut text page old 
         (m.0, part.1 ∙ (ap (λ (l : List ℕ). l ++ take part.0 page) (h.taken t) ∙ (append_assoc old.taken h.written (take part.0 page) ∙ ap (λ (l : List ℕ). old.taken ++ l) m.1)))
 
     -- the page was written, or not
-    pub page_writes : (next : SinkState) (result : Result (Unit {0}) (Or SimFault)) → WritesText page now next result → WritesText text old next result
+    pub page_writes : {T : Type 0} (next : SinkState) (result : Result T (Or SimFault)) → WritesText page now next result → WritesText text old next result
     page_writes next (Ok x) w = record {
       counted = w.counted ∙ h.counted;
       taken = λ t. w.taken (is_told t) ∙ (ap (λ (l : List ℕ). l ++ page) (h.taken t) ∙ (append_assoc old.taken h.written page ∙ ap (λ (l : List ℕ). old.taken ++ l) h.behind));
@@ -70,22 +70,28 @@ module _ (text page : List ℕ) (old now : SinkState) (h : HasPut text page old 
     page_writes next (Err Memory) w = record { counted = w.counted ∙ h.counted; taken = page_front [] text (sym (append-nil text)) next w.taken }
 
     -- a page with more behind it was not written
-    pub page_fails : (more whole : List ℕ) → whole ≡ text ++ more → (fault : Or SimFault) (next : SinkState) → WritesText page now next (Err fault) → WritesText whole old next (Err fault)
+    pub page_fails : (more whole : List ℕ) → whole ≡ text ++ more → (fault : Or SimFault) (next : SinkState) → WritesText {T = Unit {0}} page now next (Err fault) → WritesText {T = Unit {0}} whole old next (Err fault)
     page_fails more whole is (Fault Write) next w = record { counted = let a = w.counted in let b = h.counted in omega (arith, a, b); taken = page_front more whole is next w.taken }
     page_fails more whole is (Fault TooMany) next w = w
     page_fails more whole is Memory next w = record { counted = w.counted ∙ h.counted; taken = page_front more whole is next w.taken }
 
 -- a row that was not put is a page that was not written
-row_unwritten : (row page kept : List ℕ) (now next : SinkState) (fault : Or SimFault) → WritesPart row page kept now next (Err fault) → WritesText (page ++ row) now next (Err fault)
+row_unwritten : (row page kept : List ℕ) (now next : SinkState) (fault : Or SimFault) → WritesPart row page kept now next (Err fault) → WritesText {T = Unit {0}} (page ++ row) now next (Err fault)
 row_unwritten row page kept now next (Fault Write) w = w
 row_unwritten row page kept now next (Fault TooMany) w = w
 row_unwritten row page kept now next Memory w = w
 
 -- a row with more behind it was not put
 pub row_fails : (text page : List ℕ) (old now : SinkState) → HasPut text page old now → now.told ≡ old.told → (row more whole : List ℕ) → whole ≡ (text ++ row) ++ more → (fault : Or SimFault) (kept : List ℕ) (next : SinkState) → WritesPart row page kept now next (Err fault)
-    → WritesText whole old next (Err fault)
+    → WritesText {T = Unit {0}} whole old next (Err fault)
 row_fails text page old now h told row more whole is fault kept next w =
     page_fails (text ++ row) (page ++ row) old now (put_on text page old now h row) told more whole is fault next (row_unwritten row page kept now next fault w)
+
+-- a text that was not written is so whatever was to be answered
+pub unwritten : (T : Type 0) (text : List ℕ) (old new : SinkState) (fault : Or SimFault) → WritesText {T = Unit {0}} text old new (Err fault) → WritesText {T = T} text old new (Err fault)
+unwritten T text old new (Fault Write) w = w
+unwritten T text old new (Fault TooMany) w = w
+unwritten T text old new Memory w = w
 
 pub still_sound : (old now next : SinkState) → KeepsSink old now → now.faults ≡ old.faults → (IsTrue now.sound → next.faults ≡ now.faults) → IsTrue old.sound → next.faults ≡ old.faults
 still_sound old now next keeps counted sound t = sound (subst IsTrue (sym keeps.sound) t) ∙ counted

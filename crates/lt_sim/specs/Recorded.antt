@@ -1,5 +1,5 @@
 -- What a call that records a list of events answers, and what its sink has taken.
-use Rattle.std.specs.Prelude.{◌≡◌, ◌<◌, ◌≤◌, ℕ, IsTrue, List, ◌++◌, length, Option, Some, None, Result, Ok, Err}
+use Rattle.std.specs.Prelude.{◌≡◌, ◌<◌, ◌≤◌, ℕ, IsTrue, List, ◌++◌, length, Bool, true, false, Result, Ok, Err}
 use Rattle.lt_base.specs.declared.memory.Or.{Or}
 use Rattle.lt_base.specs.declared.memory.Or.TheVariants.{Fault, Memory}
 use Rattle.lt_io.specs.SinkState.{SinkState}
@@ -52,7 +52,7 @@ Records s es old new (Err Memory) = WritesFrontOf (schedule_text s es) old new
 -- How a text reaches the sink, page by page.
 
 -- the text was written, or a front of it
-abbrev pub WritesText : (text : List ℕ) → (old new : SinkState) → Result (Unit {0}) (Or SimFault) → Type 0
+abbrev pub WritesText : {T : Type 0} → (text : List ℕ) → (old new : SinkState) → Result T (Or SimFault) → Type 0
 WritesText text old new (Ok _) = WritesWhole text old new
 WritesText text old new (Err (Fault Write)) = FailsAfter text old new
 WritesText text old new (Err (Fault TooMany)) = ⊥
@@ -72,7 +72,7 @@ WritesPart text kept held old new (Err (Fault Write)) = FailsAfter (kept ++ text
 WritesPart text kept held old new (Err (Fault TooMany)) = ⊥
 WritesPart text kept held old new (Err Memory) = WritesFrontOf (kept ++ text) old new
 
--- the number of events, where they are not too many
-abbrev pub IsCountOf : List Event → Option ℕ → Type 0
-IsCountOf es None = most_events < length es
-IsCountOf es (Some count) = (count ≡ length es) × (length es ≤ most_events)
+-- whether a number of events is within the limit
+abbrev pub IsWithinMost : (number : ℕ) → Bool → Type 0
+IsWithinMost number true = number ≤ most_events
+IsWithinMost number false = most_events < number

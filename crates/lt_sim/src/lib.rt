@@ -12,7 +12,9 @@ mod progress;
 mod recording;
 mod sending;
 mod tally;
+mod within;
 pub mod words;
 
 pub use fault::SimFault;
 pub use recording::record;
+pub use within::ends_in_time;

@@ -1,4 +1,5 @@
 use Rattle.std.proofs.Common.{◌≡◌, ◌∙◌, ◌+◌, ◌<◌, ◌≤◌, ℕ, List, ap, sym, subst, arith, refl, lit<, Some, None, Err, [], ◌∷◌, ◌++◌, length}
+use Rattle.std.specs.Prelude.{IfOk}
 use Rattle.std.proofs.lemmas.List.{length_push}
 use Rattle.lt_io.proofs.Keeps.{sink_trans}
 use Rattle.lt_arch.specs.declared.event.Event.{Event}
@@ -6,10 +7,11 @@ use Rattle.lt_arch.specs.declared.event.Event.TheVariants.{End}
 use Rattle.lt_arch.specs.Schedule.{IsEventOf}
 use Rattle.lt_rows.specs.Texts.{event_text}
 use Rattle.lt_sim.specs.Drawn.{next_due, due_event, drawn}
+use Rattle.lt_sim.specs.File.{file_text}
 use Rattle.lt_sim.specs.Recorded.{WritesPart, TakesPart}
 use Rattle.lt_sim.specs.Standing.{unless_later}
-use Rattle.lt_sim.proofs.Following.{follows_first, follows_on, follows_end, is_due, due_timely, next_is, is_placed, list_more, list_longer}
-use Rattle.lt_sim.proofs.Pages.{still_sound}
+use Rattle.lt_sim.proofs.Following.{follows_first, follows_on, follows_end, is_due, due_timely, next_is, is_placed, list_more, list_longer, counts}
+use Rattle.lt_sim.proofs.Pages.{still_sound, unwritten}
 use Rattle.lt_sim.proofs.EventPages.{event_fails, last_writes, put_event, put_first}
 use Rattle.lt_schedule.proofs.Steps.{err_is}
 use Rattle.lt_sim.proofs.recording.write.Goals as goal
@@ -105,6 +107,15 @@ returns-in-None-clause-written g c seed starts =
     (g.O.Sink.state c.write_end.new.sink) c.write_end.result
     (follows_end s t c.args.rows seed c.args.horizon c.requires.one_place c.requires.horizon c.loop-number.drawing p.front p.follows is) c.write_end.ensures.written
 
+pub returns-in-None-clause-counted : goal.returns-in-None-clause-counted
+returns-in-None-clause-counted g c seed starts =
+    let s = c.args.shape.now in
+    let t = c.args.timing.now in
+    let p = (c.loop-number.invariant.passed seed starts).passes in
+    let is : unless_later c.args.horizon (next_due s p.follows.draw) ≡ None = sym (c.next.ensures s t seed p.follows.draw p.follows.stands) ∙ c.in-None.is in
+    subst (λ (n : ℕ). IfOk c.write_end.result (λ count. count ≡ n))
+    (counts s t c.args.rows seed c.args.horizon c.requires.one_place c.requires.horizon c.loop-number.drawing p.front p.follows c.loop-number.number p.size is) c.write_end.ensures.counted
+
 pub returns-in-None-clause-keeps : goal.returns-in-None-clause-keeps
 returns-in-None-clause-keeps g c = sink_trans (g.O.Sink.state c.args.sink.now) (g.O.Sink.state c.loop-number.sink) (g.O.Sink.state c.write_end.new.sink) c.loop-number.invariant.keeps c.write_end.ensures.keeps
 
@@ -127,7 +138,8 @@ returns-in_err-put_row-in-Some-clause-written g c seed starts =
     let fails : WritesPart (event_text s (due_event s due) ++ 10 ∷ []) c.loop-number.page c.put_row.new.page now next (Err fault) =
     subst (λ (e : Event). WritesPart (event_text s e ++ 10 ∷ []) c.loop-number.page c.put_row.new.page now next (Err fault)) c.event_at.ensures c.in_err-put_row-in-Some.ensures.written in
     rw (err_is _ _ c.from_residual.ensures.1)
-    (event_fails s p.front c.loop-number.page old now (before.passed seed starts).put before.keeps.told (due_event s due) (drawn s t c.args.rows seed c.args.horizon) next fault more.0 c.put_row.new.page more.1 fails)
+    (unwritten ℕ (file_text s (drawn s t c.args.rows seed c.args.horizon)) old next fault
+    (event_fails s p.front c.loop-number.page old now (before.passed seed starts).put before.keeps.told (due_event s due) (drawn s t c.args.rows seed c.args.horizon) next fault more.0 c.put_row.new.page more.1 fails))
 
 pub returns-in_err-put_row-in-Some-clause-keeps : goal.returns-in_err-put_row-in-Some-clause-keeps
 returns-in_err-put_row-in-Some-clause-keeps g c = sink_trans (g.O.Sink.state c.args.sink.now) (g.O.Sink.state c.loop-number.sink) (g.O.Sink.state c.put_row.new.sink) c.loop-number.invariant.keeps c.put_row.ensures.keeps

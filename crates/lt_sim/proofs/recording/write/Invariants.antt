@@ -12,5 +12,5 @@ invariant-loop-number g l =
       counted : now.faults ≡ old.faults;
       keeps : KeepsSink old now;
       short : length l.page < 65280;
-      passed : (seed : ℕ) → DrawingStarts l.fn.drawing l.shape l.timing seed → HasPassed l.drawing l.shape l.timing l.rows seed l.horizon l._number l.page old now;
+      passed : (seed : ℕ) → DrawingStarts l.fn.drawing l.shape l.timing seed → HasPassed l.drawing l.shape l.timing l.rows seed l.horizon l.number l.page old now;
     }

@@ -2,8 +2,8 @@ use Rattle.std.proofs.Common.{◌≡◌, ◌∙◌, ◌+◌, ℕ, ap, sym, arith
 use Rattle.std.proofs.lemmas.List.{length_push}
 use Rattle.lt_sim.specs.Drawn.{next_due, due_event}
 use Rattle.lt_sim.specs.Standing.{unless_later}
-use Rattle.lt_sim.proofs.Following.{follows_first, follows_on, is_due, due_timely, next_is, counts, counts_many}
-use Rattle.lt_sim.proofs.recording.count.Goals as goal
+use Rattle.lt_sim.proofs.Following.{follows_first, follows_on, is_due, due_timely, next_is, counts, list_longer}
+use Rattle.lt_sim.proofs.within.reaches_end.Goals as goal
 
 pub loop-number-init : goal.loop-number-init
 loop-number-init c seed starts = record {
@@ -51,7 +51,9 @@ returns-in-None c seed starts =
     let t = c.args.timing.now in
     let p = c.loop-number.invariant seed starts in
     let is : unless_later c.args.horizon (next_due s p.follows.draw) ≡ None = sym (c.next.ensures s t seed p.follows.draw p.follows.stands) ∙ c.in-None.is in
-    counts s t c.args.rows seed c.args.horizon c.requires.one_place c.requires.horizon c.loop-number.drawing p.front p.follows c.loop-number.number p.size c.loop-number-test.true is
+    let whole = counts s t c.args.rows seed c.args.horizon c.requires.one_place c.requires.horizon c.loop-number.drawing p.front p.follows c.loop-number._number p.size is in
+    let few = c.loop-number-test.true in
+    omega (arith, whole, few)
 
 pub returns : goal.returns
 returns c seed starts =
@@ -59,6 +61,6 @@ returns c seed starts =
     let t = c.args.timing.now in
     let p = c.loop-number.invariant seed starts in
     let low = c.loop-number-test.false in
-    let high = c.loop-number.auto.number-end in
     let size = p.size in
-    counts_many s t c.args.rows seed c.args.horizon c.requires.one_place c.requires.horizon c.loop-number.drawing p.front p.follows (omega (arith, low, high, size))
+    let longer = list_longer s t c.args.rows seed c.args.horizon c.requires.one_place c.requires.horizon c.loop-number.drawing p.front p.follows in
+    omega (arith, low, size, longer)
