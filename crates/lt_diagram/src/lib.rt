@@ -16,4 +16,4 @@ pub use chart::{Chart, bottom, right, x_at, y_at};
 pub use closeness::style_of;
 pub use marks::{Size, Style, arrow_end, write_marks};
 pub use picture::{Arrow, Fate, Ink, Mark, Offence, Picture, Ring, Sign, Wrong};
-pub use tints::write_tints;
+pub use tints::{is_execution, write_tints};

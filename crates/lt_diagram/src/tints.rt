@@ -8,7 +8,8 @@ use crate::picture::{Mark, Sign};
 use lt_base::{List, Memory};
 use lt_svg::fill;
 
-fn is_execution(sign: Sign) -> bool
+/// Whether an activation executes an instant.
+pub fn is_execution(sign: Sign) -> bool
     ensures { result ≡ is_execution sign }
 {
     match sign {
