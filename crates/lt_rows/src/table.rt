@@ -8,11 +8,11 @@ ghost use Rattle.lt_rows.specs.Written.{IsNodeOf, IsChanOf, IsWritten};
 use crate::RowFault;
 use crate::finder::Finder;
 use crate::places::{
-    after, chan_at, chan_named, is, is_between, is_of_kind, node_name, node_named,
+    chan_at, chan_named, is, is_between, is_of_kind, node_name, node_named,
 };
 use crate::print::print_event;
 use crate::read::read_by;
-use crate::written::{message, time_of_line};
+use crate::written::{activated, message, time_of_line};
 use lt_arch::{Chan, ChanKind, Event, Shape};
 use lt_base::{Memory, Name};
 use std::alloc::Global;
@@ -99,7 +99,7 @@ impl PlaceTable {
         ensures { IfSome result (IsWritten shape.now rest.now time) }
     {
         let guess = at(&self.rows, mark(rest));
-        if let Some(name) = after(rest, b"act,") {
+        if let Some(name) = activated(rest) {
             return Some(Event::Act(tried_node(shape, guess, name)?, time));
         }
         let (kind, ends) = message(rest)?;

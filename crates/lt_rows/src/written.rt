@@ -1,12 +1,11 @@
 // Rows that stand as they are written.
-ghost use Rattle.std.specs.Prelude.{◌≡◌, ◌++◌, ◌∷◌, IfSome};
+ghost use Rattle.std.specs.Prelude.{◌≡◌, ◌≤◌, ◌<◌, ◌++◌, ◌∷◌, length, take, codes, true, IfSome};
+ghost use Rattle.lt_base.specs.Digits.{all_digits, read_on};
+ghost use Rattle.lt_arch.specs.declared.limits.TheConstants.{GREATEST_TIME};
 ghost use Rattle.lt_rows.specs.Texts.{kind_text};
 ghost use Rattle.lt_rows.specs.Written.{IsTimed};
 
-use crate::fields::comma_of;
-use crate::places::after;
-use crate::read::time_in;
-use lt_arch::ChanKind;
+use lt_arch::{ChanKind, GREATEST_TIME};
 use lt_base::limits::LONGEST_LINE;
 
 /// The time at the head of a line, and what stands behind its comma. A line of anything else may have none.
@@ -17,24 +16,55 @@ pub fn time_of_line(line: &[u8]) -> Option<(u64, &[u8])>
     if line.len() > LONGEST_LINE {
         return None;
     }
-    let Some(place) = comma_of(line) else {
+    let (time, count) = leading_number(line);
+    if count == 0 || count == line.len() {
         return None;
-    };
-    match time_in(&line[..place]) {
-        Some(time) => Some((time, &line[place + 1..])),
-        None => None,
     }
+    if line[count] == b',' {
+        Some((time, &line[count + 1..]))
+    } else {
+        None
+    }
+}
+
+// The number of the digits at the head of a text, and how many they are. Of many digits only the first ones may be read.
+fn leading_number(text: &[u8]) -> (u64, usize)
+    ensures within { result.1 ≤ length text.now }
+    ensures digits { all_digits (take result.1 text.now) ≡ true }
+    ensures number { result.0 ≡ read_on 0 (take result.1 text.now) }
+    ensures range { result.0 < GREATEST_TIME }
+{
+    let mut number = 0u64;
+    for count in 0..text.len() {
+        let byte = text[count];
+        if byte < b'0' || b'9' < byte {
+            return (number, count);
+        }
+        if number >= GREATEST_TIME / 10 {
+            return (number, count);
+        }
+        number = number * 10 + (byte - b'0') as u64;
+    }
+    (number, text.len())
 }
 
 /// The kind and the ends of a message, where a kind stands in front.
 pub fn message(rest: &[u8]) -> Option<(ChanKind, &[u8])>
     ensures { IfSome result (λ both. rest.now ≡ kind_text both.0 ++ 44 ∷ both.1.now) }
 {
-    if let Some(ends) = after(rest, b"data,") {
-        return Some((ChanKind::Data, ends));
+    match rest {
+        [b'd', b'a', b't', b'a', b',', ends @ ..] => Some((ChanKind::Data, ends)),
+        [b'a', b'c', b'k', b',', ends @ ..] => Some((ChanKind::Ack, ends)),
+        _ => None,
     }
-    match after(rest, b"ack,") {
-        Some(ends) => Some((ChanKind::Ack, ends)),
-        None => None,
+}
+
+/// The name of a node that is activated, where the kind of activations stands in front.
+pub fn activated(rest: &[u8]) -> Option<&[u8]>
+    ensures { IfSome result (λ name. rest.now ≡ codes "act," ++ name.now) }
+{
+    match rest {
+        [b'a', b'c', b't', b',', name @ ..] => Some(name),
+        _ => None,
     }
 }
