@@ -1,4 +1,2 @@
-pub mod Grounded
-pub mod Staging
 pub mod Shown
 pub mod OneDrawing

@@ -20,11 +20,12 @@ use Rattle.lt_load.proofs.OneCheck.{MergesPlaces, config_once, passes_decided, w
 use Rattle.lt_load.proofs.OneShape.{one_shape}
 use Rattle.lt_inspect.proofs.OneScene.{placed_once}
 use Rattle.lt_course.specs.declared.course.Course.{Course}
-use Rattle.lt_drawing.specs.declared.stage.Stage.{Stage}
+use Rattle.lt_inspect.specs.declared.setups.Setups.TheVariants.{Windowed}
+use Rattle.lt_inspect.specs.declared.stage.Stage.{Stage}
+use Rattle.lt_inspect.specs.Stages.{IsStageOf, setup_stage_verdict, stage_verdict, taken_config_verdict, windowed_config_verdict}
 use Rattle.lt_drawing.specs.declared.view.DrawView.{DrawView}
 use Rattle.lt_tape.specs.declared.asked.Asked.{Asked}
 use Rattle.lt_drawing.specs.Drawn.{asked_of, course_verdict_by, draw_verdict, plan_drawn, stage_course_verdict}
-use Rattle.lt_drawing.specs.Stages.{IsStageOf, setup_stage_verdict, stage_verdict, windowed_config_verdict}
 use Rattle.lt_course.proofs.OneCourse.{no_course, one_fault}
 use Rattle.lt_lossy_course.proofs.OneLossyCourse as lossy
 
@@ -85,20 +86,20 @@ module _ {K : Type 0} (kind : CommandFault → K) where
   unfolding windowed_verdict
   windowed_once setup = passes_decided kind setup (HasWindowBy setup.pace setup.timing) (IsOutsideWindow setup) (λ e f p q. ap kind (one_window setup e f p q))
 
-  windowed_config_once : (file : Option (List ℕ)) → HasOneOutcome kind (windowed_config_verdict file)
-  unfolding windowed_config_verdict
+  windowed_config_once : (file : Option (List ℕ)) → HasOneOutcome kind (taken_config_verdict Windowed file)
+  unfolding taken_config_verdict windowed_config_verdict
   windowed_config_once file = and_then_one kind (config_verdict file) (λ setup. windowed_verdict setup) (config_once kind file) (λ setup. windowed_once setup)
 
   module _ (along : TellsLimits kind) (places : MergesPlaces kind) (named : List ℕ → Option (List ℕ)) (inputs : List ℕ) (node : Option (List ℕ)) where
-    setup_once : (config : List ℕ) (checked : ExaminedText) → HasOneOutcome kind (setup_stage_verdict named inputs config node checked)
+    setup_once : (config : List ℕ) (checked : ExaminedText) → HasOneOutcome kind (setup_stage_verdict Windowed named inputs config node checked)
     unfolding setup_stage_verdict
-    setup_once config checked = and_then_one kind (windowed_config_verdict (named config)) _ (windowed_config_once (named config)) (λ setup. placed_once kind along places named inputs node checked setup)
+    setup_once config checked = and_then_one kind (taken_config_verdict Windowed (named config)) _ (windowed_config_once (named config)) (λ setup. placed_once kind along places named inputs node checked setup)
 
-    stage_once : (program config : List ℕ) → HasOneOutcome kind (stage_verdict named program inputs config node)
+    stage_once : (program config : List ℕ) → HasOneOutcome kind (stage_verdict Windowed named program inputs config node)
     unfolding stage_verdict
     stage_once program config = and_then_one kind (program_verdict (named program)) _ (program_decided kind along (named program)) (λ checked. setup_once config checked)
 
   pub draw_decided : TellsLimits kind → MergesPlaces kind → (named : List ℕ → Option (List ℕ)) (program inputs schedule config : List ℕ) (node : Option (List ℕ)) (view : DrawView) → HasOneKind kind (draw_verdict named program inputs schedule config node view)
   unfolding draw_verdict
   draw_decided along places named program inputs schedule config node view =
-      and_then kind (stage_verdict named program inputs config node) _ (stage_once along places named inputs node program config) (λ plan. plan_once schedule config node view (named schedule) plan)
+      and_then kind (stage_verdict Windowed named program inputs config node) _ (stage_once along places named inputs node program config) (λ plan. plan_once schedule config node view (named schedule) plan)

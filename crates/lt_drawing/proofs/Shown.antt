@@ -14,10 +14,10 @@ use Rattle.lt_answer.proofs.Stages.{goes_on, renamed, stops, widened}
 use Rattle.lt_load_fit.specs.declared.fault.CommandFault.{CommandFault}
 use Rattle.lt_load.specs.Blamed.{command_blame}
 use Rattle.lt_load.specs.Plan.{Plan}
-use Rattle.lt_drawing.specs.declared.stage.Stage.{Stage}
+use Rattle.lt_inspect.specs.declared.stage.Stage.{Stage}
+use Rattle.lt_inspect.specs.Stages.{Staged}
 use Rattle.lt_drawing.specs.declared.view.DrawView.{DrawView}
 use Rattle.lt_drawing.specs.Drawn.{along_stage, plan_drawn}
-use Rattle.lt_drawing.specs.Stages.{Staged}
 
 module _ {T : Type 0} (shown : T → List ℕ) (V : Verdict T CommandFault) (a b : World) where
   refused_too : (e : Or CommandFault) → Refuses V e → Refuses (Shown shown V) e

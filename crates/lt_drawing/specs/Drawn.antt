@@ -19,13 +19,14 @@ use Rattle.lt_load.specs.Plan.{Plan}
 use Rattle.lt_draw.specs.PictureText.{picture_text}
 use Rattle.lt_tape.specs.declared.asked.Asked.{Asked}
 use Rattle.lt_course.specs.declared.course.Course.{Course}
-use Rattle.lt_drawing.specs.declared.stage.Ground.{Ground}
-use Rattle.lt_drawing.specs.declared.stage.Stage.{Stage}
+use Rattle.lt_inspect.specs.declared.setups.Setups.TheVariants.{Windowed}
+use Rattle.lt_inspect.specs.declared.stage.Ground.{Ground}
+use Rattle.lt_inspect.specs.declared.stage.Stage.{Stage}
+use Rattle.lt_inspect.specs.Stages.{IsStageOf, stage_verdict}
 use Rattle.lt_drawing.specs.declared.view.DrawView.{DrawView}
 use Rattle.lt_course.specs.Courses.{course_verdict}
 use Rattle.lt_lossy_course.specs.LossyCourses.{lossy_course_verdict}
 use Rattle.lt_drawing.specs.Pictures.{picture_of}
-use Rattle.lt_drawing.specs.Stages.{IsStageOf, stage_verdict}
 
 -- which ticks a view asks for
 abbrev pub asked_of : DrawView → Asked
@@ -49,10 +50,10 @@ along_stage schedule config view k file = Shown (λ course. picture_text (pictur
 abbrev pub plan_drawn : (schedule config : List ℕ) (node : Option (List ℕ)) → DrawView → (file : Option (List ℕ)) → Plan → Verdict (List ℕ) CommandFault
 plan_drawn schedule config node view file plan outcome = (k : Stage) × IsStageOf plan node k × along_stage schedule config view k file outcome
 
--- the program, the setup, the placement, the node that is named, the inputs and the schedule, in this order
+-- the program, the setup, which has the window that its pace asks for, the placement, the node that is named, the inputs and the schedule, in this order
 unfoldable pub draw_verdict : (named : List ℕ → Option (List ℕ)) (program inputs schedule config : List ℕ) (node : Option (List ℕ)) → DrawView → Verdict (List ℕ) CommandFault
 draw_verdict named program inputs schedule config node view =
-    AndThen (stage_verdict named program inputs config node) (λ plan. plan_drawn schedule config node view (named schedule) plan)
+    AndThen (stage_verdict Windowed named program inputs config node) (λ plan. plan_drawn schedule config node view (named schedule) plan)
 
 -- the program, the setup, the inputs and the schedule
 abbrev pub draw_errands : (program inputs schedule config : List ℕ) → List Errand

@@ -1,5 +1,3 @@
-pub mod Grounds
-pub mod Stages
 pub mod Kept
 pub mod Titles
 pub mod Pictures

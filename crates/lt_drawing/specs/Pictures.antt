@@ -14,7 +14,7 @@ use Rattle.lt_tape.specs.Kept.{is_in_window}
 use Rattle.lt_tape.specs.Times.{time_or_zero}
 use Rattle.lt_course.specs.declared.course.Course.{Course}
 use Rattle.lt_course.specs.declared.course.RefusedEvent.{RefusedEvent}
-use Rattle.lt_drawing.specs.declared.stage.Stage.{Stage}
+use Rattle.lt_inspect.specs.declared.stage.Stage.{Stage}
 use Rattle.lt_drawing.specs.declared.view.DrawView.{DrawView}
 use Rattle.lt_drawing.specs.Kept.{arrows_if}
 use Rattle.lt_drawing.specs.Titles.{alone_text, events_text, nodes_text, note_text, protocol_text, ring_text, refused_row_text, ticks_text, title_text}

@@ -4,13 +4,12 @@ ghost use Rattle.lt_io.specs.Counts.{MayFail};
 ghost use Rattle.lt_answer.specs.Alone.{given_word};
 ghost use Rattle.lt_drawing.specs.Drawn.{DrawsOnFiles, DrawsStage, ReadsGroundCourse};
 
-use crate::loading::load_stage;
 use crate::picturing::draw_course;
-use crate::stage::{Ground, Stage};
 use crate::view::DrawView;
 use lt_arch::Pace;
 use lt_base::{List, Or};
 use lt_course::{Course, read_course};
+use lt_inspect::{Ground, Setups, Stage, load_stage};
 use lt_io::Files;
 use lt_load::CommandFault;
 use lt_lossy_course::read_lossy_course;
@@ -33,7 +32,15 @@ pub fn draw<F: Files>(
     requires files { MayFail (F.state files.old).faults }
     ensures { DrawsOnFiles program.now inputs.now schedule.now config.now (given_word node.entry) view (F.state files.old) (F.state files.new) result }
 {
-    let stage = load_stage(alloc, files, program, inputs, config, node)?;
+    let stage = load_stage(
+        alloc,
+        files,
+        program,
+        inputs,
+        config,
+        node,
+        Setups::Windowed,
+    )?;
     let text = draw_stage(alloc, files, &stage, schedule, config, view);
     drop(stage);
     text

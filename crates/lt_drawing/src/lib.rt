@@ -2,11 +2,8 @@
 #![tactic(auto)]
 
 mod drawing;
-mod grounding;
 mod keeping;
-mod loading;
 mod picturing;
-mod stage;
 mod titles;
 mod view;
 

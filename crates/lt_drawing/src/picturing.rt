@@ -8,7 +8,6 @@ ghost use Rattle.lt_drawing.specs.Kept.{arrows_if};
 ghost use Rattle.lt_drawing.specs.Pictures.{shown_refusal, facts_text, picture_of, refusal_in, ring_at, ring_in, ring_of};
 
 use crate::keeping::kept_arrows;
-use crate::stage::Stage;
 use crate::titles::{
     append_extent, append_setting, note_text, refused_row_text, ring_text, title_text,
 };
@@ -19,6 +18,7 @@ use lt_base::{List, Memory};
 use lt_course::{Course, RefusedEvent};
 use lt_diagram::{Arrow, Mark, Picture, Ring};
 use lt_draw::write_picture;
+use lt_inspect::Stage;
 use lt_lossy::LossyOffence;
 use lt_tape::{Window, is_in_window, time_or_zero};
 use lt_text_lines::append_lossy;

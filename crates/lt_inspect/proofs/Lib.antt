@@ -1,6 +1,7 @@
 mod Exactness
-mod Scening
-mod Regional
+mod Grounded
+mod Staging
+mod Plain
 mod Outcome
 mod Carried
 pub mod ToldFirst

@@ -1,5 +1,5 @@
 -- A program with a setup leaves one plan, or one refusal up to its kind.
-use Rattle.std.proofs.Common.{◌≡◌, ◌∙◌, ℕ, List, Option, Some, None, Ok, sym, ap}
+use Rattle.std.proofs.Common.{◌∙◌, ℕ, List, Option, Some, None, Ok, sym, ap}
 use Rattle.lt_config.specs.declared.config.Config.{Config}
 use Rattle.lt_front.specs.Examined.{ExaminedText}
 use Rattle.lt_answer.proofs.Decided.{HasOneOutcome, exactly, and_then_one}

@@ -2,7 +2,7 @@ pub mod Errands
 pub mod Placed
 pub mod Grounded
 pub mod Scenes
-pub mod Regions
+pub mod Stages
 pub mod Traces
 pub mod Inspected
 pub mod Inspecting

@@ -13,23 +13,31 @@ use Rattle.lt_load.specs.OnFiles.{OnFiles}
 use Rattle.lt_inspect.specs.declared.audited.Audited.{Audited}
 use Rattle.lt_inspect.specs.declared.inspection.Inspection.{Inspection}
 use Rattle.lt_inspect.specs.declared.scene.Scene.{Scene}
+use Rattle.lt_inspect.specs.declared.setups.Setups.{Setups}
+use Rattle.lt_inspect.specs.declared.stage.Stage.{Stage}
 use Rattle.lt_inspect.specs.Errands.{inspect_errands}
-use Rattle.lt_inspect.specs.Scenes.{Scened, placed_plan_verdict, scene_verdict, setup_scene_verdict}
-use Rattle.lt_inspect.specs.Inspected.{IsAudited, along_scene, audit_verdict, inspect_file_verdict, schedule_command_fault, trace_verdict}
+use Rattle.lt_inspect.specs.Scenes.{Scened, placed_plan_verdict, scene_verdict}
+use Rattle.lt_inspect.specs.Stages.{Staged, setup_stage_verdict, stage_verdict}
+use Rattle.lt_inspect.specs.Inspected.{along_scene, audit_verdict, inspect_file_verdict, schedule_command_fault, trace_verdict}
 use Rattle.lt_inspect.specs.Taking.{HasInspected}
 
 -- what a schedule is judged over
 abbrev pub LoadsScene : (program inputs config : List ℕ) (node : Option (List ℕ)) (old new : FilesState) → Result Scene (Or CommandFault) → Type 0
 LoadsScene program inputs config node old new result = OnFiles (load_errands program inputs (Some config)) (Scened node (scene_verdict old.named program inputs config node)) old new result
 
--- the same from the setup on
-abbrev pub LoadsSetupScene : (inputs config : List ℕ) (node : Option (List ℕ)) → ExaminedText → (old new : FilesState) → Result Scene (Or CommandFault) → Type 0
-LoadsSetupScene inputs config node checked old new result =
-    OnFiles (config_errand config ++ inputs_errand inputs) (Scened node (setup_scene_verdict old.named inputs config node checked)) old new result
+-- the same by any setup that is taken, with its pace
+abbrev pub LoadsStage : Setups → (program inputs config : List ℕ) (node : Option (List ℕ)) (old new : FilesState) → Result Stage (Or CommandFault) → Type 0
+LoadsStage taken program inputs config node old new result =
+    OnFiles (load_errands program inputs (Some config)) (Staged node (stage_verdict taken old.named program inputs config node)) old new result
+
+-- that from the setup on
+abbrev pub LoadsSetupStage : Setups → (inputs config : List ℕ) (node : Option (List ℕ)) → ExaminedText → (old new : FilesState) → Result Stage (Or CommandFault) → Type 0
+LoadsSetupStage taken inputs config node checked old new result =
+    OnFiles (config_errand config ++ inputs_errand inputs) (Staged node (setup_stage_verdict taken old.named inputs config node checked)) old new result
 
 -- and behind the setup
-abbrev pub LoadsPlacedScene : (inputs : List ℕ) (node : Option (List ℕ)) → ExaminedText → Config → (old new : FilesState) → Result Scene (Or CommandFault) → Type 0
-LoadsPlacedScene inputs node checked setup old new result = OnFiles (inputs_errand inputs) (Scened node (placed_plan_verdict old.named inputs node checked setup)) old new result
+abbrev pub LoadsPlacedStage : (inputs : List ℕ) (node : Option (List ℕ)) → ExaminedText → Config → (old new : FilesState) → Result Stage (Or CommandFault) → Type 0
+LoadsPlacedStage inputs node checked setup old new result = OnFiles (inputs_errand inputs) (Staged node (placed_plan_verdict old.named inputs node checked setup)) old new result
 
 -- what was loaded is judged along the schedule file of this name, of whose events this is told
 abbrev pub JudgesSchedule : {T : Type 0} (end : List Event → T → Type 0) → Scene → (schedule : List ℕ) (old new : FilesState) → Result T (Or CommandFault) → Type 0

@@ -1,6 +1,7 @@
 // What an accepted timing means for a schedule.
-ghost use Rattle.lt_inspect.specs.Clean.{AcceptedIsClean};
+ghost use Rattle.lt_inspect.specs.Clean.{AcceptedIsClean, PacedIsClean};
 
+use lt_lead::laws::lead_shapes_fit;
 use lt_net_bench::laws::shapes_fit;
 
 /// Where the timing is accepted, at no event of a schedule so far without an offence a node executes with a message too few or too
@@ -11,4 +12,13 @@ pub fn accepted_is_clean()
     shapes_fit();
     lt_bp::laws::one_place();
     lt_tb::laws::exact_messages();
+}
+
+/// So it is at every pace: where a node leads, and where links may lose messages but lose none.
+pub fn paced_is_clean()
+    ensures { PacedIsClean }
+{
+    accepted_is_clean();
+    lead_shapes_fit();
+    lt_lead::laws::exact_messages();
 }

@@ -4,17 +4,20 @@
 
 mod audited;
 mod auditing;
+mod grounding;
 mod inspecting;
 mod inspection;
 pub mod laws;
 mod loading;
-mod region;
-mod regions;
 mod scene;
 mod selecting;
+mod setups;
+mod stage;
 mod tracing;
 
 pub use audited::Audited;
 pub use auditing::audit;
-pub use regions::find_node;
+pub use loading::load_stage;
+pub use setups::Setups;
+pub use stage::{Ground, Stage};
 pub use tracing::trace;

@@ -1,22 +1,21 @@
-use Rattle.std.proofs.Common.{◌∙◌, ap}
+use Rattle.std.proofs.Common.{ap, refl}
 use Rattle.std.specs.Prelude.{option_map}
 use Rattle.lt_front.specs.Checked.{CheckedText, examined_part}
 use Rattle.lt_load.specs.Errands.{inputs_errand}
 use Rattle.lt_load.proofs.Equals.{inputs_at}
-use Rattle.lt_inspect.proofs.Scening.{no_region, no_rows, with_scene}
+use Rattle.lt_inspect.proofs.Staging.{no_ground, no_rows, with_stage}
 use Rattle.lt_inspect.proofs.loading.load_placed.Goals as goal
 
-pub returns-in_err-region : goal.returns-in_err-region
-returns-in_err-region g c =
-    no_region (examined_part c.args.checked.now) c.args.setup (option_map (λ s. s.now) c.args.node) c.args.inputs.now _ (inputs_errand c.args.inputs.now) _ _ c.from_residual.ensures.1 c.in_err-region.ensures
+pub returns-in_err-ground : goal.returns-in_err-ground
+returns-in_err-ground g c =
+    no_ground (examined_part c.args.checked.now) c.args.setup (option_map (λ s. s.now) c.args.node) c.args.inputs.now _ (inputs_errand c.args.inputs.now) _ _ c.from_residual.ensures.1 c.in_err-ground.ensures
 
-pub returns-in_err-table : goal.returns-in_err-table
-returns-in_err-table g c =
-    no_rows (examined_part c.args.checked.now) c.args.setup (option_map (λ s. s.now) c.args.node) c.args.inputs.now _ c.in_ok-region.region c.in_ok-region.ensures _ _ _ c.from_residual-in_err-table.ensures.1
-    (inputs_at _ _ (ap (λ (t : CheckedText). t.program) c.checked.view_is) _ _ _ _ c.in_err-table.ensures.answered)
+pub returns-in-Err : goal.returns-in-Err
+returns-in-Err g c =
+    no_rows (examined_part c.args.checked.now) c.args.setup (option_map (λ s. s.now) c.args.node) c.args.inputs.now _ c.in_ok-ground.ground c.in_ok-ground.ensures _ _ _ refl
+    (inputs_at _ _ (ap (λ (t : CheckedText). t.program) c.checked.view_is) _ _ _ _ c.in-Err.ensures.answered)
 
-pub returns : goal.returns
-returns g c =
-    with_scene (examined_part c.args.checked.now) c.args.setup (option_map (λ s. s.now) c.args.node) c.args.inputs.now _ c.in_ok-region.region c.in_ok-region.ensures _ c.in_ok-table.table c.with_rows.result
-    c.with_rows.ensures.shape c.with_rows.ensures.timing c.with_rows.ensures.node (c.with_rows.ensures.rows ∙ c.rows.ensures)
-    (inputs_at _ _ (ap (λ (t : CheckedText). t.program) c.checked.view_is) _ _ _ _ c.in_ok-table.ensures.answered)
+pub returns-in-Ok : goal.returns-in-Ok
+returns-in-Ok g c =
+    with_stage (examined_part c.args.checked.now) c.args.setup (option_map (λ s. s.now) c.args.node) c.args.inputs.now _ c.in_ok-ground.ground c.in_ok-ground.ensures _ c.in-Ok.table _
+    refl c.rows.ensures (inputs_at _ _ (ap (λ (t : CheckedText). t.program) c.checked.view_is) _ _ _ _ c.in-Ok.ensures.answered)

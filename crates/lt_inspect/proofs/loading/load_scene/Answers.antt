@@ -1,28 +1,11 @@
 use Rattle.std.specs.Prelude.{option_map}
-use Rattle.lt_front.specs.Checked.{examined_part}
-use Rattle.std.proofs.Common.{◌++◌}
-use Rattle.lt_load.specs.Errands.{config_errand, inputs_errand}
-use Rattle.lt_load.specs.Loaded.{program_verdict}
-use Rattle.lt_load.proofs.Flats.{flat_value, flat_fault}
-use Rattle.lt_load.proofs.Steps.{counts_on}
-use Rattle.lt_inspect.specs.Scenes.{scene_verdict, setup_scene_verdict}
-use Rattle.lt_inspect.proofs.Scening.{refused_scene, next_scene}
+use Rattle.lt_inspect.proofs.Plain.{no_scene, with_scene}
 use Rattle.lt_inspect.proofs.loading.load_scene.Goals as goal
 
-pub returns-in_err-checked : goal.returns-in_err-checked
-unfolding scene_verdict
-returns-in_err-checked g c =
-    let node = option_map (λ s. s.now) c.args.node in
-    refused_scene node (program_verdict ((g.F.Files.state c.args.files.now).named c.args.program.now))
-    (λ names checked. setup_scene_verdict names c.args.inputs.now c.args.config.now node checked) _ _ (config_errand c.args.config.now ++ inputs_errand c.args.inputs.now) _ _ c.from_residual.ensures.1 (flat_fault _ _ _ _ c.in_err-checked.ensures)
-
-pub load_setup-scene-requires : goal.load_setup-scene-requires
-load_setup-scene-requires g c = counts_on _ _ c.in_ok-checked.ensures.cause.files c.requires
+pub returns-in_err-stage : goal.returns-in_err-stage
+returns-in_err-stage g c = no_scene c.args.program.now c.args.inputs.now c.args.config.now (option_map (λ s. s.now) c.args.node) _ _ _ _ c.from_residual.ensures.1 c.in_err-stage.ensures
 
 pub returns : goal.returns
-unfolding scene_verdict
 returns g c =
-    let node = option_map (λ s. s.now) c.args.node in
-    next_scene node (program_verdict ((g.F.Files.state c.args.files.now).named c.args.program.now))
-    (λ names checked. setup_scene_verdict names c.args.inputs.now c.args.config.now node checked) _ _ (examined_part c.in_ok-checked.checked) _
-    (flat_value _ _ _ _ c.in_ok-checked.ensures) _ c.load_setup-scene.ensures
+    with_scene c.in_ok-stage.stage c.into_scene.result c.into_scene.ensures.shape c.into_scene.ensures.timing c.into_scene.ensures.node c.into_scene.ensures.rows
+    c.args.program.now c.args.inputs.now c.args.config.now (option_map (λ s. s.now) c.args.node) _ _ c.in_ok-stage.ensures

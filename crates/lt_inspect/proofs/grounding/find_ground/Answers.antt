@@ -4,9 +4,9 @@ use Rattle.lt_load_fit.specs.Fits.{HasWindowBy}
 use Rattle.std.specs.Prelude.{option_map}
 use Rattle.lt_front.specs.Checked.{examined_part}
 use Rattle.lt_load_fit.proofs.Settled.{memory_settled}
-use Rattle.lt_drawing.specs.Stages.{ground_verdict}
-use Rattle.lt_drawing.proofs.Grounded.{no_layout, names_fit, timed_here, nodes_fit, no_node, found, drawable}
-use Rattle.lt_drawing.proofs.grounding.find_ground.Goals as goal
+use Rattle.lt_inspect.specs.Stages.{ground_verdict}
+use Rattle.lt_inspect.proofs.Grounded.{no_layout, names_fit, timed_here, nodes_fit, no_node, found, grounded}
+use Rattle.lt_inspect.proofs.grounding.find_ground.Goals as goal
 
 pub returns-in_err-layout : goal.returns-in_err-layout
 returns-in_err-layout c = no_layout (examined_part c.args.checked.now) c.args.setup (option_map (λ s. s.now) c.args.node) _ _ c.from_residual.ensures.1 c.in_err-layout.ensures.answered
@@ -32,8 +32,8 @@ returns-in_err-node c =
 
 pub invariant_of-result : goal.invariant_of-result
 invariant_of-result c = record {
-  drawable = drawable (examined_part c.args.checked.now) c.args.setup (option_map (λ s. s.now) c.args.node) c.in_ok-layout.layout c.in_ok-layout.ensures.answered c.in_ok-shape.shape c.in_ok-shape.ensures
-      c.shapes_fit.ensures c.lead_shapes_fit.ensures c.args.checked.now.flat c.in_ok-layout.ensures.placed;
+  grounded = grounded (examined_part c.args.checked.now) c.args.setup (option_map (λ s. s.now) c.args.node) c.in_ok-layout.layout c.in_ok-layout.ensures.answered c.in_ok-shape.shape c.in_ok-shape.ensures
+      c.shapes_fit.ensures c.lead_shapes_fit.ensures c.paced_is_clean.ensures c.args.checked.now.flat c.in_ok-layout.ensures.placed;
   windowed = λ losses is. subst (λ (q : Pace). HasWindowBy q c.args.setup.timing) is c.requires;
 }
 

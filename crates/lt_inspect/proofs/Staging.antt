@@ -1,4 +1,4 @@
--- What a schedule is drawn over, step after step.
+-- What a schedule is judged over, step after step.
 use Rattle.std.proofs.Common.{◌≡◌, ℕ, List, length, Option, Some, None, Result, Ok, Err, inl, inr, refl, sym, ap, subst, [], ◌++◌}
 use Rattle.std.specs.Prelude.{IsErrAnd}
 use Rattle.lt_base.specs.declared.memory.Or.{Or}
@@ -19,10 +19,10 @@ use Rattle.lt_load.specs.Loaded.{inputs_verdict}
 use Rattle.lt_load.specs.Plan.{Plan, inputs_plan_verdict}
 use Rattle.lt_load.proofs.OneCheck.{place_fault}
 use Rattle.lt_load.proofs.Steps.{Names, IsContent, content_then, refused_step, next_step, untouched}
+use Rattle.lt_inspect.specs.declared.stage.Ground.{Ground}
+use Rattle.lt_inspect.specs.declared.stage.Stage.{Stage}
 use Rattle.lt_inspect.specs.Scenes.{named_node_verdict, named_place_verdict, placed_plan_verdict}
-use Rattle.lt_drawing.specs.declared.stage.Ground.{Ground}
-use Rattle.lt_drawing.specs.declared.stage.Stage.{Stage}
-use Rattle.lt_drawing.specs.Stages.{IsGroundOf, Staged, ground_verdict}
+use Rattle.lt_inspect.specs.Stages.{IsGroundOf, Staged, ground_verdict}
 
 staged_then : {T : Type 0} (node : Option (List ℕ)) (V : Verdict T CommandFault) (next : T → Verdict Plan CommandFault) (o : Result Stage CommandFault) → AndThen V (λ x. Staged node (next x)) o → Staged node (AndThen V next) o
 staged_then _ V next (Ok k) (inl p) = absurd p

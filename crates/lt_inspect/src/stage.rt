@@ -1,8 +1,8 @@
-// What a schedule is drawn over.
+// What a schedule is judged over, by the pace of the protocol.
 ghost use Rattle.std.specs.Prelude.{◌≡◌, ℕ};
 ghost use Rattle.lt_arch.specs.declared.pace.Pace.TheVariants.{Lossy};
 ghost use Rattle.lt_lossy.specs.Window.{HasWindow};
-ghost use Rattle.lt_drawing.specs.Grounds.{IsDrawable};
+ghost use Rattle.lt_inspect.specs.Grounded.{IsGrounded};
 
 use lt_arch::{Pace, Shape, Timing};
 use lt_base::List;
@@ -16,7 +16,7 @@ pub struct Ground {
     pub cross: List<Crossing>,
     pub pace: Pace,
     pub node: Option<u32>,
-    ghost drawable: { IsDrawable shape timing },
+    ghost grounded: { IsGrounded shape timing },
     ghost windowed: { (losses : ℕ) → pace ≡ Lossy losses → HasWindow timing },
 }
 

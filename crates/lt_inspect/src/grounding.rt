@@ -1,48 +1,52 @@
 // The nodes of a program and the channels between them, by a setup whose timing need not be accepted.
 ghost use Rattle.std.specs.Prelude.{◌≡◌, ◌<◌, ◌^◌, IfSome, bytes_eq, length, position};
 ghost use Rattle.lt_answer.specs.Alone.{given_word};
-ghost use Rattle.lt_front.specs.Checked.{examined_part};
 ghost use Rattle.lt_answer.specs.Answered.{Settles};
-ghost use Rattle.lt_inspect.specs.Regions.{node_name_verdict, node_verdict, region_verdict};
+ghost use Rattle.lt_front.specs.Checked.{examined_part};
+ghost use Rattle.lt_load_fit.specs.Fits.{HasWindowBy};
+ghost use Rattle.lt_inspect.specs.Stages.{ground_verdict, node_name_verdict, node_verdict};
 
-use crate::laws::accepted_is_clean;
-use crate::region::Region;
+use crate::laws::paced_is_clean;
+use crate::stage::Ground;
 use lt_arch::Shape;
 use lt_base::{Name, Or};
 use lt_config::Config;
 use lt_front::Checked;
+use lt_lead::laws::lead_shapes_fit;
+use lt_lead::shape_by;
 use lt_load::{CommandFault, layout_of, main_of};
 use lt_net_bench::laws::shapes_fit;
-use lt_net_bench::shape_of;
 use lt_place::PlaceFault;
 use std::alloc::Global;
 
 /// Where a program runs by a setup: its placement is legal, and the node that is named, if one is, is one of the setup's, in this
 /// order.
-pub fn find_region(
+pub(crate) fn find_ground(
     alloc: Global,
     checked: &Checked,
     setup: Config,
     node: Option<&str>,
-) -> Result<Region, Or<CommandFault>>
-    ensures { Settles (region_verdict (examined_part checked.now) setup (given_word node.entry)) result }
+) -> Result<Ground, Or<CommandFault>>
+    requires { HasWindowBy setup.pace setup.timing }
+    ensures { Settles (ground_verdict (examined_part checked.now) setup (given_word node.entry)) result }
 {
     shapes_fit();
-    accepted_is_clean();
+    lead_shapes_fit();
+    paced_is_clean();
     let layout = layout_of(alloc, checked, &setup)?;
-    let shape = shape_of(alloc, &layout, &setup.timing);
-    drop(layout);
-    let shape = shape?;
+    let shape = shape_by(alloc, &layout, &setup.timing, setup.pace)?;
     let node = find_node(alloc, checked, &shape, node)?;
-    Ok(Region {
+    Ok(Ground {
         shape,
         timing: setup.timing,
+        cross: layout.cross,
+        pace: setup.pace,
         node,
     })
 }
 
-/// The number of the node that is named, if one is.
-pub fn find_node(
+// The number of the node that is named, if one is.
+fn find_node(
     alloc: Global,
     checked: &Checked,
     shape: &Shape,

@@ -25,11 +25,11 @@ use Rattle.lt_load_fit.specs.declared.fault.CommandFault.{CommandFault}
 use Rattle.lt_load_fit.specs.Fits.{placed_verdict}
 use Rattle.lt_load_fit.proofs.Settled.{err_settled}
 use Rattle.lt_compile.specs.Sites.{layout_verdict}
-use Rattle.lt_inspect.specs.Regions.{node_verdict}
+use Rattle.lt_inspect.specs.declared.stage.Ground.{Ground}
+use Rattle.lt_inspect.specs.Clean.{PacedIsClean}
+use Rattle.lt_inspect.specs.Grounded.{IsGrounded}
 use Rattle.lt_inspect.specs.Scenes.{named_node, named_node_verdict, named_place_verdict}
-use Rattle.lt_drawing.specs.declared.stage.Ground.{Ground}
-use Rattle.lt_drawing.specs.Grounds.{IsDrawable}
-use Rattle.lt_drawing.specs.Stages.{ground_verdict}
+use Rattle.lt_inspect.specs.Stages.{ground_verdict, node_verdict}
 
 -- a shape by its pace has the layout's nodes
 nodes_by : (pace : Pace) (l : Layout) (setup : Config) (s : Shape) → IsShapeBy l pace setup.timing s → s.nodes ≡ l.names
@@ -111,22 +111,22 @@ module _ (checked : ExaminedText) (setup : Config) (node : Option (List ℕ)) wh
             },
           )
 
-      module _ (fit : ShapesFit) (leads : LeadShapesFit) (f : Originated) (placed : IsPlaced f l) where
-        drawable_by : (p : Protocol) → FitsLayout l p s → IsDrawable s setup.timing
-        drawable_by p fits =
+      module _ (fit : ShapesFit) (leads : LeadShapesFit) (clean : PacedIsClean) (f : Originated) (placed : IsPlaced f l) where
+        grounded_by : (p : Protocol) → FitsLayout l p s → IsGrounded s setup.timing
+        grounded_by p fits =
             let few = few_names in
             let square : length l.names * length l.names ≤ 32 * 32 = mul-le (length l.names) (length l.names) 32 32 few few in
             let same : length s.nodes ≡ length l.names = ap length nodes_here in
             let channels = fits.few in
-            (fits.timed setup.timing timed_here, omega (arith, few, square, same, channels))
+            (fits.timed setup.timing timed_here, omega (arith, few, square, same, channels), clean f l s setup.timing setup.pace placed shaped timed_here setup.paced)
 
-        drawable_at : (pace : Pace) → FitsPace pace setup.timing → IsShapeBy l pace setup.timing s → IsDrawable s setup.timing
-        drawable_at Plain paced by = drawable_by setup.timing.protocol (fit f l setup.timing.protocol s placed by).0
-        drawable_at (Lossy losses) paced by = drawable_by BackPressure (fit f l BackPressure s placed by).0
-        drawable_at (Leader leader) paced by =
+        grounded_at : (pace : Pace) → FitsPace pace setup.timing → IsShapeBy l pace setup.timing s → IsGrounded s setup.timing
+        grounded_at Plain paced by = grounded_by setup.timing.protocol (fit f l setup.timing.protocol s placed by).0
+        grounded_at (Lossy losses) paced by = grounded_by BackPressure (fit f l BackPressure s placed by).0
+        grounded_at (Leader leader) paced by =
             let in_nodes = (paced.led leader refl).leader_in in
             let same = timed_here in
-            drawable_by TimeBased (leads f l leader s placed (omega (arith, in_nodes, same)) by).0
+            grounded_by TimeBased (leads f l leader s placed (omega (arith, in_nodes, same)) by).0
 
-        pub drawable : IsDrawable s setup.timing
-        drawable = drawable_at setup.pace setup.paced shaped
+        pub grounded : IsGrounded s setup.timing
+        grounded = grounded_at setup.pace setup.paced shaped
