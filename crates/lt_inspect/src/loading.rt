@@ -2,10 +2,8 @@
 ghost use Rattle.std.specs.Prelude.{◌≡◌, IfOk};
 ghost use Rattle.lt_io.specs.Counts.{MayFail};
 ghost use Rattle.lt_answer.specs.Alone.{given_word};
-ghost use Rattle.lt_answer.specs.Answered.{Settles};
 ghost use Rattle.lt_front.specs.Checked.{examined_part};
-ghost use Rattle.lt_lossy.specs.Window.{HasWindow};
-ghost use Rattle.lt_load_fit.specs.Fits.{HasWindowBy, IsOutsideWindow, SetupPasses, windowed_verdict};
+ghost use Rattle.lt_load_fit.specs.Fits.{HasWindowBy};
 ghost use Rattle.lt_load.specs.Errands.{config_errand};
 ghost use Rattle.lt_load.specs.OnFiles.{ReadsFile};
 ghost use Rattle.lt_inspect.specs.OnFiles.{LoadsPlacedStage, LoadsScene, LoadsSetupStage, LoadsStage};
@@ -16,11 +14,11 @@ use crate::scene::Scene;
 use crate::setups::Setups;
 use crate::stage::Stage;
 use lt_base::Or;
-use lt_config::{Config, Pace};
+use lt_config::Config;
 use lt_front::Checked;
 use lt_io::Files;
 use lt_load::{CommandFault, load_config, load_flat, load_inputs, load_plain_config};
-use lt_lossy::window;
+use lt_load_fit::accept_window;
 use std::alloc::Global;
 
 /// Loads what a schedule is judged over. The program passes all checks, no node leads in the setup, its placement by the setup is
@@ -126,34 +124,6 @@ fn load_paced<F: Files>(
         Setups::Plain => load_plain_config(alloc, files, name),
         Setups::Windowed => load_config(alloc, files, name),
     }
-}
-
-// The setup, if it has the window that its pace asks for.
-#[tactic(auto, unfolding(lt_load_fit::specs::Fits::windowed_verdict))]
-fn accept_window(alloc: Global, setup: Config) -> Result<Config, Or<CommandFault>>
-    ensures settles { Settles (windowed_verdict setup) result }
-    ensures windowed { IfOk result (λ setup. HasWindowBy setup.pace setup.timing) }
-{
-    match setup.pace {
-        Pace::Lossy(_) => in_window(alloc, setup),
-        Pace::Plain | Pace::Leader(_) => Ok(setup),
-    }
-}
-
-// The setup, if a channel has room for all messages that are in transit.
-#[tactic(auto, using(lt_load_fit::proofs::Windows::no_window))]
-fn in_window(alloc: Global, setup: Config) -> Result<Config, Or<CommandFault>>
-    ensures settles { Settles (SetupPasses setup (HasWindow setup.timing) (IsOutsideWindow setup)) result }
-    ensures same { IfOk result (λ passed. passed ≡ setup) }
-    ensures window { IfOk result (λ passed. HasWindow passed.timing) }
-{
-    if let Err(fault) = window(&setup.timing) {
-        let named = setup.placement.names(alloc);
-        drop(setup);
-        let names = named?;
-        return Err(Or::Fault(CommandFault::Window { fault, names }));
-    }
-    Ok(setup)
 }
 
 // Loads a program's inputs, if the setup places it.
