@@ -7,9 +7,7 @@ ghost use Rattle.lt_rows.specs.Written.{IsNodeOf, IsChanOf, IsWritten};
 
 use crate::RowFault;
 use crate::finder::Finder;
-use crate::places::{
-    chan_at, chan_named, is, is_between, is_of_kind, node_name, node_named,
-};
+use crate::places::{chan_at, chan_named, is, is_between, is_of_kind, node_name, node_named};
 use crate::print::print_event;
 use crate::read::read_by;
 use crate::written::{activated, message, time_of_line};
