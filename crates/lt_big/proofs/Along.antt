@@ -21,6 +21,7 @@ use Rattle.lt_front.specs.Examined.{ExaminedText}
 use Rattle.lt_rows.specs.Limits.{most_events}
 use Rattle.lt_load_fit.specs.declared.fault.CommandFault.{CommandFault}
 use Rattle.lt_load_fit.specs.declared.fault.CommandFault.TheVariants as fault
+use Rattle.lt_load_fit.specs.Rows.{too_many_events}
 use Rattle.lt_load.specs.Blamed.{command_blame}
 use Rattle.lt_load.specs.Plan.{Plan, LoadedPlan, IsLoaded, IsLoadedFrom, Loads}
 use Rattle.lt_net_replay.specs.Sound.{PlansAreSound}
@@ -32,7 +33,7 @@ use Rattle.lt_evaluate.specs.declared.outputs.Outputs.{Outputs}
 use Rattle.lt_run.specs.Drawn.{HasRunList}
 use Rattle.lt_run.specs.Run.{IsLaidOutBy}
 use Rattle.lt_big_texts.specs.Texts.{horizon_of}
-use Rattle.lt_big.specs.Big.{events_of, too_many_events, played_verdict, big_loaded_verdict, big_along_verdict, big_verdict}
+use Rattle.lt_big.specs.Big.{events_of, played_verdict, big_loaded_verdict, big_along_verdict, big_verdict}
 use Rattle.lt_big.specs.Stage.{AnsweredAlone, along_list}
 use Rattle.lt_big.proofs.Contents.{loaded_content}
 use Rattle.lt_big.proofs.Drawn.{loaded_sound}

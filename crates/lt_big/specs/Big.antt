@@ -10,11 +10,10 @@ use Rattle.lt_io.specs.MemFiles.{lookup}
 use Rattle.lt_io.specs.declared.mem_files.MemFile.{MemFile}
 use Rattle.lt_place.specs.declared.layout.Layout.{Layout}
 use Rattle.lt_arch.specs.declared.pace.Pace.TheVariants.{Plain}
-use Rattle.lt_rows.specs.declared.fault.RowFault.TheVariants as row
 use Rattle.lt_rows.specs.Limits.{most_events}
 use Rattle.lt_answer.specs.Answered.{Verdict, AndThen}
 use Rattle.lt_load_fit.specs.declared.fault.CommandFault.{CommandFault}
-use Rattle.lt_load_fit.specs.declared.fault.CommandFault.TheVariants as fault
+use Rattle.lt_load_fit.specs.Rows.{too_many_events}
 use Rattle.lt_load.specs.Plan.{Plan}
 use Rattle.lt_load.specs.Pacing.{plain_load_verdict}
 use Rattle.lt_evaluate.specs.declared.outputs.Outputs.{Outputs}
@@ -41,10 +40,6 @@ big_loaded_verdict instants = plain_load_verdict (named_of instants) (codes "pro
 -- the list of events: the number of instants is the seed
 abbrev pub events_of : (instants : ℕ) → Shape → Timing → (rows : ℕ) → List Event
 events_of instants s t rows = drawn s t rows instants (horizon_of instants)
-
--- the refusal of the first event past the limit
-abbrev pub too_many_events : CommandFault
-too_many_events = fault.Row 5000001 row.TooMany
 
 -- what the outputs of a program on these nodes show of the list, which is no longer than a schedule may be and ends at the horizon
 pub record ShowsList (instants : ℕ) (fabric : FabricState) (p : WholeProgram) (l : Layout) (s : Shape) (t : Timing) (inputs : List (List Value)) (outputs : Outputs) : Type 0 where

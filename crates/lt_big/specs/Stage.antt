@@ -1,5 +1,5 @@
 -- The stages of a run of the large input.
-use Rattle.std.specs.Prelude.{◌≡◌, ◌<◌, ◌≤◌, ℕ, Bool, true, false, IsTrue, List, [], length, Result}
+use Rattle.std.specs.Prelude.{◌≡◌, ◌<◌, ℕ, Bool, IsTrue, List, [], length, Result}
 use Rattle.lt_base.specs.declared.memory.Or.{Or}
 use Rattle.lt_io.specs.FilesState.{FilesState}
 use Rattle.lt_io.specs.FabricState.{FabricState}
@@ -12,6 +12,7 @@ use Rattle.lt_load_fit.specs.declared.fault.CommandFault.{CommandFault}
 use Rattle.lt_load.specs.Blamed.{command_blame}
 use Rattle.lt_load.specs.Plan.{LoadedPlan}
 use Rattle.lt_evaluate.specs.declared.outputs.Outputs.{Outputs}
+use Rattle.lt_sim.specs.Recorded.{IsWithinMost}
 use Rattle.lt_big.specs.Big.{events_of, played_verdict}
 
 -- files that tell these bytes, and of which only a missing one fails
@@ -25,12 +26,7 @@ pub record FilesHold (files : List MemFile) (s : FilesState) : Type 0 where
 abbrev pub AnsweredAlone : {T : Type 0} → Verdict T CommandFault → (old new : FabricState) → Result T (Or CommandFault) → Type 0
 AnsweredAlone V old new result = (files : FilesState) → Answered command_blame [] V (world files old) (world files new) result
 
--- whether a number of events is within the limit
-abbrev pub IsWithinMost : (number : ℕ) → Bool → Type 0
-IsWithinMost number true = number ≤ most_events
-IsWithinMost number false = most_events < number
-
--- whether the list that is drawn for what was loaded is
+-- whether the list that is drawn for what was loaded is within the limit
 abbrev pub TellsFew : (instants : ℕ) → LoadedPlan → Bool → Type 0
 TellsFew instants k few = IsWithinMost (length (events_of instants k.shape k.timing (length k.inputs.rows))) few
 

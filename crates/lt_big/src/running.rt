@@ -3,7 +3,7 @@ ghost use Rattle.std.specs.Prelude.{◌≡◌, ◌<◌, ◌-◌, ◌^◌, []};
 ghost use Rattle.lt_io.specs.Counts.{MayFail};
 ghost use Rattle.lt_io.specs.FabricState.{OpensOnce};
 ghost use Rattle.lt_arch.specs.declared.pace.Pace.TheVariants.{Plain};
-ghost use Rattle.lt_big.specs.Big.{LeavesRefused, big_verdict, too_many_events};
+ghost use Rattle.lt_big.specs.Big.{LeavesRefused, big_verdict};
 ghost use Rattle.lt_big.specs.Stage.{AnsweredAlone, LeavesUndrawn, along_list};
 
 use crate::counting::has_few_events;
@@ -13,15 +13,15 @@ use lt_base::Or;
 use lt_evaluate::Outputs;
 use lt_io::Fabric;
 use lt_load::{CommandFault, Loaded};
-use lt_rows::RowFault;
+use lt_load_fit::too_many_events;
 use std::alloc::Global;
 
 /// Runs the large input of so many instants, over a fabric that has no channel yet: its program is loaded with its setup and its
 /// inputs, a list of events is drawn for it from the number of instants as the seed up to the horizon, and each output is given with a
 /// cell for each instant that its node executes along this list.
 ///
-/// Each event is taken as it is drawn. All files are in memory, and none fails: beside want of memory and a failed call on the fabric, which counts there, the answer
-/// is what the texts determine.
+/// Each event is taken as it is drawn. All files are in memory, and none fails: beside want of memory and a failed call on the fabric,
+/// which counts there, the answer is what the texts determine.
 pub fn big<W: Fabric>(
     alloc: Global,
     fabric: &mut W,
@@ -58,15 +58,5 @@ fn run<W: Fabric>(
         play(alloc, fabric, loaded, instants)
     } else {
         Err(Or::Fault(too_many_events()))
-    }
-}
-
-// The refusal of the first event past the limit.
-fn too_many_events() -> CommandFault
-    ensures { result ≡ too_many_events }
-{
-    CommandFault::Row {
-        row: 5_000_001,
-        fault: RowFault::TooMany,
     }
 }

@@ -1,10 +1,7 @@
 -- No refusal of a run of the large input is right.
 use Rattle.std.proofs.Common.{◌≡◌, ℕ, ◌+◌, ◌*◌, ◌/◌, ◌≤◌, List, [], ◌∷◌, length, sym, ap, ◌∙◌, subst, arith}
-use Rattle.std.specs.List.{All}
 use Rattle.std.proofs.Math.Nat.{mul-le-mul_right}
-use Rattle.std.proofs.lemmas.List.Elements.{All-head, All-tail, All-weaker}
 use Rattle.lt_arch.specs.declared.event.Event.{Event}
-use Rattle.lt_arch.specs.declared.limits.TheConstants.{GREATEST_TIME}
 use Rattle.lt_arch.specs.declared.named.NamedNode.{NamedNode}
 use Rattle.lt_arch.specs.declared.nodes.NamedNodes.{NamedNodes}
 use Rattle.lt_arch.specs.declared.pace.Pace.{Pace}
@@ -16,8 +13,6 @@ use Rattle.lt_arch.specs.declared.timing.Protocol.{Protocol}
 use Rattle.lt_arch.specs.declared.timing.Protocol.TheVariants.{BackPressure}
 use Rattle.lt_arch.specs.NodeNames.{names_of}
 use Rattle.lt_arch.specs.Readers.{node_count, chan_count}
-use Rattle.lt_arch.specs.Schedule.{AreUpTo, IsEventOf, IsPlacedIn}
-use Rattle.lt_arch.proofs.Schedules.{offence_free}
 use Rattle.lt_norm.specs.Flat.{Originated}
 use Rattle.lt_norm.specs.NormalForm.{NormalFormOf}
 use Rattle.lt_norm.proofs.NormalForms.{normal_good, normal_is}
@@ -29,7 +24,7 @@ use Rattle.lt_place.specs.Layout.{IsLayoutOf, IsPlaced}
 use Rattle.lt_net_node.specs.Channels.{IsShapeOf, has_channel, all_chans}
 use Rattle.lt_lead.specs.Paced.{IsShapeBy}
 use Rattle.lt_net_replay.specs.Sound.{PlanIsSound, PlansAreSound}
-use Rattle.lt_sim.specs.Laws.{DrawsSound, ScheduleIsSound}
+use Rattle.lt_sim.proofs.Short.{at_most}
 use Rattle.lt_config.specs.declared.config.Config.{Config}
 use Rattle.lt_config.specs.Setup.{Setup}
 use Rattle.lt_rows.specs.Limits.{most_events}
@@ -58,10 +53,6 @@ enough instants rows channels count low same few short =
     let product : channels * (rows + 1) ≤ 16 * (rows + 1) = mul-le-mul_right (rows + 1) few in
     omega (arith, low, same, product, short)
 
-up_to : (s : Shape) (es : List Event) → All (IsEventOf s) es → AreUpTo GREATEST_TIME es
-up_to s [] all = tt
-up_to s (e ∷ es) all = ((All-head (IsEventOf s) e es all).timely, up_to s es (All-tail (IsEventOf s) e es all))
-
 -- ---- the flat form passes the checks again
 
 flat_normal : NormalFormOf large_function (0 ∷ 1 ∷ 2 ∷ 3 ∷ 4 ∷ 5 ∷ 6 ∷ 7 ∷ 8 ∷ []) flat_form.func flat_form.origin
@@ -79,7 +70,7 @@ is_placed p l layout = record {
 
 -- ---- a plan of the large input on its nodes
 
-module _ (sound : PlansAreSound) (draws : DrawsSound) (short : EventsAreFew) (fits : SetupFits) (instants : ℕ) (low : instants ≤ 100000) (plan : Plan) (own : IsLargePlan instants plan) (l : Layout) (s : Shape) (laid : IsLaidOutBy plan l s) where
+module _ (sound : PlansAreSound) (short : EventsAreFew) (fits : SetupFits) (instants : ℕ) (low : instants ≤ 100000) (plan : Plan) (own : IsLargePlan instants plan) (l : Layout) (s : Shape) (laid : IsLaidOutBy plan l s) where
   abbrev c : Config
   c = plan.setup
 
@@ -129,24 +120,19 @@ module _ (sound : PlansAreSound) (draws : DrawsSound) (short : EventsAreFew) (fi
   spaced : IsLeastPeriod s c.timing 9
   spaced = (omega arith, λ n below. (let p = least_period c own.setup n (omega (arith, below, node_count_is)) in omega (arith, p)))
 
-  drawn_sound : ScheduleIsSound s c.timing rows (horizon_of instants) events
-  drawn_sound = draws s c.timing rows instants (horizon_of instants) plan_sound.one_place (omega (arith, low))
-
   few_events : length events ≤ most_events
   few_events =
-      let ok = drawn_sound in
-      let most = short s c.timing rows (horizon_of instants) 9 events plan_sound.one_place spaced (All-weaker (IsEventOf s) (IsPlacedIn s) (λ e is. is.placed) events ok.placed) (up_to s events ok.placed)
-      (offence_free s c.timing rows events ok.admissible) ok.ends in
+      let most = at_most s c.timing rows instants (horizon_of instants) 9 plan_sound.one_place (omega (arith, low)) short spaced in
       let by_nodes : node_count s * (horizon_of instants / 9 + 1) ≡ 8 * (horizon_of instants / 9 + 1) = ap (λ (k : ℕ). k * (horizon_of instants / 9 + 1)) node_count_is in
       enough instants rows (chan_count s) (length events) low own.rows few_chans (omega (arith, most, by_nodes))
 
 -- ---- the whole run
 
-module _ (sound : PlansAreSound) (draws : DrawsSound) (short : EventsAreFew) (accepted : ProgramAccepted) (fits : SetupFits) (read : SetupRead) (inputs : InputsRead) where
+module _ (sound : PlansAreSound) (short : EventsAreFew) (accepted : ProgramAccepted) (fits : SetupFits) (read : SetupRead) (inputs : InputsRead) where
   along : (instants : ℕ) (fabric : FabricState) → instants ≤ 100000 → (plan : Plan) → IsLargePlan instants plan → Passes (big_along_verdict instants fabric plan) (λ outputs. Unit {0})
   unfolding big_along_verdict
   along instants fabric low plan own = record {
-    never = λ e right. (let few = few_events sound draws short fits instants low plan own right.0 right.1 right.2 in let many = right.3.0 in omega (arith, few, many));
+    never = λ e right. (let few = few_events sound short fits instants low plan own right.0 right.1 right.2 in let many = right.3.0 in omega (arith, few, many));
     has = λ outputs right. tt;
   }
 

@@ -3,4 +3,4 @@ use Rattle.lt_big_runs.proofs.laws.never_refused.Goals as goal
 
 pub returns : goal.returns
 returns c =
-    never_refused c.networks_are_sound.ensures c.admissible.ensures c.events_are_few.ensures c.program_accepted.ensures c.setup_fits.ensures c.setup_read.ensures c.inputs_read.ensures
+    never_refused c.networks_are_sound.ensures c.events_are_few.ensures c.program_accepted.ensures c.setup_fits.ensures c.setup_read.ensures c.inputs_read.ensures

@@ -1,7 +1,0 @@
-use Rattle.std.proofs.Common.{ℕ}
-use Rattle.lt_sim.specs.Standing.{DrawingStarts}
-use Rattle.lt_sim.proofs.Following.{Passes}
-use Rattle.lt_big.proofs.counting.ends_in_time.Given as goal
-
-abbrev pub invariant-loop-number : goal.invariant-loop-number
-invariant-loop-number l = (seed : ℕ) → DrawingStarts l.fn.drawing l.shape l.timing seed → Passes l.drawing l.shape l.timing l.rows seed l.horizon l._number
