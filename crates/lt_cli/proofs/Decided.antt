@@ -27,7 +27,8 @@ use Rattle.lt_load.specs.Pacing.{plain_load_verdict}
 use Rattle.lt_load.proofs.OneLoad.{config_decided}
 use Rattle.lt_load.proofs.OnePlain.{plain_load_decided}
 use Rattle.lt_load.proofs.OneShape.{one_shape}
-use Rattle.lt_text_answers.specs.Draws.{Drawing, too_many_rows, drawing, plan_drawn_verdict, sim_verdict}
+use Rattle.lt_load_fit.specs.Rows.{too_many_events}
+use Rattle.lt_text_answers.specs.Draws.{Drawing, drawing, plan_drawn_verdict, sim_verdict}
 use Rattle.lt_cli.proofs.Inspected.{scene_once, audit_once, trace_once}
 use Rattle.lt_load.proofs.OneCheck.{check_decided as one_check}
 use Rattle.lt_watch.specs.Watch.{watch_verdict}
@@ -64,7 +65,7 @@ one_drawn seed horizon plan r r' (l, s, laid, is, shows) (m, z, other, it, too) 
 
 -- the fault of an outcome
 abbrev error_of : Result Drawing CommandFault → CommandFault
-error_of (Ok d) = too_many_rows
+error_of (Ok d) = too_many_events
 error_of (Err e) = e
 
 drawn_decided : (seed horizon : ℕ) (plan : Plan) → HasOneKind fault_status (plan_drawn_verdict seed horizon plan)

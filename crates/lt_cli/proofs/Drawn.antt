@@ -36,7 +36,8 @@ use Rattle.lt_text_answers.specs.Blamed.{blame_of}
 use Rattle.lt_text_answers.specs.Texts.{status_of, refusal_status, refusal_line, drawing_text}
 use Rattle.lt_cli.specs.Written.{Written}
 use Rattle.lt_cli.specs.Objects.{Objects, KeepsSteady, world_of}
-use Rattle.lt_text_answers.specs.Draws.{Drawing, ShowsDrawing, too_many_rows, drawing, plan_drawn_verdict, recorded_status, sim_verdict}
+use Rattle.lt_load_fit.specs.Rows.{too_many_events}
+use Rattle.lt_text_answers.specs.Draws.{Drawing, ShowsDrawing, drawing, plan_drawn_verdict, recorded_status, sim_verdict}
 use Rattle.lt_cli.specs.Answers.{text_verdict}
 use Rattle.lt_cli.specs.Drawing.{DrawsShown}
 use Rattle.lt_cli.specs.Ran.{Reported, OutcomeBlames}
@@ -54,11 +55,11 @@ shown_right named program inputs config seed horizon (Ok d) right = (d, right, r
 shown_right named program inputs config seed horizon (Err f) right = (f, right, refl)
 
 -- the outcome of a limited list blames nobody outside, and not the words
-limited_calm : (b : Bool) (d : Drawing) (old new : Objects) → IsCalm (world_of old) (world_of new) → OutcomeBlames old new (shown_drawing (if b then Err too_many_rows else Ok d))
+limited_calm : (b : Bool) (d : Drawing) (old new : Objects) → IsCalm (world_of old) (world_of new) → OutcomeBlames old new (shown_drawing (if b then Err too_many_events else Ok d))
 limited_calm true d old new calm = calm
 limited_calm false d old new calm = calm
 
-limited_not_words : (b : Bool) (d : Drawing) → status_of (shown_drawing (if b then Err too_many_rows else Ok d)) ≡ status.Words → ⊥
+limited_not_words : (b : Bool) (d : Drawing) → status_of (shown_drawing (if b then Err too_many_events else Ok d)) ≡ status.Words → ⊥
 limited_not_words true d is = cc
 limited_not_words false d is = cc
 
@@ -145,7 +146,7 @@ module _ (named : List ℕ → Option (List ℕ)) (program inputs config : List 
 -- what was drawn reads back
 
 draws_by : (k : LoadedPlan) (seed horizon : ℕ) → OnePlace k.shape k.timing (length k.inputs.rows) → horizon ≤ GREATEST_TIME → (b : Bool) → nat_lt 5000000 (length (drawn k.shape k.timing (length k.inputs.rows) seed horizon)) ≡ b
-    → ShowsDrawing k.shape k.timing (length k.inputs.rows) horizon (if b then Err too_many_rows else Ok (record { shape = k.shape; events = drawn k.shape k.timing (length k.inputs.rows) seed horizon }))
+    → ShowsDrawing k.shape k.timing (length k.inputs.rows) horizon (if b then Err too_many_events else Ok (record { shape = k.shape; events = drawn k.shape k.timing (length k.inputs.rows) seed horizon }))
 draws_by k seed horizon one within true many = tt
 draws_by k seed horizon one within false few =
     let events : List Event = drawn k.shape k.timing (length k.inputs.rows) seed horizon in
@@ -169,7 +170,7 @@ module _ (k : LoadedPlan) (seed horizon : ℕ) (o o' e : SinkState) where
 
   -- the outcome by whether the list has too many events
   abbrev outcome_by : Bool → Result (List ℕ) Refusal
-  outcome_by b = shown_drawing (if b then Err too_many_rows else Ok (record { shape = k.shape; events = events }))
+  outcome_by b = shown_drawing (if b then Err too_many_events else Ok (record { shape = k.shape; events = events }))
 
   abbrev Reports : Bool → SinkState → Status → Type 0
   Reports b e' ends = IsReported (outcome_by b) o o' e e' ends
@@ -207,14 +208,14 @@ module _ (k : LoadedPlan) (seed horizon : ℕ) (o o' e : SinkState) where
   pub short : WritesFrontOf (schedule_text k.shape events) o o' → KeepsSteady o o' → IsReported (drawn_outcome k seed horizon) o o' e e status.Memory
   short front keeps = short_by (nat_lt 5000000 (length events)) front keeps
 
-  pub refused : (e' : SinkState) (refusal : Refusal) (ends : Status) → refusal ≡ Command too_many_rows → AreTooManyEvents events o o' → Written (refusal_status refusal) (refusal_line refusal ++ 10 ∷ []) e e' ends
+  pub refused : (e' : SinkState) (refusal : Refusal) (ends : Status) → refusal ≡ Command too_many_events → AreTooManyEvents events o o' → Written (refusal_status refusal) (refusal_line refusal ++ 10 ∷ []) e e' ends
       → IsReported (drawn_outcome k seed horizon) o o' e e' ends
   refused e' refusal ends same is written =
-      let line : Written status.Limit (refusal_line (Command too_many_rows) ++ 10 ∷ []) e e' ends = subst (λ (r : Refusal). Written (refusal_status r) (refusal_line r ++ 10 ∷ []) e e' ends) same written in
+      let line : Written status.Limit (refusal_line (Command too_many_events) ++ 10 ∷ []) e e' ends = subst (λ (r : Refusal). Written (refusal_status r) (refusal_line r ++ 10 ∷ []) e e' ends) same written in
       let untaken : IsReported (outcome_by true) o o e e' ends = record {
         out_keeps = keeps_sink o;
         err_keeps = line.keeps;
-        reported = λ f f' w w'. line_reported (world f w) (world f' w') (Command too_many_rows) o e e' ends line.reaches;
+        reported = λ f f' w w'. line_reported (world f w) (world f' w') (Command too_many_events) o e e' ends line.reaches;
       } in
       subst (λ (b : Bool). Reports b e' ends) (sym (many_limited (length events) is.many)) (subst (λ (s : SinkState). IsReported (outcome_by true) o s e e' ends) (sym is.unchanged) untaken)
 
@@ -233,7 +234,7 @@ module _ (k : LoadedPlan) (seed horizon : ℕ) (o o' e : SinkState) where
   recorded_ends (Err Memory) ends records keeps is = at_status status.Memory ends (short records keeps) is
 
   -- it is refused
-  pub refusal_ends : (r : Result ℕ (Or SimFault)) (e' : SinkState) (refusal : Refusal) (ends : Status) → Records k.shape events o o' r → recorded_status r ≡ None → refusal ≡ Command too_many_rows
+  pub refusal_ends : (r : Result ℕ (Or SimFault)) (e' : SinkState) (refusal : Refusal) (ends : Status) → Records k.shape events o o' r → recorded_status r ≡ None → refusal ≡ Command too_many_events
       → Written (refusal_status refusal) (refusal_line refusal ++ 10 ∷ []) e e' ends → IsReported (drawn_outcome k seed horizon) o o' e e' ends
   refusal_ends (Ok count) e' refusal ends records is same written = absurd (cc)
   refusal_ends (Err (Fault sim.Write)) e' refusal ends records is same written = absurd (cc)

@@ -15,7 +15,7 @@ use Rattle.lt_run.specs.declared.fault.RunFault.{RunFault}
 use Rattle.lt_run.specs.Kinds.{EventsBy, RunEndsBy, fault_by, run_file_verdict, verdict_by}
 use Rattle.lt_run.specs.Run.{IsLaidOutBy, ordered_verdict, run_along_verdict}
 use Rattle.lt_run.proofs.Unloaded.{one_plan}
-use Rattle.lt_text_answers.specs.Draws.{too_many_rows}
+use Rattle.lt_load_fit.specs.Rows.{too_many_events}
 use Rattle.lt_cli.specs.DrawnShown.{RunsOnText}
 
 -- a schedule file that reads as events is not refused
@@ -51,7 +51,7 @@ module _ (plan : Plan) (l : Layout) (s : Shape) (laid : IsLaidOutBy plan l s) (e
           along_runs new.fabric (named schedule) held e (subst (λ (q : Plan). run_along_verdict new.fabric (named schedule) q (Err e)) same along)
 
 -- a list that was not refused is not too long
-pub within : {D : Type 0} (b : Bool) (size : ℕ) (whole d : D) → nat_lt 5000000 size ≡ b → (if b then Err too_many_rows else Ok whole) ≡ Ok d → (size ≤ 5000000) × (d ≡ whole)
+pub within : {D : Type 0} (b : Bool) (size : ℕ) (whole d : D) → nat_lt 5000000 size ≡ b → (if b then Err too_many_events else Ok whole) ≡ Ok d → (size ≤ 5000000) × (d ≡ whole)
 within true size whole d many is = cc
 within false size whole d few is =
     let same : whole ≡ d = cc in

@@ -24,7 +24,8 @@ use Rattle.lt_sim.proofs.FileRows.{file_accepted}
 use Rattle.lt_losing.specs.Losing.{lossy_drawn}
 use Rattle.lt_losing.specs.LossyRecorded.{LossyRecords}
 use Rattle.lt_losing.proofs.Shown.{shown_within}
-use Rattle.lt_text_answers.specs.Draws.{Drawing, ShowsDrawing, too_many_rows}
+use Rattle.lt_load_fit.specs.Rows.{too_many_events}
+use Rattle.lt_text_answers.specs.Draws.{Drawing, ShowsDrawing}
 use Rattle.lt_text_answers.specs.Texts.{drawing_text}
 use Rattle.lt_scheduling.specs.Losses.{LossyListing, ShowsListing, listing_text}
 use Rattle.lt_scheduling.specs.Scheduled.{arriving_verdict, losing_verdict}
@@ -54,13 +55,13 @@ taken_is text old new told empty written = written.taken told ∙ ap (λ (t : Li
 -- so many events, where they are not too many
 module _ {D : Type 0} (text : D → List ℕ) (d : D) (size : ℕ) (Shows : Result D CommandFault → Type 0) where
   abbrev Lists : Result (List ℕ) CommandFault → Type 0
-  Lists o = Shown text (λ (outcome : Result D CommandFault). ((if nat_lt 5000000 size then Err too_many_rows else Ok d) ≡ outcome) × Shows outcome) o
+  Lists o = Shown text (λ (outcome : Result D CommandFault). ((if nat_lt 5000000 size then Err too_many_events else Ok d) ≡ outcome) × Shows outcome) o
 
   are_held : size ≤ 5000000 → Shows (Ok d) → (bytes : List ℕ) → bytes ≡ text d → Lists (Ok bytes)
-  are_held few shows bytes is = (d, (ap (λ (b : Bool). if b then Err too_many_rows else Ok d) (le-ltb 5000000 size few), shows), is)
+  are_held few shows bytes is = (d, (ap (λ (b : Bool). if b then Err too_many_events else Ok d) (le-ltb 5000000 size few), shows), is)
 
-  are_many : 5000000 < size → Shows (Err too_many_rows) → Lists (Err too_many_rows)
-  are_many many shows = (ap (λ (b : Bool). if b then Err too_many_rows else Ok d) (lt-ltb 5000000 size many), shows)
+  are_many : 5000000 < size → Shows (Err too_many_events) → Lists (Err too_many_events)
+  are_many many shows = (ap (λ (b : Bool). if b then Err too_many_events else Ok d) (lt-ltb 5000000 size many), shows)
 
 -- where each message arrives
 module _ (s : Shape) (own narrow : Timing) (rows seed horizon : ℕ) (old new : SinkState) (steady : new.faults ≡ old.faults) where

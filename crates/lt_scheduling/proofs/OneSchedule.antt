@@ -14,7 +14,8 @@ use Rattle.lt_load.proofs.OneCheck.{MergesPlaces, MergesTimings}
 use Rattle.lt_load.proofs.OneLoad.{TellsLimits}
 use Rattle.lt_load.proofs.OnePlan.{load_decided}
 use Rattle.lt_load.proofs.OneShape.{one_shape}
-use Rattle.lt_text_answers.specs.Draws.{ShowsDrawing, drawing, too_many_rows}
+use Rattle.lt_load_fit.specs.Rows.{too_many_events}
+use Rattle.lt_text_answers.specs.Draws.{ShowsDrawing, drawing}
 use Rattle.lt_text_answers.specs.Texts.{drawing_text}
 use Rattle.lt_scheduling.specs.Losses.{ShowsListing, listing_text, lossy_listing}
 use Rattle.lt_scheduling.specs.Scheduled.{asks_losses, paced_verdict, plan_schedule_verdict, schedule_verdict, text_by_pace, unless_asked}
@@ -22,7 +23,7 @@ use Rattle.lt_scheduling.proofs.OneTiming.{one_by}
 
 -- the fault of an outcome
 abbrev error_in : {T : Type 0} → Result T CommandFault → CommandFault
-error_in (Ok x) = too_many_rows
+error_in (Ok x) = too_many_events
 error_in (Err e) = e
 
 -- of two right outcomes of a plan both are drawn over the same channels, by the same timing

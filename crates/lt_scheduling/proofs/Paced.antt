@@ -16,7 +16,7 @@ use Rattle.lt_load_fit.specs.declared.fault.CommandFault.{CommandFault}
 use Rattle.lt_load.specs.Blamed.{command_blame}
 use Rattle.lt_load.specs.Plan.{LoadedPlan, IsLoadedFrom, Plan}
 use Rattle.lt_load.proofs.Steps.{IsContent}
-use Rattle.lt_text_answers.specs.Draws.{too_many_rows}
+use Rattle.lt_load_fit.specs.Rows.{too_many_events}
 use Rattle.lt_scheduling.specs.Scheduled.{IsDrawnBy, asks_losses, losses_fault, paced_verdict, plan_schedule_verdict, schedule_verdict_by, text_by_pace, unless_asked}
 use Rattle.lt_scheduling.specs.Stage.{drawn_by_verdict, jittered_verdict, loaded_schedule_verdict}
 
@@ -43,8 +43,8 @@ jittered loss seed horizon jitter k narrow (Err Memory) by right = tt
 
 -- A refusal is that of what was read.
 
-many_content : {D : Type 0} (b : Bool) (d : D) (e : CommandFault) → (if b then Err too_many_rows else Ok d) ≡ Err e → command_blame e ≡ Content
-many_content true d e is = let same : too_many_rows ≡ e = cc in ap command_blame (sym same)
+many_content : {D : Type 0} (b : Bool) (d : D) (e : CommandFault) → (if b then Err too_many_events else Ok d) ≡ Err e → command_blame e ≡ Content
+many_content true d e is = let same : too_many_events ≡ e = cc in ap command_blame (sym same)
 many_content false d e is = cc
 
 text_content : (pace : Pace) (loss : ℕ) (s : Shape) (own narrow : Timing) (rows seed horizon : ℕ) (e : CommandFault) → text_by_pace pace loss s own narrow rows seed horizon (Err e) → command_blame e ≡ Content

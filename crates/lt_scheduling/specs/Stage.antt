@@ -9,7 +9,7 @@ use Rattle.lt_load_fit.specs.declared.fault.CommandFault.{CommandFault}
 use Rattle.lt_load.specs.Plan.{LoadedPlan}
 use Rattle.lt_sim.specs.declared.fault.SimFault.{SimFault}
 use Rattle.lt_sim.specs.declared.fault.SimFault.TheVariants.{Write, TooMany}
-use Rattle.lt_text_answers.specs.Draws.{too_many_rows}
+use Rattle.lt_load_fit.specs.Rows.{too_many_events}
 use Rattle.lt_scheduling.specs.Scheduled.{IsDrawnBy, asks_losses, text_by_pace, unless_asked}
 
 -- the text of what the seed draws by a timing
@@ -34,5 +34,5 @@ IsUnbroken (Err Memory) = Unit {0}
 -- then these bytes that the sink took are the answer, or the refusal of the first row past the limit
 abbrev pub recorded_text : (recorded : Result ℕ (Or SimFault)) → (taken : List ℕ) → Result (List ℕ) (Or CommandFault)
 recorded_text (Ok count) taken = Ok taken
-recorded_text (Err (Fault fault)) taken = Err (Fault too_many_rows)
+recorded_text (Err (Fault fault)) taken = Err (Fault too_many_events)
 recorded_text (Err Memory) taken = Err Memory

@@ -91,7 +91,7 @@ fn draw_narrowed(
 {
     narrows_within();
     let timing = narrowed(alloc, &loaded.timing, part)?;
-    let text = draw_by(alloc, loaded, &timing, loss, seed, horizon);
+    let text = draw_by(alloc, loaded.pace, loaded, &timing, loss, seed, horizon);
     drop(timing);
     text
 }
@@ -107,27 +107,19 @@ fn draw_whole(
     requires horizon { horizon ≤ GREATEST_TIME }
     ensures { Settles (jittered_verdict loss seed horizon None loaded.now) result }
 {
-    draw_by(alloc, loaded, &loaded.timing, loss, seed, horizon)
+    draw_by(
+        alloc,
+        loaded.pace,
+        loaded,
+        &loaded.timing,
+        loss,
+        seed,
+        horizon,
+    )
 }
 
-// Draws the schedule by a timing within the bounds of what was loaded.
+// Draws the schedule by a timing within the bounds of what was loaded, by this pace.
 fn draw_by(
-    alloc: Global,
-    loaded: &Loaded,
-    timing: &Timing,
-    loss: u64,
-    seed: u64,
-    horizon: u64,
-) -> Result<List<u8>, Or<CommandFault>>
-    requires horizon { horizon ≤ GREATEST_TIME }
-    requires within { HasBoundsWithin loaded.now.timing timing.now }
-    ensures { Settles (drawn_by_verdict loaded.now.pace loss seed horizon loaded.now timing.now) result }
-{
-    draw_by_pace(alloc, loaded.pace, loaded, timing, loss, seed, horizon)
-}
-
-// The same by this pace.
-fn draw_by_pace(
     alloc: Global,
     pace: Pace,
     loaded: &Loaded,

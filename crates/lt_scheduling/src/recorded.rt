@@ -14,10 +14,10 @@ use lt_arch::Timing;
 use lt_base::{List, Or};
 use lt_io::MemSink;
 use lt_load::{CommandFault, Loaded};
+use lt_load_fit::too_many_events;
 use lt_losing::lose;
 use lt_narrow::laws::stays_one_place;
 use lt_net_replay::laws::networks_are_sound;
-use lt_rows::RowFault;
 use lt_sim::{SimFault, record};
 use std::alloc::Global;
 
@@ -90,10 +90,7 @@ fn recorded_text(
 {
     match recorded {
         Ok(_) => Ok(sink.into_bytes()),
-        Err(Or::Fault(SimFault::TooMany)) => Err(Or::Fault(CommandFault::Row {
-            row: 5_000_001,
-            fault: RowFault::TooMany,
-        })),
+        Err(Or::Fault(SimFault::TooMany)) => Err(Or::Fault(too_many_events())),
         Err(Or::Fault(SimFault::Write)) => unreachable!(),
         Err(Or::Memory) => Err(Or::Memory),
     }

@@ -6,10 +6,9 @@ use Rattle.lt_arch.specs.declared.event.Event.{Event}
 use Rattle.lt_arch.specs.declared.shape.Shape.{Shape}
 use Rattle.lt_arch.specs.declared.timing.Timing.{Timing}
 use Rattle.lt_place.specs.declared.layout.Layout.{Layout}
-use Rattle.lt_rows.specs.declared.fault.RowFault.TheVariants as row
 use Rattle.lt_answer.specs.Answered.{Verdict, AndThen}
 use Rattle.lt_load_fit.specs.declared.fault.CommandFault.{CommandFault}
-use Rattle.lt_load_fit.specs.declared.fault.CommandFault.TheVariants as fault
+use Rattle.lt_load_fit.specs.Rows.{too_many_events}
 use Rattle.lt_load.specs.Plan.{Plan}
 use Rattle.lt_load.specs.Pacing.{plain_load_verdict}
 use Rattle.lt_run.specs.Run.{IsLaidOutBy}
@@ -29,13 +28,9 @@ pub record Drawing : Type 0 where
 abbrev pub most_drawn : ℕ
 most_drawn = 5000000
 
--- the refusal of the first row past the limit
-abbrev pub too_many_rows : CommandFault
-too_many_rows = fault.Row 5000001 row.TooMany
-
 -- these events, unless a schedule of them would have too many
 abbrev pub drawing_within : Shape → List Event → Result Drawing CommandFault
-drawing_within s events = if nat_lt most_drawn (length events) then Err too_many_rows else Ok (record { shape = s; events = events })
+drawing_within s events = if nat_lt most_drawn (length events) then Err too_many_events else Ok (record { shape = s; events = events })
 
 -- what the seed draws up to the horizon
 abbrev pub drawing : Shape → Timing → (rows seed horizon : ℕ) → Result Drawing CommandFault

@@ -12,7 +12,7 @@ use crate::top::refuse;
 use lt_base::Or;
 use lt_io::Files;
 use lt_load::{CommandFault, Loaded, load_plain};
-use lt_rows::RowFault;
+use lt_load_fit::too_many_events;
 use lt_sim::SimFault;
 use lt_text_answers::{Refusal, Status};
 use std::alloc::Global;
@@ -103,8 +103,5 @@ fn recorded_status(recorded: Result<u64, Or<SimFault>>) -> Option<Status>
 fn too_many() -> Refusal
     ensures { result ≡ Refusal.Command (CommandFault.Row 5000001 RowFault.TooMany) }
 {
-    Refusal::Command(CommandFault::Row {
-        row: 5_000_001,
-        fault: RowFault::TooMany,
-    })
+    Refusal::Command(too_many_events())
 }
