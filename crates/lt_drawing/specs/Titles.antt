@@ -10,18 +10,11 @@ use Rattle.lt_arch.specs.declared.timing.Protocol.TheVariants.{BackPressure, Tim
 use Rattle.lt_audit.specs.declared.miss.Miss.{Miss}
 use Rattle.lt_lossy.specs.declared.event.LossyOffence.{LossyOffence}
 use Rattle.lt_lossy.specs.declared.event.LossyOffence.TheVariants.{Common, TooManyLost}
+use Rattle.lt_svg.specs.Paths.{base_name}
 use Rattle.lt_svg.specs.Pieces.{filled_template}
 use Rattle.lt_text_lines.specs.ScheduleLines.{channel_text, name_of_node}
 use Rattle.lt_course.specs.declared.course.RefusedEvent.{RefusedEvent}
 use Rattle.lt_tape.specs.declared.window.Window.{Window}
-
--- what stands behind the last slash of a name
-abbrev pub base_from : (base : List ℕ) → List ℕ → List ℕ
-base_from base [] = base
-base_from base (c ∷ cs) = if c == 47 then base_from cs cs else base_from base cs
-
-abbrev pub base_name : List ℕ → List ℕ
-base_name name = base_from name name
 
 -- the names of the schedule and of the setup
 abbrev pub title_text : (schedule config : List ℕ) → List ℕ

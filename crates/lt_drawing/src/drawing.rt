@@ -16,9 +16,10 @@ use lt_lossy_course::read_lossy_course;
 use lt_tape::Asked;
 use std::alloc::Global;
 
-/// One SVG of a schedule over a program's setup, whose timing need not be accepted and in which a node may lead or links may lose messages, with any
-/// number of messages in transit on a channel; where a node is named, of the messages from it and to it alone. A schedule with an offence is drawn up to that. The files
-/// are read in this order: the program, the setup, the inputs and the schedule; that the name is one of a node is seen after the placement.
+/// One SVG of a schedule over a program's setup, whose timing need not be accepted and in which a node may lead or links may lose
+/// messages, with any number of messages in transit on a channel; where a node is named, of the messages from it and to it alone. A
+/// schedule with an offence is drawn up to that. The files are read in this order: the program, the setup, the inputs and the schedule;
+/// that the name is one of a node is seen after the placement.
 pub fn draw<F: Files>(
     alloc: Global,
     files: &mut F,

@@ -1,37 +1,24 @@
 // The lines of text of a picture.
-ghost use Rattle.std.specs.Prelude.{◌≡◌, ◌++◌, ◌≤◌, decimal, drop, length, IfOk, OnOk};
+ghost use Rattle.std.specs.Prelude.{◌≡◌, ◌++◌, decimal, IfOk, OnOk};
 ghost use Rattle.lt_arch.specs.declared.pace.Pace.TheVariants as paces;
-ghost use Rattle.lt_drawing.specs.Titles.{alone_text, base_name, common_note_text, common_row_text, delivered_text, events_text, execution_text, messages_of_text, nodes_text, note_text, numbered_row, protocol_text, reach_text, ring_text, refused_row_text, ticks_text, title_text};
+ghost use Rattle.lt_svg.specs.Paths.{base_name};
+ghost use Rattle.lt_drawing.specs.Titles.{alone_text, common_note_text, common_row_text, delivered_text, events_text, execution_text, messages_of_text, nodes_text, note_text, numbered_row, protocol_text, reach_text, ring_text, refused_row_text, ticks_text, title_text};
 
 use lt_arch::{Offence, Pace, Protocol, Shape};
 use lt_audit::Miss;
 use lt_base::{List, Memory, append_number};
 use lt_course::RefusedEvent;
 use lt_lossy::LossyOffence;
-use lt_svg::fill;
+use lt_svg::{base_name, fill};
 use lt_tape::Window;
 use lt_text_lines::{append_channel, append_node_name};
 use std::alloc::Global;
 
-// Where what stands behind the last slash of a name begins.
-fn base_begin(name: &[u8]) -> usize
-    ensures within { result ≤ length name.now }
-    ensures base { drop result name.now ≡ base_name name.now }
-{
-    let mut begin = 0usize;
-    'bytes: for k in 0..name.len() {
-        if name[k] == b'/' {
-            begin = k + 1;
-        }
-    }
-    begin
-}
-
-// Appends what stands behind the last slash of a name.
+// Appends the name of a file without the folders before it.
 fn append_base(out: &mut List<u8>, name: &[u8]) -> Result<(), Memory>
     ensures { OnOk result (out.new ≡ out.old ++ base_name name.now) }
 {
-    out.extend(&name[base_begin(name)..])
+    out.extend(base_name(name))
 }
 
 /// The names of the schedule and of the setup.
