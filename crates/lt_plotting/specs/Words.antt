@@ -1,7 +1,8 @@
 -- What a plot says above its rows.
-use Rattle.std.specs.Prelude.{ℕ, ◌+◌, ◌-◌, ◌==◌, min, max, nat_lt, List, [], ◌∷◌, ◌++◌, fold, codes, Option, Some, None, option_map, if◌then◌else◌}
+use Rattle.std.specs.Prelude.{ℕ, ◌+◌, ◌-◌, min, max, nat_lt, List, [], ◌++◌, fold, codes, Option, Some, None, option_map, if◌then◌else◌}
 use Rattle.std.specs.Fmt.{decimal}
 use Rattle.std.specs.Borrow.{Bor}
+use Rattle.lt_svg.specs.Paths.{base_name}
 use Rattle.lt_watch.specs.declared.watched.Watched.{Watched}
 use Rattle.lt_watch.specs.declared.watched.Watched.TheVariants.{Holds, Fails}
 use Rattle.lt_plotting.specs.declared.course.Course.{Course}
@@ -11,13 +12,9 @@ use Rattle.lt_plotting.specs.declared.view.PlotWindow.{PlotWindow}
 abbrev pub given_words : Option (Bor (List ℕ) × Bor (List ℕ)) → Option (List ℕ × List ℕ)
 given_words words = option_map (λ w. (w.0.now, w.1.now)) words
 
--- the name of a file without the folders before it: what stands behind the last slash
-abbrev pub file_name : (path : List ℕ) → List ℕ
-file_name path = fold (λ name letter. if letter == 47 then [] else name ++ letter ∷ []) [] path
-
 -- of what a run is
 abbrev pub run_title : (schedule config : List ℕ) → List ℕ
-run_title schedule config = (codes " along " ++ file_name schedule) ++ (codes " by " ++ file_name config)
+run_title schedule config = (codes " along " ++ base_name schedule) ++ (codes " by " ++ base_name config)
 
 abbrev pub along_title : Option (List ℕ × List ℕ) → List ℕ
 along_title None = []
@@ -25,7 +22,7 @@ along_title (Some (schedule, config)) = run_title schedule config
 
 -- what is drawn, by the names of its files
 unfoldable pub plot_title : (program inputs : List ℕ) (along : Option (List ℕ × List ℕ)) → List ℕ
-plot_title program inputs along = (codes "outputs of " ++ file_name program) ++ ((codes " on " ++ file_name inputs) ++ along_title along)
+plot_title program inputs along = (codes "outputs of " ++ base_name program) ++ ((codes " on " ++ base_name inputs) ++ along_title along)
 
 -- the greatest of some lengths, and 0 where there is none; and the least
 abbrev pub most_length : List ℕ → ℕ

@@ -1,34 +1,23 @@
 // What a plot says above its rows.
 ghost use Rattle.std.specs.Prelude.{◌≡◌, ◌++◌, IfOk, OnOk, length};
 ghost use Rattle.std.specs.Fmt.{decimal};
-ghost use Rattle.lt_plotting.specs.Words.{along_title, file_name, given_words, least_length, lengths_text, most_length, plot_facts, plot_title, run_facts, run_title, told_line, watched_line, window_facts};
+ghost use Rattle.lt_svg.specs.Paths.{base_name};
+ghost use Rattle.lt_plotting.specs.Words.{along_title, given_words, least_length, lengths_text, most_length, plot_facts, plot_title, run_facts, run_title, told_line, watched_line, window_facts};
 
 use crate::course::Course;
 use crate::view::PlotWindow;
 use lt_base::{List, Memory, append_number};
+use lt_svg::base_name;
 use lt_watch::Watched;
 use std::alloc::Global;
 use std::cmp::{max, min};
 
-// The name of a file without the folders before it.
-fn file_name(path: &[u8]) -> &[u8]
-    ensures { result.now ≡ file_name path.now }
-{
-    let mut start = 0;
-    'letters: for place in 0..path.len() {
-        if path[place] == b'/' {
-            start = place + 1;
-        }
-    }
-    &path[start..]
-}
-
 // Appends some words and the name of a file.
 fn append_named(text: &mut List<u8>, words: &[u8], path: &str) -> Result<(), Memory>
-    ensures { OnOk result (text.new ≡ text.old ++ (words.now ++ file_name path.now)) }
+    ensures { OnOk result (text.new ≡ text.old ++ (words.now ++ base_name path.now)) }
 {
     text.extend(words)?;
-    text.extend(file_name(path.as_bytes()))
+    text.extend(base_name(path.as_bytes()))
 }
 
 fn append_run_title(text: &mut List<u8>, schedule: &str, config: &str) -> Result<(), Memory>
