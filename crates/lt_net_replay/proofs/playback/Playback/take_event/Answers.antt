@@ -1,4 +1,4 @@
-use Rattle.std.proofs.Common.{◌≡◌, List, if◌then◌else◌, Some, None, sym, ◌∙◌, ap, subst}
+use Rattle.std.proofs.Common.{List, if◌then◌else◌, Some, None, ◌∙◌, ap}
 use Rattle.lt_base.specs.declared.value.Value.{Value}
 use Rattle.lt_schedule.specs.Verdict.{rules_of}
 use Rattle.lt_net.specs.Event.{given_row}
