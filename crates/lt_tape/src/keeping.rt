@@ -1,13 +1,12 @@
 // What of a schedule's strokes is drawn.
 ghost use Rattle.std.specs.Prelude.{◌≡◌, ◌==◌, ◌++◌, not, IfOk, OnOk};
 ghost use Rattle.std.specs.List.{filter, flat_map};
-ghost use Rattle.lt_diagram.specs.Tints.{is_execution};
 ghost use Rattle.lt_tape.specs.Kept.{count_in, early_after, early_from, is_in_window, is_on_way, line_within, lines_in, mark_in, mark_noted};
 
 use crate::stroke::{Stroke, stroke_time};
 use crate::window::Window;
 use lt_base::{List, Memory};
-use lt_diagram::{Arrow, Mark, Sign};
+use lt_diagram::{Arrow, Mark, is_execution};
 use std::alloc::Global;
 use std::mem::replace;
 
@@ -106,16 +105,6 @@ pub(crate) fn note(alloc: Global, mark: Mark, marks: &mut List<Mark>) -> Result<
     let known = replace(marks, List::new(alloc)).into_vec();
     *marks = List::of(without(mark.node, known));
     marks.push(mark)
-}
-
-fn is_execution(sign: Sign) -> bool
-    ensures { result ≡ is_execution sign }
-{
-    match sign {
-        Sign::Nothing => false,
-        Sign::Executes(_) => true,
-        Sign::Sends(_) => false,
-    }
 }
 
 /// Notes an execution before a tick as its node's last one.
