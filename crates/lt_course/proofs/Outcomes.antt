@@ -1,4 +1,4 @@
--- What reading a schedule file for a picture answers.
+-- What reading a schedule file for a picture answers, whatever its events are.
 use Rattle.std.proofs.Common.{◌≡◌, ◌<◌, ℕ, List, Option, Some, None, Result, Ok, Err, IsTrue, refl, sym, subst, arith, true, false}
 use Rattle.std.specs.Prelude.{IsSome}
 use Rattle.lt_base.specs.declared.memory.Or.{Or}
@@ -6,10 +6,6 @@ use Rattle.lt_base.specs.declared.memory.Or.TheVariants.{Fault, Memory}
 use Rattle.lt_io.specs.FilesState.{FilesState, KeepsNames}
 use Rattle.lt_io.specs.Visits.{Visited}
 use Rattle.lt_io.proofs.Visiting.{visited_any}
-use Rattle.lt_arch.specs.declared.event.Event.{Event}
-use Rattle.lt_arch.specs.declared.shape.Shape.{Shape}
-use Rattle.lt_arch.specs.declared.timing.Timing.{Timing}
-use Rattle.lt_place_reads.specs.declared.crossing.Crossing.{Crossing}
 use Rattle.lt_answer.specs.World.{KeepsWorld, alone}
 use Rattle.lt_answer.specs.Answered.{Answered, OfFile, RefusesReading, Verdict}
 use Rattle.lt_answer.proofs.Stages.{keeps_itself}
@@ -27,45 +23,45 @@ use Rattle.lt_load.specs.Blamed.{command_blame}
 use Rattle.lt_tape.specs.declared.asked.Asked.{Asked}
 use Rattle.lt_course.specs.declared.course.Course.{Course}
 use Rattle.lt_course.specs.declared.course.Stopped.{Stopped}
-use Rattle.lt_course.specs.Courses.{CourseBy, IsCourseOf, course_or_fault, course_verdict, drawing_rules, halted_course, or_course, stopped_course}
-use Rattle.lt_course.specs.Reading.{VisitsUnlessRead}
+use Rattle.lt_course.specs.Whole.{DrawnBy, IsCourseBy, WholeCourse, course_or_fault, drawn_verdict, halted_course, or_course, stopped_course}
 
 keeps_alone : (a b : FilesState) → KeepsNames a b → KeepsWorld (alone a) (alone b)
 keeps_alone a b keeps = record { files = keeps; fabric = (keeps_itself (alone a)).fabric; steady = λ sound. refl }
 
-module _ (asked : Asked) (cross : List Crossing) (s : Shape) (t : Timing) (rows : ℕ) where
-  abbrev rules : Rules Event Stopped
-  rules = drawing_rules asked cross s t rows
+-- by a recorder that was kept
+pub kept_course : {E : Type 0} (asked later : Asked) (whole after : List E → WholeCourse) (es : List E) (c : Course) → later ≡ asked → after ≡ whole → IsCourseBy later (after es) c → IsCourseBy asked (whole es) c
+kept_course asked later whole after es c a w is = subst (λ (q : Asked). IsCourseBy q (whole es) c) a (subst (λ f. IsCourseBy later (f es) c) w is)
 
+module _ {E : Type 0} (rules : Rules E Stopped) (asked : Asked) (whole : List E → WholeCourse) where
   module _ (file : Option (List ℕ)) (bytes : List ℕ) (is : file ≡ Some bytes) where
-    on_bytes : (read : Result (List Event) (ScheduleRefusal Stopped)) (o : Result Course CommandFault) → file_judged_by rules bytes ≡ read → CourseBy asked cross s t rows read o → course_verdict asked cross s t rows file o
-    unfolding course_verdict
+    on_bytes : (read : Result (List E) (ScheduleRefusal Stopped)) (o : Result Course CommandFault) → file_judged_by rules bytes ≡ read → DrawnBy asked whole read o → drawn_verdict rules asked whole file o
+    unfolding drawn_verdict
     on_bytes read o reads right =
-        subst (λ (f : Option (List ℕ)). OfFile fault.Read f (λ bytes outcome. CourseBy asked cross s t rows (file_judged_by rules bytes) outcome) o) (sym is)
-        (subst (λ (r : Result (List Event) (ScheduleRefusal Stopped)). CourseBy asked cross s t rows r o) (sym reads) right)
+        subst (λ (f : Option (List ℕ)). OfFile fault.Read f (λ bytes outcome. DrawnBy asked whole (file_judged_by rules bytes) outcome) o) (sym is)
+        (subst (λ (r : Result (List E) (ScheduleRefusal Stopped)). DrawnBy asked whole r o) (sym reads) right)
 
-    refused_by : (refused : ScheduleRefusal Stopped) (o : Result Course CommandFault) → file_judged_by rules bytes ≡ Err refused → course_or_fault refused ≡ o → course_verdict asked cross s t rows file o
+    refused_by : (refused : ScheduleRefusal Stopped) (o : Result Course CommandFault) → file_judged_by rules bytes ≡ Err refused → course_or_fault refused ≡ o → drawn_verdict rules asked whole file o
     refused_by refused o reads same = on_bytes (Err refused) o reads same
 
-  missing : (before now : ℕ) (file : Option (List ℕ)) → (IsSome file → now ≡ before) → before < now → RefusesReading command_blame (course_verdict asked cross s t rows file)
-  unfolding course_verdict
+  missing : (before now : ℕ) (file : Option (List ℕ)) → (IsSome file → now ≡ before) → before < now → RefusesReading command_blame (drawn_verdict rules asked whole file)
+  unfolding drawn_verdict
   missing before now None found rose = (fault.Read, refl, refl)
   missing before now (Some bytes) found rose = absurd (omega (arith, found refl, rose))
 
-  module _ (old new : FilesState) (name : List ℕ) (keeps : KeepsNames old new) where
+  module _ (old new : FilesState) (name : List ℕ) (keeps : KeepsNames old new) (visits : Visited (schedule_errand name) old.visits new.visits true) where
     abbrev Right : Verdict Course CommandFault
-    Right = course_verdict asked cross s t rows (old.named name)
+    Right = drawn_verdict rules asked whole (old.named name)
 
     -- all rows were taken
-    module _ (P : List Event → Type 0) (visits : Visited (schedule_errand name) old.visits new.visits true) (calm : new.faults ≡ old.faults) where
-      pub took_all : (steps : ℕ) × TakesFile rules P old.told (old.named name) → (c : Course) → ((es : List Event) → P es → IsCourseOf asked cross s t rows es c) → Answered command_blame (schedule_errand name) Right (alone old) (alone new) (Ok c)
+    module _ (P : (steps : ℕ) → List E → Type 0) (calm : new.faults ≡ old.faults) where
+      pub took_all : (steps : ℕ) × TakesFile rules (P steps) old.told (old.named name) → (c : Course) → ((steps : ℕ) (es : List E) → P steps es → IsCourseBy asked (whole es) c) → Answered command_blame (schedule_errand name) Right (alone old) (alone new) (Ok c)
       took_all takes c right = record {
         keeps = keeps_alone old new keeps;
         visits = visits;
         cause = record { files = calm; fabric = refl };
         exact = λ told _.
             let reads = takes.1.reads told in
-            on_bytes (old.named name) reads.bytes reads.file_is (Ok takes.1.events) (Ok c) reads.reads (right takes.1.events takes.1.stands_for);
+            on_bytes (old.named name) reads.bytes reads.file_is (Ok takes.1.events) (Ok c) reads.reads (right takes.0 takes.1.events takes.1.stands_for);
         sound = λ told sound rose. absurd (omega (arith, rose, calm));
       }
 
@@ -78,25 +74,25 @@ module _ (asked : Asked) (cross : List Crossing) (s : Shape) (t : Timing) (rows 
         sound = λ told sound rose. absurd (omega (arith, rose, calm));
       })
 
-    module _ (found : IsTrue old.sound → IsSome (old.named name) → new.faults ≡ old.faults) where
+    module _ (found : IsTrue old.sound → IsSome (old.named name) → new.faults ≡ old.faults) (before now : ℕ) (steady : now ≡ before) where
       -- a row or an event was refused
-      of_refused : (refused : ScheduleRefusal Stopped) → Visited (schedule_errand name) old.visits new.visits true → new.faults ≡ old.faults → (IsTrue old.told → RefusesFile rules (old.named name) new.place refused)
+      of_refused : (refused : ScheduleRefusal Stopped) → new.faults ≡ old.faults → (IsTrue old.told → RefusesFile rules (old.named name) new.place refused)
           → Answered command_blame (schedule_errand name) Right (alone old) (alone new) (or_course (course_or_fault refused))
-      of_refused (refusal.Row row f) visits calm refuses = record {
+      of_refused (refusal.Row row f) calm refuses = record {
         keeps = keeps_alone old new keeps;
         visits = visited_any (schedule_errand name) old.visits new.visits false visits;
         cause = record { files = calm; fabric = refl };
         exact = λ told _. let there = refuses told in refused_by (old.named name) there.bytes there.file_is (refusal.Row row f) (Err (fault.Row row f)) there.reads refl;
         sound = λ told sound rose. absurd (omega (arith, rose, calm));
       }
-      of_refused (refusal.Offence event x) visits calm refuses = record {
+      of_refused (refusal.Offence event x) calm refuses = record {
         keeps = keeps_alone old new keeps;
         visits = visits;
         cause = record { files = calm; fabric = refl };
         exact = λ told _. let there = refuses told in refused_by (old.named name) there.bytes there.file_is (refusal.Offence event x) (Ok (stopped_course x)) there.reads refl;
         sound = λ told sound rose. absurd (omega (arith, rose, calm));
       }
-      of_refused refusal.Bytes visits calm refuses = record {
+      of_refused refusal.Bytes calm refuses = record {
         keeps = keeps_alone old new keeps;
         visits = visited_any (schedule_errand name) old.visits new.visits false visits;
         cause = record { files = calm; fabric = refl };
@@ -105,18 +101,18 @@ module _ (asked : Asked) (cross : List Crossing) (s : Shape) (t : Timing) (rows 
       }
 
       -- not all rows were taken
-      of_halt : (h : Or (Halt Stopped)) → VisitsUnlessRead name old.visits new.visits (Err h) → ReadCounted {T = Unit {0}} old.faults new.faults (Err h) → HaltCounted {T = Unit {0}} 0 0 (Err h)
+      of_halt : (h : Or (Halt Stopped)) → ReadCounted {T = Unit {0}} old.faults new.faults (Err h) → HaltCounted {T = Unit {0}} before now (Err h)
           → UnlessFailed (λ r. IsTrue old.told → RefusesFile rules (old.named name) new.place r) h → Answered command_blame (schedule_errand name) Right (alone old) (alone new) (halted_course h)
-      of_halt (Fault (halt.Refused r)) visits calm linked refuses = of_refused r visits calm refuses
-      of_halt (Fault halt.Read) visits counted linked refuses = record {
+      of_halt (Fault (halt.Refused r)) calm linked refuses = of_refused r calm refuses
+      of_halt (Fault halt.Read) counted linked refuses = record {
         keeps = keeps_alone old new keeps;
-        visits = visits;
+        visits = visited_any (schedule_errand name) old.visits new.visits false visits;
         cause = (counted, refl);
         exact = λ told calm. absurd (let same = calm.files in omega (arith, counted, same));
         sound = λ told sound rose. missing old.faults new.faults (old.named name) (found sound) rose;
       }
-      of_halt (Fault halt.Link) visits counted linked refuses = absurd (omega (arith, linked))
-      of_halt Memory visits calm linked refuses = record {
+      of_halt (Fault halt.Link) counted linked refuses = absurd (omega (arith, linked, steady))
+      of_halt Memory calm linked refuses = record {
         keeps = keeps_alone old new keeps;
         visits = visited_any (schedule_errand name) old.visits new.visits false visits;
         cause = record { files = calm; fabric = refl };
@@ -124,6 +120,6 @@ module _ (asked : Asked) (cross : List Crossing) (s : Shape) (t : Timing) (rows 
         sound = λ told sound rose. absurd (omega (arith, rose, calm));
       }
 
-      pub halted : (h : Or (Halt Stopped)) (r : Result Course (Or CommandFault)) → r ≡ halted_course h → VisitsUnlessRead name old.visits new.visits (Err h) → ReadCounted {T = Unit {0}} old.faults new.faults (Err h) → HaltCounted {T = Unit {0}} 0 0 (Err h)
+      pub halted : (h : Or (Halt Stopped)) (r : Result Course (Or CommandFault)) → r ≡ halted_course h → ReadCounted {T = Unit {0}} old.faults new.faults (Err h) → HaltCounted {T = Unit {0}} before now (Err h)
           → UnlessFailed (λ r. IsTrue old.told → RefusesFile rules (old.named name) new.place r) h → Answered command_blame (schedule_errand name) Right (alone old) (alone new) r
-      halted h r is visits counted linked refuses = subst (Answered command_blame (schedule_errand name) Right (alone old) (alone new)) (sym is) (of_halt h visits counted linked refuses)
+      halted h r is counted linked refuses = subst (Answered command_blame (schedule_errand name) Right (alone old) (alone new)) (sym is) (of_halt h counted linked refuses)

@@ -16,31 +16,28 @@ use Rattle.lt_arch.specs.Step.{offence_of, time_of}
 use Rattle.lt_place_reads.specs.declared.crossing.Crossing.{Crossing}
 use Rattle.lt_schedule.specs.declared.halt.Stop.{Stop}
 use Rattle.lt_schedule.specs.declared.halt.Stop.TheVariants as stop
-use Rattle.lt_audit.specs.declared.miss.Miss.{Miss}
+use Rattle.lt_schedule.specs.Rules.{Rules}
 use Rattle.lt_audit.specs.Audit.{AuditState, chan_at}
 use Rattle.lt_audit.specs.Acts.{next_number}
 use Rattle.lt_audit.specs.Standing.{AuditStands, KnowsDeed}
 use Rattle.lt_audit.proofs.Longer.{after_push}
 use Rattle.lt_audit.proofs.Seen.{chan_seen}
-use Rattle.lt_diagram.specs.declared.picture.Arrow.{Arrow}
 use Rattle.lt_course.specs.declared.course.RefusedEvent.{RefusedEvent}
 use Rattle.lt_course.specs.declared.course.Stopped.{Stopped}
 use Rattle.lt_tape.specs.declared.asked.Asked.{Asked}
-use Rattle.lt_tape.specs.declared.excerpt.Excerpt.{Excerpt}
 use Rattle.lt_tape.specs.declared.tape.Tape.{Tape}
-use Rattle.lt_tape.specs.Excerpts.{excerpt_of}
 use Rattle.lt_tape.specs.Tapes.{IsTapeOf}
 use Rattle.lt_tape.specs.Times.{last_mark, last_time, stroke_time, time_or_zero}
 use Rattle.lt_tape.proofs.Tallying.{last_push}
 use Rattle.lt_tape.specs.declared.stroke.Stroke.{Stroke}
-use Rattle.lt_course.specs.Courses.{drawing_rules, last_for, oldest_for, refused_at, refused_by, stop_time, stopped_at}
+use Rattle.lt_course.specs.Courses.{last_for, oldest_for, refused_at, refused_by}
 use Rattle.lt_course.specs.Lasts.{last_mark_for, oldest_read}
-use Rattle.lt_course.specs.Missed.{first_miss}
 use Rattle.lt_course.specs.Placed.{IsPlacedOffence}
 use Rattle.lt_course.specs.Recorded.{IsNotedSoFar, JudgesNextEvent}
 use Rattle.lt_course.specs.Recording.{TapesStroke}
 use Rattle.lt_course.specs.Sketches.{IsDeedDone, IsExecuted, IsSent, stroke_by}
-use Rattle.lt_course.specs.Strokes.{first_sent_or, pending_below, pending_of, stroke_of, strokes_of}
+use Rattle.lt_course.specs.Strokes.{arrows_below, first_sent_or, pending_of, pending_on, stroke_of, strokes_of}
+use Rattle.lt_course.specs.Whole.{drawing_by}
 use Rattle.lt_course.proofs.Strokes.{comes_later, last_seen, latest_after, pending_same, stroke_at, stroke_same, strokes_push}
 
 -- the number of the event that was taken last
@@ -108,15 +105,11 @@ module _ (a : AuditState) (asked : Asked) (cross : List Crossing) (t : Timing) (
   oldest_same (TooEarly c) placed = oldest_of c placed
   oldest_same NoEnd placed = refl
 
-  pub pending_is : pending_below cross a.shape t (chan_at a.chans) (chan_count a.shape) ≡ pending_of cross a.shape t st
+  pub pending_is : arrows_below (pending_on cross a.shape t (chan_at a.chans)) (chan_count a.shape) ≡ pending_of cross a.shape t st
   pending_is = pending_same cross a.shape t (chan_at a.chans) st.chan (chan_count a.shape) (λ c lc. chan_seen a a.shape t a.rows es before.stands c lc)
 
-  pub stopped_is : (e : Event) (o : Offence) (excerpt : Excerpt) (pending : List Arrow) (refused : RefusedEvent) (miss : Option Miss) → IsPlacedOffence a.shape o → excerpt ≡ excerpt_of asked (node_count a.shape) (Some (stop_time refused)) strokes
-      → pending ≡ pending_below cross a.shape t (chan_at a.chans) (chan_count a.shape) → refused ≡ refused_by a.shape t (last_mark_for strokes o) (oldest_read a o) e o → miss ≡ first_miss a.shape t a.rows es
-      → record { excerpt = excerpt; pending = pending; refused = refused; miss = miss } ≡ stopped_at asked cross a.shape t a.rows es e o
-  stopped_is e o excerpt pending refused miss placed shown waits is missed =
-      let there : refused ≡ refused_at a.shape t st e o = is ∙ (λ j. refused_by a.shape t (last_same o j) (oldest_same o placed j) e o) in
-      λ i. record { excerpt = (shown ∙ (λ j. excerpt_of asked (node_count a.shape) (Some (stop_time (there j))) strokes)) i; pending = (waits ∙ pending_is) i; refused = there i; miss = missed i }
+  pub refused_is : (e : Event) (o : Offence) (refused : RefusedEvent) → IsPlacedOffence a.shape o → refused ≡ refused_by a.shape t (last_mark_for strokes o) (oldest_read a o) e o → refused ≡ refused_at a.shape t st e o
+  refused_is e o refused placed is = is ∙ (λ j. refused_by a.shape t (last_same o j) (oldest_same o placed j) e o)
 
 -- the same by equal auditors, crossings and bounds of time
 pub moved : (a b : AuditState) (asked asked' : Asked) (cross cross' : List Crossing) (t t' : Timing) (tape : Tape) (es : List Event) → b ≡ a → asked' ≡ asked → cross' ≡ cross → t' ≡ t → IsNotedSoFar a asked cross t tape es → IsNotedSoFar b asked' cross' t' tape es
@@ -124,15 +117,11 @@ moved a b asked asked' cross cross' t t' tape es p d q r rec =
     subst (λ (x : AuditState). IsNotedSoFar x asked' cross' t' tape es) (sym p) (subst (λ (x : Asked). IsNotedSoFar a x cross' t' tape es) (sym d)
     (subst (λ (c : List Crossing). IsNotedSoFar a asked c t' tape es) (sym q) (subst (λ (u : Timing). IsNotedSoFar a asked cross u tape es) (sym r) rec)))
 
--- what is judged of the next event
+-- what is judged of the next event, whatever events are
 
-module _ (asked : Asked) (cross : List Crossing) (s : Shape) (t : Timing) (rows : ℕ) (before : List Event) (e : Event) where
-  pub judged_taken : (r : Result (Unit {0}) (Stop Stopped)) → IfErr r (λ x. x ≡ stop.Memory) → offence_of s t (reached s t rows before) e ≡ None → JudgesNextEvent (drawing_rules asked cross s t rows) before e r
-  judged_taken (Ok done) short none = ap (option_map (stopped_at asked cross s t rows before e)) none
-  judged_taken (Err x) short none = subst (λ (y : Stop Stopped). JudgesNextEvent (drawing_rules asked cross s t rows) before e (Err y)) (sym short) tt
-
-  pub judged_stopped : (o : Offence) (x : Stopped) → offence_of s t (reached s t rows before) e ≡ Some o → x ≡ stopped_at asked cross s t rows before e o → option_map (stopped_at asked cross s t rows before e) (offence_of s t (reached s t rows before) e) ≡ Some x
-  judged_stopped o x found is = ap (option_map (stopped_at asked cross s t rows before e)) found ∙ ap (λ (y : Stopped). Some y) (sym is)
+pub judged_taken : {E O : Type 0} (rules : Rules E O) (stopped : List E → E → O → Stopped) (before : List E) (e : E) (r : Result (Unit {0}) (Stop Stopped)) → IfErr r (λ x. x ≡ stop.Memory) → rules.offence before e ≡ None → JudgesNextEvent (drawing_by rules stopped) before e r
+judged_taken rules stopped before e (Ok done) short none = ap (option_map (stopped before e)) none
+judged_taken rules stopped before e (Err x) short none = subst (λ (y : Stop Stopped). JudgesNextEvent (drawing_by rules stopped) before e (Err y)) (sym short) tt
 
 pub on_ok : {P Q : Type 0} (r : Result (Unit {0}) (Stop Stopped)) → (P → Q) → OnOk r P → OnOk r Q
 on_ok (Ok done) f p = f p

@@ -1,7 +1,6 @@
 -- The oldest message in transit, and a list without its last item.
-use Rattle.std.proofs.Common.{◌≡◌, ◌∙◌, ℕ, zero, suc, ◌+◌, ◌<◌, List, [], ◌∷◌, ◌++◌, length, map, take, slice_index_or, append_assoc, add-one, arith, ap, Option, Some, None, refl, sym}
+use Rattle.std.proofs.Common.{◌≡◌, ◌∙◌, ℕ, zero, suc, List, [], ◌∷◌, ◌++◌, slice_index_or, Option, Some, None, refl, sym}
 use Rattle.std.specs.Prelude.{IsSome, option_to_list, slice_get}
-use Rattle.std.proofs.lemmas.List.{map-append}
 use Rattle.lt_course.specs.Strokes.{first_sent_or}
 
 pub first_some : (none sent : ℕ) (sends : List ℕ) → Some sent ≡ slice_get sends 0 → sent ≡ first_sent_or none sends
@@ -40,15 +39,3 @@ got_none [] zero is = refl
 got_none [] (suc p) is = refl
 got_none (x ∷ later) zero is = cc
 got_none (x ∷ later) (suc p) is = got_none later p is
-
-take_more : (sends : List ℕ) (place : ℕ) → place < length sends → take (suc place) sends ≡ take place sends ++ slice_index_or sends place 0 ∷ []
-take_more [] place lt = absurd (omega (arith, lt))
-take_more (x ∷ later) zero lt = refl
-take_more (x ∷ later) (suc p) lt = ap (λ (xs : List ℕ). x ∷ xs) (take_more later p (omega (arith, lt)))
-
--- one message more
-pub one_more : {A : Type 0} (f : ℕ → A) (sends : List ℕ) (place : ℕ) (before after first : List A) → place < length sends → before ≡ first ++ map f (take place sends) → after ≡ before ++ f (slice_index_or sends place 0) ∷ []
-    → after ≡ first ++ map f (take (place + 1) sends)
-one_more f sends place before after first lt is on =
-    on ∙ ap (λ xs. xs ++ f (slice_index_or sends place 0) ∷ []) is ∙ append_assoc first (map f (take place sends)) (f (slice_index_or sends place 0) ∷ [])
-    ∙ ap (λ xs. first ++ xs) (sym (map-append f (take place sends) (slice_index_or sends place 0 ∷ []))) ∙ ap (λ xs. first ++ map f xs) (sym (take_more sends place lt)) ∙ ap (λ k. first ++ map f (take k sends)) (sym (add-one place))

@@ -19,7 +19,8 @@ use Rattle.lt_tape.specs.declared.stroke.Stroke.{Stroke}
 use Rattle.lt_tape.specs.declared.stroke.Stroke.TheVariants.{Point}
 use Rattle.lt_tape.specs.Times.{last_mark, last_mark_from, later_mark, stroke_time, time_or_zero}
 use Rattle.lt_course.specs.Sketches.{IsDeedDone, IsExecuted, IsSent, stroke_by}
-use Rattle.lt_course.specs.Strokes.{first_sent_or, pending_arrow, pending_below, sign_of, stroke_of, strokes_from, strokes_of}
+use Rattle.lt_course.specs.Strokes.{arrows_below, first_sent_or, pending_arrow, pending_on, sign_of, stroke_of, strokes_from, strokes_of}
+use Rattle.lt_course.proofs.Transit.{below_same}
 
 module _ (cross : List Crossing) (s : Shape) (t : Timing) (rows : ℕ) where
   -- the last event's stroke comes last
@@ -48,10 +49,8 @@ stroke_same a b cross s t rows es number executed sent deed (Del c at) stands pl
 stroke_same a b cross s t rows es number executed sent deed (End at) stands placed knows ex se done = refl
 
 -- what is in transit, channel by channel
-pub pending_same : (cross : List Crossing) (s : Shape) (t : Timing) (f g : ℕ → ChanState) (n : ℕ) → ((c : ℕ) → c < n → f c ≡ g c) → pending_below cross s t f n ≡ pending_below cross s t g n
-pending_same cross s t f g zero same = refl
-pending_same cross s t f g (suc c) same =
-    λ i. pending_same cross s t f g c (λ d lt. same d (omega (arith, lt))) i ++ map (pending_arrow cross s t c) (same c (omega arith) i).transit
+pub pending_same : (cross : List Crossing) (s : Shape) (t : Timing) (f g : ℕ → ChanState) (n : ℕ) → ((c : ℕ) → c < n → f c ≡ g c) → arrows_below (pending_on cross s t f) n ≡ arrows_below (pending_on cross s t g) n
+pending_same cross s t f g n same = below_same (pending_on cross s t f) (pending_on cross s t g) n (λ c lt. ap (λ (ch : ChanState). map (pending_arrow cross s t c) ch.transit) (same c lt))
 
 -- a node's last activation is that of its last mark
 last_of_if : (b : Bool) (x y : NodeState) → (if b then x else y).last ≡ (if b then x.last else y.last)

@@ -1,6 +1,8 @@
 pub mod Strokes
 pub mod Missed
+pub mod Whole
 pub mod Courses
+pub mod Agreed
 pub mod Laws
 pub mod Sketches
 pub mod Lasts

@@ -26,7 +26,7 @@ pub record IsNotedSoFar (a : AuditState) (asked : Asked) (cross : List Crossing)
   pub latest : last_time (strokes_of cross a.shape t a.rows es) ≡ time_or_zero (reached a.shape t a.rows es).latest
 
 -- the next event is judged behind these: it is taken, or it has an offence
-abbrev pub JudgesNextEvent : Rules Event Stopped → (before : List Event) → Event → Result (Unit {0}) (Stop Stopped) → Type 0
+abbrev pub JudgesNextEvent : {E : Type 0} → Rules E Stopped → (before : List E) → E → Result (Unit {0}) (Stop Stopped) → Type 0
 JudgesNextEvent rules before e (Ok done) = rules.offence before e ≡ None
 JudgesNextEvent rules before e (Err (stop.Row f)) = ⊥
 JudgesNextEvent rules before e (Err (stop.Offence x)) = rules.offence before e ≡ Some x

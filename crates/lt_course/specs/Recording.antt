@@ -13,8 +13,9 @@ use Rattle.lt_tape.specs.Tapes.{IsTapeOf}
 use Rattle.lt_tape.specs.Times.{last_time, stroke_time}
 use Rattle.lt_course.specs.declared.course.Stopped.{Stopped}
 use Rattle.lt_course.specs.declared.recorder.Recorder.{Recorder}
-use Rattle.lt_course.specs.Courses.{drawing_rules}
+use Rattle.lt_course.specs.Courses.{drawing_rules, whole_course}
 use Rattle.lt_course.specs.Recorded.{IsNotedSoFar}
+use Rattle.lt_course.specs.Whole.{WholeCourse}
 
 -- it has taken these events
 abbrev pub HasRecorded : Recorder → List Event → Type 0
@@ -27,6 +28,14 @@ TapesStroke old new x = (asked : Asked) (nodes : ℕ) (xs : List Stroke) → IsT
 -- how it judges lines and events
 abbrev pub recorder_rules : Recorder → Rules Event Stopped
 recorder_rules r = drawing_rules r.asked r.cross r.auditor.shape r.timing r.auditor.rows
+
+-- all that events are drawn as
+abbrev pub recorder_whole : Recorder → List Event → WholeCourse
+recorder_whole r es = whole_course r.cross r.auditor.shape r.timing r.auditor.rows es
+
+-- this is all that the events are drawn as that it has taken
+abbrev pub DrawsRecorded : Recorder → WholeCourse → Type 0
+DrawsRecorded r w = (es : List Event) × HasRecorded r es × (w ≡ recorder_whole r es)
 
 -- the offence of an event behind these
 abbrev pub offence_behind : Recorder → List Event → Event → Option Offence

@@ -70,11 +70,15 @@ strokes_of cross s t rows es = strokes_from cross s t rows (start t.protocol) 0 
 abbrev pub pending_arrow : List Crossing → Shape → Timing → (c sent : ℕ) → Arrow
 pending_arrow cross s t c sent = arrow_of cross s c sent (sent + dmax_of t (from_of s c) (to_of s c)) Pending
 
--- all that are in transit on channels below n
-abbrev pub pending_below : List Crossing → Shape → Timing → (chan : ℕ → ChanState) → (n : ℕ) → List Arrow
-pending_below cross s t chan zero = []
-pending_below cross s t chan (suc c) = pending_below cross s t chan c ++ map (pending_arrow cross s t c) (chan c).transit
+-- all messages of a channel that are in transit, where the channels are in these states
+abbrev pub pending_on : List Crossing → Shape → Timing → (chan : ℕ → ChanState) → (c : ℕ) → List Arrow
+pending_on cross s t chan c = map (pending_arrow cross s t c) (chan c).transit
 
--- and on all channels
+-- those of the channels below n, one channel after another
+abbrev pub arrows_below : (on : ℕ → List Arrow) → (n : ℕ) → List Arrow
+arrows_below on zero = []
+arrows_below on (suc c) = arrows_below on c ++ on c
+
+-- and of all channels
 abbrev pub pending_of : List Crossing → Shape → Timing → State → List Arrow
-pending_of cross s t st = pending_below cross s t st.chan (chan_count s)
+pending_of cross s t st = arrows_below (pending_on cross s t st.chan) (chan_count s)

@@ -1,5 +1,5 @@
 // What is read of an auditor for a picture.
-ghost use Rattle.std.specs.Prelude.{◌≡◌, ◌<◌, ◌≤◌, ◌++◌, ◌∷◌, [], ℕ, List as Items, length, slice_index_or, map, IfOk, OnOk};
+ghost use Rattle.std.specs.Prelude.{◌≡◌, ◌<◌, ◌≤◌, ℕ, List as Items, slice_index_or};
 ghost use Rattle.lt_arch.specs.declared.event.Event.{Event as OfEvent};
 ghost use Rattle.lt_arch.specs.declared.limits.TheConstants.{GREATEST_TIME};
 ghost use Rattle.lt_arch.specs.declared.shape.Shape.{Shape as OfShape};
@@ -10,16 +10,14 @@ ghost use Rattle.lt_arch.specs.Shapes.{HaveSameNodes};
 ghost use Rattle.lt_audit.specs.Audit.{chan_at};
 ghost use Rattle.lt_audit.specs.Standing.{AuditStands};
 ghost use Rattle.lt_course.specs.Missed.{first_miss};
-ghost use Rattle.lt_course.specs.Strokes.{first_sent_or, pending_arrow, pending_below};
+ghost use Rattle.lt_course.specs.Strokes.{first_sent_or, pending_arrow};
 ghost use Rattle.lt_course.specs.Sketches.{IsDeedDone, IsExecuted, IsSent};
 
 use crate::sketch::{arrow_of, chan_at};
 use lt_arch::{Deed, Event, Timing};
 use lt_audit::{Auditor, Miss};
-use lt_base::{List, Memory};
 use lt_diagram::{Arrow, Fate};
 use lt_place::Crossing;
-use std::alloc::Global;
 
 /// How many instants the node has executed that an event activates.
 pub(crate) fn executed_at(auditor: &Auditor, e: &Event) -> u32
@@ -80,67 +78,9 @@ pub(crate) fn first_sent_or(auditor: &Auditor, channel: u32, none: u64) -> u64
     }
 }
 
-/// The messages that are in transit, each up to when it is due.
-pub(crate) fn pending_of(
-    alloc: Global,
-    auditor: &Auditor,
-    cross: &[Crossing],
-    timing: &Timing,
-) -> Result<List<Arrow>, Memory>
-    requires same { HaveSameNodes auditor.now.shape timing.now }
-    ensures { IfOk result (λ arrows. arrows ≡ pending_below cross.now auditor.now.shape timing.now
-        (chan_at auditor.now.chans) (chan_count auditor.now.shape)) }
-{
-    auditor.invariant_holds();
-    let mut arrows = List::new(alloc);
-    let channels = auditor.shape().channels.len();
-    'channels: for channel in 0..channels {
-        add_pending(auditor, cross, timing, channel as u32, &mut arrows)?;
-    }
-    Ok(arrows)
-}
-
-// Appends those of one channel.
-fn add_pending(
-    auditor: &Auditor,
-    cross: &[Crossing],
-    timing: &Timing,
-    channel: u32,
-    arrows: &mut List<Arrow>,
-) -> Result<(), Memory>
-    requires same { HaveSameNodes auditor.now.shape timing.now }
-    requires channel { channel < chan_count auditor.now.shape }
-    ensures { OnOk result (arrows.new ≡ arrows.old
-        ++ map (pending_arrow cross.now auditor.now.shape timing.now channel) (chan_at auditor.now.chans channel).transit) }
-{
-    let count = auditor.transit_count(channel);
-    'places: for place in 0..count {
-        add_place(auditor, cross, timing, channel, place, arrows)?;
-    }
-    Ok(())
-}
-
-// Appends the one at this place.
-fn add_place(
-    auditor: &Auditor,
-    cross: &[Crossing],
-    timing: &Timing,
-    channel: u32,
-    place: usize,
-    arrows: &mut List<Arrow>,
-) -> Result<(), Memory>
-    requires same { HaveSameNodes auditor.now.shape timing.now }
-    requires channel { channel < chan_count auditor.now.shape }
-    ensures { OnOk result (arrows.new ≡ arrows.old
-        ++ pending_arrow cross.now auditor.now.shape timing.now channel (slice_index_or (chan_at auditor.now.chans channel).transit place 0) ∷ []) }
-{
-    let sent = sent_at(auditor, channel, place);
-    arrows.push(pending_arrow(auditor, cross, timing, channel, sent))
-}
-
-// When the message at this place was sent.
+/// When the message in transit on a channel at this place was sent.
 #[tactic(auto, using(crate::proofs::Sent::got_some, crate::proofs::Sent::got_none))]
-fn sent_at(auditor: &Auditor, channel: u32, place: usize) -> u64
+pub(crate) fn sent_at(auditor: &Auditor, channel: u32, place: usize) -> u64
     requires channel { channel < chan_count auditor.now.shape }
     ensures value { result ≡ slice_index_or (chan_at auditor.now.chans channel).transit place 0 }
     ensures timely { result ≤ GREATEST_TIME }
@@ -151,9 +91,9 @@ fn sent_at(auditor: &Auditor, channel: u32, place: usize) -> u64
     }
 }
 
-// The arrow of one message.
+/// The arrow of a message in transit, up to when it is due.
 #[tactic(auto)]
-fn pending_arrow(
+pub(crate) fn pending_arrow(
     auditor: &Auditor,
     cross: &[Crossing],
     timing: &Timing,

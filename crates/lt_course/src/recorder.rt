@@ -6,21 +6,27 @@ ghost use Rattle.lt_arch.specs.declared.event.Deed.{Deed};
 ghost use Rattle.lt_arch.specs.Readers.{chan_count, node_count};
 ghost use Rattle.lt_arch.specs.Schedule.{IsEventOf};
 ghost use Rattle.lt_arch.specs.Shapes.{HaveSameNodes};
+ghost use Rattle.lt_audit.specs.Audit.{chan_at};
 ghost use Rattle.lt_audit.specs.Standing.{JudgesEvent};
 ghost use Rattle.lt_schedule.specs.Long.{long_line};
 ghost use Rattle.lt_schedule.specs.declared.halt.Stop.TheVariants as stops;
-ghost use Rattle.lt_course.specs.Courses.{drawing_rules, stopped_at};
+ghost use Rattle.lt_course.specs.Courses.{drawing_rules, stopped_at, whole_course};
 ghost use Rattle.lt_course.specs.Recorded.{JudgesNextEvent};
-ghost use Rattle.lt_course.specs.Recording.{HasRecorded, KeepsRecorder, TapesStroke, offence_behind, recorder_rules};
+ghost use Rattle.lt_course.specs.Recording.{DrawsRecorded, HasRecorded, KeepsRecorder, TapesStroke, offence_behind, recorder_rules, recorder_whole};
 ghost use Rattle.lt_course.specs.Sketches.{IsDeedDone, stroke_by};
+ghost use Rattle.lt_course.specs.Strokes.{pending_on};
 
 use crate::course::Stopped;
-use crate::reading::{done_at, executed_at, first_miss, pending_of, sent_before};
-use crate::refusing::{last_mark_for, oldest_read, refused_by, stop_time};
+use crate::drawable::Drawable;
+use crate::drawn::stopped_before;
+use crate::reading::{done_at, executed_at, first_miss, pending_arrow, sent_at, sent_before};
+use crate::recording::Recording;
+use crate::refusing::{last_mark_for, oldest_read, refused_by};
 use crate::sketch::stroke_by;
 use lt_arch::{Event, Offence, Shape, Timing};
-use lt_audit::{AuditFault, Auditor};
+use lt_audit::{AuditFault, Auditor, Miss};
 use lt_base::{List, Memory, Steps};
+use lt_diagram::Arrow;
 use lt_place::Crossing;
 use lt_rows::PlaceTable;
 use lt_schedule::{Replica, Stop};
@@ -121,15 +127,11 @@ impl Recorder {
     }
 
     // Stops at an event that the auditor did not take.
-    fn halt(&mut self, e: &Event, fault: AuditFault) -> Stop<Stopped>
-        requires event { IsEventOf self.old.auditor.shape e.now }
-        requires stands { (before : Items OfEvent) × HasRecorded self.old before }
-        requires judged { (before : Items OfEvent) → HasRecorded self.old before → JudgesEvent (offence_behind self.old before e.now) (Err fault) }
-        ensures judges { (before : Items OfEvent) → HasRecorded self.old before → JudgesNextEvent (recorder_rules self.old) before e.now (Err result) }
-        ensures auditor { self.new.auditor ≡ self.old.auditor }
-        ensures cross { self.new.cross ≡ self.old.cross }
-        ensures timing { self.new.timing ≡ self.old.timing }
-        ensures asked { self.new.asked ≡ self.old.asked }
+    fn halt(&self, e: &Event, fault: AuditFault) -> Stop<Stopped>
+        requires event { IsEventOf self.now.auditor.shape e.now }
+        requires stands { (before : Items OfEvent) × HasRecorded self.now before }
+        requires judged { (before : Items OfEvent) → HasRecorded self.now before → JudgesEvent (offence_behind self.now before e.now) (Err fault) }
+        ensures judges { (before : Items OfEvent) → HasRecorded self.now before → JudgesNextEvent (recorder_rules self.now) before e.now (Err result) }
     {
         match fault {
             AuditFault::Offence(offence) => self.stop(e, offence),
@@ -138,15 +140,11 @@ impl Recorder {
     }
 
     // Stops at an event with an offence, with what is drawn of the list.
-    fn stop(&mut self, e: &Event, offence: Offence) -> Stop<Stopped>
-        requires event { IsEventOf self.old.auditor.shape e.now }
-        requires stands { (before : Items OfEvent) × HasRecorded self.old before }
-        requires offence { (before : Items OfEvent) → HasRecorded self.old before → offence_behind self.old before e.now ≡ Some offence }
-        ensures judges { (before : Items OfEvent) → HasRecorded self.old before → JudgesNextEvent (recorder_rules self.old) before e.now (Err result) }
-        ensures auditor { self.new.auditor ≡ self.old.auditor }
-        ensures cross { self.new.cross ≡ self.old.cross }
-        ensures timing { self.new.timing ≡ self.old.timing }
-        ensures asked { self.new.asked ≡ self.old.asked }
+    fn stop(&self, e: &Event, offence: Offence) -> Stop<Stopped>
+        requires event { IsEventOf self.now.auditor.shape e.now }
+        requires stands { (before : Items OfEvent) × HasRecorded self.now before }
+        requires offence { (before : Items OfEvent) → HasRecorded self.now before → offence_behind self.now before e.now ≡ Some offence }
+        ensures judges { (before : Items OfEvent) → HasRecorded self.now before → JudgesNextEvent (recorder_rules self.now) before e.now (Err result) }
     {
         match self.stopped(e, offence) {
             Ok(stopped) => Stop::Offence(stopped),
@@ -155,30 +153,18 @@ impl Recorder {
     }
 
     // What is drawn of a list with an offence at this event.
-    fn stopped(&mut self, e: &Event, offence: Offence) -> Result<Stopped, Memory>
-        requires event { IsEventOf self.old.auditor.shape e.now }
-        requires stands { (before : Items OfEvent) × HasRecorded self.old before }
-        requires offence { (before : Items OfEvent) → HasRecorded self.old before → offence_behind self.old before e.now ≡ Some offence }
-        ensures stopped { IfOk result (λ x. (before : Items OfEvent) → HasRecorded self.old before
-            → x ≡ stopped_at self.old.asked self.old.cross self.old.auditor.shape self.old.timing self.old.auditor.rows before e.now offence) }
-        ensures auditor { self.new.auditor ≡ self.old.auditor }
-        ensures cross { self.new.cross ≡ self.old.cross }
-        ensures timing { self.new.timing ≡ self.old.timing }
-        ensures asked { self.new.asked ≡ self.old.asked }
+    fn stopped(&self, e: &Event, offence: Offence) -> Result<Stopped, Memory>
+        requires event { IsEventOf self.now.auditor.shape e.now }
+        requires stands { (before : Items OfEvent) × HasRecorded self.now before }
+        requires offence { (before : Items OfEvent) → HasRecorded self.now before → offence_behind self.now before e.now ≡ Some offence }
+        ensures { IfOk result (λ x. (before : Items OfEvent) → HasRecorded self.now before
+            → x ≡ stopped_at self.now.asked self.now.cross self.now.auditor.shape self.now.timing self.now.auditor.rows before e.now offence) }
     {
         let last = last_mark_for(&self.tape, offence);
         let oldest = oldest_read(&self.auditor, offence);
         let shape = self.auditor.shape();
         let refused = refused_by(self.alloc, shape, &self.timing, last, oldest, e, offence)?;
-        let cross = self.cross.as_slice();
-        let pending = pending_of(self.alloc, &self.auditor, cross, &self.timing)?;
-        let excerpt = self.tape.excerpt(Some(stop_time(&refused)))?;
-        Ok(Stopped {
-            excerpt,
-            pending,
-            refused,
-            miss: first_miss(&self.auditor),
-        })
+        stopped_before(self.alloc, self, refused)
     }
 }
 
@@ -223,4 +209,53 @@ impl Replica<()> for Recorder {
     ghost keeps_rules = { λ a v b w x. λ i. drawing_rules (x.4 i) (x.0 i) (x.2 i) (x.1 i) (x.3 i) };
 
     ghost keeps_prompt = { λ a v b w x prompt. prompt };
+}
+
+impl Drawable for Recorder {
+    ghost asked = { λ r. r.asked };
+
+    ghost draws = { λ r w. DrawsRecorded r w };
+
+    ghost channels = { λ r. chan_count r.auditor.shape };
+
+    ghost transit = { λ r c. pending_on r.cross r.auditor.shape r.timing (chan_at r.auditor.chans) c };
+
+    fn tape(&self) -> &Tape {
+        &self.tape
+    }
+
+    fn miss(&self) -> Option<Miss> {
+        first_miss(&self.auditor)
+    }
+
+    fn channel_count(&self) -> u32 {
+        self.auditor.invariant_holds();
+        self.auditor.shape().channels.len() as u32
+    }
+
+    fn transit_count(&self, channel: u32) -> usize {
+        self.auditor.transit_count(channel)
+    }
+
+    fn arrow_at(&self, channel: u32, place: usize) -> Arrow {
+        let sent = sent_at(&self.auditor, channel, place);
+        let cross = self.cross.as_slice();
+        pending_arrow(&self.auditor, cross, &self.timing, channel, sent)
+    }
+}
+
+impl Recording for Recorder {
+    ghost whole = { recorder_whole };
+
+    fn is_ended(&self) -> bool {
+        self.auditor.reached().is_some()
+    }
+
+    ghost calm = { λ outside. refl };
+
+    ghost draws_whole = { λ a outside steps es recorded. (es, recorded, refl) };
+
+    ghost keeps_asked = { λ a v b w x. x.4 };
+
+    ghost keeps_whole = { λ a v b w x. λ i es. whole_course (x.0 i) (x.2 i) (x.1 i) (x.3 i) es };
 }

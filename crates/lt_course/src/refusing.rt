@@ -10,9 +10,10 @@ ghost use Rattle.lt_diagram.specs.declared.picture.Wrong.TheVariants as wrongs;
 ghost use Rattle.lt_tape.specs.declared.asked.Asked.{Asked as OfAsked};
 ghost use Rattle.lt_tape.specs.declared.stroke.Stroke.{Stroke as OfStroke};
 ghost use Rattle.lt_tape.specs.Tapes.{IsTapeOf};
-ghost use Rattle.lt_course.specs.Courses.{offence_bound, refused_by, stop_time, wrong_by};
+ghost use Rattle.lt_course.specs.Courses.{offence_bound, refused_by, wrong_by};
 ghost use Rattle.lt_course.specs.Lasts.{last_mark_for, oldest_read};
 ghost use Rattle.lt_course.specs.Placed.{IsPlacedOffence, IsTimelyLast};
+ghost use Rattle.lt_course.specs.Whole.{stop_time};
 
 use crate::course::RefusedEvent;
 use crate::reading::first_sent_or;
@@ -45,7 +46,7 @@ pub fn last_mark_for(tape: &Tape, offence: Offence) -> Option<u64>
 }
 
 /// The latest time that matters of an event that is refused.
-pub fn stop_time(refused: &RefusedEvent) -> u64
+pub(crate) fn stop_time(refused: &RefusedEvent) -> u64
     ensures { result ≡ stop_time refused.now }
 {
     refused.time.max(time_or_zero(refused.bound))

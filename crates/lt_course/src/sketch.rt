@@ -4,6 +4,7 @@ ghost use Rattle.lt_arch.specs.declared.chan.ChanKind.TheVariants as kinds;
 ghost use Rattle.lt_arch.specs.Ends.{HasEnds};
 ghost use Rattle.lt_arch.specs.Readers.{chan_count, chan_of, node_count};
 ghost use Rattle.lt_arch.specs.Schedule.{IsPlacedIn};
+ghost use Rattle.lt_audit.specs.Acts.{next_number};
 ghost use Rattle.lt_course.specs.Strokes.{arrow_of, ink_by, ink_of, sign_of};
 ghost use Rattle.lt_course.specs.Sketches.{stroke_by};
 
@@ -12,6 +13,17 @@ use lt_diagram::{Arrow, Fate, Ink, Mark, Sign};
 use lt_net_node::is_crossed;
 use lt_place::Crossing;
 use lt_tape::Stroke;
+
+/// The number of the event behind so many, as far as a number of 32 bits goes.
+pub fn number_behind(count: usize) -> u32
+    ensures { result ≡ next_number count }
+{
+    if count < 4_294_967_295 {
+        count as u32 + 1
+    } else {
+        4_294_967_295
+    }
+}
 
 /// The sign of a deed of a node that has executed so many instants.
 pub fn sign_of(deed: Deed, executed: u32) -> Sign

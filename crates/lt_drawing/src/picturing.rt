@@ -1,7 +1,6 @@
 // The picture of a schedule.
 ghost use Rattle.std.specs.Prelude.{◌≡◌, ◌==◌, ◌++◌, find, is_some, unwrap_or, IfOk};
 ghost use Rattle.lt_arch.specs.Paced.{allowed_of};
-ghost use Rattle.lt_audit.specs.Acts.{next_number};
 ghost use Rattle.lt_draw.specs.PictureText.{picture_text};
 ghost use Rattle.lt_text_lines.specs.ScheduleLines.{lossy_line};
 ghost use Rattle.lt_drawing.specs.Kept.{arrows_if};
@@ -15,7 +14,7 @@ use crate::view::DrawView;
 use lt_arch::{Pace, Shape};
 use lt_audit::Miss;
 use lt_base::{List, Memory};
-use lt_course::{Course, RefusedEvent};
+use lt_course::{Course, RefusedEvent, number_behind};
 use lt_diagram::{Arrow, Mark, Picture, Ring};
 use lt_draw::write_picture;
 use lt_inspect::Stage;
@@ -154,13 +153,6 @@ fn ring_in(
     }
 }
 
-// The number of the event behind so many.
-fn next_number(count: usize) -> u32
-    ensures { result ≡ next_number count }
-{
-    count.saturating_add(1).min(4_294_967_295) as u32
-}
-
 // Whether links lose messages.
 fn loses(pace: Pace) -> bool
     ensures { result ≡ is_some (allowed_of pace) }
@@ -195,7 +187,7 @@ fn picture_of(
     let excerpt = &course.excerpt;
     let window = excerpt.window;
     let marks = excerpt.marks.as_slice();
-    let number = next_number(excerpt.count);
+    let number = number_behind(excerpt.count);
     Ok(Picture {
         width: width_of(view),
         from: window.from,

@@ -1,6 +1,5 @@
 -- A recorder after one event more, and at an offence.
 use Rattle.std.proofs.Common.{◌≡◌, ◌∙◌, ℕ, ◌+◌, ◌<◌, ◌≤◌, List, [], ◌∷◌, ◌++◌, length, map, Some, None, Result, Ok, Err, refl, sym, ap, subst, arith, slice_index_or}
-use Rattle.std.specs.Prelude.{IfErr, OnOk, option_map}
 use Rattle.lt_arch.specs.declared.event.Deed.{Deed}
 use Rattle.lt_arch.specs.declared.event.Offence.{Offence}
 use Rattle.lt_arch.specs.declared.event.Offence.TheVariants.{AfterEnd, Backwards, NodeOverdue, ChannelOverdue, TooSoon, NothingSent, TooEarly, NoEnd}
@@ -18,34 +17,28 @@ use Rattle.lt_lossy.specs.Schedule.{lossy_reached}
 use Rattle.lt_lossy.specs.Step.{lossy_offence}
 use Rattle.lt_lossy.specs.Times.{lossy_time_of}
 use Rattle.lt_place_reads.specs.declared.crossing.Crossing.{Crossing}
-use Rattle.lt_schedule.specs.declared.halt.Stop.{Stop}
-use Rattle.lt_schedule.specs.declared.halt.Stop.TheVariants as stop
 use Rattle.lt_audit.specs.Acts.{next_number}
-use Rattle.lt_diagram.specs.declared.picture.Arrow.{Arrow}
 use Rattle.lt_tape.specs.declared.asked.Asked.{Asked}
-use Rattle.lt_tape.specs.declared.excerpt.Excerpt.{Excerpt}
 use Rattle.lt_tape.specs.declared.stroke.Stroke.{Stroke}
 use Rattle.lt_tape.specs.declared.tape.Tape.{Tape}
-use Rattle.lt_tape.specs.Excerpts.{excerpt_of}
 use Rattle.lt_tape.specs.Tapes.{IsTapeOf, tape_count}
 use Rattle.lt_tape.specs.Times.{last_mark, last_time, stroke_time, time_or_zero}
 use Rattle.lt_tape.proofs.Tallying.{last_push}
 use Rattle.lt_course.specs.declared.course.RefusedEvent.{RefusedEvent}
-use Rattle.lt_course.specs.declared.course.Stopped.{Stopped}
-use Rattle.lt_course.specs.Courses.{last_for, oldest_for, stop_time}
+use Rattle.lt_course.specs.Courses.{last_for, oldest_for}
 use Rattle.lt_course.specs.Lasts.{last_mark_for}
 use Rattle.lt_course.specs.Placed.{IsPlacedOffence}
 use Rattle.lt_course.specs.Recording.{TapesStroke}
-use Rattle.lt_course.specs.Strokes.{first_sent_or}
+use Rattle.lt_course.specs.Strokes.{arrows_below, first_sent_or}
 use Rattle.lt_lossy_audit.specs.Links.{link_seen, link_send_times}
 use Rattle.lt_lossy_audit.specs.LossyAudit.{KnowsLossyDeed, LossyAuditState, LossyAuditStands}
 use Rattle.lt_lossy_audit.proofs.SpaceSeen.{after_more}
 use Rattle.lt_lossy_course.specs.declared.sketch.Leaving.{Leaving}
-use Rattle.lt_lossy_course.specs.LossyCourses.{lossy_drawing_rules, lossy_last_for, lossy_oldest_for, lossy_refused_at, lossy_refused_by, lossy_stopped_at}
+use Rattle.lt_lossy_course.specs.LossyCourses.{lossy_last_for, lossy_oldest_for, lossy_refused_at, lossy_refused_by}
 use Rattle.lt_lossy_course.specs.LossyLasts.{IsLossyPlacedOffence, common_oldest_read, first_time_on, lossy_mark_for, lossy_oldest_read}
-use Rattle.lt_lossy_course.specs.LossyNoted.{IsLossyNotedSoFar, JudgesNextLossy}
+use Rattle.lt_lossy_course.specs.LossyNoted.{IsLossyNotedSoFar}
 use Rattle.lt_lossy_course.specs.LossySketches.{IsLossyDeedDone, IsLossyExecuted, TakesLeaving, lossy_stroke_by}
-use Rattle.lt_lossy_course.specs.LossyStrokes.{lossy_pending_below, lossy_pending_of, lossy_stroke_of, lossy_strokes_of}
+use Rattle.lt_lossy_course.specs.LossyStrokes.{lossy_pending_of, lossy_pending_on, lossy_stroke_of, lossy_strokes_of}
 use Rattle.lt_lossy_course.proofs.LossyStrokes.{last_seen, latest_after, lossy_comes_later, pending_same, stroke_at, stroke_same, strokes_count, strokes_push}
 
 module _ (a b : LossyAuditState) (asked : Asked) (cross : List Crossing) (t : Timing) (limit : ℕ) (tape : Tape) (es : List LossyEvent) (e : LossyEvent) (before : IsLossyNotedSoFar a asked cross t limit tape es) (event : IsLossyEventOf a.shape e) where
@@ -124,15 +117,11 @@ module _ (a : LossyAuditState) (asked : Asked) (cross : List Crossing) (t : Timi
   oldest_same (Common o) placed = common_oldest o placed
   oldest_same (TooManyLost c) placed = oldest_of c placed
 
-  pub pending_is : lossy_pending_below cross a.shape t (link_seen a.links) (chan_count a.shape) ≡ lossy_pending_of cross a.shape t st
+  pub pending_is : arrows_below (lossy_pending_on cross a.shape t (link_seen a.links)) (chan_count a.shape) ≡ lossy_pending_of cross a.shape t st
   pending_is = pending_same cross a.shape t (link_seen a.links) st.link (chan_count a.shape) (λ c lc. before.stands.state.link c lc)
 
-  pub stopped_is : (e : LossyEvent) (o : LossyOffence) (excerpt : Excerpt) (pending : List Arrow) (refused : RefusedEvent) → IsLossyPlacedOffence a.shape o → excerpt ≡ excerpt_of asked (node_count a.shape) (Some (stop_time refused)) strokes
-      → pending ≡ lossy_pending_below cross a.shape t (link_seen a.links) (chan_count a.shape) → refused ≡ lossy_refused_by a.shape t (lossy_mark_for strokes o) (lossy_oldest_read a o) e o
-      → record { excerpt = excerpt; pending = pending; refused = refused; miss = None } ≡ lossy_stopped_at asked cross a.shape t a.rows es e o
-  stopped_is e o excerpt pending refused placed shown waits is =
-      let there : refused ≡ lossy_refused_at a.shape t st e o = is ∙ (λ j. lossy_refused_by a.shape t (last_same o j) (oldest_same o placed j) e o) in
-      λ i. record { excerpt = (shown ∙ (λ j. excerpt_of asked (node_count a.shape) (Some (stop_time (there j))) strokes)) i; pending = (waits ∙ pending_is) i; refused = there i; miss = None }
+  pub refused_is : (e : LossyEvent) (o : LossyOffence) (refused : RefusedEvent) → IsLossyPlacedOffence a.shape o → refused ≡ lossy_refused_by a.shape t (lossy_mark_for strokes o) (lossy_oldest_read a o) e o → refused ≡ lossy_refused_at a.shape t st e o
+  refused_is e o refused placed is = is ∙ (λ j. lossy_refused_by a.shape t (last_same o j) (oldest_same o placed j) e o)
 
 -- the same by equal auditors, crossings, bounds of time and limits, where the same is asked
 pub moved : (a b : LossyAuditState) (asked asked' : Asked) (cross cross' : List Crossing) (t t' : Timing) (limit limit' : ℕ) (tape : Tape) (es : List LossyEvent) → b ≡ a → asked' ≡ asked → cross' ≡ cross → t' ≡ t → limit' ≡ limit
@@ -141,18 +130,3 @@ moved a b asked asked' cross cross' t t' limit limit' tape es p d q r l rec =
     subst (λ (x : LossyAuditState). IsLossyNotedSoFar x asked' cross' t' limit' tape es) (sym p) (subst (λ (k : Asked). IsLossyNotedSoFar a k cross' t' limit' tape es) (sym d)
     (subst (λ (c : List Crossing). IsLossyNotedSoFar a asked c t' limit' tape es) (sym q) (subst (λ (u : Timing). IsLossyNotedSoFar a asked cross u limit' tape es) (sym r)
     (subst (λ (n : ℕ). IsLossyNotedSoFar a asked cross t n tape es) (sym l) rec))))
-
--- what is judged of the next event
-
-module _ (asked : Asked) (cross : List Crossing) (s : Shape) (t : Timing) (limit rows : ℕ) (before : List LossyEvent) (e : LossyEvent) where
-  pub judged_taken : (r : Result (Unit {0}) (Stop Stopped)) → IfErr r (λ x. x ≡ stop.Memory) → lossy_offence s t limit (lossy_reached s t rows before) e ≡ None → JudgesNextLossy (lossy_drawing_rules asked cross s t limit rows) before e r
-  judged_taken (Ok done) short none = ap (option_map (lossy_stopped_at asked cross s t rows before e)) none
-  judged_taken (Err x) short none = subst (λ (y : Stop Stopped). JudgesNextLossy (lossy_drawing_rules asked cross s t limit rows) before e (Err y)) (sym short) tt
-
-  pub judged_stopped : (o : LossyOffence) (x : Stopped) → lossy_offence s t limit (lossy_reached s t rows before) e ≡ Some o → x ≡ lossy_stopped_at asked cross s t rows before e o
-      → option_map (lossy_stopped_at asked cross s t rows before e) (lossy_offence s t limit (lossy_reached s t rows before) e) ≡ Some x
-  judged_stopped o x found is = ap (option_map (lossy_stopped_at asked cross s t rows before e)) found ∙ ap (λ (y : Stopped). Some y) (sym is)
-
-pub on_ok : {P Q : Type 0} (r : Result (Unit {0}) (Stop Stopped)) → (P → Q) → OnOk r P → OnOk r Q
-on_ok (Ok done) f p = f p
-on_ok (Err x) f p = tt

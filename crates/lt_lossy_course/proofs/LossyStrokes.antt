@@ -26,13 +26,14 @@ use Rattle.lt_diagram.specs.declared.picture.Fate.TheVariants.{Delivered, Lost}
 use Rattle.lt_tape.specs.declared.stroke.Stroke.{Stroke}
 use Rattle.lt_tape.specs.declared.stroke.Stroke.TheVariants.{Line, Point}
 use Rattle.lt_tape.specs.Times.{last_mark, last_mark_from, later_mark, stroke_time, time_or_zero}
-use Rattle.lt_course.specs.Strokes.{sign_of}
+use Rattle.lt_course.specs.Strokes.{arrows_below, sign_of}
 use Rattle.lt_course.proofs.Strokes.{comes_later, no_earlier}
+use Rattle.lt_course.proofs.Transit.{below_same}
 use Rattle.lt_lossy_audit.specs.Links.{link_seen}
 use Rattle.lt_lossy_audit.specs.LossyAudit.{KnowsLossyDeed, LossyAuditState, LossyAuditStands}
 use Rattle.lt_lossy_course.specs.declared.sketch.Leaving.{Leaving}
 use Rattle.lt_lossy_course.specs.LossySketches.{IsLeaving, IsLossyDeedDone, IsLossyExecuted, TakesLeaving, left_message, lossy_stroke_by}
-use Rattle.lt_lossy_course.specs.LossyStrokes.{leaving_arrow, lossy_pending_below, lossy_stroke_of, lossy_strokes_from, lossy_strokes_of, message_arrow, pending_message, placed_message}
+use Rattle.lt_lossy_course.specs.LossyStrokes.{leaving_arrow, lossy_pending_on, lossy_stroke_of, lossy_strokes_from, lossy_strokes_of, message_arrow, pending_message, placed_message}
 
 module _ (cross : List Crossing) (s : Shape) (t : Timing) (rows : ℕ) where
   -- the last event's stroke comes last
@@ -69,10 +70,8 @@ module _ (a b : LossyAuditState) (cross : List Crossing) (s : Shape) (t : Timing
   stroke_same (Lose c at) placed knows ex takes done = ap Line (leaves c at placed takes (Lost number))
 
 -- what is in transit, channel by channel
-pub pending_same : (cross : List Crossing) (s : Shape) (t : Timing) (f g : ℕ → LinkState) (n : ℕ) → ((c : ℕ) → c < n → f c ≡ g c) → lossy_pending_below cross s t f n ≡ lossy_pending_below cross s t g n
-pending_same cross s t f g zero same = refl
-pending_same cross s t f g (suc c) same =
-    λ i. pending_same cross s t f g c (λ d lt. same d (omega (arith, lt))) i ++ map (pending_message cross s t c (same c (omega arith) i).newest) (same c (omega arith) i).transit
+pub pending_same : (cross : List Crossing) (s : Shape) (t : Timing) (f g : ℕ → LinkState) (n : ℕ) → ((c : ℕ) → c < n → f c ≡ g c) → arrows_below (lossy_pending_on cross s t f) n ≡ arrows_below (lossy_pending_on cross s t g) n
+pending_same cross s t f g n same = below_same (lossy_pending_on cross s t f) (lossy_pending_on cross s t g) n (λ c lt. ap (λ (l : LinkState). map (pending_message cross s t c l.newest) l.transit) (same c lt))
 
 -- a node's last activation is that of its last mark
 last_of_if : (b : Bool) (x y : NodeState) → (if b then x else y).last ≡ (if b then x.last else y.last)

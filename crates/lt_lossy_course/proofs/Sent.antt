@@ -1,7 +1,6 @@
 -- The messages in transit at places of a channel.
-use Rattle.std.proofs.Common.{◌≡◌, ◌∙◌, ℕ, zero, suc, ◌+◌, ◌<◌, List, [], ◌∷◌, ◌++◌, length, map, take, slice_index_or, append_assoc, add-one, arith, ap, Some, None, refl, sym}
+use Rattle.std.proofs.Common.{◌≡◌, ◌∙◌, ℕ, zero, suc, List, [], ◌∷◌, map, slice_index_or, Some, None, refl}
 use Rattle.std.specs.Prelude.{slice_get}
-use Rattle.std.proofs.lemmas.List.{map-append}
 use Rattle.lt_lossy.specs.State.{LinkState, Message}
 use Rattle.lt_lossy_audit.specs.Links.{link_numbers, link_send_times}
 use Rattle.lt_lossy_course.specs.LossySketches.{left_message}
@@ -28,15 +27,3 @@ both_of (m ∷ later) (suc p) none = both_of later p none
 -- its number and its send time, which are read one after the other
 pub both_read : (link : LinkState) (place none newest number sent : ℕ) → number ≡ slice_index_or (link_numbers link) place 0 → sent ≡ slice_index_or (link_send_times link) place none → left_message (record { newest = newest; number = number; sent = sent }) ≡ placed_message none link.transit place
 both_read link place none newest number sent n s = (λ i. record { number = n i; sent_at = s i }) ∙ both_of link.transit place none
-
-take_more : (ms : List Message) (place none : ℕ) → place < length ms → take (suc place) ms ≡ take place ms ++ placed_message none ms place ∷ []
-take_more [] place none lt = absurd (omega (arith, lt))
-take_more (x ∷ later) zero none lt = refl
-take_more (x ∷ later) (suc p) none lt = ap (λ (xs : List Message). x ∷ xs) (take_more later p none (omega (arith, lt)))
-
--- one message more
-pub one_more : {A : Type 0} (f : Message → A) (ms : List Message) (place : ℕ) (before after first : List A) → place < length ms → before ≡ first ++ map f (take place ms) → after ≡ before ++ f (placed_message 0 ms place) ∷ []
-    → after ≡ first ++ map f (take (place + 1) ms)
-one_more f ms place before after first lt is on =
-    on ∙ ap (λ xs. xs ++ f (placed_message 0 ms place) ∷ []) is ∙ append_assoc first (map f (take place ms)) (f (placed_message 0 ms place) ∷ [])
-    ∙ ap (λ xs. first ++ xs) (sym (map-append f (take place ms) (placed_message 0 ms place ∷ []))) ∙ ap (λ xs. first ++ map f xs) (sym (take_more ms place 0 lt)) ∙ ap (λ k. first ++ map f (take k ms)) (sym (add-one place))

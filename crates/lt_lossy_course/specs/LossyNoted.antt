@@ -1,19 +1,15 @@
 -- A recorder of the events of a schedule over links that lose messages.
-use Rattle.std.specs.Prelude.{◌≡◌, ℕ, List, None, Some, Result, Ok, Err}
+use Rattle.std.specs.Prelude.{◌≡◌, ℕ, List}
 use Rattle.lt_arch.specs.declared.timing.Timing.{Timing}
 use Rattle.lt_arch.specs.Readers.{node_count}
 use Rattle.lt_arch.specs.Shapes.{HaveSameNodes}
 use Rattle.lt_lossy.specs.declared.event.LossyEvent.{LossyEvent}
 use Rattle.lt_lossy.specs.Schedule.{lossy_reached}
 use Rattle.lt_place_reads.specs.declared.crossing.Crossing.{Crossing}
-use Rattle.lt_schedule.specs.declared.halt.Stop.{Stop}
-use Rattle.lt_schedule.specs.declared.halt.Stop.TheVariants as stop
-use Rattle.lt_schedule.specs.Rules.{Rules}
 use Rattle.lt_tape.specs.declared.asked.Asked.{Asked}
 use Rattle.lt_tape.specs.declared.tape.Tape.{Tape}
 use Rattle.lt_tape.specs.Tapes.{IsTapeOf}
 use Rattle.lt_tape.specs.Times.{last_time, time_or_zero}
-use Rattle.lt_course.specs.declared.course.Stopped.{Stopped}
 use Rattle.lt_lossy_audit.specs.LossyAudit.{LossyAuditState, LossyAuditStands}
 use Rattle.lt_lossy_course.specs.LossyStrokes.{lossy_strokes_of}
 
@@ -23,11 +19,3 @@ pub record IsLossyNotedSoFar (a : LossyAuditState) (asked : Asked) (cross : List
   pub same : HaveSameNodes a.shape t
   pub taped : IsTapeOf tape asked (node_count a.shape) (lossy_strokes_of cross a.shape t a.rows es)
   pub latest : last_time (lossy_strokes_of cross a.shape t a.rows es) ≡ time_or_zero (lossy_reached a.shape t a.rows es).latest
-
--- the next event is judged behind these: it is taken, or it has an offence
-abbrev pub JudgesNextLossy : Rules LossyEvent Stopped → (before : List LossyEvent) → LossyEvent → Result (Unit {0}) (Stop Stopped) → Type 0
-JudgesNextLossy rules before e (Ok done) = rules.offence before e ≡ None
-JudgesNextLossy rules before e (Err (stop.Row f)) = ⊥
-JudgesNextLossy rules before e (Err (stop.Offence x)) = rules.offence before e ≡ Some x
-JudgesNextLossy rules before e (Err stop.Link) = ⊥
-JudgesNextLossy rules before e (Err stop.Memory) = Unit {0}

@@ -10,13 +10,8 @@ use Rattle.lt_load_fit.specs.declared.fault.CommandFault.{CommandFault}
 use Rattle.lt_load.specs.OnFiles.{OnFiles}
 use Rattle.lt_tape.specs.declared.asked.Asked.{Asked}
 use Rattle.lt_course.specs.declared.course.Course.{Course}
-use Rattle.lt_lossy_course.specs.declared.recorder.LossyRecorder.{LossyRecorder}
 use Rattle.lt_lossy_course.specs.LossyCourses.{lossy_course_verdict}
 
 -- what is drawn of the schedule file of this name
 abbrev pub ReadsLossyCourse : Asked → List Crossing → Shape → Timing → (limit rows : ℕ) → (schedule : List ℕ) → (old new : FilesState) → Result Course (Or CommandFault) → Type 0
 ReadsLossyCourse asked cross s t limit rows schedule old new result = OnFiles (schedule_errand schedule) (lossy_course_verdict asked cross s t limit rows (old.named schedule)) old new result
-
--- a recorder takes that file
-abbrev pub RecordsLossyCourse : LossyRecorder → (schedule : List ℕ) → (old new : FilesState) → Result Course (Or CommandFault) → Type 0
-RecordsLossyCourse r schedule old new result = ReadsLossyCourse r.asked r.cross r.auditor.shape r.timing r.limit r.auditor.rows schedule old new result

@@ -1,5 +1,5 @@
 -- What the events of a schedule are drawn as where links lose messages.
-use Rattle.std.specs.Prelude.{ℕ, ◌+◌, ◌&&◌, nat_lt, List, [], ◌∷◌, ◌++◌, map, slice_index_or, suc, zero}
+use Rattle.std.specs.Prelude.{ℕ, ◌+◌, ◌&&◌, nat_lt, List, [], ◌∷◌, map, slice_index_or}
 use Rattle.std.specs.List.{list_any}
 use Rattle.lt_arch.specs.declared.event.Event.TheVariants.{Act, Del, End}
 use Rattle.lt_arch.specs.declared.shape.Shape.{Shape}
@@ -19,7 +19,7 @@ use Rattle.lt_diagram.specs.declared.picture.Fate.TheVariants.{Delivered, Lost, 
 use Rattle.lt_diagram.specs.declared.picture.Ink.{Ink}
 use Rattle.lt_tape.specs.declared.stroke.Stroke.{Stroke}
 use Rattle.lt_tape.specs.declared.stroke.Stroke.TheVariants.{Point, Line, Edge}
-use Rattle.lt_course.specs.Strokes.{ink_by, sign_of}
+use Rattle.lt_course.specs.Strokes.{arrows_below, ink_by, sign_of}
 
 -- that of a message of this number on channel c, which has delivered this one as its newest: acknowledgements are dashed, and data stand out where
 -- something crosses and the message is newer
@@ -58,11 +58,10 @@ lossy_strokes_of cross s t rows es = lossy_strokes_from cross s t rows lossy_sta
 abbrev pub pending_message : List Crossing → Shape → Timing → (c newest : ℕ) → Message → Arrow
 pending_message cross s t c newest m = message_arrow cross s c newest m (m.sent_at + dmax_of t (from_of s c) (to_of s c)) Pending
 
--- all that are in transit on channels below n
-abbrev pub lossy_pending_below : List Crossing → Shape → Timing → (link : ℕ → LinkState) → (n : ℕ) → List Arrow
-lossy_pending_below cross s t link zero = []
-lossy_pending_below cross s t link (suc c) = lossy_pending_below cross s t link c ++ map (pending_message cross s t c (link c).newest) (link c).transit
+-- all messages of a channel that are in transit, where the channels are in these states
+abbrev pub lossy_pending_on : List Crossing → Shape → Timing → (link : ℕ → LinkState) → (c : ℕ) → List Arrow
+lossy_pending_on cross s t link c = map (pending_message cross s t c (link c).newest) (link c).transit
 
--- and on all channels
+-- and those of all channels
 abbrev pub lossy_pending_of : List Crossing → Shape → Timing → LossyState → List Arrow
-lossy_pending_of cross s t st = lossy_pending_below cross s t st.link (chan_count s)
+lossy_pending_of cross s t st = arrows_below (lossy_pending_on cross s t st.link) (chan_count s)

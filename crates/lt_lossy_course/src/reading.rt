@@ -1,22 +1,20 @@
 // What is read of an auditor for a picture.
-ghost use Rattle.std.specs.Prelude.{◌≡◌, ◌<◌, ◌≤◌, ◌++◌, ◌∷◌, [], length, slice_index_or, map, IfOk, OnOk};
+ghost use Rattle.std.specs.Prelude.{◌≡◌, ◌<◌, ◌≤◌, slice_index_or};
 ghost use Rattle.lt_arch.specs.declared.limits.TheConstants.{GREATEST_TIME};
 ghost use Rattle.lt_arch.specs.Readers.{chan_count};
 ghost use Rattle.lt_arch.specs.Shapes.{HaveSameNodes};
 ghost use Rattle.lt_lossy.specs.Events.{IsLossyPlacedIn};
 ghost use Rattle.lt_lossy_audit.specs.Links.{link_numbers, link_seen, link_send_times};
-ghost use Rattle.lt_lossy_course.specs.LossyStrokes.{lossy_pending_below, placed_message, pending_message};
+ghost use Rattle.lt_lossy_course.specs.LossyStrokes.{placed_message, pending_message};
 ghost use Rattle.lt_lossy_course.specs.LossySketches.{IsLeaving, IsLossyDeedDone, IsLossyExecuted, TakesLeaving, left_message};
 
 use crate::sketch::{Leaving, message_arrow};
 use lt_arch::{Deed, Event, Timing};
-use lt_base::{List, Memory};
 use lt_course::chan_at;
 use lt_diagram::{Arrow, Fate};
 use lt_lossy::LossyEvent;
 use lt_lossy_audit::LossyAuditor;
 use lt_place::Crossing;
-use std::alloc::Global;
 
 /// How many instants the node has executed that an event activates.
 pub(crate) fn executed_at(auditor: &LossyAuditor, e: &LossyEvent) -> u32
@@ -66,9 +64,9 @@ fn nothing_leaves() -> Leaving {
     }
 }
 
-// The message in transit on a channel at this place; where there is none, one of number 0 that is sent at this time.
+/// The message in transit on a channel at this place; where there is none, one of number 0 that is sent at this time.
 #[tactic(auto, using(crate::proofs::Sent::both_read))]
-fn placed_message(auditor: &LossyAuditor, channel: u32, place: usize, none: u64) -> Leaving
+pub(crate) fn placed_message(auditor: &LossyAuditor, channel: u32, place: usize, none: u64) -> Leaving
     requires { channel < chan_count auditor.now.shape }
     ensures newest { result.newest ≡ (link_seen auditor.now.links channel).newest }
     ensures message { left_message result ≡ placed_message none (link_seen auditor.now.links channel).transit place }
@@ -107,67 +105,9 @@ pub(crate) fn sent_at(auditor: &LossyAuditor, channel: u32, place: usize, none: 
     }
 }
 
-/// The messages that are in transit, each up to when it is due.
-pub(crate) fn pending_of(
-    alloc: Global,
-    auditor: &LossyAuditor,
-    cross: &[Crossing],
-    timing: &Timing,
-) -> Result<List<Arrow>, Memory>
-    requires same { HaveSameNodes auditor.now.shape timing.now }
-    ensures { IfOk result (λ arrows. arrows ≡ lossy_pending_below cross.now auditor.now.shape timing.now
-        (link_seen auditor.now.links) (chan_count auditor.now.shape)) }
-{
-    auditor.invariant_holds();
-    let mut arrows = List::new(alloc);
-    let channels = auditor.shape().channels.len();
-    'channels: for channel in 0..channels {
-        add_pending(auditor, cross, timing, channel as u32, &mut arrows)?;
-    }
-    Ok(arrows)
-}
-
-// Appends those of one channel.
-fn add_pending(
-    auditor: &LossyAuditor,
-    cross: &[Crossing],
-    timing: &Timing,
-    channel: u32,
-    arrows: &mut List<Arrow>,
-) -> Result<(), Memory>
-    requires same { HaveSameNodes auditor.now.shape timing.now }
-    requires channel { channel < chan_count auditor.now.shape }
-    ensures { OnOk result (arrows.new ≡ arrows.old ++ map (pending_message cross.now auditor.now.shape timing.now channel
-        (link_seen auditor.now.links channel).newest) (link_seen auditor.now.links channel).transit) }
-{
-    let count = auditor.transit_count(channel);
-    'places: for place in 0..count {
-        add_place(auditor, cross, timing, channel, place, arrows)?;
-    }
-    Ok(())
-}
-
-// Appends the one at this place.
-fn add_place(
-    auditor: &LossyAuditor,
-    cross: &[Crossing],
-    timing: &Timing,
-    channel: u32,
-    place: usize,
-    arrows: &mut List<Arrow>,
-) -> Result<(), Memory>
-    requires same { HaveSameNodes auditor.now.shape timing.now }
-    requires channel { channel < chan_count auditor.now.shape }
-    ensures { OnOk result (arrows.new ≡ arrows.old ++ pending_message cross.now auditor.now.shape timing.now channel
-        (link_seen auditor.now.links channel).newest (placed_message 0 (link_seen auditor.now.links channel).transit place) ∷ []) }
-{
-    let message = placed_message(auditor, channel, place, 0);
-    arrows.push(pending_arrow(auditor, cross, timing, channel, message))
-}
-
-// The arrow of one message.
+/// The arrow of a message in transit, up to when it is due.
 #[tactic(auto)]
-fn pending_arrow(
+pub(crate) fn pending_arrow(
     auditor: &LossyAuditor,
     cross: &[Crossing],
     timing: &Timing,

@@ -9,20 +9,24 @@ ghost use Rattle.lt_lossy.specs.declared.event.LossyEvent.{LossyEvent as OfEvent
 ghost use Rattle.lt_lossy.specs.Events.{IsLossyEventOf};
 ghost use Rattle.lt_lossy.specs.Window.{HasWindow};
 ghost use Rattle.lt_schedule.specs.declared.halt.Stop.TheVariants as stops;
+ghost use Rattle.lt_lossy_audit.specs.Links.{link_seen};
 ghost use Rattle.lt_net_lossy.specs.LossyKeeping.{long_lossy_line};
 ghost use Rattle.lt_tape.specs.Tapes.{tape_count};
+ghost use Rattle.lt_course.specs.Recorded.{JudgesNextEvent};
 ghost use Rattle.lt_course.specs.Recording.{TapesStroke};
-ghost use Rattle.lt_lossy_course.specs.LossyCourses.{lossy_drawing_rules, lossy_stopped_at};
-ghost use Rattle.lt_lossy_course.specs.LossyNoted.{JudgesNextLossy};
-ghost use Rattle.lt_lossy_course.specs.LossyRecording.{HasLossyRecorded, KeepsLossyRecorder, lossy_offence_behind, lossy_recorder_rules};
+ghost use Rattle.lt_lossy_course.specs.LossyCourses.{lossy_drawing_rules, lossy_stopped_at, lossy_whole_course};
+ghost use Rattle.lt_lossy_course.specs.LossyRecording.{DrawsLossyRecorded, HasLossyRecorded, KeepsLossyRecorder, lossy_offence_behind, lossy_recorder_rules, lossy_recorder_whole};
 ghost use Rattle.lt_lossy_course.specs.LossySketches.{IsLossyDeedDone, lossy_stroke_by};
+ghost use Rattle.lt_lossy_course.specs.LossyStrokes.{lossy_pending_on};
 
-use crate::reading::{done_at, executed_at, leaving_at, pending_of};
+use crate::reading::{done_at, executed_at, leaving_at, pending_arrow, placed_message};
 use crate::refusing::{mark_for, oldest_read, refused_by};
 use crate::sketch::{Leaving, lossy_stroke_by};
 use lt_arch::{Shape, Timing};
+use lt_audit::Miss;
 use lt_base::{List, Memory, Steps};
-use lt_course::{Stopped, stop_time};
+use lt_course::{Drawable, Recording, Stopped, number_behind, stopped_before};
+use lt_diagram::Arrow;
 use lt_lossy::{LossyEvent, LossyOffence, read_lossy};
 use lt_lossy_audit::LossyAuditor;
 use lt_place::Crossing;
@@ -82,7 +86,7 @@ impl LossyRecorder {
     fn take<L: Ledger>(&mut self, e: LossyEvent, steps: &mut Steps<L>) -> Result<(), Stop<Stopped>>
         requires event { IsLossyEventOf self.old.auditor.shape e }
         requires stands { (before : Items OfEvent) × HasLossyRecorded self.old before }
-        ensures judges { (before : Items OfEvent) → HasLossyRecorded self.old before → JudgesNextLossy (lossy_recorder_rules self.old) before e result }
+        ensures judges { (before : Items OfEvent) → HasLossyRecorded self.old before → JudgesNextEvent (lossy_recorder_rules self.old) before e result }
         ensures takes { OnOk result ((before : Items OfEvent) → HasLossyRecorded self.old before → HasLossyRecorded self.new (before ++ e ∷ [])) }
         ensures cross { self.new.cross ≡ self.old.cross }
         ensures timing { self.new.timing ≡ self.old.timing }
@@ -96,6 +100,19 @@ impl LossyRecorder {
         match self.auditor.event(e, steps) {
             Ok(()) => self.note(&e, executed, message),
             Err(offence) => Err(self.stop(&e, offence)),
+        }
+    }
+
+    // Stops at an event with an offence, with what is drawn of the list.
+    fn stop(&self, e: &LossyEvent, offence: LossyOffence) -> Stop<Stopped>
+        requires event { IsLossyEventOf self.now.auditor.shape e.now }
+        requires stands { (before : Items OfEvent) × HasLossyRecorded self.now before }
+        requires offence { (before : Items OfEvent) → HasLossyRecorded self.now before → lossy_offence_behind self.now before e.now ≡ Some offence }
+        ensures judges { (before : Items OfEvent) → HasLossyRecorded self.now before → JudgesNextEvent (lossy_recorder_rules self.now) before e.now (Err result) }
+    {
+        match self.stopped(e, offence) {
+            Ok(stopped) => Stop::Offence(stopped),
+            Err(_) => Stop::Memory,
         }
     }
 
@@ -128,61 +145,52 @@ impl LossyRecorder {
         }
     }
 
-    // Stops at an event with an offence, with what is drawn of the list.
-    fn stop(&mut self, e: &LossyEvent, offence: LossyOffence) -> Stop<Stopped>
-        requires event { IsLossyEventOf self.old.auditor.shape e.now }
-        requires stands { (before : Items OfEvent) × HasLossyRecorded self.old before }
-        requires offence { (before : Items OfEvent) → HasLossyRecorded self.old before → lossy_offence_behind self.old before e.now ≡ Some offence }
-        ensures judges { (before : Items OfEvent) → HasLossyRecorded self.old before → JudgesNextLossy (lossy_recorder_rules self.old) before e.now (Err result) }
-        ensures auditor { self.new.auditor ≡ self.old.auditor }
-        ensures cross { self.new.cross ≡ self.old.cross }
-        ensures timing { self.new.timing ≡ self.old.timing }
-        ensures limit { self.new.limit ≡ self.old.limit }
-        ensures asked { self.new.asked ≡ self.old.asked }
-    {
-        match self.stopped(e, offence) {
-            Ok(stopped) => Stop::Offence(stopped),
-            Err(_) => Stop::Memory,
-        }
-    }
-
     // What is drawn of a list with an offence at this event.
-    fn stopped(&mut self, e: &LossyEvent, offence: LossyOffence) -> Result<Stopped, Memory>
-        requires event { IsLossyEventOf self.old.auditor.shape e.now }
-        requires stands { (before : Items OfEvent) × HasLossyRecorded self.old before }
-        requires offence { (before : Items OfEvent) → HasLossyRecorded self.old before → lossy_offence_behind self.old before e.now ≡ Some offence }
-        ensures stopped { IfOk result (λ x. (before : Items OfEvent) → HasLossyRecorded self.old before
-            → x ≡ lossy_stopped_at self.old.asked self.old.cross self.old.auditor.shape self.old.timing self.old.auditor.rows before e.now offence) }
-        ensures auditor { self.new.auditor ≡ self.old.auditor }
-        ensures cross { self.new.cross ≡ self.old.cross }
-        ensures timing { self.new.timing ≡ self.old.timing }
-        ensures limit { self.new.limit ≡ self.old.limit }
-        ensures asked { self.new.asked ≡ self.old.asked }
+    fn stopped(&self, e: &LossyEvent, offence: LossyOffence) -> Result<Stopped, Memory>
+        requires event { IsLossyEventOf self.now.auditor.shape e.now }
+        requires stands { (before : Items OfEvent) × HasLossyRecorded self.now before }
+        requires offence { (before : Items OfEvent) → HasLossyRecorded self.now before → lossy_offence_behind self.now before e.now ≡ Some offence }
+        ensures { IfOk result (λ x. (before : Items OfEvent) → HasLossyRecorded self.now before
+            → x ≡ lossy_stopped_at self.now.asked self.now.cross self.now.auditor.shape self.now.timing self.now.auditor.rows before e.now offence) }
     {
         let last = mark_for(&self.tape, offence);
         let oldest = oldest_read(&self.auditor, offence);
         let shape = self.auditor.shape();
         let refused = refused_by(self.alloc, shape, &self.timing, last, oldest, e, offence)?;
-        let cross = self.cross.as_slice();
-        let pending = pending_of(self.alloc, &self.auditor, cross, &self.timing)?;
-        let excerpt = self.tape.excerpt(Some(stop_time(&refused)))?;
-        Ok(Stopped {
-            excerpt,
-            pending,
-            refused,
-            miss: None,
-        })
+        stopped_before(self.alloc, self, refused)
     }
 }
 
-// The number of the event behind so many, as far as a number of 32 bits goes.
-fn number_behind(count: usize) -> u32
-    ensures { result ≡ next_number count }
-{
-    if count < 4_294_967_295 {
-        count as u32 + 1
-    } else {
-        4_294_967_295
+impl Drawable for LossyRecorder {
+    ghost asked = { λ r. r.asked };
+
+    ghost draws = { λ r w. DrawsLossyRecorded r w };
+
+    ghost channels = { λ r. chan_count r.auditor.shape };
+
+    ghost transit = { λ r c. lossy_pending_on r.cross r.auditor.shape r.timing (link_seen r.auditor.links) c };
+
+    fn tape(&self) -> &Tape {
+        &self.tape
+    }
+
+    fn miss(&self) -> Option<Miss> {
+        None
+    }
+
+    fn channel_count(&self) -> u32 {
+        self.auditor.invariant_holds();
+        self.auditor.shape().channels.len() as u32
+    }
+
+    fn transit_count(&self, channel: u32) -> usize {
+        self.auditor.transit_count(channel)
+    }
+
+    fn arrow_at(&self, channel: u32, place: usize) -> Arrow {
+        let message = placed_message(&self.auditor, channel, place, 0);
+        let cross = self.cross.as_slice();
+        pending_arrow(&self.auditor, cross, &self.timing, channel, message)
     }
 }
 
@@ -227,4 +235,20 @@ impl Replica<()> for LossyRecorder {
     ghost keeps_rules = { λ a v b w x. λ i. lossy_drawing_rules (x.5 i) (x.0 i) (x.3 i) (x.1 i) (x.2 i) (x.4 i) };
 
     ghost keeps_prompt = { λ a v b w x prompt. prompt };
+}
+
+impl Recording for LossyRecorder {
+    ghost whole = { lossy_recorder_whole };
+
+    fn is_ended(&self) -> bool {
+        self.auditor.reached().is_some()
+    }
+
+    ghost calm = { λ outside. refl };
+
+    ghost draws_whole = { λ a outside steps es recorded. (es, recorded, refl) };
+
+    ghost keeps_asked = { λ a v b w x. x.5 };
+
+    ghost keeps_whole = { λ a v b w x. λ i es. lossy_whole_course (x.0 i) (x.3 i) (x.1 i) (x.4 i) es };
 }

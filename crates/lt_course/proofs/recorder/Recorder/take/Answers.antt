@@ -1,11 +1,13 @@
 use Rattle.std.proofs.Common.{◌++◌, ◌∷◌, []}
+use Rattle.lt_schedule.specs.Verdict.{rules_of}
+use Rattle.lt_course.specs.Courses.{stopped_at}
 use Rattle.lt_course.proofs.Recorded.{judged_taken, moved, on_ok, recorded_on}
 use Rattle.lt_course.proofs.recorder.Recorder.take.Goals as goal
 
 pub returns-in-Ok-clause-judges : goal.returns-in-Ok-clause-judges
 returns-in-Ok-clause-judges g c before rec =
     let old = c.args.self.now in
-    judged_taken old.asked old.cross old.auditor.shape old.timing old.auditor.rows before c.args.e c.note.result c.note.ensures.short (c.in-Ok.ensures.judges old.auditor.shape old.timing old.auditor.rows before rec.stands)
+    judged_taken (rules_of old.auditor.shape old.timing old.auditor.rows) (stopped_at old.asked old.cross old.auditor.shape old.timing old.auditor.rows) before c.args.e c.note.result c.note.ensures.short (c.in-Ok.ensures.judges old.auditor.shape old.timing old.auditor.rows before rec.stands)
 
 pub returns-in-Ok-clause-takes : goal.returns-in-Ok-clause-takes
 returns-in-Ok-clause-takes g c =

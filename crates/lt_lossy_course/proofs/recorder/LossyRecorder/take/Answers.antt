@@ -1,11 +1,14 @@
 use Rattle.std.proofs.Common.{◌++◌, ◌∷◌, []}
-use Rattle.lt_lossy_course.proofs.LossyRecorded.{judged_taken, moved, on_ok, recorded_on}
+use Rattle.lt_net_lossy.specs.Rules.{lossy_rules_of}
+use Rattle.lt_course.proofs.Recorded.{judged_taken, on_ok}
+use Rattle.lt_lossy_course.specs.LossyCourses.{lossy_stopped_at}
+use Rattle.lt_lossy_course.proofs.LossyRecorded.{moved, recorded_on}
 use Rattle.lt_lossy_course.proofs.recorder.LossyRecorder.take.Goals as goal
 
 pub returns-in-Ok-clause-judges : goal.returns-in-Ok-clause-judges
 returns-in-Ok-clause-judges g c before rec =
     let old = c.args.self.now in
-    judged_taken old.asked old.cross old.auditor.shape old.timing old.limit old.auditor.rows before c.args.e c.note.result c.note.ensures.short (c.in-Ok.ensures.judges old.auditor.shape old.timing old.limit old.auditor.rows before rec.stands)
+    judged_taken (lossy_rules_of old.auditor.shape old.timing old.limit old.auditor.rows) (lossy_stopped_at old.asked old.cross old.auditor.shape old.timing old.auditor.rows) before c.args.e c.note.result c.note.ensures.short (c.in-Ok.ensures.judges old.auditor.shape old.timing old.limit old.auditor.rows before rec.stands)
 
 pub returns-in-Ok-clause-takes : goal.returns-in-Ok-clause-takes
 returns-in-Ok-clause-takes g c =
