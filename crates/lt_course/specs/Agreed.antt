@@ -1,5 +1,5 @@
 -- What a run makes of rows, and what is drawn of them, whatever their events are.
-use Rattle.std.specs.Prelude.{◌≡◌, ℕ, ◌+◌, List, length, Result, Ok, Err}
+use Rattle.std.specs.Prelude.{◌≡◌, ◌+◌, List, length, Result, Ok, Err}
 use Rattle.lt_lossy.specs.declared.event.LossyOffence.{LossyOffence}
 use Rattle.lt_schedule.specs.declared.halt.ScheduleRefusal.{ScheduleRefusal}
 use Rattle.lt_schedule.specs.declared.halt.ScheduleRefusal.TheVariants as refusal

@@ -1,4 +1,4 @@
-use Rattle.std.proofs.Common.{◌∙◌, Some, ap, sym}
+use Rattle.std.proofs.Common.{◌∙◌, Some}
 use Rattle.lt_audit.specs.Audit.{chan_at}
 use Rattle.lt_course.specs.Strokes.{pending_arrow}
 use Rattle.lt_course.proofs.Transit.{mapped_at}
