@@ -12,6 +12,7 @@ use Rattle.lt_net_node.specs.Channels.{IsShapeOf}
 use Rattle.lt_lead.specs.Paced.{IsShapeBy}
 use Rattle.lt_answer.specs.World.{alone}
 use Rattle.lt_answer.specs.Answered.{Answered, AndThen, Refuses}
+use Rattle.lt_answer.specs.Rules.{Exactly}
 use Rattle.lt_front.specs.Examined.{ExaminedText}
 use Rattle.lt_config.specs.declared.config.Config.{Config}
 use Rattle.lt_load_fit.specs.declared.fault.CommandFault.{CommandFault}
@@ -47,10 +48,10 @@ windowed_too setups.Plain file (Err e) (inr at) = absurd (at.2.0 (plain_window a
 
 -- the plan's setup is that of the file
 
-same_setup : (a b : Config) → Ok {T = Config} {E = CommandFault} a ≡ Ok b → b ≡ a
+same_setup : (a b : Config) → Exactly {T = Config} {E = CommandFault} (Ok a) (Ok b) → b ≡ a
 same_setup a b is = cc
 
-same_plan : (a b : Plan) → Ok {T = Plan} {E = CommandFault} a ≡ Ok b → b ≡ a
+same_plan : (a b : Plan) → Exactly {T = Plan} {E = CommandFault} (Ok a) (Ok b) → b ≡ a
 same_plan a b is = cc
 
 named_setup : (checked : ExaminedText) (setup : Config) (node : Option (List ℕ)) (known : Config) → named_node_verdict checked setup node (Ok known) → known ≡ setup
