@@ -26,11 +26,7 @@ fn pending_of<D: Drawable>(alloc: Global, drawn: &D) -> Result<List<Arrow>, Memo
 }
 
 // Appends those of one channel.
-fn add_pending<D: Drawable>(
-    drawn: &D,
-    channel: u32,
-    arrows: &mut List<Arrow>,
-) -> Result<(), Memory>
+fn add_pending<D: Drawable>(drawn: &D, channel: u32, arrows: &mut List<Arrow>) -> Result<(), Memory>
     requires draws { (w : WholeCourse) × D.draws drawn.now w }
     requires channel { channel < D.channels drawn.now }
     ensures { OnOk result (arrows.new ≡ arrows.old ++ D.transit drawn.now channel) }

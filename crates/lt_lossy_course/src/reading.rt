@@ -66,7 +66,12 @@ fn nothing_leaves() -> Leaving {
 
 /// The message in transit on a channel at this place; where there is none, one of number 0 that is sent at this time.
 #[tactic(auto, using(crate::proofs::Sent::both_read))]
-pub(crate) fn placed_message(auditor: &LossyAuditor, channel: u32, place: usize, none: u64) -> Leaving
+pub(crate) fn placed_message(
+    auditor: &LossyAuditor,
+    channel: u32,
+    place: usize,
+    none: u64,
+) -> Leaving
     requires { channel < chan_count auditor.now.shape }
     ensures newest { result.newest ≡ (link_seen auditor.now.links channel).newest }
     ensures message { left_message result ≡ placed_message none (link_seen auditor.now.links channel).transit place }
