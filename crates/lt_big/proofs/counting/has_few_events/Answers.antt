@@ -1,4 +1,4 @@
-use Rattle.std.proofs.Common.{◌≡◌, ℕ, sym, subst}
+use Rattle.std.proofs.Common.{ℕ, sym, subst}
 use Rattle.lt_arch.specs.Schedule.{OnePlace}
 use Rattle.lt_load.specs.Plan.{LoadedPlan}
 use Rattle.lt_big.proofs.Drawn.{loaded_sound}
