@@ -2,6 +2,7 @@
 ghost use Rattle.std.specs.Prelude.{◌≡◌, ◌⊎◌, ◌≤◌};
 ghost use Rattle.lt_io.specs.Counts.{MayFail};
 ghost use Rattle.lt_arch.specs.declared.limits.TheConstants.{GREATEST_TIME};
+ghost use Rattle.lt_load_fit.specs.Rows.{too_many_events};
 ghost use Rattle.lt_text_answers.specs.Draws.{recorded_status};
 ghost use Rattle.lt_cli.specs.Asked.{FinishesDrawn, IsDrawnShort, IsReported, drawn_outcome};
 ghost use Rattle.lt_cli.specs.Commands.Sim.{ObeysSim};
@@ -101,7 +102,7 @@ fn recorded_status(recorded: Result<u64, Or<SimFault>>) -> Option<Status>
 
 // The refusal of a schedule that has more events than a run takes, as at the first row past the limit.
 fn too_many() -> Refusal
-    ensures { result ≡ Refusal.Command (CommandFault.Row 5000001 RowFault.TooMany) }
+    ensures { result ≡ Refusal.Command too_many_events }
 {
     Refusal::Command(too_many_events())
 }
