@@ -18,13 +18,17 @@ pub fn op1(op: Un, a: Value) -> Option<Value>
     }
 }
 
-fn quotient(a: i64, b: i64) -> i64
+/// The quotient, cut off towards zero, and 0 where the divisor is 0.
+#[inline(always)]
+pub fn quotient(a: i64, b: i64) -> i64
     ensures { result ≡ quotient a b }
 {
     if b == 0 { 0 } else { a.wrapping_div(b) }
 }
 
-fn remainder(a: i64, b: i64) -> i64
+/// What that quotient leaves, and the dividend where the divisor is 0.
+#[inline(always)]
+pub fn remainder(a: i64, b: i64) -> i64
     ensures { result ≡ remainder a b }
 {
     if b == 0 { a } else { a.wrapping_rem(b) }
