@@ -1,6 +1,6 @@
 use Rattle.std.proofs.Common.{◌≡◌, ◌<◌, true, take}
 use Rattle.lt_base.specs.Digits.{all_digits, read_on}
-use Rattle.lt_rows.proofs.written.leading_number.Given as goal
+use Rattle.lt_rows.proofs.written.more_digits.Given as goal
 
 abbrev pub invariant-loop-count : goal.invariant-loop-count
 invariant-loop-count l = record {

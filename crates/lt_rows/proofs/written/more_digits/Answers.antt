@@ -1,6 +1,6 @@
 use Rattle.std.proofs.Common.{arith}
 use Rattle.lt_rows.proofs.Leading.{digits_on, number_on}
-use Rattle.lt_rows.proofs.written.leading_number.Goals as goal
+use Rattle.lt_rows.proofs.written.more_digits.Goals as goal
 
 pub loop-count-preserved : goal.loop-count-preserved
 loop-count-preserved c = record {
