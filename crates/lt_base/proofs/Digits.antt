@@ -112,7 +112,7 @@ digit_range : (c : ℕ) → is_digit c ≡ true → (48 ≤ c) × (c ≤ 57)
 digit_range c is = let parts = both (nat_le 48 c) (nat_le c 57) is in (leb-true 48 c parts.0, leb-true c 57 parts.1)
 
 -- they are digits and numbers as the library has them
-numerals : IsNumeralModel (λ cs. all_digits cs ≡ true) (read_on 0)
+pub numerals : IsNumeralModel (λ cs. all_digits cs ≡ true) (read_on 0)
 numerals = numerals_by_fold (λ cs. all_digits cs ≡ true) (record {
   empty = refl;
   parts = λ c cs is. let parts = digits-cons c cs is in (digit_range c parts.0, parts.1);

@@ -1,25 +1,30 @@
 -- The number at the head of a text.
-use Rattle.std.proofs.Common.{◌≡◌, ℕ, ◌+◌, ◌-◌, ◌*◌, ◌<◌, ◌≤◌, ◌&&◌, true, List, [], ◌∷◌, ◌++◌, length, get_or, take, refl, sym, ap, ◌∙◌}
-use Rattle.std.proofs.lemmas.List.{take_more}
+use Rattle.std.proofs.Common.{◌≡◌, ℕ, suc, ◌+◌, ◌<◌, ◌≤◌, ◌^◌, ◌%◌, ◌&&◌, Bool, true, false, cond, List, [], ◌∷◌, length, take, refl, sym, ap, ◌∙◌, arith}
+use Rattle.std.specs.Char.{is_ascii_digit}
+use Rattle.std.specs.List.{prefix_len}
+use Rattle.std.specs.Str.Parse.{digits_value}
+use Rattle.std.proofs.lemmas.List.{length-take}
+use Rattle.std.proofs.lemmas.Str.Parse.{digits_value_short}
 use Rattle.lt_base.specs.Digits.{is_digit, all_digits, read_on}
-use Rattle.lt_base.proofs.Digits.{is_digit-true, digits-cons}
+use Rattle.lt_base.proofs.Digits.{numerals}
 
-digits_snoc : (xs : List ℕ) (c : ℕ) → all_digits xs ≡ true → is_digit c ≡ true → all_digits (xs ++ c ∷ []) ≡ true
-digits_snoc [] c all is = ap (λ b. b && true) is
-digits_snoc (x ∷ xs) c all is =
-    let parts = digits-cons x xs all in
-    ap (λ b. b && all_digits (xs ++ c ∷ [])) parts.0 ∙ digits_snoc xs c parts.1 is
+-- the digits at the head are digits
+pub head_digits : (s : List ℕ) → all_digits (take (prefix_len is_ascii_digit s) s) ≡ true
+head_digits [] = refl
+head_digits (c ∷ cs) = by (is_ascii_digit c) refl (head_digits cs)
+  where
+    by : (b : Bool) → is_ascii_digit c ≡ b → all_digits (take (prefix_len is_ascii_digit cs) cs) ≡ true → all_digits (take (cond b (1 + prefix_len is_ascii_digit cs) 0) (c ∷ cs)) ≡ true
+    by true e rest =
+        let next : 1 + prefix_len is_ascii_digit cs ≡ suc (prefix_len is_ascii_digit cs) = omega arith in
+        ap (λ n. all_digits (take n (c ∷ cs))) next ∙ ap (λ b. b && all_digits (take (prefix_len is_ascii_digit cs) cs)) e ∙ rest
+    by false e rest = refl
 
-read_snoc : (n : ℕ) (xs : List ℕ) (c : ℕ) → read_on n (xs ++ c ∷ []) ≡ read_on n xs * 10 + (c - 48)
-read_snoc n [] c = refl
-read_snoc n (x ∷ xs) c = read_snoc (n * 10 + (x - 48)) xs c
+-- few of them are a number in range, as it is read
+pub few_digits : (ds : List ℕ) → all_digits ds ≡ true → length ds ≤ 15 → read_on 0 ds < 1000000000000000
+few_digits ds all few = digits_value_short numerals ds 15 all few
 
--- one digit more
-pub digits_on : (s : List ℕ) (i : ℕ) → i < length s → all_digits (take i s) ≡ true → 48 ≤ get_or s i 0 → get_or s i 0 ≤ 57 → all_digits (take (i + 1) s) ≡ true
-digits_on s i within all low high = ap all_digits (take_more s i 0 within) ∙ digits_snoc (take i s) (get_or s i 0) all (is_digit-true (get_or s i 0) low high)
-
-pub number_on : (s : List ℕ) (i number : ℕ) → i < length s → number ≡ read_on 0 (take i s) → number * 10 + (get_or s i 0 - 48) ≡ read_on 0 (take (i + 1) s)
-number_on s i number within is =
-    ap (λ (n : ℕ). n * 10 + (get_or s i 0 - 48)) is
-    ∙ sym (read_snoc 0 (take i s) (get_or s i 0))
-    ∙ sym (ap (read_on 0) (take_more s i 0 within))
+pub digits_read : (ds : List ℕ) → all_digits ds ≡ true → length ds ≤ 15 → digits_value 10 ds % 2 ^ 64 ≡ read_on 0 ds
+digits_read ds all few =
+    let same : read_on 0 ds ≡ digits_value 10 ds = numerals.same ds (numerals.to ds all) in
+    let low = few_digits ds all few in
+    omega (arith, same, low)
