@@ -69,6 +69,7 @@ impl PlaceTable {
     }
 
     /// The event of a line, as `read_event` answers it.
+    #[inline(always)]
     pub fn read_event(&self, line: &[u8], shape: &Shape) -> Result<Event, RowFault>
         requires nodes { length shape.now.nodes < 2 ^ 32 }
         requires channels { length shape.now.channels < 2 ^ 32 }
@@ -83,6 +84,7 @@ impl PlaceTable {
 
     // The event of a line that stands as it is written, where its place is guessed right.
     #[tactic(auto, using(crate::proofs::Found::written_reads))]
+    #[inline(always)]
     fn event_of_line(&self, line: &[u8], shape: &Shape) -> Option<Event>
         ensures event { IfSome result (λ e. events.event_of shape.now line.now ≡ Ok e) }
         ensures of_shape { IfSome result (IsEventOf shape.now) }
@@ -92,6 +94,7 @@ impl PlaceTable {
     }
 
     // The event of a kind and a place.
+    #[inline(always)]
     fn event_at_place(&self, shape: &Shape, rest: &[u8], time: u64) -> Option<Event>
         requires { time ≤ GREATEST_TIME }
         ensures { IfSome result (IsWritten shape.now rest.now time) }
